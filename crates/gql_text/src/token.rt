@@ -1,0 +1,93 @@
+ghost use Rattle.std.specs.Prelude.{◌≡◌, ◌≢◌, true, false};
+ghost use Rattle.gql_text.specs.Kinds.{same_kind};
+ghost use Rattle.gql_text.specs.Numbers.{number_of};
+
+use crate::place::Place;
+
+/// What a token is: a punctuator, a name, a number or a text (GraphQL specification, 2.1.6 and appendix B.1).
+#[derive(Clone, Copy, Debug, PartialEq, Eq)]
+pub enum Kind {
+    /// What stands behind the last token. A parser looks at it there; no token of a text has this kind.
+    EndOfText,
+    Bang,
+    Dollar,
+    Ampersand,
+    LeftParenthesis,
+    RightParenthesis,
+    /// Three dots.
+    Ellipsis,
+    Colon,
+    Equals,
+    At,
+    LeftBracket,
+    RightBracket,
+    LeftBrace,
+    Pipe,
+    RightBrace,
+    Name,
+    IntValue,
+    FloatValue,
+    /// A string in single quotes: `"text"`.
+    StringValue,
+    /// A string in triple quotes.
+    BlockString,
+}
+
+impl Kind {
+    /// Whether the two kinds are the same.
+    pub fn is(self, other: Kind) -> bool
+        ensures value { result ≡ same_kind self other }
+        ensures same { result ≡ true → self ≡ other }
+        ensures other { result ≡ false → self ≢ other }
+    {
+        self == other
+    }
+}
+
+/// A token, whose text is a slice of the source.
+#[derive(Clone, Copy, Debug)]
+pub struct Token<'a> {
+    pub kind: Kind,
+    pub text: &'a str,
+    pub place: Place,
+}
+
+/// Why a text has no tokens.
+#[derive(Clone, Copy, Debug, PartialEq, Eq)]
+pub enum LexRefusal {
+    /// 101: no token and nothing ignored begins with this character, or it is no source character.
+    BadCharacter,
+    /// 102: a number that isn't finished, or that runs into a name, a digit or a dot.
+    BadNumber,
+    /// 103: a string that ends with its line or with the text, or a block string that ends with the text.
+    UnfinishedText,
+    /// 104: an escape that isn't one of those of the specification.
+    BadEscape,
+    /// 105: an escape for one half of a surrogate pair, without the other.
+    LoneSurrogate,
+    /// 106: the text has more than 65,536 bytes.
+    TooLong,
+}
+
+impl LexRefusal {
+    /// The number that users see: 101 to 106.
+    pub fn number(self) -> u16
+        ensures { result ≡ number_of self }
+    {
+        match self {
+            LexRefusal::BadCharacter => 101,
+            LexRefusal::BadNumber => 102,
+            LexRefusal::UnfinishedText => 103,
+            LexRefusal::BadEscape => 104,
+            LexRefusal::LoneSurrogate => 105,
+            LexRefusal::TooLong => 106,
+        }
+    }
+}
+
+/// Why a text has no tokens and where, or want of memory.
+#[derive(Clone, Copy, Debug, PartialEq, Eq)]
+pub enum LexFault {
+    At { number: LexRefusal, place: Place },
+    Memory,
+}
