@@ -61,7 +61,7 @@ impl Definition {
     {
         Ok(Definition {
             file: self.file.copy(),
-            tree: self.tree.copy()?,
+            tree: self.tree.clone()?,
         })
     }
 

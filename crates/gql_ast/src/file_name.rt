@@ -5,6 +5,7 @@ ghost use Rattle.std.specs.Cmp.Lexicographic.{slice_cmp, nat_list_eq_equiv, nat_
 ghost use Rattle.gql_ast.specs.FileNames.{IsFileName, is_file_name_byte};
 
 use arrayvec::ArrayString;
+use std::alloc::AllocError;
 use std::cmp::Ordering;
 use std::marker::Model;
 
@@ -56,6 +57,14 @@ impl FileName {
         ensures { result ≡ self.now }
     {
         FileName { text: self.text }
+    }
+}
+
+impl Clone for FileName {
+    ghost is_clone = { λ name copy. copy ≡ name };
+
+    fn clone(&self) -> Result<FileName, AllocError> {
+        Ok(self.copy())
     }
 }
 

@@ -1,10 +1,11 @@
-ghost use Rattle.std.specs.Prelude.{◌≡◌, ◌<◌, ◌^◌, [], length, is_some, OnOk, OnErr};
+ghost use Rattle.std.specs.Prelude.{◌≡◌, ◌<◌, ◌^◌, [], length, is_some, IfOk, OnOk, OnErr};
 ghost use Rattle.std.specs.Option.{option_copied};
 ghost use Rattle.std.specs.BTreeMap.{IsOrdered};
 ghost use Rattle.gql_ast.specs.FileMaps.{file_named, with_file, without_file, name_order};
 
 use crate::definition::Document;
 use crate::file_name::FileName;
+use crate::shared::Shared;
 use std::alloc::{AllocError, Global};
 use std::collections::BTreeMap;
 use std::marker::Model;
@@ -88,11 +89,22 @@ impl<T: Drop> FileMap<T> {
     }
 }
 
+impl<T: Drop> FileMap<Shared<T>> {
+    /// An equal map, which shares the values.
+    pub fn copy(&self) -> Result<FileMap<Shared<T>>, AllocError>
+        ensures { IfOk result (λ m. m ≡ self.now) }
+    {
+        Ok(FileMap {
+            entries: self.entries.clone()?,
+        })
+    }
+}
+
 /// The files that are present: schema files, which are one schema together, and document files.
 #[derive(Drop)]
 pub struct Files {
-    pub schema: FileMap<Document>,
-    pub documents: FileMap<Document>,
+    pub schema: FileMap<Shared<Document>>,
+    pub documents: FileMap<Shared<Document>>,
 }
 
 impl Files {
@@ -104,5 +116,15 @@ impl Files {
             schema: FileMap::new(alloc),
             documents: FileMap::new(alloc),
         }
+    }
+
+    /// Equal files, which share the documents.
+    pub fn copy(&self) -> Result<Files, AllocError>
+        ensures { IfOk result (λ files. files ≡ self.now) }
+    {
+        Ok(Files {
+            schema: self.schema.copy()?,
+            documents: self.documents.copy()?,
+        })
     }
 }

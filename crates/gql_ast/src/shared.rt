@@ -4,7 +4,7 @@ use std::alloc::{AllocError, Global};
 use std::marker::Model;
 use std::rc::Rc;
 
-/// A value with several owners, which contracts see as the value. A copy costs no walk.
+/// A value with several owners, which contracts see as the value. A clone costs no walk.
 #[derive(Drop)]
 pub struct Shared<T> {
     owned: Rc<T>,
@@ -36,11 +36,12 @@ impl<T: Drop> Shared<T> {
             owned: Rc::new(alloc, value)?,
         })
     }
+}
 
-    /// One more owner of the same value.
-    pub fn copy(&self) -> Result<Shared<T>, AllocError>
-        ensures { IfOk result (λ s. s ≡ self.now) }
-    {
+impl<T: Drop> Clone for Shared<T> {
+    ghost is_clone = { λ shared copy. copy ≡ shared };
+
+    fn clone(&self) -> Result<Shared<T>, AllocError> {
         Ok(Shared {
             owned: self.owned.clone()?,
         })
