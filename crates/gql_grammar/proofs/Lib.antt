@@ -1,0 +1,5 @@
+pub mod Cursors
+pub mod Loops
+pub mod Outcomes
+pub mod Unrolled
+pub mod Levels

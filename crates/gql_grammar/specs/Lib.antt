@@ -1,0 +1,5 @@
+pub mod Levels
+pub mod Symbol
+pub mod Repetition
+pub mod Recursion
+pub mod Files

@@ -1,0 +1,20 @@
+-- A symbol that stands in its own rule.
+use Rattle.std.specs.Prelude.{◌≡◌, ℕ, zero, suc, ◌<◌, List, length, Err}
+use Rattle.gql_text.specs.Lexeme.{Lexeme}
+use Rattle.gql_grammar.specs.Symbol.{Phrase, refuse}
+
+-- the rule within itself, this many times
+unfoldable pub nested : {A : Type 0} → (Phrase A → Phrase A) → ℕ → Phrase A
+nested rule zero = refuse
+nested rule (suc n) = rule (nested rule n)
+
+-- The rule within itself as often as may be: more often than there are tokens, each level taking one.
+unfoldable pub recursive : {A : Type 0} → (Phrase A → Phrase A) → Phrase A
+recursive rule = record {
+  read = λ ts. (nested rule (suc (length ts))).read ts;
+  Allows = λ ts o. (nested rule (suc (length ts))).Allows ts o;
+  holds = λ ts. (nested rule (suc (length ts))).holds ts;
+  only = λ ts o h. (nested rule (suc (length ts))).only ts o h;
+  takes = λ ts. (nested rule (suc (length ts))).takes ts;
+  shifts = λ ts. (nested rule (suc (length ts))).shifts ts;
+}

@@ -1,0 +1,12 @@
+//! Grammars over the tokens of GraphQL texts: what a grammar derives, where it fails, and a cursor that reads by it.
+#![tactic(auto)]
+
+mod cursor;
+mod error;
+mod fault;
+mod file;
+
+pub use cursor::Cursor;
+pub use error::ParseError;
+pub use file::{MAX_LEVELS, looked_at, placed};
+pub use fault::{SyntaxFault, SyntaxRefusal};
