@@ -8,5 +8,5 @@ mod file;
 
 pub use cursor::Cursor;
 pub use error::ParseError;
-pub use file::{MAX_LEVELS, looked_at, placed};
+pub use file::{MAX_LEVELS, levels_law, looked_at, placed};
 pub use fault::{SyntaxFault, SyntaxRefusal};
