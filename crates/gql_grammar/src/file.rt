@@ -45,7 +45,11 @@ fn place_left(tokens: &[Token<'_>], left: usize, end: Place) -> Place
     ensures { result ≡ the_place_left end (map lexeme tokens.now) left }
 {
     let at = tokens.len().saturating_sub(left);
-    if at < tokens.len() { tokens[at].place } else { end }
+    if at < tokens.len() {
+        tokens[at].place
+    } else {
+        end
+    }
 }
 
 /// A fault that was met in reading those of the tokens that are looked at, with its place.
@@ -76,5 +80,4 @@ pub fn levels_law()
     ensures shallow { (ts : List Lexeme) → depth (the_looked_at ts) ≤ 100 }
     ensures all { (ts : List Lexeme) → depth ts ≤ 100 → left_out ts ≡ [] }
     ensures over { (ts rest : List Lexeme) (t : Lexeme) → left_out ts ≡ t ∷ rest → 100 < shift t.kind (level 0 (the_looked_at ts)) }
-{
-}
+{}
