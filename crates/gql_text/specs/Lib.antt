@@ -1,3 +1,10 @@
+pub mod Chars
 pub mod Kinds
 pub mod Lexeme
+pub mod Lexis
+pub mod Marks
+pub mod Number
 pub mod Numbers
+pub mod Parts
+pub mod Pieces
+pub mod Place

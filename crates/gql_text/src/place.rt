@@ -1,3 +1,6 @@
+ghost use Rattle.std.specs.Prelude.{◌≡◌, ◌+◌, ◌<◌, ◌≤◌, length, take};
+ghost use Rattle.gql_text.specs.Place.{place_after};
+
 /// Where a token starts in its text: line and column count from 1, and a column counts characters;
 /// the offset counts the bytes before it.
 #[derive(Clone, Copy, Debug, PartialEq, Eq)]
@@ -5,4 +8,47 @@ pub struct Place {
     pub line: usize,
     pub column: usize,
     pub offset: usize,
+}
+
+/// The place behind one more byte.
+fn past_byte(source: &[u8], place: Place) -> Place
+    requires within { place.offset < length source.now }
+    requires short { length source.now ≤ 65536 }
+    requires known { place ≡ place_after (take place.offset source.now) }
+    ensures { result ≡ place_after (take (place.offset + 1) source.now) }
+{
+    let offset = place.offset;
+    let byte = source[offset];
+    let after_return = offset > 0 && source[offset - 1] == b'\r';
+    let line = if byte == b'\r' || (byte == b'\n' && !after_return) {
+        place.line + 1
+    } else {
+        place.line
+    };
+    let column = if byte == b'\r' || byte == b'\n' {
+        1
+    } else if byte < 128 || byte >= 192 {
+        place.column + 1
+    } else {
+        place.column
+    };
+    Place {
+        line,
+        column,
+        offset: offset + 1,
+    }
+}
+
+/// The place behind the next bytes.
+pub fn past(source: &[u8], place: Place, count: usize) -> Place
+    requires within { place.offset + count ≤ length source.now }
+    requires short { length source.now ≤ 65536 }
+    requires known { place ≡ place_after (take place.offset source.now) }
+    ensures { result ≡ place_after (take (place.offset + count) source.now) }
+{
+    let mut place = place;
+    for _step in 0..count {
+        place = past_byte(source, place);
+    }
+    place
 }

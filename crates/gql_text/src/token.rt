@@ -1,8 +1,10 @@
 ghost use Rattle.std.specs.Prelude.{◌≡◌, ◌≢◌, true, false};
 ghost use Rattle.gql_text.specs.Kinds.{same_kind};
 ghost use Rattle.gql_text.specs.Numbers.{number_of};
+ghost use Rattle.gql_text.specs.declared.token.LexFault.TheVariants.{Memory};
 
 use crate::place::Place;
+use std::alloc::AllocFailed;
 
 /// What a token is: a punctuator, a name, a number or a text (GraphQL specification, 2.1.6 and appendix B.1).
 #[derive(Clone, Copy, Debug, PartialEq, Eq)]
@@ -90,4 +92,12 @@ impl LexRefusal {
 pub enum LexFault {
     At { number: LexRefusal, place: Place },
     Memory,
+}
+
+impl<T: Drop> From<AllocFailed<T>> for LexFault {
+    ghost from_gives = { λ _ e. e ≡ Memory };
+
+    fn from(_e: AllocFailed<T>) -> LexFault {
+        LexFault::Memory
+    }
 }

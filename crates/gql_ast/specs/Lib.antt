@@ -1,0 +1,4 @@
+pub mod FileMaps
+pub mod FileNames
+pub mod Rules
+pub mod Trees

@@ -1,0 +1,149 @@
+use crate::executable::OperationKind;
+use crate::literal::{Directive, Literal};
+use crate::text::{Name, Text};
+use crate::type_ref::TypeRef;
+use gql_text::Place;
+use sqlite_items::Items;
+
+/// An argument of a field or of a directive definition, or a field of an input object (GraphQL specification,
+/// 3.6.1 and 3.10).
+#[derive(Drop)]
+pub struct InputValueDefinition {
+    pub description: Option<Text>,
+    pub name: Name,
+    pub of_type: TypeRef,
+    pub default: Option<Literal>,
+    pub directives: Items<Directive>,
+}
+
+/// A field of an object or of an interface (GraphQL specification, 3.6).
+#[derive(Drop)]
+pub struct FieldDefinition {
+    pub description: Option<Text>,
+    pub name: Name,
+    pub arguments: Items<InputValueDefinition>,
+    pub of_type: TypeRef,
+    pub directives: Items<Directive>,
+}
+
+/// A value of an enum (GraphQL specification, 3.9).
+#[derive(Drop)]
+pub struct EnumValueDefinition {
+    pub description: Option<Text>,
+    pub name: Name,
+    pub directives: Items<Directive>,
+}
+
+/// What kind of type is defined or extended, and with which parts (GraphQL specification, 3.4). A list is empty
+/// where it isn't written.
+#[derive(Drop)]
+pub enum TypeParts {
+    /// (3.5)
+    Scalar,
+    /// (3.6)
+    Object {
+        interfaces: Items<Name>,
+        fields: Items<FieldDefinition>,
+    },
+    /// (3.7)
+    Interface {
+        interfaces: Items<Name>,
+        fields: Items<FieldDefinition>,
+    },
+    /// (3.8)
+    Union {
+        members: Items<Name>,
+    },
+    /// (3.9)
+    Enum {
+        values: Items<EnumValueDefinition>,
+    },
+    /// (3.10)
+    InputObject {
+        fields: Items<InputValueDefinition>,
+    },
+}
+
+/// The definition of a type (GraphQL specification, 3.4). Its place is that of its description, or else of its
+/// first word.
+#[derive(Drop)]
+pub struct TypeDefinition {
+    pub place: Place,
+    pub description: Option<Text>,
+    pub name: Name,
+    pub directives: Items<Directive>,
+    pub parts: TypeParts,
+}
+
+/// The extension of a type (GraphQL specification, 3.4.3). Its place is that of `extend`.
+#[derive(Drop)]
+pub struct TypeExtension {
+    pub place: Place,
+    pub name: Name,
+    pub directives: Items<Directive>,
+    pub parts: TypeParts,
+}
+
+/// A root operation type: the type of the operations of a kind (GraphQL specification, 3.3.1). Its place is that
+/// of the kind.
+#[derive(Drop)]
+pub struct RootOperation {
+    pub place: Place,
+    pub kind: OperationKind,
+    pub name: Name,
+}
+
+/// The definition of a schema (GraphQL specification, 3.3). Its place is that of its description, or else of the
+/// word `schema`, whose place is kept too.
+#[derive(Drop)]
+pub struct SchemaDefinition {
+    pub place: Place,
+    pub description: Option<Text>,
+    pub keyword: Place,
+    pub directives: Items<Directive>,
+    pub roots: Items<RootOperation>,
+}
+
+/// The extension of a schema (GraphQL specification, 3.3.2). Its place is that of `extend`.
+#[derive(Drop)]
+pub struct SchemaExtension {
+    pub place: Place,
+    pub directives: Items<Directive>,
+    pub roots: Items<RootOperation>,
+}
+
+/// Where a directive may be applied (GraphQL specification, 3.13).
+#[derive(Clone, Copy, Debug, PartialEq, Eq)]
+pub enum DirectiveLocation {
+    Query,
+    Mutation,
+    Subscription,
+    Field,
+    FragmentDefinition,
+    FragmentSpread,
+    InlineFragment,
+    VariableDefinition,
+    Schema,
+    Scalar,
+    Object,
+    FieldDefinition,
+    ArgumentDefinition,
+    Interface,
+    Union,
+    Enum,
+    EnumValue,
+    InputObject,
+    InputFieldDefinition,
+}
+
+/// The definition of a directive (GraphQL specification, 3.13). Its place is that of its description, or else of
+/// the word `directive`.
+#[derive(Drop)]
+pub struct DirectiveDefinition {
+    pub place: Place,
+    pub description: Option<Text>,
+    pub name: Name,
+    pub arguments: Items<InputValueDefinition>,
+    pub is_repeatable: bool,
+    pub locations: Items<DirectiveLocation>,
+}

@@ -1,0 +1,80 @@
+ghost use Rattle.std.specs.Prelude.{◌≡◌};
+ghost use Rattle.gql_registry.specs.Refusals.{refusal_of};
+ghost use Rattle.gql_registry.specs.declared.refusal.Refusal.TheVariants.{Memory};
+
+use gql_ast::{Fault, Items};
+use gql_grammar::{SyntaxFault, SyntaxRefusal};
+use gql_text::Place;
+use std::alloc::{AllocError, AllocFailed};
+use thiserror::Error;
+
+/// Why the registry refuses. Each has a number that users see. A refused call changes nothing.
+#[derive(Debug, Drop, Error)]
+pub enum Refusal {
+    /// 201: the file is no document of its kind; why, and where.
+    #[error("syntax")]
+    Syntax { number: SyntaxRefusal, place: Place },
+    /// 202: the bytes are not UTF-8.
+    #[error("body is not UTF-8")]
+    NotText,
+    /// 203: a file of more than 65,536 bytes.
+    #[error("file is too long")]
+    TooLong,
+    /// 204: no file of that name.
+    #[error("no such file")]
+    NoFile,
+    /// 205: a 257th file of its kind.
+    #[error("too many files")]
+    FilesFull,
+    /// 206: the edit expects another revision than the present one, which is told.
+    #[error("stale revision")]
+    Stale { revision: u64 },
+    /// 207: the data is no JSON object as the registry takes it.
+    #[error("data is not accepted")]
+    BadData,
+    /// 208: no such operation, or none is named and there isn't just one.
+    #[error("no such operation")]
+    NoOperation,
+    /// 209: the schema, the operation or a fragment that it reaches has faults, which are told.
+    #[error("operation is faulty")]
+    Faulty { faults: Items<Fault> },
+    /// 210: the answer has more than 100,000 values.
+    #[error("answer is too large")]
+    TooLarge,
+    /// 211: memory was wanting.
+    #[error("out of memory")]
+    Memory,
+    /// 212: there is no revision after the present one.
+    #[error("revisions are spent")]
+    Spent,
+}
+
+impl From<AllocError> for Refusal {
+    ghost from_gives = { λ _ e. e ≡ Memory };
+
+    fn from(_: AllocError) -> Refusal {
+        Refusal::Memory
+    }
+}
+
+impl<T: Drop> From<AllocFailed<T>> for Refusal {
+    ghost from_gives = { λ _ e. e ≡ Memory };
+
+    fn from(_: AllocFailed<T>) -> Refusal {
+        Refusal::Memory
+    }
+}
+
+impl From<SyntaxFault> for Refusal {
+    ghost use Rattle.gql_registry.specs.Refusals.{refusal_of};
+    ghost use Rattle.std.specs.Prelude.{◌≡◌};
+
+    ghost from_gives = { λ fault e. e ≡ refusal_of fault };
+
+    fn from(fault: SyntaxFault) -> Refusal {
+        match fault {
+            SyntaxFault::At { number, place } => Refusal::Syntax { number, place },
+            SyntaxFault::Memory => Refusal::Memory,
+        }
+    }
+}

@@ -1,0 +1,31 @@
+use Rattle.std.proofs.Common.{rules, arith, ◌≡◌, ℕ, ◌+◌, ◌-◌, ◌≤◌, drop, length, length-drop, drop-drop, refl, sym}
+use Rattle.gql_text.specs.Pieces.{block_piece}
+use Rattle.gql_text.specs.declared.token.Kind.TheVariants.{BlockString}
+use Rattle.gql_text.proofs.Runs.{IsStep, block_goes, run_closes, run_stops, run_goes, seen}
+use Rattle.gql_text.proofs.Fitting.{block_closes}
+use Rattle.gql_text.proofs.pieces.block_part.Goals.{In-Goes}
+use Rattle.gql_text.proofs.pieces.block_part.Goals as goal
+
+step : (c : In-Goes) → IsStep c.in-Goes.count (drop c.pieces.read c.args.bytes.now)
+step c = block_goes _ _ (sym (seen block_piece c.args.bytes.now c.pieces.read _ c.in-Goes.ensures))
+
+pub overflow_add-read : goal.overflow_add-read
+overflow_add-read c = omega (arith, (step c).within, length-drop c.pieces.read c.args.bytes.now)
+
+pub overflow_add-result-in-Closes : goal.overflow_add-result-in-Closes
+overflow_add-result-in-Closes c = omega (arith, block_closes _ _ (sym (seen block_piece c.args.bytes.now c.pieces.read _ c.in-Closes.ensures)), length-drop c.pieces.read c.args.bytes.now)
+
+pub pieces-smaller : goal.pieces-smaller
+pieces-smaller c = omega (arith, (step c).some, (step c).within, length-drop c.pieces.read c.args.bytes.now)
+
+pub pieces-preserved : goal.pieces-preserved
+pieces-preserved c = record {
+  within = omega (arith, (step c).within, length-drop c.pieces.read c.args.bytes.now);
+  run = λ p r. c.pieces.invariant.run p (run_goes block_piece BlockString _ _ _ _ _ p (seen block_piece c.args.bytes.now c.pieces.read _ c.in-Goes.ensures) (omega arith) (sym (drop-drop c.in-Goes.count c.pieces.read c.args.bytes.now)) r)
+}
+
+pub returns-in-Closes : goal.returns-in-Closes
+returns-in-Closes c = c.pieces.invariant.run _ (run_closes block_piece BlockString _ _ _ _ (seen block_piece c.args.bytes.now c.pieces.read _ c.in-Closes.ensures) (omega arith))
+
+pub returns-in-Stops : goal.returns-in-Stops
+returns-in-Stops c = c.pieces.invariant.run _ (run_stops block_piece BlockString _ _ _ _ (seen block_piece c.args.bytes.now c.pieces.read _ c.in-Stops.ensures) c.refusal_offset.ensures)

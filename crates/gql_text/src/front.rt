@@ -1,0 +1,167 @@
+ghost use Rattle.std.specs.Prelude.{◌≡◌, ◌+◌, ◌<◌, ◌≤◌, ◌∷◌, length, drop};
+ghost use Rattle.std.specs.List.{prefix_len};
+ghost use Rattle.gql_text.specs.Chars.{is_name_start, is_name_byte, is_source_byte, is_blank};
+ghost use Rattle.gql_text.specs.Marks.{mark_kind, mark_part, dots_part, order_part, comment_part, plain_part};
+ghost use Rattle.gql_text.specs.Lexis.{Stands};
+
+use crate::number::number;
+use crate::pieces::{block_part, is_three_quotes, string_part};
+use crate::token::{Kind, LexRefusal};
+
+/// What stands at the front of a text.
+#[derive(Clone, Copy, Debug, PartialEq, Eq)]
+pub enum Part {
+    /// So many bytes that are no token.
+    Dropped(usize),
+    /// A token of so many bytes.
+    Taken(Kind, usize),
+    /// A refusal, whose place is so many bytes ahead.
+    Refused(LexRefusal, usize),
+}
+
+/// What stands at the front of the rest of a string or of a block string.
+#[derive(Clone, Copy, Debug, PartialEq, Eq)]
+pub enum Piece {
+    /// Its closing quotes, of so many bytes.
+    Closes(usize),
+    /// So many bytes that belong to it.
+    Goes(usize),
+    Stops(LexRefusal),
+}
+
+const fn starts_name(byte: u8) -> bool
+    ensures { result ≡ is_name_start byte }
+{
+    byte == b'_' || byte.is_ascii_alphabetic()
+}
+
+pub fn continues_name(byte: u8) -> bool
+    ensures { result ≡ is_name_byte byte }
+{
+    starts_name(byte) || byte.is_ascii_digit()
+}
+
+fn is_ignored(byte: u8) -> bool
+    ensures { result ≡ is_blank byte }
+{
+    byte == b'\t' || byte == b' ' || byte == b'\n' || byte == b'\r' || byte == b','
+}
+
+fn name_len(bytes: &[u8]) -> usize
+    ensures value { result ≡ prefix_len is_name_byte bytes.now }
+    ensures short { result ≤ length bytes.now }
+{
+    bytes.iter().take_while(|byte| continues_name(**byte)).count()
+}
+
+fn line_len(bytes: &[u8]) -> usize
+    ensures value { result ≡ prefix_len is_source_byte bytes.now }
+    ensures short { result ≤ length bytes.now }
+{
+    bytes.iter().take_while(|byte| **byte == b'\t' || **byte >= 32).count()
+}
+
+/// A comment whose bytes so far are read, if its line ends there.
+fn comment(len: usize, rest: &[u8]) -> Part
+    ensures { result ≡ comment_part len rest.now }
+{
+    match rest {
+        [b'\n' | b'\r', ..] | [] => Part::Dropped(len),
+        _ => Part::Refused(LexRefusal::BadCharacter, len),
+    }
+}
+
+/// What stands behind a dot.
+fn dots(behind: &[u8]) -> Part
+    ensures { result ≡ dots_part behind.now }
+{
+    match behind {
+        [b'.', b'.', ..] => Part::Taken(Kind::Ellipsis, 3),
+        _ => Part::Refused(LexRefusal::BadCharacter, 0),
+    }
+}
+
+/// What stands behind the first byte of U+FEFF.
+fn order_mark(behind: &[u8]) -> Part
+    ensures { result ≡ order_part behind.now }
+{
+    match behind {
+        [187, 191, ..] => Part::Dropped(3),
+        _ => Part::Refused(LexRefusal::BadCharacter, 0),
+    }
+}
+
+/// The punctuator that is this byte.
+fn punctuator(byte: u8) -> Option<Kind>
+    ensures { result ≡ mark_kind byte }
+{
+    match byte {
+        b'!' => Some(Kind::Bang),
+        b'$' => Some(Kind::Dollar),
+        b'&' => Some(Kind::Ampersand),
+        b'(' => Some(Kind::LeftParenthesis),
+        b')' => Some(Kind::RightParenthesis),
+        b':' => Some(Kind::Colon),
+        b'=' => Some(Kind::Equals),
+        b'@' => Some(Kind::At),
+        b'[' => Some(Kind::LeftBracket),
+        b']' => Some(Kind::RightBracket),
+        b'{' => Some(Kind::LeftBrace),
+        b'|' => Some(Kind::Pipe),
+        b'}' => Some(Kind::RightBrace),
+        _ => None,
+    }
+}
+
+/// A punctuator of one byte, or a character that begins nothing.
+fn mark(byte: u8) -> Part
+    ensures { result ≡ mark_part (mark_kind byte) }
+{
+    match punctuator(byte) {
+        Some(kind) => Part::Taken(kind, 1),
+        None => Part::Refused(LexRefusal::BadCharacter, 0),
+    }
+}
+
+/// What begins with a byte that is no quote.
+#[tactic(auto, unfolding(crate::specs::Marks::plain_part))]
+fn plain(first: u8, bytes: &[u8], behind: &[u8]) -> Part
+    requires whole { bytes.now ≡ first ∷ behind.now }
+    requires short { length bytes.now ≤ 65536 }
+    ensures { result ≡ plain_part first behind.now }
+{
+    if is_ignored(first) {
+        Part::Dropped(1)
+    } else if starts_name(first) {
+        Part::Taken(Kind::Name, 1 + name_len(behind))
+    } else if first == b'-' {
+        number(1, behind)
+    } else if first.is_ascii_digit() {
+        number(0, bytes)
+    } else if first == b'#' {
+        let count = line_len(behind);
+        comment(1 + count, &behind[count..])
+    } else if first == b'.' {
+        dots(behind)
+    } else if first == 239 {
+        order_mark(behind)
+    } else {
+        mark(first)
+    }
+}
+
+/// What stands at the front of a text.
+pub fn first_part(bytes: &[u8]) -> Part
+    requires some { 0 < length bytes.now }
+    requires short { length bytes.now ≤ 65536 }
+    ensures { Stands bytes.now result }
+{
+    let (first, behind) = bytes.split_first().unwrap();
+    if is_three_quotes(bytes) {
+        block_part(&bytes[3..])
+    } else if *first == b'"' {
+        string_part(behind)
+    } else {
+        plain(*first, bytes, behind)
+    }
+}

@@ -1,0 +1,83 @@
+ghost use Rattle.std.specs.Prelude.{◌≡◌, ◌≤◌, ◌<◌, ◌+◌, ◌-◌, map, length, take, drop, IfOk, IfErr};
+ghost use Rattle.std.specs.Str.{IsCharBoundary};
+ghost use Rattle.gql_text.specs.Place.{place_after};
+ghost use Rattle.gql_text.specs.Lexeme.{lexeme};
+ghost use Rattle.gql_text.specs.Lexis.{Stands, IsLexed, IsLexFault};
+ghost use Rattle.gql_text.specs.Parts.{Fits, CutsBehind};
+
+use crate::front::{Part, first_part};
+use crate::place::{Place, past};
+use crate::token::{LexFault, LexRefusal, Token};
+use std::alloc::Global;
+
+/// How many bytes a text may have.
+const LIMIT: usize = 65536;
+
+/// The place of the first byte of a text.
+const START: Place = Place {
+    line: 1,
+    column: 1,
+    offset: 0,
+};
+
+/// What stands at an offset of the text.
+fn part_at(source: &str, offset: usize) -> Part
+    requires some { offset < length source.now }
+    requires short { length source.now ≤ 65536 }
+    requires cut { IsCharBoundary source.now offset }
+    ensures stands { Stands (drop offset source.now) result }
+    ensures fits { Fits 0 (length source.now - offset) result }
+    ensures cuts { CutsBehind source.now offset result }
+{
+    first_part(&source.as_bytes()[offset..])
+}
+
+/// The place behind the next bytes.
+fn past_part(source: &str, place: Place, count: usize) -> Place
+    requires within { place.offset + count ≤ length source.now }
+    requires short { length source.now ≤ 65536 }
+    requires known { place ≡ place_after (take place.offset source.now) }
+    ensures value { result ≡ place_after (take (place.offset + count) source.now) }
+    ensures moved { result.offset ≡ place.offset + count }
+{
+    past(source.as_bytes(), place, count)
+}
+
+/// The tokens of a text, in order, or its first fault: numbers 101 to 106, or want of memory (2.1).
+/// A text has at most 65,536 bytes. The tokens borrow it.
+pub fn lex<'a>(alloc: Global, source: &'a str) -> Result<Vec<Token<'a>>, LexFault>
+    ensures tokens { IfOk result (λ found. IsLexed source.now (map lexeme found.items)) }
+    ensures fault { IfErr result (λ fault. IsLexFault source.now fault) }
+{
+    let mut place = START;
+    if source.len() > LIMIT {
+        return Err(LexFault::At {
+            number: LexRefusal::TooLong,
+            place,
+        });
+    }
+    let mut tokens = Vec::new(alloc);
+    'parts: while place.offset < source.len() {
+        match part_at(source, place.offset) {
+            Part::Dropped(count) => place = past_part(source, place, count),
+            Part::Taken(kind, count) => {
+                let text = &source[place.offset..place.offset + count];
+                tokens.push(Token { kind, text, place })?;
+                place = past_part(source, place, count);
+            }
+            Part::Refused(number, count) => {
+                let place = past_part(source, place, count);
+                return Err(LexFault::At { number, place });
+            }
+        }
+    }
+    Ok(tokens)
+}
+
+/// The place behind the whole text, where a text that ends too early is refused.
+pub fn end_place(source: &str) -> Place
+    requires { length source.now ≤ 65536 }
+    ensures { result ≡ place_after source.now }
+{
+    past_part(source, START, source.len())
+}
