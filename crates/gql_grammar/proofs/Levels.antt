@@ -1,5 +1,5 @@
 -- The tokens that are looked at, and how many levels they open.
-use Rattle.std.proofs.Common.{◌≡◌, ◌<◌, ◌≤◌, ◌+◌, ℕ, zero, suc, max, List, [], ◌∷◌, ◌++◌, Bool, true, false, length, refl, ap, ◌∙◌, sym, cond, arith}
+use Rattle.std.proofs.Common.{◌≡◌, ◌<◌, ◌≤◌, ◌+◌, ℕ, zero, suc, max, List, [], ◌∷◌, ◌++◌, Bool, true, false, length, refl, ap, ◌∙◌, sym, cond, subst, arith}
 use Rattle.std.proofs.Math.Nat.{le-max_left, le-max_right, max-le}
 use borrow.Author.Tests.{leb-true, leb-false}
 use lib.Dec.{leb}
@@ -73,3 +73,37 @@ kept n [] h = refl
 kept n (u ∷ ts) h =
     let deeper : depth_from (shift u.kind n) ts ≤ most_levels = let more = le-max_right n (depth_from (shift u.kind n) ts) in omega arith in
     kept_by (leb (shift u.kind n) most_levels) n u ts refl deeper (kept (shift u.kind n) ts deeper)
+
+parts_by : (pass : Bool) (n : ℕ) (u : Lexeme) (ts : List Lexeme) → looked_from (shift u.kind n) ts ++ left_from (shift u.kind n) ts ≡ ts
+    → cond pass (u ∷ looked_from (shift u.kind n) ts) [] ++ cond pass (left_from (shift u.kind n) ts) (u ∷ ts) ≡ u ∷ ts
+parts_by true n u ts h = ap (λ r. u ∷ r) h
+parts_by false n u ts h = refl
+
+pub parts : (n : ℕ) (ts : List Lexeme) → looked_from n ts ++ left_from n ts ≡ ts
+parts n [] = refl
+parts n (u ∷ ts) = parts_by (leb (shift u.kind n) most_levels) n u ts (parts (shift u.kind n) ts)
+
+within_by : (pass : Bool) (n : ℕ) (u : Lexeme) (ts : List Lexeme) → leb (shift u.kind n) most_levels ≡ pass → n ≤ most_levels
+    → (shift u.kind n ≤ most_levels → depth_from (shift u.kind n) (looked_from (shift u.kind n) ts) ≤ most_levels)
+    → depth_from n (cond pass (u ∷ looked_from (shift u.kind n) ts) []) ≤ most_levels
+within_by true n u ts h least next = max-le least (next (leb-true _ _ h))
+within_by false n u ts h least next = least
+
+pub within : (n : ℕ) (ts : List Lexeme) → n ≤ most_levels → depth_from n (looked_from n ts) ≤ most_levels
+within n [] least = least
+within n (u ∷ ts) least = within_by (leb (shift u.kind n) most_levels) n u ts refl least (λ h. within (shift u.kind n) ts h)
+
+over_by : (pass : Bool) (n : ℕ) (u : Lexeme) (ts : List Lexeme) (t : Lexeme) (rest : List Lexeme) → leb (shift u.kind n) most_levels ≡ pass
+    → (left_from (shift u.kind n) ts ≡ t ∷ rest → most_levels < shift t.kind (level (shift u.kind n) (looked_from (shift u.kind n) ts)))
+    → cond pass (left_from (shift u.kind n) ts) (u ∷ ts) ≡ t ∷ rest
+    → most_levels < shift t.kind (level n (cond pass (u ∷ looked_from (shift u.kind n) ts) []))
+over_by true n u ts t rest h next is = next is
+over_by false n u ts t rest h next is =
+    let same : u ≡ t = cc in
+    let more = leb-false (shift u.kind n) most_levels h in
+    subst (λ v. most_levels < shift v.kind n) same more
+
+-- and the first that is left out opens a level too many
+pub over : (n : ℕ) (ts : List Lexeme) (t : Lexeme) (rest : List Lexeme) → left_from n ts ≡ t ∷ rest → most_levels < shift t.kind (level n (looked_from n ts))
+over n [] t rest is = absurd (none t rest is)
+over n (u ∷ ts) t rest is = over_by (leb (shift u.kind n) most_levels) n u ts t rest refl (λ k. over (shift u.kind n) ts t rest k) is

@@ -3,3 +3,4 @@ pub mod Loops
 pub mod Outcomes
 pub mod Unrolled
 pub mod Levels
+pub mod Files

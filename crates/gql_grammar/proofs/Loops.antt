@@ -1,8 +1,8 @@
 -- A loop that reads items for as long as a test holds.
-use Rattle.std.proofs.Common.{◌≡◌, ◌≢◌, IsErrAnd, ℕ, zero, suc, ◌<◌, ◌≤◌, List, [], ◌∷◌, ◌++◌, length, Result, Ok, Err, Bool, true, false, refl, sym, ap, ◌∙◌, subst, arith}
+use Rattle.std.proofs.Common.{◌≡◌, IsErrAnd, ℕ, zero, suc, ◌<◌, ◌≤◌, List, [], ◌∷◌, ◌++◌, length, Result, Ok, Err, Bool, true, false, refl, sym, ap, ◌∙◌, subst, arith}
 use Rattle.gql_text.specs.Lexeme.{Lexeme}
 use Rattle.gql_grammar.specs.declared.error.ParseError.{ParseError}
-use Rattle.gql_grammar.specs.declared.error.ParseError.TheVariants.{Memory}
+use Rattle.gql_grammar.specs.declared.error.ParseError.TheVariants.{Unexpected}
 use Rattle.gql_grammar.specs.Symbol.{Symbol, Phrase, Outcome, Takes, Reads}
 use Rattle.gql_grammar.specs.Repetition.{first_then, some_while, while_from}
 
@@ -32,13 +32,13 @@ going_on {test = test} {item = item} {found = found} {ts = ts} middle x g more i
     let next = on_turn test item g.turns found ts middle x less g.enough more is in
     record { turns = next.0; enough = next.1; shorter = omega (arith, g.shorter); reads = g.reads ∙ next.2 ∙ ap (λ f. while_from test item.read next.0 f middle) (sym add) }
 
-on_fault : {A : Type 0} (test : List Lexeme → Bool) (item : Phrase A) (n : ℕ) (found : List A) (ts : List Lexeme) (e : ParseError) → length ts < n → test ts ≡ true
+on_fault : {A : Type 0} (test : List Lexeme → Bool) (item : Phrase A) (n : ℕ) (found : List A) (ts : List Lexeme) (e : ℕ) → length ts < n → test ts ≡ true
     → item.read ts ≡ Err e → while_from test item.read n found ts ≡ Err e
 unfolding while_from
 on_fault test item zero found ts e enough more is = absurd (omega arith)
 on_fault test item (suc n) found ts e enough more is = rw (more, is)
 
-pub going_fails : {A : Type 0} {test : List Lexeme → Bool} {item : Phrase A} {start : List A} {all : List Lexeme} {found : List A} {ts : List Lexeme} (e : ParseError) → Going test item start all found ts
+pub going_fails : {A : Type 0} {test : List Lexeme → Bool} {item : Phrase A} {start : List A} {all : List Lexeme} {found : List A} {ts : List Lexeme} (e : ℕ) → Going test item start all found ts
     → test ts ≡ true → item.read ts ≡ Err e → while_from test item.read (suc (length all)) start all ≡ Err e
 going_fails {test = test} {item = item} {found = found} {ts = ts} e g more is = g.reads ∙ on_fault test item g.turns found ts e g.enough more is
 
@@ -55,10 +55,10 @@ going_ends {test = test} {item = item} {found = found} {ts = ts} g over = g.read
 
 -- a fault of an item is that of the loop
 pub fault_reads : {A : Type 0} {test : List Lexeme → Bool} {item : Phrase A} {start : List A} {all : List Lexeme} {found : List A} {ts : List Lexeme} → Going test item start all found ts
-    → test ts ≡ true → (e : ParseError) → (e ≢ Memory → item.read ts ≡ Err e) → (r : Result (List A) ParseError) → IsErrAnd r (λ d. d ≡ e) → (new : List Lexeme)
+    → test ts ≡ true → (e : ParseError) → ((k : ℕ) → e ≡ Unexpected k → item.read ts ≡ Err k) → (r : Result (List A) ParseError) → IsErrAnd r (λ d. d ≡ e) → (new : List Lexeme)
     → Reads (while_from test item.read (suc (length all)) start all) r new
 fault_reads g more e is (Ok x) h new = absurd h
-fault_reads g more e is (Err d) h new = λ other. let same : e ≢ Memory = λ m. other (h ∙ m) in going_fails e g more (is same) ∙ ap Err (sym h)
+fault_reads g more e is (Err d) h new = λ k fault. going_fails k g more (is k (sym h ∙ fault))
 
 -- how a loop behind a first item begins
 pub first_began : {A : Type 0} (test : List Lexeme → Bool) (first item : Phrase A) (whole middle : List Lexeme) (x : A) (start : List A) → first.read whole ≡ Ok (x, middle) → start ≡ [] ++ x ∷ []
@@ -70,6 +70,6 @@ pub some_began : {A : Type 0} (test : List Lexeme → Bool) (item : Phrase A) (w
 some_began test item whole middle x start is e = rw (is, e) refl
 
 pub some_fault : {A : Type 0} {test : List Lexeme → Bool} {item : Phrase A} {start : List A} {all : List Lexeme} {found : List A} {ts : List Lexeme} (whole : Outcome (List A)) → whole ≡ while_from test item.read (suc (length all)) start all
-    → Going test item start all found ts → test ts ≡ true → (e : ParseError) → (e ≢ Memory → item.read ts ≡ Err e) → (r : Result (List A) ParseError) → IsErrAnd r (λ d. d ≡ e) → (new : List Lexeme)
+    → Going test item start all found ts → test ts ≡ true → (e : ParseError) → ((k : ℕ) → e ≡ Unexpected k → item.read ts ≡ Err k) → (r : Result (List A) ParseError) → IsErrAnd r (λ d. d ≡ e) → (new : List Lexeme)
     → Reads whole r new
 some_fault whole began g more e is r h new = let P : Outcome _ → Type 0 = λ o. Reads o r new in subst P (sym began) (fault_reads g more e is r h new)

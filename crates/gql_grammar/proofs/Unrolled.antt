@@ -59,8 +59,8 @@ unfolding while_from
 while_agrees n zero test item other found ts h less = refl
 while_agrees n (suc m) test item other found ts h less =
     ap (λ o. cond (test ts) o (Ok (found, ts)))
-        (turn_agrees n m test item other found ts (item.read ts) less (item.takes ts) (λ f us fewer. while_agrees n m test item other f us h fewer)
-            ∙ ap (λ o. and_then o (λ x. while_from test other.read m (found ++ x ∷ []))) (h ts less))
+    (turn_agrees n m test item other found ts (item.read ts) less (item.takes ts) (λ f us fewer. while_agrees n m test item other f us h fewer)
+    ∙ ap (λ o. and_then o (λ x. while_from test other.read m (found ++ x ∷ []))) (h ts less))
 
 pub agree_further : {A : Type 0} (n : ℕ) (test : List Lexeme → Bool) (item other : Phrase A) (found : List A) → Agree n item other → Agree n (further test item found) (further test other found)
 agree_further n test item other found h ts less = while_agrees n (suc (length ts)) test item other found ts h less

@@ -1,5 +1,5 @@
 -- Whole texts: which are accepted, and where the others are refused.
-use Rattle.std.specs.Prelude.{◌≡◌, ◌⊎◌, ℕ, zero, suc, ◌≤◌, ◌-◌, Bool, List, [], ◌∷◌, length, drop, Result, Ok, Err}
+use Rattle.std.specs.Prelude.{◌≡◌, ◌≢◌, ◌⊎◌, ℕ, zero, suc, ◌≤◌, ◌-◌, Bool, List, [], ◌∷◌, length, drop, Result, Ok, Err}
 use Rattle.gql_text.specs.Lexeme.{Lexeme}
 use Rattle.gql_text.specs.declared.place.Place.{Place}
 use Rattle.gql_text.specs.declared.token.LexRefusal.{LexRefusal}
@@ -65,10 +65,13 @@ Refuses p end ts fault = (k : ℕ) × Fails p (looked_at ts) k × (fault_by end 
 -- What a function that parses whole texts answers: as the tokens that are looked at are read, unless memory runs out.
 abbrev pub Parses : {A : Type 0} {d : ℕ → ℕ} {s : Bool} → Symbol d s A → Place → List Lexeme → Result A SyntaxFault → Type 0
 Parses p end ts (Ok a) = p.read (looked_at ts) ≡ Ok (a, [])
-Parses p end ts (Err Memory) = Unit {0}
-Parses p end ts (Err (At number place)) = (k : ℕ) × (p.read (looked_at ts) ≡ Err (e.Unexpected k)) × (fault_by end (looked_at ts) k (left_out ts) ≡ At number place)
+Parses p end ts (Err fault) = fault ≢ Memory → (k : ℕ) × (p.read (looked_at ts) ≡ Err k) × (fault_by end (looked_at ts) k (left_out ts) ≡ fault)
 
 -- A fault with its place, where the tokens that are looked at were read.
 abbrev pub placed : Place → List Lexeme → ParseError → SyntaxFault
 placed end ts e.Memory = Memory
 placed end ts (e.Unexpected k) = fault_by end (looked_at ts) k (left_out ts)
+
+-- this answer, unless memory runs out
+abbrev pub OrMemory : {A : Type 0} → Result A SyntaxFault → Result A SyntaxFault → Type 0
+OrMemory result answer = (result ≡ answer) ⊎ (result ≡ Err Memory)

@@ -1,7 +1,7 @@
 //! Whole texts: the tokens that are looked at, and faults with their places.
-ghost use Rattle.std.specs.Prelude.{◌≡◌, ◌≤◌, length, map, take, drop};
-ghost use Rattle.gql_text.specs.Lexeme.{lexeme};
-ghost use Rattle.gql_grammar.specs.Levels.{left_out, looked_at as the_looked_at, shift};
+ghost use Rattle.std.specs.Prelude.{◌≡◌, ◌≤◌, ◌<◌, ◌++◌, List, [], ◌∷◌, length, map, take, drop};
+ghost use Rattle.gql_text.specs.Lexeme.{Lexeme, lexeme};
+ghost use Rattle.gql_grammar.specs.Levels.{depth, left_out, level, looked_at as the_looked_at, shift};
 ghost use Rattle.gql_grammar.specs.Files.{place_left as the_place_left, placed as the_placed};
 
 use crate::error::ParseError;
@@ -45,7 +45,11 @@ fn place_left(tokens: &[Token<'_>], left: usize, end: Place) -> Place
     ensures { result ≡ the_place_left end (map lexeme tokens.now) left }
 {
     let at = tokens.len().saturating_sub(left);
-    if at < tokens.len() { tokens[at].place } else { end }
+    if at < tokens.len() {
+        tokens[at].place
+    } else {
+        end
+    }
 }
 
 /// A fault that was met in reading those of the tokens that are looked at, with its place.
@@ -69,3 +73,11 @@ pub fn placed(error: ParseError, tokens: &[Token<'_>], end: Place) -> SyntaxFaul
         }
     }
 }
+
+/// The tokens that are looked at are all, or those before the one that opens level 101.
+pub fn levels_law()
+    ensures parts { (ts : List Lexeme) → the_looked_at ts ++ left_out ts ≡ ts }
+    ensures shallow { (ts : List Lexeme) → depth (the_looked_at ts) ≤ 100 }
+    ensures all { (ts : List Lexeme) → depth ts ≤ 100 → left_out ts ≡ [] }
+    ensures over { (ts rest : List Lexeme) (t : Lexeme) → left_out ts ≡ t ∷ rest → 100 < shift t.kind (level 0 (the_looked_at ts)) }
+{}

@@ -8,5 +8,8 @@ mod file;
 
 pub use cursor::Cursor;
 pub use error::ParseError;
-pub use file::{MAX_LEVELS, looked_at, placed};
 pub use fault::{SyntaxFault, SyntaxRefusal};
+pub use file::{MAX_LEVELS, levels_law, looked_at, placed};
+
+#[cfg(test)]
+mod tests;
