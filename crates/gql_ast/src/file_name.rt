@@ -2,7 +2,7 @@ ghost use Rattle.std.specs.Prelude.{◌≡◌, ◌↔◌, IsTrue, IsSome, IfSome
 ghost use Rattle.std.specs.Ordering.{nat_cmp};
 ghost use Rattle.std.specs.Cmp.{partial_equiv_from_equiv};
 ghost use Rattle.std.specs.Cmp.Lexicographic.{slice_cmp, nat_list_eq_equiv, nat_list_cmp_total, texts_ties, texts_po};
-ghost use Rattle.gql_ast.specs.FileNames.{IsFileName, is_file_name_byte};
+ghost use Rattle.gql_ast.specs.FileNames.{is_file_name, is_file_name_byte};
 
 use arrayvec::ArrayString;
 use std::alloc::AllocError;
@@ -11,7 +11,7 @@ use std::marker::Model;
 
 /// The name of a file: 1 to 64 letters, digits, `_`, `.` and `-`, held in place and ordered by bytes.
 /// Contracts see the list of its bytes.
-#[derive(Drop)]
+#[derive(Debug, Drop)]
 pub struct FileName {
     text: ArrayString<64>,
 }
@@ -34,7 +34,7 @@ impl FileName {
     /// Reads a name; none where the text is no name of a file.
     pub fn read(text: &str) -> Option<FileName>
         ensures name { IfSome result (λ n. n ≡ text.now) }
-        ensures exact { IsSome result ↔ IsFileName text.now }
+        ensures exact { IsSome result ↔ IsTrue (is_file_name text.now) }
     {
         if text.is_empty() || !text.bytes().all(is_name_byte) {
             return None;
