@@ -4,3 +4,4 @@ pub mod Unique
 pub mod Gained
 pub mod Fields
 pub mod Phrases
+pub mod Splitting

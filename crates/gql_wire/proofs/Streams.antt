@@ -90,12 +90,12 @@ done_request bs m t b p d em et eb =
     let says = rw n at d.says in
     rw (em, et, eb) (subst (λ (xs : List ℕ). IsRequest xs (request (span_bytes (take p.head bs) p.method) (span_bytes (take p.head bs) p.target) (drop p.head bs) p.closing)) (take-append-drop p.head bs) (whole d.head says))
 
-both : (a b : Bool) → (a && b) ≡ true → (a ≡ true) × (b ≡ true)
+pub both : (a b : Bool) → (a && b) ≡ true → (a ≡ true) × (b ≡ true)
 both true true e = (refl, refl)
 both true false e = absurd (cc)
 both false b e = absurd (cc)
 
-tells : (b : Bool) → (b ≡ true) ⊎ (b ≡ false)
+pub tells : (b : Bool) → (b ≡ true) ⊎ (b ≡ false)
 tells true = inl refl
 tells false = inr refl
 

@@ -51,7 +51,7 @@ begun_of (a ∷ []) x h = absurd (omega arith)
 begun_of (a ∷ b ∷ bs) x h = refl
 
 -- what begins with no empty line is not behind one
-not_blank : (a b x y : List ℕ) → begins_blank a ≡ false → 2 ≤ length a → a ++ x ≡ (13 ∷ 10 ∷ b) ++ y → ⊥
+pub not_blank : (a b x y : List ℕ) → begins_blank a ≡ false → 2 ≤ length a → a ++ x ≡ (13 ∷ 10 ∷ b) ++ y → ⊥
 not_blank a b x y f h e = let bad : false ≡ true = sym f ∙ begun_of a x h ∙ ap begins_blank e in absurd (let r : zero ≡ suc zero = cc in omega arith)
 
 -- two whole requests with one head
@@ -63,7 +63,7 @@ whole_same h b c x y m n t u v w e f =
     let method : m ≡ n = cc in let target : t ≡ u = cc in let closing : v ≡ w = cc in
     (ap (λ (z : List ℕ). h ++ z) same, cc)
 
-cut_left : (h b c : List ℕ) → h ++ b ≡ h ++ c → b ≡ c
+pub cut_left : (h b c : List ℕ) → h ++ b ≡ h ++ c → b ≡ c
 cut_left h b c e = sym (drop-append_seam h b) ∙ ap (λ (z : List ℕ). drop (length h) z) e ∙ drop-append_seam h c
 
 refused_whole : (h k b x y : List ℕ) (f : HeadRefusal) (fb : Bool) (m t : List ℕ) (v : Bool) → IsHead h → IsHead k → Says h (refuse f fb) → Says k (expects m t (length b) v)

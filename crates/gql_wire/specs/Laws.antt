@@ -1,6 +1,6 @@
 -- Laws over streams.
 use Rattle.std.specs.Prelude.{ℕ, ◌≡◌, ◌+◌, ◌-◌, List, [], ◌++◌, length}
-use Rattle.gql_wire.specs.Stream.{Req, IsRequest, Placed, Splits, StaysOpen, IsUnfinished}
+use Rattle.gql_wire.specs.Stream.{Req, IsRequest, Placed, Splits, StaysOpen, IsUnfinished, skip_blank}
 
 -- bytes begin with one request at most
 abbrev pub OneReading : Type 0
@@ -18,6 +18,10 @@ Feeding = (at : ℕ) (a b : List ℕ) (rs qs : List Placed) (r q : List ℕ) →
 -- a stream that closed drops what follows
 abbrev pub Closed : Type 0
 Closed = (at : ℕ) (a b : List ℕ) (rs : List Placed) (r : List ℕ) → Splits at a rs r → (StaysOpen rs → ⊥) → Splits at (a ++ b) rs r
+
+-- the rest is unfinished, and has no pairs CR LF at its front
+abbrev pub RestUnfinished : Type 0
+RestUnfinished = (at : ℕ) (bytes : List ℕ) (rs : List Placed) (r : List ℕ) → Splits at bytes rs r → IsUnfinished r × (skip_blank r ≡ r)
 
 -- no bytes are an unfinished request
 abbrev pub NothingUnfinished : Type 0

@@ -78,7 +78,7 @@ pub record Placed : Type 0 where
 -- the bytes from the offset `at` on are these requests and an unfinished rest. A request that closes
 -- the connection is the last, and the bytes behind it are dropped.
 pub data Splits : ℕ → List ℕ → List Placed → List ℕ → Type 0 where
-  unfinished : {at : ℕ} {bytes : List ℕ} → IsUnfinished bytes → Splits at bytes [] (skip_blank bytes)
+  unfinished : {at : ℕ} {bytes rest : List ℕ} → IsUnfinished bytes → rest ≡ skip_blank bytes → Splits at bytes [] rest
   last : {at : ℕ} {front bytes : List ℕ} (more : List ℕ) {r : Req} → IsRequest front r → closes r ≡ true → front ++ more ≡ bytes
       → Splits at bytes (record { request = r; end = at + length front } ∷ []) []
   next : {at : ℕ} {front more bytes rest : List ℕ} {r : Req} {rs : List Placed} → IsRequest front r → closes r ≡ false → front ++ more ≡ bytes
