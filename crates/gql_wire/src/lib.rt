@@ -7,6 +7,8 @@ mod device;
 mod head;
 pub mod laws;
 mod stream;
+#[cfg(test)]
+mod tests;
 
 pub use answer::{ANSWER_HEAD_ROOM, Allow, answer_head};
 pub use device::{

@@ -8,7 +8,7 @@ use std::alloc::{AllocError, Global};
 use std::marker::Model;
 
 /// A request, or a head that is refused.
-#[derive(Drop)]
+#[derive(Debug, Drop, PartialEq, Eq)]
 pub enum Framed {
     /// A request whose body came.
     Request {
@@ -225,6 +225,7 @@ impl Framer {
     /// refused what was held is lost.
     pub fn take(&mut self, piece: &[u8]) -> Result<(usize, Option<Framed>), AllocError>
         ensures within { IfOk result (λ taken. taken.0 ≤ length piece.now) }
+        ensures moved { IfOk result (λ taken. IfSome taken.1 (λ _. 0 < taken.0)) }
         ensures more { IfOk result (λ taken. IfNone taken.1
             ((taken.0 ≡ length piece.now) × (self.new ≡ skip_blank (self.old ++ piece.now)))) }
         ensures framed { IfOk result (λ taken. IfSome taken.1 (λ framed.
