@@ -1,4 +1,5 @@
 ghost use Rattle.std.specs.Prelude.{◌≡◌, ◌+◌, ◌-◌, ◌^◌, ◌<◌, ◌≤◌, ◌++◌, ◌↔◌, ◌≢◌, [], List, ℕ, Option, Some, None, length, take, drop, min, IfOk, OnOk, OnErr, MatchResult, IsTrue, IsOk, IsErr};
+ghost use Rattle.std.specs.Io.KnownBytes.{ReadConsumes, WriteAppends};
 ghost use Rattle.gql_wire.specs.Device.{Gains, GainsPrefix, next_failing};
 
 use std::alloc::Global;
@@ -236,6 +237,7 @@ pub struct ReadDevice<R: Read> {
 impl<R: Read> ReadDevice<R> {
     /// The device, of which no read was made.
     pub fn new(inner: R) -> ReadDevice<R>
+        ensures inner { result.inner ≡ inner }
         ensures reads { result.reads ≡ 0 }
         ensures failures { result.failures ≡ 0 }
     {
@@ -254,7 +256,20 @@ impl<R: Read> Source for ReadDevice<R> {
 
     ghost failures = { λ s. s.failures };
 
-    fn read(&mut self, piece: &mut [u8]) -> Result<usize, ReadFailed> {
+    fn read(&mut self, piece: &mut [u8]) -> Result<usize, ReadFailed>
+        requires countable { self.old.reads < 2 ^ 64 - 1 }
+        requires failable { self.old.failures < 2 ^ 64 - 1 }
+
+        // What each source that tells no bytes ensures.
+        ensures within { IfOk result (λ n. n ≤ length piece.new) }
+        ensures bytes { IfOk result (λ n. Gains None None (take n piece.new)) }
+        ensures none { OnErr result (Gains None None []) }
+        ensures counted { self.new.reads ≡ self.old.reads + 1 }
+        ensures failed { MatchResult result (λ _. self.new.failures ≡ self.old.failures) (λ _. self.new.failures ≡ self.old.failures + 1) }
+
+        // Where the device's own type tells what is left of it, that is what is read.
+        ensures through { ReadConsumes (R.remaining self.old.inner) (R.remaining self.new.inner) result piece.new }
+    {
         self.reads += 1;
         let Ok(count) = self.inner.read(piece) else {
             self.failures += 1;
@@ -276,7 +291,8 @@ pub struct WriteDevice<W: Write> {
 impl<W: Write> WriteDevice<W> {
     /// The device, of which no write failed.
     pub fn new(inner: W) -> WriteDevice<W>
-        ensures { result.failures ≡ 0 }
+        ensures inner { result.inner ≡ inner }
+        ensures failures { result.failures ≡ 0 }
     {
         WriteDevice { inner, failures: 0 }
     }
@@ -287,7 +303,20 @@ impl<W: Write> Sink for WriteDevice<W> {
 
     ghost failures = { λ s. s.failures };
 
-    fn write(&mut self, bytes: &[u8]) -> Result<usize, WriteFailed> {
+    fn write(&mut self, bytes: &[u8]) -> Result<usize, WriteFailed>
+        requires failable { self.old.failures < 2 ^ 64 - 1 }
+        requires some { 0 < length bytes.now }
+
+        // What each sink that tells no bytes ensures.
+        ensures within { IfOk result (λ n. n ≤ length bytes.now) }
+        ensures moved { IfOk result (λ n. 0 < n) }
+        ensures bytes { IfOk result (λ n. Gains None None (take n bytes.now)) }
+        ensures none { OnErr result (Gains None None []) }
+        ensures failed { MatchResult result (λ _. self.new.failures ≡ self.old.failures) (λ _. self.new.failures ≡ self.old.failures + 1) }
+
+        // Where the device's own type tells what it holds, that is where the bytes go.
+        ensures through { WriteAppends (W.contents self.old.inner) (W.contents self.new.inner) result bytes.now }
+    {
         match self.inner.write(bytes) {
             Ok(count) if count > 0 => Ok(count),
             _ => {

@@ -6,6 +6,7 @@ mod answer;
 mod device;
 mod head;
 pub mod laws;
+mod part;
 mod stream;
 #[cfg(test)]
 mod tests;
