@@ -7,6 +7,8 @@ mod lexer;
 mod number;
 mod pieces;
 mod place;
+#[cfg(test)]
+mod tests;
 mod token;
 mod value;
 
