@@ -3,6 +3,7 @@
 
 mod block;
 mod front;
+pub mod laws;
 mod lexer;
 mod number;
 mod pieces;
