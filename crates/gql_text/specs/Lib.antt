@@ -1,5 +1,7 @@
 pub mod Chars
+pub mod Escapes
 pub mod Kinds
+pub mod Laws
 pub mod Lexeme
 pub mod Lexis
 pub mod Marks
@@ -8,3 +10,4 @@ pub mod Numbers
 pub mod Parts
 pub mod Pieces
 pub mod Place
+pub mod Values
