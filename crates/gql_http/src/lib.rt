@@ -8,5 +8,6 @@ mod report_body;
 mod refusal_answer;
 mod refusal_body;
 mod route;
+mod service;
 mod write;
 mod write_answer;

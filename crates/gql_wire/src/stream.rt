@@ -262,6 +262,7 @@ impl Framer {
             ((taken.0 ≡ length piece.now) × (self.new ≡ skip_blank (self.old ++ piece.now)))) }
         ensures framed { IfOk result (λ taken. IfSome taken.1 (λ framed.
             (self.new ≡ []) × IsRequest (self.old ++ take taken.0 piece.now) (req framed))) }
+        ensures unfinished { IfOk result (λ taken. IfNone taken.1 (IsUnfinished (self.old ++ piece.now))) }
         ensures rest { IfOk result (λ _. IsUnfinished self.new) }
         ensures emptied { OnErr result (self.new ≡ []) }
     {
