@@ -1,2 +1,5 @@
 pub mod Appended
 pub mod Names
+pub mod Serving
+pub mod Joining
+pub mod Exchanging

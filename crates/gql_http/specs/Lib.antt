@@ -4,3 +4,6 @@ pub mod Routes
 pub mod Called
 pub mod Said
 pub mod Service
+pub mod Exchange
+pub mod Hubs
+pub mod Pipes

@@ -1,13 +1,18 @@
 //! The registry over HTTP: the answers to a stream of requests.
 #![tactic(auto)]
 
-
 mod answer;
+mod hub;
+mod piping;
 mod places;
-mod report_body;
 mod refusal_answer;
 mod refusal_body;
+mod report_body;
 mod route;
+mod serve;
 mod service;
 mod write;
 mod write_answer;
+
+pub use hub::{CONNECTIONS, Fed, Hub, OpenRefusal};
+pub use piping::{MAX_READS, PipeEnd, PipeFault, pipe};

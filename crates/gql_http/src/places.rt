@@ -56,7 +56,11 @@ pub fn write_owner(
 
 /// Writes places with commas between them.
 #[tactic(auto, unfolding(crate::specs::Json::places_text))]
-pub fn write_places(alloc: Global, out: &mut Vec<u8>, places: &[FilePlace]) -> Result<(), AllocError>
+pub fn write_places(
+    alloc: Global,
+    out: &mut Vec<u8>,
+    places: &[FilePlace],
+) -> Result<(), AllocError>
     ensures { OnOk result (out.new.items ≡ out.old.items ++ places_text places.now) }
 {
     let Some((first, rest)) = places.split_first() else {

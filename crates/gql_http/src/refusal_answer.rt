@@ -26,7 +26,12 @@ pub fn head_answer(alloc: Global, refusal: HeadRefusal) -> Result<Answer, AllocE
             302,
         ),
         HeadRefusal::LongBody => {
-            simple(alloc, StatusCode::PAYLOAD_TOO_LARGE, "body is too long", 303)
+            simple(
+                alloc,
+                StatusCode::PAYLOAD_TOO_LARGE,
+                "body is too long",
+                303,
+            )
         }
         HeadRefusal::TransferCoding => simple(
             alloc,
@@ -92,7 +97,12 @@ pub fn refusal_answer(alloc: Global, refusal: &Refusal) -> Result<Answer, AllocE
             Ok(with_body(StatusCode::BAD_REQUEST, body))
         }
         Refusal::NotText => simple(alloc, StatusCode::BAD_REQUEST, "body is not UTF-8", 202),
-        Refusal::TooLong => simple(alloc, StatusCode::PAYLOAD_TOO_LARGE, "file is too long", 203),
+        Refusal::TooLong => simple(
+            alloc,
+            StatusCode::PAYLOAD_TOO_LARGE,
+            "file is too long",
+            203,
+        ),
         Refusal::NoFile => simple(alloc, StatusCode::NOT_FOUND, "no such file", 204),
         Refusal::FilesFull => simple(alloc, StatusCode::CONFLICT, "too many files", 205),
         Refusal::Stale { revision } => {

@@ -49,13 +49,7 @@ pub fn write_edited(out: &mut Vec<u8>, edited: Edited, ending: Ending)
     ensures { out.new.items ≡ out.old.items ++ ended_bytes ending (said 200 (edited_text edited.revision edited.faults)) }
 {
     let body = edited_body(edited);
-    let Ok(()) = write_parts(
-        out,
-        StatusCode::OK,
-        None,
-        body.as_str().as_bytes(),
-        ending,
-    ) else {
+    let Ok(()) = write_parts(out, StatusCode::OK, None, body.as_str().as_bytes(), ending) else {
         unreachable!();
     };
 }

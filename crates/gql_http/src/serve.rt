@@ -1,0 +1,55 @@
+//! The requests that a piece of bytes completes, answered in their order.
+ghost use Rattle.std.specs.Prelude.{◌≡◌, ◌++◌, ◌≤◌, length, drop, IfOk, OnErr, [], if◌then◌else◌, Some, None};
+ghost use Rattle.gql_registry.specs.State.{state_of};
+ghost use Rattle.gql_wire.specs.Stream.{closes, req};
+ghost use Rattle.gql_http.specs.Exchange.{Serves, Breaks};
+
+use crate::service::step;
+use gql_registry::Registry;
+use gql_wire::{Framed, Framer};
+use std::alloc::{AllocError, Global};
+
+fn closes(framed: &Framed) -> bool
+    ensures { result ≡ closes (req framed.now) }
+{
+    match framed {
+        Framed::Request { closing, .. } => *closing,
+        Framed::Refused { .. } => true,
+    }
+}
+
+fn rest_from(piece: &[u8], at: usize) -> &[u8]
+    requires { at ≤ length piece.now }
+    ensures { result.now ≡ drop at piece.now }
+{
+    &piece[at..]
+}
+
+/// Takes a piece of a connection's bytes, makes the requests that it completes and writes their answers. Answers
+/// whether a request closes the connection; later bytes are then dropped. Where memory is wanting, the requests before
+/// are made and answered.
+pub fn serve(
+    alloc: Global,
+    registry: &mut Registry,
+    framer: &mut Framer,
+    piece: &[u8],
+    out: &mut Vec<u8>,
+) -> Result<bool, AllocError>
+    requires { out.old.items ≡ [] }
+    ensures ok { IfOk result (λ closed. Serves (state_of registry.old) (framer.old ++ piece.now) out.new.items closed (state_of registry.new)
+        (if closed then None else Some framer.new)) }
+    ensures err { OnErr result (Breaks (state_of registry.old) (framer.old ++ piece.now) out.new.items (state_of registry.new)) }
+{
+    let mut at = 0;
+    'requests: loop {
+        let (count, framed) = framer.take(rest_from(piece, at))?;
+        let Some(framed) = framed else {
+            return Ok(false);
+        };
+        at += count;
+        step(alloc, registry, out, &framed)?;
+        if closes(&framed) {
+            return Ok(true);
+        }
+    }
+}
