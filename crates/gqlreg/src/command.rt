@@ -1,0 +1,53 @@
+//! The command line.
+use clap::error::ErrorKind;
+use clap::Command as Grammar;
+use std::alloc::{AllocError, Global};
+
+/// What a command line asks for.
+#[derive(Clone, Copy, Debug, PartialEq, Eq)]
+pub enum Command {
+    /// Standard input to standard output.
+    Pipe,
+}
+
+/// Why a command line asks for nothing, with what is to be told.
+#[derive(Debug, PartialEq, Eq, Drop)]
+pub enum CommandFault {
+    /// Help was asked for.
+    Help(String),
+    /// The command line is refused.
+    Refused(String),
+    /// Memory was wanting.
+    Memory,
+}
+
+fn grammar<'a>(alloc: Global) -> Result<Grammar<'a>, AllocError> {
+    let pipe = Grammar::new(alloc, "pipe")
+        .about("Answers the HTTP/1.1 requests of standard input on standard output");
+    Grammar::new(alloc, "gqlreg")
+        .about("A GraphQL schema registry with persisted operations")
+        .subcommand_required(true)
+        .subcommand(pipe)
+}
+
+fn told(alloc: Global, error: &clap::Error) -> CommandFault {
+    let Ok(text) = format!(in alloc; "{error}") else {
+        return CommandFault::Memory;
+    };
+    match error.kind() {
+        ErrorKind::DisplayHelp => CommandFault::Help(text),
+        ErrorKind::OutOfMemory => CommandFault::Memory,
+        _ => CommandFault::Refused(text),
+    }
+}
+
+/// What the words of a command line ask for, the program's name first.
+pub fn read_command(alloc: Global, words: &[&str]) -> Result<Command, CommandFault> {
+    let Ok(grammar) = grammar(alloc) else {
+        return Err(CommandFault::Memory);
+    };
+    match grammar.try_get_matches_from(words) {
+        Ok(_) => Ok(Command::Pipe),
+        Err(error) => Err(told(alloc, &error)),
+    }
+}

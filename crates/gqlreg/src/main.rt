@@ -1,0 +1,76 @@
+//! `gqlreg pipe` answers the requests of standard input on standard output.
+#![tactic(auto)]
+
+mod command;
+mod status;
+#[cfg(test)]
+mod tests;
+
+use crate::command::{Command, CommandFault, read_command};
+use crate::status::status_of;
+use gql_http::{Hub, pipe};
+use gql_registry::Registry;
+use gql_wire::{ReadDevice, WriteDevice};
+use std::alloc::{AllocError, Global};
+use std::env;
+use std::io;
+use std::process::ExitCode;
+
+/// The words of the command line, the program's name first.
+fn words(rt: &HostRuntime) -> io::Result<Vec<String>> {
+    let mut words = Vec::new(rt.alloc());
+    for word in env::args(rt)? {
+        words.push(word)?;
+    }
+    Ok(words)
+}
+
+fn texts<'w>(alloc: Global, words: &'w [String]) -> Result<Vec<&'w str>, AllocError> {
+    let mut texts = Vec::new(alloc);
+    for word in words {
+        texts.push(word.as_str())?;
+    }
+    Ok(texts)
+}
+
+fn command_of(alloc: Global, words: &[String]) -> Result<Command, CommandFault> {
+    let Ok(texts) = texts(alloc, words) else {
+        return Err(CommandFault::Memory);
+    };
+    read_command(alloc, texts.as_slice())
+}
+
+/// Standard input to standard output.
+fn run_pipe(rt: &HostRuntime) -> u8 {
+    let mut hub = Hub::new(rt.alloc(), Registry::new(rt.alloc()));
+    let mut reader = ReadDevice::new(rt.stdin());
+    let mut writer = WriteDevice::new(rt.stdout());
+    status_of(&pipe(&mut hub, &mut reader, &mut writer))
+}
+
+/// Tells of a command line that is refused, or helps, and gives the status.
+fn tell(rt: &HostRuntime, fault: CommandFault) -> u8 {
+    match fault {
+        CommandFault::Help(text) => match rt.print(text) {
+            Ok(()) => 0,
+            Err(_) => 1,
+        },
+        CommandFault::Refused(text) => {
+            let _ = rt.eprintln(text);
+            2
+        }
+        CommandFault::Memory => 4,
+    }
+}
+
+/// Status 0: done; 1: a read or a write failed, or there were too many reads; 2: the command line is refused; 3: the
+/// input ended within a request; 4: memory was wanting.
+fn main(rt: HostRuntime) -> ExitCode {
+    let Ok(words) = words(&rt) else {
+        return ExitCode::from(2);
+    };
+    ExitCode::from(match command_of(rt.alloc(), words.as_slice()) {
+        Ok(Command::Pipe) => run_pipe(&rt),
+        Err(fault) => tell(&rt, fault),
+    })
+}
