@@ -11,6 +11,8 @@ mod report_body;
 mod route;
 mod serve;
 mod service;
+#[cfg(test)]
+mod tests;
 mod write;
 mod write_answer;
 

@@ -1,6 +1,6 @@
 //! The command line.
-use clap::error::ErrorKind;
 use clap::Command as Grammar;
+use clap::error::ErrorKind;
 use std::alloc::{AllocError, Global};
 
 /// What a command line asks for.
@@ -22,8 +22,9 @@ pub enum CommandFault {
 }
 
 fn grammar<'a>(alloc: Global) -> Result<Grammar<'a>, AllocError> {
-    let pipe = Grammar::new(alloc, "pipe")
-        .about("Answers the HTTP/1.1 requests of standard input on standard output");
+    let pipe = Grammar::new(alloc, "pipe").about(
+        "Answers the HTTP/1.1 requests of standard input on standard output",
+    );
     Grammar::new(alloc, "gqlreg")
         .about("A GraphQL schema registry with persisted operations")
         .subcommand_required(true)

@@ -12,9 +12,8 @@ use gql_http::{Hub, pipe};
 use gql_registry::Registry;
 use gql_wire::{ReadDevice, WriteDevice};
 use std::alloc::{AllocError, Global};
-use std::env;
-use std::io;
 use std::process::ExitCode;
+use std::{env, io};
 
 /// The words of the command line, the program's name first.
 fn words(rt: &HostRuntime) -> io::Result<Vec<String>> {
