@@ -217,7 +217,7 @@ pub record ClosesAscii (k : ℕ) (bs : List ℕ) : Type 0 where
   pub within : k ≤ length bs
   pub ascii : get_or bs (k - 1) 0 < 128
 
-string_end : (bs : List ℕ) (k : ℕ) → string_piece bs ≡ Closes k → ClosesAscii k bs
+pub string_end : (bs : List ℕ) (k : ℕ) → string_piece bs ≡ Closes k → ClosesAscii k bs
 unfolding string_piece
 string_end [] k e = absurd (cc)
 string_end (b ∷ bs) k e =
@@ -235,7 +235,7 @@ third_ascii (a ∷ []) e = absurd (cc)
 third_ascii (a ∷ b ∷ []) e = absurd (cc)
 third_ascii (a ∷ b ∷ c ∷ bs) e = is_ascii c 34 (both_of (a == 34 && b == 34) (c == 34) e).1 (lit< tt)
 
-block_end : (bs : List ℕ) (k : ℕ) → block_piece bs ≡ Closes k → ClosesAscii k bs
+pub block_end : (bs : List ℕ) (k : ℕ) → block_piece bs ≡ Closes k → ClosesAscii k bs
 unfolding block_piece
 block_end [] k e = absurd (cc)
 block_end (b ∷ bs) k e =

@@ -25,7 +25,7 @@ first_is_other : (p q r : Bool) → p ≡ false → (p && not (q && r)) ≡ fals
 first_is_other false q r e = refl
 first_is_other true q r e = absurd (cc)
 
-none_from : (b : ℕ) (rest : List ℕ) → (b == 34) ≡ false → one_quote (b ∷ rest) ≡ false
+pub none_from : (b : ℕ) (rest : List ℕ) → (b == 34) ≡ false → one_quote (b ∷ rest) ≡ false
 none_from b [] e = e
 none_from b (c ∷ []) e = e
 none_from b (c ∷ d ∷ bs) e = first_is_other (b == 34) (c == 34) (d == 34) e

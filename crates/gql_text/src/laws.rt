@@ -26,3 +26,10 @@ pub fn tokens_of_a_text()
     ensures kinds { (source : List ℕ) (tokens : List Lexeme) → IsLexed source tokens → All (λ token. token.kind ≢ EndOfText) tokens }
 {
 }
+
+/// A token is as long as it can be: its text alone is that token, and no longer front of the text is a token.
+pub fn longest_match()
+    ensures alone { (rest : List ℕ) (kind : Kind) (n : ℕ) → Stands rest (Taken kind n) → IsToken kind (take n rest) }
+    ensures no_longer { (rest : List ℕ) (kind other : Kind) (n m : ℕ) → Stands rest (Taken kind n) → n < m → m ≤ length rest → IsToken other (take m rest) → ⊥ }
+{
+}
