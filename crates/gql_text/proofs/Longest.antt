@@ -1,27 +1,25 @@
 -- What stands at the front of a text doesn't change when the text is cut behind it.
-use Rattle.std.proofs.Common.{◌≡◌, ◌≢◌, ℕ, zero, suc, ◌+◌, ◌-◌, ◌<◌, ◌≤◌, List, [], ◌∷◌, ◌++◌, length, take, drop, length-drop, length-append, refl, sym, ap, subst, ◌∙◌, arith, Bool, true, false, cond, Option, Some, None, inl, inr, ◌⊎◌}
+use Rattle.std.proofs.Common.{◌≡◌, ℕ, ◌+◌, ◌<◌, ◌≤◌, List, [], ◌∷◌, ◌++◌, length, take, drop, length-drop, refl, sym, ap, subst, ◌∙◌, arith, Bool, true, false, cond, Option, Some, None, inl, inr}
 use Rattle.std.specs.List.{prefix_len, list_any}
 use Rattle.std.specs.Char.{is_ascii_digit, is_ascii_hexdigit}
-use Rattle.std.specs.Prelude.{codes, ◌==◌, if◌then◌else◌, ◌&&◌, ◌||◌, not, unwrap_or}
+use Rattle.std.specs.Prelude.{codes, ◌==◌, ◌&&◌, ◌||◌, not}
 use Rattle.std.proofs.lemmas.List.{drop-append-le, take-append-drop, length-take-le}
-use Rattle.std.proofs.lemmas.List.Sums.{prefix_len-le-length}
 use Rattle.gql_text.specs.Chars.{is_name_start, is_name_byte, is_break, is_blank, is_source_byte, begins, three_quotes, one_quote}
 use Rattle.gql_text.specs.Number.{number_end, exponent_digits, exponent_part, fraction_digits, fraction_part, number_part, spoils_number, is_exponent_mark, sign_len}
 use Rattle.gql_text.specs.Marks.{mark_kind, mark_part, dots_part, order_part, comment_part, plain_part}
-use Rattle.gql_text.specs.Pieces.{four_digits, is_high, is_low, escaped_number, short_escape, number_piece, digits_piece, escape_piece, string_piece, block_piece, hex_value}
-use Rattle.gql_text.specs.Lexis.{Run, closes, goes, stops, refused_at, Stands, block_string, string, plain}
+use Rattle.gql_text.specs.Pieces.{four_digits, is_high, is_low, escaped_number, number_piece, digits_piece, escape_piece, string_piece, block_piece}
+use Rattle.gql_text.specs.Lexis.{Run, closes, goes, stops, Stands, block_string, string, plain}
 use Rattle.gql_text.specs.Laws.{IsToken}
-use Rattle.gql_text.specs.Parts.{Fits}
 use Rattle.gql_text.specs.declared.token.Kind.{Kind}
-use Rattle.gql_text.specs.declared.token.Kind.TheVariants.{Name, IntValue, FloatValue, StringValue, BlockString, Ellipsis}
+use Rattle.gql_text.specs.declared.token.Kind.TheVariants.{Name, IntValue, FloatValue, StringValue, BlockString}
 use Rattle.gql_text.specs.declared.front.Part.{Part}
-use Rattle.gql_text.specs.declared.front.Part.TheVariants.{Dropped, Taken, Refused}
+use Rattle.gql_text.specs.declared.front.Part.TheVariants.{Dropped, Taken}
 use Rattle.gql_text.specs.declared.front.Piece.{Piece}
-use Rattle.gql_text.specs.declared.front.Piece.TheVariants.{Closes, Goes, Stops}
-use Rattle.gql_text.proofs.Runs.{IsStep, chosen, split, short_stops, string_goes, block_goes, escaped_long, four_digits_long}
+use Rattle.gql_text.specs.declared.front.Piece.TheVariants.{Closes, Goes}
+use Rattle.gql_text.proofs.Runs.{chosen, short_stops, string_goes, block_goes}
 use Rattle.gql_text.proofs.Fitting.{stands_fits, escape_goes_on}
 use Rattle.gql_text.proofs.Fronts.{none_from}
-use Rattle.gql_text.proofs.Cuts.{both_of, string_end, block_end, ClosesAscii}
+use Rattle.gql_text.proofs.Cuts.{both_of, string_end, block_end}
 use Rattle.gql_text.proofs.Readings.{stands_one}
 
 -- a token of at most so many bytes that is the first is the second
@@ -60,46 +58,52 @@ end_long kind k n i bs e = elim (chosen (begins spoils_number bs) e) [ inl h ↦
 exponent_digits_long : (k : Kind) (n i : ℕ) (bs : List ℕ) → exponent_digits n bs ≡ Taken k i → n + prefix_len is_ascii_digit bs ≤ i
 unfolding exponent_digits
 exponent_digits_long k n i bs e = elim (chosen (prefix_len is_ascii_digit bs == 0) e) [
-    inl h ↦ absurd (let g = h.1 in cc)
-  | inr h ↦ end_long FloatValue k (n + prefix_len is_ascii_digit bs) i (drop (prefix_len is_ascii_digit bs) bs) h.1 ]
+  | inl h ↦ absurd (let g = h.1 in cc)
+  | inr h ↦ end_long FloatValue k (n + prefix_len is_ascii_digit bs) i (drop (prefix_len is_ascii_digit bs) bs) h.1
+]
 
 exponent_long : (kind k : Kind) (n i : ℕ) (bs : List ℕ) → exponent_part kind n bs ≡ Taken k i → n ≤ i
 unfolding exponent_part
 exponent_long kind k n i [] e = end_long kind k n i [] e
 exponent_long kind k n i (b ∷ bs) e = elim (chosen (is_exponent_mark b) e) [
-    inl h ↦ omega (arith, exponent_digits_long k (n + 1 + sign_len bs) i (drop (sign_len bs) bs) h.1)
-  | inr h ↦ end_long kind k n i (b ∷ bs) h.1 ]
+  | inl h ↦ omega (arith, exponent_digits_long k (n + 1 + sign_len bs) i (drop (sign_len bs) bs) h.1)
+  | inr h ↦ end_long kind k n i (b ∷ bs) h.1
+]
 
 fraction_digits_long : (k : Kind) (n i : ℕ) (bs : List ℕ) → fraction_digits n bs ≡ Taken k i → n + prefix_len is_ascii_digit bs ≤ i
 unfolding fraction_digits
 fraction_digits_long k n i bs e = elim (chosen (prefix_len is_ascii_digit bs == 0) e) [
-    inl h ↦ absurd (let g = h.1 in cc)
-  | inr h ↦ exponent_long FloatValue k (n + prefix_len is_ascii_digit bs) i (drop (prefix_len is_ascii_digit bs) bs) h.1 ]
+  | inl h ↦ absurd (let g = h.1 in cc)
+  | inr h ↦ exponent_long FloatValue k (n + prefix_len is_ascii_digit bs) i (drop (prefix_len is_ascii_digit bs) bs) h.1
+]
 
 fraction_long : (k : Kind) (n i : ℕ) (bs : List ℕ) → fraction_part n bs ≡ Taken k i → n ≤ i
 unfolding fraction_part
 fraction_long k n i [] e = exponent_long IntValue k n i [] e
 fraction_long k n i (b ∷ bs) e = elim (chosen (b == 46) e) [
-    inl h ↦ omega (arith, fraction_digits_long k (n + 1) i bs h.1)
-  | inr h ↦ exponent_long IntValue k n i (b ∷ bs) h.1 ]
+  | inl h ↦ omega (arith, fraction_digits_long k (n + 1) i bs h.1)
+  | inr h ↦ exponent_long IntValue k n i (b ∷ bs) h.1
+]
 
 end_keeps : (kind : Kind) (n most : ℕ) (front more : List ℕ) → Keeps most (number_end kind n (front ++ more)) (number_end kind n front)
 unfolding Keeps
 end_keeps kind n most front more k i h e = elim (chosen (begins spoils_number (front ++ more)) e) [
-    inl g ↦ absurd (let f = g.1 in cc)
-  | inr g ↦ rw (begins_front spoils_number front more g.0) g.1 ]
+  | inl g ↦ absurd (let f = g.1 in cc)
+  | inr g ↦ rw (begins_front spoils_number front more g.0) g.1
+]
 
 exponent_digits_keeps : (n : ℕ) (front more : List ℕ) → Keeps (n + length front) (exponent_digits n (front ++ more)) (exponent_digits n front)
 unfolding exponent_digits Keeps
 exponent_digits_keeps n front more k i h e = elim (chosen (prefix_len is_ascii_digit (front ++ more) == 0) e) [
-    inl g ↦ absurd (let f = g.1 in cc)
+  | inl g ↦ absurd (let f = g.1 in cc)
   | inr g ↦
       let d : ℕ = prefix_len is_ascii_digit (front ++ more) in
       let long = end_long FloatValue k (n + d) i (drop d (front ++ more)) g.1 in
       let short : d ≤ length front = omega (arith, long, h) in
       let same : prefix_len is_ascii_digit front ≡ d = run_front is_ascii_digit front more short in
       let rest : number_end FloatValue (n + d) (drop d front ++ more) ≡ Taken k i = subst (λ xs. number_end FloatValue (n + d) xs ≡ Taken k i) (drop-append-le d front more short) g.1 in
-      rw (same, g.0) (end_keeps FloatValue (n + d) i (drop d front) more k i (omega arith) rest) ]
+      rw (same, g.0) (end_keeps FloatValue (n + d) i (drop d front) more k i (omega arith) rest)
+]
 
 sign_front : (front more : List ℕ) → sign_len (front ++ more) ≤ length front → sign_len front ≡ sign_len (front ++ more)
 sign_front [] more h = omega (arith, h)
@@ -109,57 +113,66 @@ exponent_keeps : (kind : Kind) (n : ℕ) (front more : List ℕ) → Keeps (n + 
 unfolding exponent_part Keeps
 exponent_keeps kind n [] [] k i h e = e
 exponent_keeps kind n [] (b ∷ more) k i h e = elim (chosen (is_exponent_mark b) e) [
-    inl g ↦ absurd (omega (arith, h, exponent_digits_long k (n + 1 + sign_len more) i (drop (sign_len more) more) g.1))
-  | inr g ↦ end_keeps kind n i [] (b ∷ more) k i (omega arith) g.1 ]
+  | inl g ↦ absurd (omega (arith, h, exponent_digits_long k (n + 1 + sign_len more) i (drop (sign_len more) more) g.1))
+  | inr g ↦ end_keeps kind n i [] (b ∷ more) k i (omega arith) g.1
+]
 exponent_keeps kind n (b ∷ front) more k i h e = elim (chosen (is_exponent_mark b) e) [
-    inl g ↦
+  | inl g ↦
       let s : ℕ = sign_len (front ++ more) in
       let long = exponent_digits_long k (n + 1 + s) i (drop s (front ++ more)) g.1 in
       let short : s ≤ length front = omega (arith, long, h) in
       let rest : exponent_digits (n + 1 + s) (drop s front ++ more) ≡ Taken k i = subst (λ xs. exponent_digits (n + 1 + s) xs ≡ Taken k i) (drop-append-le s front more short) g.1 in
       rw (g.0, sign_front front more short) (exponent_digits_keeps (n + 1 + s) (drop s front) more k i (omega (arith, h, short, length-drop s front)) rest)
-  | inr g ↦ rw g.0 (end_keeps kind n i (b ∷ front) more k i (omega arith) g.1) ]
+  | inr g ↦ rw g.0 (end_keeps kind n i (b ∷ front) more k i (omega arith) g.1)
+]
 
 fraction_digits_keeps : (n : ℕ) (front more : List ℕ) → Keeps (n + length front) (fraction_digits n (front ++ more)) (fraction_digits n front)
 unfolding fraction_digits Keeps
 fraction_digits_keeps n front more k i h e = elim (chosen (prefix_len is_ascii_digit (front ++ more) == 0) e) [
-    inl g ↦ absurd (let f = g.1 in cc)
+  | inl g ↦ absurd (let f = g.1 in cc)
   | inr g ↦
       let d : ℕ = prefix_len is_ascii_digit (front ++ more) in
       let long = exponent_long FloatValue k (n + d) i (drop d (front ++ more)) g.1 in
       let short : d ≤ length front = omega (arith, long, h) in
       let same : prefix_len is_ascii_digit front ≡ d = run_front is_ascii_digit front more short in
       let rest : exponent_part FloatValue (n + d) (drop d front ++ more) ≡ Taken k i = subst (λ xs. exponent_part FloatValue (n + d) xs ≡ Taken k i) (drop-append-le d front more short) g.1 in
-      rw (same, g.0) (exponent_keeps FloatValue (n + d) (drop d front) more k i (omega (arith, h, short, length-drop d front)) rest) ]
+      rw (same, g.0) (exponent_keeps FloatValue (n + d) (drop d front) more k i (omega (arith, h, short, length-drop d front)) rest)
+]
 
 fraction_keeps : (n : ℕ) (front more : List ℕ) → Keeps (n + length front) (fraction_part n (front ++ more)) (fraction_part n front)
 unfolding fraction_part Keeps
 fraction_keeps n [] [] k i h e = e
 fraction_keeps n [] (b ∷ more) k i h e = elim (chosen (b == 46) e) [
-    inl g ↦ absurd (omega (arith, h, fraction_digits_long k (n + 1) i more g.1))
-  | inr g ↦ exponent_keeps IntValue n [] (b ∷ more) k i h g.1 ]
+  | inl g ↦ absurd (omega (arith, h, fraction_digits_long k (n + 1) i more g.1))
+  | inr g ↦ exponent_keeps IntValue n [] (b ∷ more) k i h g.1
+]
 fraction_keeps n (b ∷ front) more k i h e = elim (chosen (b == 46) e) [
-    inl g ↦ rw g.0 (fraction_digits_keeps (n + 1) front more k i (omega (arith, h)) g.1)
-  | inr g ↦ rw g.0 (exponent_keeps IntValue n (b ∷ front) more k i h g.1) ]
+  | inl g ↦ rw g.0 (fraction_digits_keeps (n + 1) front more k i (omega (arith, h)) g.1)
+  | inr g ↦ rw g.0 (exponent_keeps IntValue n (b ∷ front) more k i h g.1)
+]
 
 number_keeps : (n : ℕ) (front more : List ℕ) → Keeps (n + length front) (number_part n (front ++ more)) (number_part n front)
 unfolding number_part Keeps
 number_keeps n [] [] k i h e = e
 number_keeps n [] (b ∷ more) k i h e = elim (chosen (b == 48) e) [
-    inl g ↦ absurd (omega (arith, h, fraction_long k (n + 1) i more g.1))
+  | inl g ↦ absurd (omega (arith, h, fraction_long k (n + 1) i more g.1))
   | inr g ↦ elim (chosen (is_ascii_digit b) g.1) [
-        inl d ↦ absurd (omega (arith, h, fraction_long k (n + 1 + prefix_len is_ascii_digit more) i (drop (prefix_len is_ascii_digit more) more) d.1))
-      | inr d ↦ absurd (let f = d.1 in cc) ] ]
+    | inl d ↦ absurd (omega (arith, h, fraction_long k (n + 1 + prefix_len is_ascii_digit more) i (drop (prefix_len is_ascii_digit more) more) d.1))
+    | inr d ↦ absurd (let f = d.1 in cc)
+  ]
+]
 number_keeps n (b ∷ front) more k i h e = elim (chosen (b == 48) e) [
-    inl g ↦ rw g.0 (fraction_keeps (n + 1) front more k i (omega (arith, h)) g.1)
+  | inl g ↦ rw g.0 (fraction_keeps (n + 1) front more k i (omega (arith, h)) g.1)
   | inr g ↦ elim (chosen (is_ascii_digit b) g.1) [
-        inl x ↦
-          let d : ℕ = prefix_len is_ascii_digit (front ++ more) in
-          let long = fraction_long k (n + 1 + d) i (drop d (front ++ more)) x.1 in
-          let short : d ≤ length front = omega (arith, long, h) in
-          let rest : fraction_part (n + 1 + d) (drop d front ++ more) ≡ Taken k i = subst (λ xs. fraction_part (n + 1 + d) xs ≡ Taken k i) (drop-append-le d front more short) x.1 in
-          rw (g.0, x.0, run_front is_ascii_digit front more short) (fraction_keeps (n + 1 + d) (drop d front) more k i (omega (arith, h, short, length-drop d front)) rest)
-      | inr x ↦ absurd (let f = x.1 in cc) ] ]
+    | inl x ↦
+        let d : ℕ = prefix_len is_ascii_digit (front ++ more) in
+        let long = fraction_long k (n + 1 + d) i (drop d (front ++ more)) x.1 in
+        let short : d ≤ length front = omega (arith, long, h) in
+        let rest : fraction_part (n + 1 + d) (drop d front ++ more) ≡ Taken k i = subst (λ xs. fraction_part (n + 1 + d) xs ≡ Taken k i) (drop-append-le d front more short) x.1 in
+        rw (g.0, x.0, run_front is_ascii_digit front more short) (fraction_keeps (n + 1 + d) (drop d front) more k i (omega (arith, h, short, length-drop d front)) rest)
+    | inr x ↦ absurd (let f = x.1 in cc)
+  ]
+]
 
 dots_three : (k : Kind) (i : ℕ) (bs : List ℕ) → dots_part bs ≡ Taken k i → i ≡ 3
 dots_three k i [] e = absurd (cc)
@@ -229,8 +242,9 @@ escaped_front (a ∷ b ∷ front) more h = rw (four_front front more (omega arit
 
 number_six : (n k : ℕ) (bs : List ℕ) → number_piece n bs ≡ Goes k → 6 ≤ k
 number_six n k bs e = elim (chosen (is_high n) e) [
-    inl h ↦ elim (chosen (is_low (escaped_number bs)) h.1) [ inl g ↦ let f = g.1 in let twelve : 12 ≡ k = cc in omega arith | inr g ↦ absurd (let f = g.1 in cc) ]
-  | inr h ↦ elim (chosen (is_low n) h.1) [ inl g ↦ absurd (let f = g.1 in cc) | inr g ↦ let f = g.1 in let six : 6 ≡ k = cc in omega arith ] ]
+  | inl h ↦ elim (chosen (is_low (escaped_number bs)) h.1) [ inl g ↦ let f = g.1 in let twelve : 12 ≡ k = cc in omega arith | inr g ↦ absurd (let f = g.1 in cc) ]
+  | inr h ↦ elim (chosen (is_low n) h.1) [ inl g ↦ absurd (let f = g.1 in cc) | inr g ↦ let f = g.1 in let six : 6 ≡ k = cc in omega arith ]
+]
 
 digits_six : (o : Option ℕ) (k : ℕ) (bs : List ℕ) → digits_piece o bs ≡ Goes k → 6 ≤ k
 digits_six (Some n) k bs e = number_six n k (drop 4 bs) e
@@ -238,11 +252,13 @@ digits_six None k bs e = absurd (short_stops k (drop (prefix_len is_ascii_hexdig
 
 number_front : (n k : ℕ) (front more : List ℕ) → number_piece n (front ++ more) ≡ Goes k → k ≤ 6 + length front → number_piece n front ≡ Goes k
 number_front n k front more e w = elim (chosen (is_high n) e) [
-    inl h ↦ elim (chosen (is_low (escaped_number (front ++ more))) h.1) [
-        inl g ↦ let f = g.1 in let twelve : 12 ≡ k = cc in
-          rw (h.0, ← escaped_front front more (omega (arith, twelve, w)), g.0) f
-      | inr g ↦ absurd (let f = g.1 in cc) ]
-  | inr h ↦ rw h.0 h.1 ]
+  | inl h ↦ elim (chosen (is_low (escaped_number (front ++ more))) h.1) [
+    | inl g ↦ let f = g.1 in let twelve : 12 ≡ k = cc in
+        rw (h.0, ← escaped_front front more (omega (arith, twelve, w)), g.0) f
+    | inr g ↦ absurd (let f = g.1 in cc)
+  ]
+  | inr h ↦ rw h.0 h.1
+]
 
 digits_front : (o : Option ℕ) (k : ℕ) (front more : List ℕ) → digits_piece o (front ++ more) ≡ Goes k → k ≤ 2 + length front → digits_piece o front ≡ Goes k
 digits_front (Some n) k front more e w =
@@ -255,44 +271,56 @@ escape_front : (front more : List ℕ) (k : ℕ) → escape_piece (front ++ more
 unfolding escape_piece
 escape_front [] [] k e w = e
 escape_front [] (b ∷ more) k e w = elim (chosen (is_break b) e) [
-    inl h ↦ absurd (let f = h.1 in cc)
+  | inl h ↦ absurd (let f = h.1 in cc)
   | inr h ↦ elim (chosen (list_any (λ c. c == b) (codes "\"\\/bfnrt")) h.1) [
-        inl g ↦ let f = g.1 in let two : 2 ≡ k = cc in absurd (omega arith)
-      | inr g ↦ elim (chosen (b == 117) g.1) [
-            inl d ↦ absurd (omega (arith, w, digits_six (four_digits more) k more d.1))
-          | inr d ↦ absurd (let f = d.1 in cc) ] ] ]
+    | inl g ↦ let f = g.1 in let two : 2 ≡ k = cc in absurd (omega arith)
+    | inr g ↦ elim (chosen (b == 117) g.1) [
+      | inl d ↦ absurd (omega (arith, w, digits_six (four_digits more) k more d.1))
+      | inr d ↦ absurd (let f = d.1 in cc)
+    ]
+  ]
+]
 escape_front (b ∷ front) more k e w = elim (chosen (is_break b) e) [
-    inl h ↦ absurd (let f = h.1 in cc)
+  | inl h ↦ absurd (let f = h.1 in cc)
   | inr h ↦ elim (chosen (list_any (λ c. c == b) (codes "\"\\/bfnrt")) h.1) [
-        inl g ↦ rw (h.0, g.0) g.1
-      | inr g ↦ elim (chosen (b == 117) g.1) [
-            inl d ↦
-              let six = digits_six (four_digits (front ++ more)) k (front ++ more) d.1 in
-              let same = four_front front more (omega (arith, six, w)) in
-              rw (h.0, g.0, d.0) (digits_front (four_digits front) k front more (subst (λ o. digits_piece o (front ++ more) ≡ Goes k) same d.1) (omega (arith, w)))
-          | inr d ↦ absurd (let f = d.1 in cc) ] ] ]
+    | inl g ↦ rw (h.0, g.0) g.1
+    | inr g ↦ elim (chosen (b == 117) g.1) [
+      | inl d ↦
+          let six = digits_six (four_digits (front ++ more)) k (front ++ more) d.1 in
+          let same = four_front front more (omega (arith, six, w)) in
+          rw (h.0, g.0, d.0) (digits_front (four_digits front) k front more (subst (λ o. digits_piece o (front ++ more) ≡ Goes k) same d.1) (omega (arith, w)))
+      | inr d ↦ absurd (let f = d.1 in cc)
+    ]
+  ]
+]
 
 string_closes_front : (front more : List ℕ) (k : ℕ) → string_piece (front ++ more) ≡ Closes k → k ≤ length front → string_piece front ≡ Closes k
 unfolding string_piece
 string_closes_front [] more k e w = absurd (omega (arith, w, (string_end more k e).some))
 string_closes_front (b ∷ front) more k e w = elim (chosen (is_break b) e) [
-    inl h ↦ absurd (let f = h.1 in cc)
+  | inl h ↦ absurd (let f = h.1 in cc)
   | inr h ↦ elim (chosen (b == 34) h.1) [
-        inl g ↦ rw (h.0, g.0) g.1
-      | inr g ↦ elim (chosen (b == 92) g.1) [
-            inl d ↦ absurd (escape_goes_on k (front ++ more) d.1)
-          | inr d ↦ elim (chosen (is_source_byte b) d.1) [ inl u ↦ absurd (let f = u.1 in cc) | inr u ↦ absurd (let f = u.1 in cc) ] ] ] ]
+    | inl g ↦ rw (h.0, g.0) g.1
+    | inr g ↦ elim (chosen (b == 92) g.1) [
+      | inl d ↦ absurd (escape_goes_on k (front ++ more) d.1)
+      | inr d ↦ elim (chosen (is_source_byte b) d.1) [ inl u ↦ absurd (let f = u.1 in cc) | inr u ↦ absurd (let f = u.1 in cc) ]
+    ]
+  ]
+]
 
 string_goes_front : (front more : List ℕ) (k : ℕ) → string_piece (front ++ more) ≡ Goes k → k ≤ length front → string_piece front ≡ Goes k
 unfolding string_piece
 string_goes_front [] more k e w = absurd (omega (arith, w, (string_goes more k e).some))
 string_goes_front (b ∷ front) more k e w = elim (chosen (is_break b) e) [
-    inl h ↦ absurd (let f = h.1 in cc)
+  | inl h ↦ absurd (let f = h.1 in cc)
   | inr h ↦ elim (chosen (b == 34) h.1) [
-        inl g ↦ absurd (let f = g.1 in cc)
-      | inr g ↦ elim (chosen (b == 92) g.1) [
-            inl d ↦ rw (h.0, g.0, d.0) (escape_front front more k d.1 (omega (arith, w)))
-          | inr d ↦ rw (h.0, g.0, d.0) d.1 ] ] ]
+    | inl g ↦ absurd (let f = g.1 in cc)
+    | inr g ↦ elim (chosen (b == 92) g.1) [
+      | inl d ↦ rw (h.0, g.0, d.0) (escape_front front more k d.1 (omega (arith, w)))
+      | inr d ↦ rw (h.0, g.0, d.0) d.1
+    ]
+  ]
+]
 
 three_front : (front more : List ℕ) → 3 ≤ length front → three_quotes (front ++ more) ≡ three_quotes front
 three_front [] more h = absurd (omega arith)
@@ -314,25 +342,29 @@ block_closes_front : (front more : List ℕ) (k : ℕ) → block_piece (front ++
 unfolding block_piece
 block_closes_front [] more k e w = absurd (omega (arith, w, (block_end more k e).some))
 block_closes_front (b ∷ front) more k e w = elim (chosen (three_quotes (b ∷ (front ++ more))) e) [
-    inl h ↦ let f = h.1 in let three : 3 ≡ k = cc in
+  | inl h ↦ let f = h.1 in let three : 3 ≡ k = cc in
       let is : three_quotes (b ∷ front) ≡ true = sym (three_front (b ∷ front) more (omega (arith, three, w))) ∙ h.0 in rw is f
   | inr h ↦ elim (chosen (b == 92 && three_quotes (front ++ more)) h.1) [
-        inl g ↦ absurd (let f = g.1 in cc)
-      | inr g ↦ elim (chosen (is_break b || is_source_byte b) g.1) [ inl d ↦ absurd (let f = d.1 in cc) | inr d ↦ absurd (let f = d.1 in cc) ] ] ]
+    | inl g ↦ absurd (let f = g.1 in cc)
+    | inr g ↦ elim (chosen (is_break b || is_source_byte b) g.1) [ inl d ↦ absurd (let f = d.1 in cc) | inr d ↦ absurd (let f = d.1 in cc) ]
+  ]
+]
 
 block_goes_front : (front more : List ℕ) (k : ℕ) → block_piece (front ++ more) ≡ Goes k → k ≤ length front → block_piece front ≡ Goes k
 unfolding block_piece
 block_goes_front [] more k e w = absurd (omega (arith, w, (block_goes more k e).some))
 block_goes_front (b ∷ front) more k e w = elim (chosen (three_quotes (b ∷ (front ++ more))) e) [
-    inl h ↦ absurd (let f = h.1 in cc)
+  | inl h ↦ absurd (let f = h.1 in cc)
   | inr h ↦
-    let none : three_quotes (b ∷ front) ≡ false = three_less (b ∷ front) more h.0 in
-    elim (chosen (b == 92 && three_quotes (front ++ more)) h.1) [
-        inl g ↦ let f = g.1 in let four : 4 ≡ k = cc in
-          let is : (b == 92 && three_quotes front) ≡ true = ap (λ t. b == 92 && t) (sym (three_front front more (omega (arith, four, w)))) ∙ g.0 in rw (none, is) f
-      | inr g ↦
-          let no : (b == 92 && three_quotes front) ≡ false = and_less (b == 92) (three_quotes (front ++ more)) (three_quotes front) (three_less front more) g.0 in
-          rw (none, no) g.1 ] ]
+      let none : three_quotes (b ∷ front) ≡ false = three_less (b ∷ front) more h.0 in
+      elim (chosen (b == 92 && three_quotes (front ++ more)) h.1) [
+        | inl g ↦ let f = g.1 in let four : 4 ≡ k = cc in
+            let is : (b == 92 && three_quotes front) ≡ true = ap (λ t. b == 92 && t) (sym (three_front front more (omega (arith, four, w)))) ∙ g.0 in rw (none, is) f
+        | inr g ↦
+            let no : (b == 92 && three_quotes front) ≡ false = and_less (b == 92) (three_quotes (front ++ more)) (three_quotes front) (three_less front more) g.0 in
+            rw (none, no) g.1
+      ]
+]
 
 local_strings : IsLocal string_piece
 local_strings = record { closes_front = string_closes_front; goes_front = string_goes_front }
@@ -354,7 +386,7 @@ run_in_front f kind w {n} (goes {k = j} e r) front more b k i h short =
     let long = run_long f kind r k i h in
     let within : j ≤ length front = omega (arith, long, short) in
     goes (w.goes_front front more j (ap f (sym b) ∙ e) within)
-      (run_in_front f kind w r (drop j front) more (ap (λ xs. drop j xs) b ∙ drop-append-le j front more within) k i h (omega (arith, short, within, length-drop j front)))
+    (run_in_front f kind w r (drop j front) more (ap (λ xs. drop j xs) b ∙ drop-append-le j front more within) k i h (omega (arith, short, within, length-drop j front)))
 run_in_front f kind w {n} (stops {m = j} e m) front more b k i h short = absurd (cc)
 
 one_front : (front more : List ℕ) → one_quote (front ++ more) ≡ true → 0 < length front → one_quote front ≡ true
@@ -387,12 +419,12 @@ stands_front (block_string e r) front more t k i h some short =
     let long = run_long block_piece BlockString r k i h in
     let three : 3 ≤ length front = omega (arith, long, short) in
     block_string (sym (three_front front more three) ∙ ap three_quotes (sym t) ∙ e)
-      (run_in_front block_piece BlockString local_blocks r (drop 3 front) more (ap (λ xs. drop 3 xs) t ∙ drop-append-le 3 front more three) k i h (omega (arith, short, three, length-drop 3 front)))
+    (run_in_front block_piece BlockString local_blocks r (drop 3 front) more (ap (λ xs. drop 3 xs) t ∙ drop-append-le 3 front more three) k i h (omega (arith, short, three, length-drop 3 front)))
 stands_front (string e r) front more t k i h some short =
     let long = run_long string_piece StringValue r k i h in
     let one : 1 ≤ length front = omega (arith, long, short) in
     string (one_front front more (ap one_quote (sym t) ∙ e) (omega (arith, one)))
-      (run_in_front string_piece StringValue local_strings r (drop 1 front) more (ap (λ xs. drop 1 xs) t ∙ drop-append-le 1 front more one) k i h (omega (arith, short, one, length-drop 1 front)))
+    (run_in_front string_piece StringValue local_strings r (drop 1 front) more (ap (λ xs. drop 1 xs) t ∙ drop-append-le 1 front more one) k i h (omega (arith, short, one, length-drop 1 front)))
 stands_front (plain x y e) [] more t k i h some short = absurd (omega arith)
 stands_front (plain {b = b} {bs = bs} {p = p} x y e) (c ∷ front) more t k i h some short =
     let same : b ≡ c = cc in
@@ -412,7 +444,7 @@ alone rest k n s =
     let f = stands_fits s in
     let len : length (take n rest) ≡ n = length-take-le n rest f.within in
     subst (λ m. Stands (take n rest) (Taken k m)) (sym len)
-      (stands_front s (take n rest) (drop n rest) (sym (take-append-drop n rest)) k n refl (f.some refl) (omega (arith, len)))
+    (stands_front s (take n rest) (drop n rest) (sym (take-append-drop n rest)) k n refl (f.some refl) (omega (arith, len)))
 
 -- and no longer front of the text is a token alone
 pub no_longer : (rest : List ℕ) (k other : Kind) (n m : ℕ) → Stands rest (Taken k n) → n < m → m ≤ length rest → IsToken other (take m rest) → ⊥

@@ -17,19 +17,16 @@ pub fn one_reading()
     ensures one_list { (source : List ℕ) (tokens others : List Lexeme) → IsLexed source tokens → IsLexed source others → tokens ≡ others }
     ensures one_fault { (source : List ℕ) (refusal other : LexRefusal) (place elsewhere : Place) → LexFails source refusal place → LexFails source other elsewhere → (refusal ≡ other) × (place ≡ elsewhere) }
     ensures not_both { (source : List ℕ) (tokens : List Lexeme) (refusal : LexRefusal) (place : Place) → IsLexed source tokens → LexFails source refusal place → ⊥ }
-{
-}
+{}
 
 /// Each token's text is the part of the source at its place, and no token has the kind of the text's end.
 pub fn tokens_of_a_text()
     ensures slices { (source : List ℕ) (tokens : List Lexeme) → IsLexed source tokens → All (IsSliceOf source) tokens }
     ensures kinds { (source : List ℕ) (tokens : List Lexeme) → IsLexed source tokens → All (λ token. token.kind ≢ EndOfText) tokens }
-{
-}
+{}
 
 /// A token is as long as it can be: its text alone is that token, and no longer front of the text is a token.
 pub fn longest_match()
     ensures alone { (rest : List ℕ) (kind : Kind) (n : ℕ) → Stands rest (Taken kind n) → IsToken kind (take n rest) }
     ensures no_longer { (rest : List ℕ) (kind other : Kind) (n m : ℕ) → Stands rest (Taken kind n) → n < m → m ≤ length rest → IsToken other (take m rest) → ⊥ }
-{
-}
+{}
