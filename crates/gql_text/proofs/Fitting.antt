@@ -101,7 +101,7 @@ exponent_digits_fits n len bs some h =
     either (λ p. Fits 0 len p) (prefix_len is_ascii_digit bs == 0) _ _ (refused_fits BadNumber len)
     (end_fits FloatValue _ len _ (omega arith) (behind_digits n len bs h))
 
-sign_short : (bs : List ℕ) → sign_len bs ≤ length bs
+pub sign_short : (bs : List ℕ) → sign_len bs ≤ length bs
 sign_short [] = omega arith
 sign_short (b ∷ bs) = either (λ n. n ≤ length (b ∷ bs)) (b == 43 || b == 45) 1 0 (omega arith) (omega arith)
 

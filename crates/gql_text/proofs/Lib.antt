@@ -5,6 +5,7 @@ pub mod Lines
 pub mod Quotes
 pub mod Readings
 pub mod Longest
+pub mod Grammars
 pub mod Steps
 pub mod Tokens
 pub mod Texts

@@ -185,7 +185,7 @@ dots_keeps [] more k i h e = absurd (omega (arith, h, dots_three k i more e))
 dots_keeps (b ∷ []) more k i h e = absurd (omega (arith, h, dots_three k i (b ∷ more) e))
 dots_keeps (b ∷ c ∷ front) more k i h e = e
 
-order_none : (bs : List ℕ) (k : Kind) (i : ℕ) → order_part bs ≡ Taken k i → ⊥
+pub order_none : (bs : List ℕ) (k : Kind) (i : ℕ) → order_part bs ≡ Taken k i → ⊥
 order_none [] k i e = cc
 order_none (b ∷ []) k i e = cc
 order_none (b ∷ c ∷ bs) k i e = elim (chosen (b == 187 && c == 191) e) [ inl h ↦ let g = h.1 in cc | inr h ↦ let g = h.1 in cc ]
@@ -413,6 +413,11 @@ plain_front : (b : ℕ) (front more : List ℕ) (k : Kind) (i : ℕ) → Taken k
 unfolding Keeps
 plain_front b front more k i e h = sym (plain_keeps b front more k i h (sym e))
 
+pub no_three : (b : ℕ) (front : List ℕ) → (b == 34) ≡ false → three_quotes (b ∷ front) ≡ false
+no_three b [] e = refl
+no_three b (c ∷ []) e = refl
+no_three b (c ∷ d ∷ bs) e = rw e refl
+
 -- a token that fits in the front of a text stands there in the front alone
 pub stands_front : {text : List ℕ} {p : Part} → Stands text p → (front more : List ℕ) → text ≡ front ++ more → (k : Kind) (i : ℕ) → p ≡ Taken k i → 0 < i → i ≤ length front → Stands front p
 stands_front (block_string e r) front more t k i h some short =
@@ -432,11 +437,6 @@ stands_front (plain {b = b} {bs = bs} {p = p} x y e) (c ∷ front) more t k i h 
     let none = no_quote b bs x y in
     let part : p ≡ plain_part b front = h ∙ plain_front b front more k i (sym h ∙ e ∙ ap (plain_part b) rest) (omega (arith, short)) in
     subst (λ d. Stands (d ∷ front) p) same (plain (no_three b front none) (none_from b front none) part)
-  where
-    no_three : (b : ℕ) (front : List ℕ) → (b == 34) ≡ false → three_quotes (b ∷ front) ≡ false
-    no_three b [] e = refl
-    no_three b (c ∷ []) e = refl
-    no_three b (c ∷ d ∷ bs) e = rw e refl
 
 -- a token's text alone is that token
 pub alone : (rest : List ℕ) (k : Kind) (n : ℕ) → Stands rest (Taken k n) → IsToken k (take n rest)
