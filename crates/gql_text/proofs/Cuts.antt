@@ -1,29 +1,28 @@
 -- Behind each part of a text, the text may be cut.
-use Rattle.std.proofs.Common.{◌≡◌, ◌≢◌, ℕ, zero, suc, ◌+◌, ◌-◌, ◌<◌, ◌≤◌, List, [], ◌∷◌, ◌++◌, length, take, drop, length-drop, drop-drop, get_or, refl, sym, ap, subst, ◌∙◌, arith, Bool, true, false, cond, Option, Some, None, inl, inr, ◌⊎◌, lit<}
-use Rattle.std.specs.List.{prefix_len, list_any}
-use Rattle.std.specs.Char.{is_ascii_digit, is_ascii_hexdigit}
+use Rattle.std.proofs.Common.{◌≡◌, ℕ, zero, suc, ◌+◌, ◌-◌, ◌<◌, ◌≤◌, List, [], ◌∷◌, ◌++◌, length, drop, length-drop, drop-drop, get_or, refl, sym, ap, subst, ◌∙◌, arith, Bool, true, false, Option, Some, None, inl, inr, lit<}
+use Rattle.std.specs.List.{prefix_len}
+use Rattle.std.specs.Char.{is_ascii_digit}
 use Rattle.std.specs.Str.{IsUtf8, IsCharBoundary}
-use Rattle.std.specs.Prelude.{encode_utf8, codes, ◌==◌, if◌then◌else◌, ◌&&◌, ◌||◌, not}
-use Rattle.std.proofs.lemmas.List.{get_or-drop, drop_more}
-use Rattle.std.proofs.lemmas.List.Sums.{prefix_len-le-length, prefix_len_passes, prefix_len_stops}
+use Rattle.std.specs.Prelude.{encode_utf8, ◌==◌, ◌&&◌, ◌||◌, not}
+use Rattle.std.proofs.lemmas.List.{get_or-drop}
+use Rattle.std.proofs.lemmas.List.Sums.{prefix_len-le-length, prefix_len_passes}
 use Rattle.std.proofs.lemmas.Bool.{eqb-true}
 use Rattle.std.proofs.lemmas.Bool.Decides.{nat_tests}
 use Rattle.std.proofs.lemmas.Str.{IsCharBoundary-from_rest, IsUtf8-drop, IsCharBoundary-after_ascii, IsCharBoundary-past_char}
-use Rattle.gql_text.specs.Chars.{is_name_start, is_name_byte, is_break, is_blank, is_source_byte, begins, three_quotes, one_quote}
+use Rattle.gql_text.specs.Chars.{is_name_start, is_name_byte, is_break, is_blank, is_source_byte, begins, three_quotes}
 use Rattle.gql_text.specs.Number.{number_end, exponent_digits, exponent_part, fraction_digits, fraction_part, number_part, spoils_number, is_exponent_mark, sign_len}
 use Rattle.gql_text.specs.Marks.{mark_kind, mark_part, dots_part, order_part, comment_part, plain_part}
-use Rattle.gql_text.specs.Pieces.{string_piece, block_piece, escape_piece}
-use Rattle.gql_text.specs.Lexis.{Run, closes, goes, stops, refused_at, Stands, block_string, string, plain}
-use Rattle.gql_text.specs.Parts.{Fits, CutsBehind, part_len, is_refused}
+use Rattle.gql_text.specs.Pieces.{string_piece, block_piece}
+use Rattle.gql_text.specs.Lexis.{Run, closes, goes, stops, Stands, block_string, string, plain}
+use Rattle.gql_text.specs.Parts.{CutsBehind, part_len, is_refused}
 use Rattle.gql_text.specs.declared.token.Kind.{Kind}
-use Rattle.gql_text.specs.declared.token.Kind.TheVariants.{Name, IntValue, FloatValue, StringValue, BlockString, Ellipsis}
-use Rattle.gql_text.specs.declared.token.LexRefusal.{LexRefusal}
-use Rattle.gql_text.specs.declared.token.LexRefusal.TheVariants.{BadCharacter, BadNumber, UnfinishedText}
+use Rattle.gql_text.specs.declared.token.Kind.TheVariants.{IntValue, FloatValue, StringValue, BlockString}
+use Rattle.gql_text.specs.declared.token.LexRefusal.TheVariants.{BadCharacter}
 use Rattle.gql_text.specs.declared.front.Part.{Part}
-use Rattle.gql_text.specs.declared.front.Part.TheVariants.{Dropped, Taken, Refused}
+use Rattle.gql_text.specs.declared.front.Part.TheVariants.{Dropped, Refused}
 use Rattle.gql_text.specs.declared.front.Piece.{Piece}
-use Rattle.gql_text.specs.declared.front.Piece.TheVariants.{Closes, Goes, Stops}
-use Rattle.gql_text.proofs.Runs.{IsStep, chosen, split, string_goes, block_goes, three_long}
+use Rattle.gql_text.specs.declared.front.Piece.TheVariants.{Closes}
+use Rattle.gql_text.proofs.Runs.{chosen, split, three_long}
 use Rattle.gql_text.proofs.Fitting.{escape_goes_on}
 
 -- the byte before the offset n is ASCII
@@ -86,8 +85,11 @@ run_ascii p small s n bs e h =
     let short = prefix_len-le-length p bs in
     let len = drop_length s n bs e (omega (arith, short, h)) in
     let same : n + k - 1 ≡ n + (k - 1) = omega (arith, h) in
-    record { some = omega (arith, h); within = omega (arith, len, short);
-      ascii = rw (same, at_front s n (k - 1) bs e) (small (get_or bs (k - 1) 0) (prefix_len_passes p bs (k - 1) 0 (omega (arith, h)))) }
+    record {
+      some = omega (arith, h);
+      within = omega (arith, len, short);
+      ascii = rw (same, at_front s n (k - 1) bs e) (small (get_or bs (k - 1) 0) (prefix_len_passes p bs (k - 1) 0 (omega (arith, h))));
+    }
 
 name_run : (s : List ℕ) (b : ℕ) (bs : List ℕ) → s ≡ b ∷ bs → b < 128 → AsciiBefore s (1 + prefix_len is_name_byte bs)
 name_run s b bs e h = by_count (prefix_len is_name_byte bs) refl
@@ -106,21 +108,21 @@ exponent_digits_ascii : (s : List ℕ) (n : ℕ) (bs : List ℕ) → drop n s �
 unfolding exponent_digits
 exponent_digits_ascii s n bs e =
     split (λ p. EndsAscii s p) (prefix_len is_ascii_digit bs == 0) _ _ (λ h r. absurd (cc))
-      (λ h. end_ascii s FloatValue _ (drop (prefix_len is_ascii_digit bs) bs) (run_ascii is_ascii_digit digit_ascii s n bs e (some_digits _ h)))
+    (λ h. end_ascii s FloatValue _ (drop (prefix_len is_ascii_digit bs) bs) (run_ascii is_ascii_digit digit_ascii s n bs e (some_digits _ h)))
 
 exponent_ascii : (s : List ℕ) (kind : Kind) (n : ℕ) (bs : List ℕ) → drop n s ≡ bs → AsciiBefore s n → EndsAscii s (exponent_part kind n bs)
 unfolding exponent_part
 exponent_ascii s kind n [] e a = end_ascii s kind n [] a
 exponent_ascii s kind n (b ∷ bs) e a =
     split (λ p. EndsAscii s p) (is_exponent_mark b) _ _
-      (λ h. exponent_digits_ascii s (n + 1 + sign_len bs) (drop (sign_len bs) bs) (drop_far s (n + 1) (sign_len bs) bs (drop_next s n b bs e)))
-      (λ h. end_ascii s kind n (b ∷ bs) a)
+    (λ h. exponent_digits_ascii s (n + 1 + sign_len bs) (drop (sign_len bs) bs) (drop_far s (n + 1) (sign_len bs) bs (drop_next s n b bs e)))
+    (λ h. end_ascii s kind n (b ∷ bs) a)
 
 fraction_digits_ascii : (s : List ℕ) (n : ℕ) (bs : List ℕ) → drop n s ≡ bs → EndsAscii s (fraction_digits n bs)
 unfolding fraction_digits
 fraction_digits_ascii s n bs e =
     split (λ p. EndsAscii s p) (prefix_len is_ascii_digit bs == 0) _ _ (λ h r. absurd (cc))
-      (λ h. exponent_ascii s FloatValue _ (drop (prefix_len is_ascii_digit bs) bs) (drop_far s n (prefix_len is_ascii_digit bs) bs e) (run_ascii is_ascii_digit digit_ascii s n bs e (some_digits _ h)))
+    (λ h. exponent_ascii s FloatValue _ (drop (prefix_len is_ascii_digit bs) bs) (drop_far s n (prefix_len is_ascii_digit bs) bs e) (run_ascii is_ascii_digit digit_ascii s n bs e (some_digits _ h)))
 
 fraction_ascii : (s : List ℕ) (n : ℕ) (bs : List ℕ) → drop n s ≡ bs → AsciiBefore s n → EndsAscii s (fraction_part n bs)
 unfolding fraction_part
@@ -140,10 +142,10 @@ unfolding number_part
 number_ascii s n [] e = λ r. absurd (cc)
 number_ascii s n (b ∷ bs) e =
     split (λ p. EndsAscii s p) (b == 48) _ _
-      (λ h. fraction_ascii s (n + 1) bs (drop_next s n b bs e) (next_ascii s n b bs e (is_ascii b 48 h (lit< tt))))
-      (λ g. split (λ p. EndsAscii s p) (is_ascii_digit b) _ _
-        (λ h. fraction_ascii s _ (drop (prefix_len is_ascii_digit bs) bs) (drop_far s (n + 1) (prefix_len is_ascii_digit bs) bs (drop_next s n b bs e)) (more_ascii s n b bs e h))
-        (λ h r. absurd (cc)))
+    (λ h. fraction_ascii s (n + 1) bs (drop_next s n b bs e) (next_ascii s n b bs e (is_ascii b 48 h (lit< tt))))
+    (λ g. split (λ p. EndsAscii s p) (is_ascii_digit b) _ _
+    (λ h. fraction_ascii s _ (drop (prefix_len is_ascii_digit bs) bs) (drop_far s (n + 1) (prefix_len is_ascii_digit bs) bs (drop_next s n b bs e)) (more_ascii s n b bs e h))
+    (λ h r. absurd (cc)))
 
 mark_ascii : (b : ℕ) (kind : Kind) → mark_kind b ≡ Some kind → b < 128
 mark_ascii b kind e = grind (arith, nat_tests)
@@ -164,8 +166,8 @@ dots_cut s [] u e = λ r. absurd (cc)
 dots_cut s (b ∷ []) u e = λ r. absurd (cc)
 dots_cut s (b ∷ c ∷ bs) u e =
     split (λ p. EndsCut s p) (b == 46 && c == 46) _ _
-      (λ h r. cut_after s 3 u (record { some = lit< tt; within = omega (arith, ap length e); ascii = rw e (is_ascii c 46 (both_of (b == 46) (c == 46) h).1 (lit< tt)) }))
-      (λ h r. absurd (cc))
+    (λ h r. cut_after s 3 u (record { some = lit< tt; within = omega (arith, ap length e); ascii = rw e (is_ascii c 46 (both_of (b == 46) (c == 46) h).1 (lit< tt)) }))
+    (λ h r. absurd (cc))
 
 order_is : (b c : ℕ) (bs : List ℕ) → ((b == 187) ≡ true) × ((c == 191) ≡ true) → 239 ∷ b ∷ c ∷ bs ≡ encode_utf8 65279 ++ bs
 unfolding lib.Utf8.encode
@@ -176,8 +178,8 @@ order_cut s [] u e = λ r. absurd (cc)
 order_cut s (b ∷ []) u e = λ r. absurd (cc)
 order_cut s (b ∷ c ∷ bs) u e =
     split (λ p. EndsCut s p) (b == 187 && c == 191) _ _
-      (λ h r. IsCharBoundary-past_char s bs 0 65279 (omega arith) u (e ∙ order_is b c bs (both_of (b == 187) (c == 191) h)))
-      (λ h r. absurd (cc))
+    (λ h r. IsCharBoundary-past_char s bs 0 65279 (omega arith) u (e ∙ order_is b c bs (both_of (b == 187) (c == 191) h)))
+    (λ h r. absurd (cc))
 
 mark_cut : (s : List ℕ) (b : ℕ) (bs : List ℕ) (o : Option Kind) → IsUtf8 s → s ≡ b ∷ bs → mark_kind b ≡ o → EndsCut s (mark_part o)
 mark_cut s b bs (Some kind) u e m = λ r. cut_after s 1 u (next_ascii s 0 b bs e (mark_ascii b kind m))
@@ -188,7 +190,7 @@ line_cut : (s : List ℕ) (n : ℕ) (bs : List ℕ) → drop n s ≡ bs → n �
 line_cut s n [] e h = λ r. (h, λ less high. absurd (omega (arith, ap length e, length-drop n s)))
 line_cut s n (b ∷ bs) e h =
     split (λ p. EndsCut s p) (not (is_break b)) (Refused BadCharacter n) (Dropped n) (λ g r. absurd (cc))
-      (λ g r. (h, λ less high. absurd (omega (arith, break_ascii b (by_not (is_break b) g), front_at s n b bs e))))
+    (λ g r. (h, λ less high. absurd (omega (arith, break_ascii b (by_not (is_break b) g), front_at s n b bs e))))
   where
     by_not : (t : Bool) → not t ≡ false → t ≡ true
     by_not true e = refl
@@ -217,17 +219,20 @@ pub record ClosesAscii (k : ℕ) (bs : List ℕ) : Type 0 where
   pub within : k ≤ length bs
   pub ascii : get_or bs (k - 1) 0 < 128
 
-string_end : (bs : List ℕ) (k : ℕ) → string_piece bs ≡ Closes k → ClosesAscii k bs
+pub string_end : (bs : List ℕ) (k : ℕ) → string_piece bs ≡ Closes k → ClosesAscii k bs
 unfolding string_piece
 string_end [] k e = absurd (cc)
 string_end (b ∷ bs) k e =
     elim (chosen (is_break b) e) [
-      inl h ↦ absurd (cc)
+      | inl h ↦ absurd (cc)
       | inr h ↦ elim (chosen (b == 34) h.1) [
-          inl g ↦ let one : 1 ≡ k = cc in rw (← one) (record { some = omega arith; within = omega arith; ascii = is_ascii b 34 g.0 (lit< tt) })
-          | inr g ↦ elim (chosen (b == 92) g.1) [
-              inl d ↦ absurd (escape_goes_on k bs d.1)
-              | inr d ↦ elim (chosen (is_source_byte b) d.1) [ inl u ↦ absurd (cc) | inr u ↦ absurd (cc) ] ] ] ]
+        | inl g ↦ let one : 1 ≡ k = cc in rw (← one) (record { some = omega arith; within = omega arith; ascii = is_ascii b 34 g.0 (lit< tt) })
+        | inr g ↦ elim (chosen (b == 92) g.1) [
+          | inl d ↦ absurd (escape_goes_on k bs d.1)
+          | inr d ↦ elim (chosen (is_source_byte b) d.1) [ inl u ↦ absurd (cc) | inr u ↦ absurd (cc) ]
+        ]
+      ]
+    ]
 
 third_ascii : (bs : List ℕ) → three_quotes bs ≡ true → get_or bs 2 0 < 128
 third_ascii [] e = absurd (cc)
@@ -235,15 +240,17 @@ third_ascii (a ∷ []) e = absurd (cc)
 third_ascii (a ∷ b ∷ []) e = absurd (cc)
 third_ascii (a ∷ b ∷ c ∷ bs) e = is_ascii c 34 (both_of (a == 34 && b == 34) (c == 34) e).1 (lit< tt)
 
-block_end : (bs : List ℕ) (k : ℕ) → block_piece bs ≡ Closes k → ClosesAscii k bs
+pub block_end : (bs : List ℕ) (k : ℕ) → block_piece bs ≡ Closes k → ClosesAscii k bs
 unfolding block_piece
 block_end [] k e = absurd (cc)
 block_end (b ∷ bs) k e =
     elim (chosen (three_quotes (b ∷ bs)) e) [
-      inl h ↦ let three : 3 ≡ k = cc in rw (← three) (record { some = lit< tt; within = three_long (b ∷ bs) h.0; ascii = third_ascii (b ∷ bs) h.0 })
+      | inl h ↦ let three : 3 ≡ k = cc in rw (← three) (record { some = lit< tt; within = three_long (b ∷ bs) h.0; ascii = third_ascii (b ∷ bs) h.0 })
       | inr h ↦ elim (chosen (b == 92 && three_quotes bs) h.1) [
-          inl g ↦ absurd (cc)
-          | inr g ↦ elim (chosen (is_break b || is_source_byte b) g.1) [ inl d ↦ absurd (cc) | inr d ↦ absurd (cc) ] ] ]
+        | inl g ↦ absurd (cc)
+        | inr g ↦ elim (chosen (is_break b || is_source_byte b) g.1) [ inl d ↦ absurd (cc) | inr d ↦ absurd (cc) ]
+      ]
+    ]
 
 run_ends : (f : List ℕ → Piece) (kind : Kind) → ((bs : List ℕ) (k : ℕ) → f bs ≡ Closes k → ClosesAscii k bs)
     → (s : List ℕ) {n : ℕ} {bs : List ℕ} {p : Part} → Run f kind n bs p → drop n s ≡ bs → EndsAscii s p

@@ -1,15 +1,15 @@
 -- Each part of a text lies in it, and takes some of it unless it is refused.
-use Rattle.std.proofs.Common.{◌≡◌, ℕ, zero, suc, ◌+◌, ◌<◌, ◌≤◌, List, [], ◌∷◌, length, take, drop, length-drop, refl, sym, arith, Bool, true, false, cond, Option, Some, None, inl, inr}
+use Rattle.std.proofs.Common.{◌≡◌, ℕ, ◌+◌, ◌<◌, ◌≤◌, List, [], ◌∷◌, length, drop, length-drop, arith, Bool, true, false, cond, Option, Some, None, inl, inr}
 use Rattle.std.specs.List.{prefix_len, list_any}
 use Rattle.std.specs.Char.{is_ascii_digit, is_ascii_hexdigit}
-use Rattle.std.specs.Prelude.{codes, ◌==◌, if◌then◌else◌, ◌&&◌, ◌||◌, not}
+use Rattle.std.specs.Prelude.{codes, ◌==◌, ◌&&◌, ◌||◌, not}
 use Rattle.std.proofs.lemmas.List.Sums.{prefix_len-le-length}
 use Rattle.gql_text.specs.Chars.{is_name_start, is_name_byte, is_break, is_blank, is_source_byte, begins, three_quotes, one_quote}
 use Rattle.gql_text.specs.Number.{number_end, exponent_digits, exponent_part, fraction_digits, fraction_part, number_part, spoils_number, is_exponent_mark, sign_len}
 use Rattle.gql_text.specs.Marks.{mark_kind, mark_part, dots_part, order_part, comment_part, plain_part}
 use Rattle.gql_text.specs.Pieces.{string_piece, block_piece, escape_piece, digits_piece, number_piece, four_digits, short_escape, is_high, is_low, escaped_number}
 use Rattle.gql_text.specs.Lexis.{Run, closes, goes, stops, refused_at, Stands, block_string, string, plain}
-use Rattle.gql_text.specs.Parts.{Fits, part_len, is_refused}
+use Rattle.gql_text.specs.Parts.{Fits}
 use Rattle.gql_text.specs.declared.token.Kind.{Kind}
 use Rattle.gql_text.specs.declared.token.Kind.TheVariants.{Name, IntValue, FloatValue, StringValue, BlockString, Ellipsis}
 use Rattle.gql_text.specs.declared.token.LexRefusal.{LexRefusal}
@@ -17,7 +17,7 @@ use Rattle.gql_text.specs.declared.token.LexRefusal.TheVariants.{BadCharacter, B
 use Rattle.gql_text.specs.declared.front.Part.{Part}
 use Rattle.gql_text.specs.declared.front.Part.TheVariants.{Dropped, Taken, Refused}
 use Rattle.gql_text.specs.declared.front.Piece.{Piece}
-use Rattle.gql_text.specs.declared.front.Piece.TheVariants.{Closes, Goes, Stops}
+use Rattle.gql_text.specs.declared.front.Piece.TheVariants.{Closes, Goes}
 use Rattle.gql_text.proofs.Runs.{IsStep, chosen, string_goes, block_goes, three_long}
 
 -- an escape never closes a string
@@ -27,8 +27,9 @@ short_no k bs e = elim (chosen (begins (λ b. not (is_break b)) bs) e) [ inl h �
 number_no : (n k : ℕ) (bs : List ℕ) → number_piece n bs ≡ Closes k → ⊥
 number_no n k bs e =
     elim (chosen (is_high n) e) [
-      inl h ↦ elim (chosen (is_low (escaped_number bs)) h.1) [ inl g ↦ cc | inr g ↦ cc ]
-    | inr h ↦ elim (chosen (is_low n) h.1) [ inl g ↦ cc | inr g ↦ cc ] ]
+      | inl h ↦ elim (chosen (is_low (escaped_number bs)) h.1) [ inl g ↦ cc | inr g ↦ cc ]
+      | inr h ↦ elim (chosen (is_low n) h.1) [ inl g ↦ cc | inr g ↦ cc ]
+    ]
 
 digits_no : (o : Option ℕ) (k : ℕ) (bs : List ℕ) → digits_piece o bs ≡ Closes k → ⊥
 digits_no (Some n) k bs e = number_no n k (drop 4 bs) e
@@ -39,10 +40,12 @@ unfolding escape_piece
 escape_goes_on k [] e = cc
 escape_goes_on k (b ∷ bs) e =
     elim (chosen (is_break b) e) [
-      inl h ↦ cc
+      | inl h ↦ cc
       | inr h ↦ elim (chosen (list_any (λ c. c == b) (codes "\"\\/bfnrt")) h.1) [
-          inl g ↦ cc
-          | inr g ↦ elim (chosen (b == 117) g.1) [ inl d ↦ digits_no (four_digits bs) k bs d.1 | inr d ↦ cc ] ] ]
+        | inl g ↦ cc
+        | inr g ↦ elim (chosen (b == 117) g.1) [ inl d ↦ digits_no (four_digits bs) k bs d.1 | inr d ↦ cc ]
+      ]
+    ]
 
 -- a break or a quote or a backslash or another byte: only a quote closes a string
 pub string_closes : (bs : List ℕ) (k : ℕ) → string_piece bs ≡ Closes k → k ≤ length bs
@@ -50,22 +53,27 @@ unfolding string_piece
 string_closes [] k e = absurd (cc)
 string_closes (b ∷ bs) k e =
     elim (chosen (is_break b) e) [
-      inl h ↦ absurd (cc)
+      | inl h ↦ absurd (cc)
       | inr h ↦ elim (chosen (b == 34) h.1) [
-          inl g ↦ let one : 1 ≡ k = cc in omega arith
-          | inr g ↦ elim (chosen (b == 92) g.1) [
-              inl d ↦ absurd (escape_goes_on k bs d.1)
-              | inr d ↦ elim (chosen (is_source_byte b) d.1) [ inl u ↦ absurd (cc) | inr u ↦ absurd (cc) ] ] ] ]
+        | inl g ↦ let one : 1 ≡ k = cc in omega arith
+        | inr g ↦ elim (chosen (b == 92) g.1) [
+          | inl d ↦ absurd (escape_goes_on k bs d.1)
+          | inr d ↦ elim (chosen (is_source_byte b) d.1) [ inl u ↦ absurd (cc) | inr u ↦ absurd (cc) ]
+        ]
+      ]
+    ]
 
 pub block_closes : (bs : List ℕ) (k : ℕ) → block_piece bs ≡ Closes k → k ≤ length bs
 unfolding block_piece
 block_closes [] k e = absurd (cc)
 block_closes (b ∷ bs) k e =
     elim (chosen (three_quotes (b ∷ bs)) e) [
-      inl h ↦ let three : 3 ≡ k = cc in omega (arith, three_long (b ∷ bs) h.0)
+      | inl h ↦ let three : 3 ≡ k = cc in omega (arith, three_long (b ∷ bs) h.0)
       | inr h ↦ elim (chosen (b == 92 && three_quotes bs) h.1) [
-          inl g ↦ absurd (cc)
-          | inr g ↦ elim (chosen (is_break b || is_source_byte b) g.1) [ inl d ↦ absurd (cc) | inr d ↦ absurd (cc) ] ] ]
+        | inl g ↦ absurd (cc)
+        | inr g ↦ elim (chosen (is_break b || is_source_byte b) g.1) [ inl d ↦ absurd (cc) | inr d ↦ absurd (cc) ]
+      ]
+    ]
 
 pub either : {A : Type 0} (P : A → Type 0) (b : Bool) (x y : A) → P x → P y → P (cond b x y)
 either P true x y p q = p
@@ -91,9 +99,9 @@ exponent_digits_fits : (n len : ℕ) (bs : List ℕ) → 0 < n → n + length bs
 unfolding exponent_digits
 exponent_digits_fits n len bs some h =
     either (λ p. Fits 0 len p) (prefix_len is_ascii_digit bs == 0) _ _ (refused_fits BadNumber len)
-      (end_fits FloatValue _ len _ (omega arith) (behind_digits n len bs h))
+    (end_fits FloatValue _ len _ (omega arith) (behind_digits n len bs h))
 
-sign_short : (bs : List ℕ) → sign_len bs ≤ length bs
+pub sign_short : (bs : List ℕ) → sign_len bs ≤ length bs
 sign_short [] = omega arith
 sign_short (b ∷ bs) = either (λ n. n ≤ length (b ∷ bs)) (b == 43 || b == 45) 1 0 (omega arith) (omega arith)
 
@@ -102,14 +110,14 @@ unfolding exponent_part
 exponent_fits kind n len [] some h = end_fits kind n len [] some h
 exponent_fits kind n len (b ∷ bs) some h =
     either (λ p. Fits 0 len p) (is_exponent_mark b) _ _
-      (exponent_digits_fits (n + 1 + sign_len bs) len (drop (sign_len bs) bs) (omega arith) (omega (arith, length-drop (sign_len bs) bs, sign_short bs)))
-      (end_fits kind n len (b ∷ bs) some h)
+    (exponent_digits_fits (n + 1 + sign_len bs) len (drop (sign_len bs) bs) (omega arith) (omega (arith, length-drop (sign_len bs) bs, sign_short bs)))
+    (end_fits kind n len (b ∷ bs) some h)
 
 fraction_digits_fits : (n len : ℕ) (bs : List ℕ) → 0 < n → n + length bs ≤ len → Fits 0 len (fraction_digits n bs)
 unfolding fraction_digits
 fraction_digits_fits n len bs some h =
     either (λ p. Fits 0 len p) (prefix_len is_ascii_digit bs == 0) _ _ (refused_fits BadNumber len)
-      (exponent_fits FloatValue _ len _ (omega arith) (behind_digits n len bs h))
+    (exponent_fits FloatValue _ len _ (omega arith) (behind_digits n len bs h))
 
 fraction_fits : (n len : ℕ) (bs : List ℕ) → 0 < n → n + length bs ≤ len → Fits 0 len (fraction_part n bs)
 unfolding fraction_part
@@ -122,9 +130,9 @@ unfolding number_part
 number_fits n len [] h = refused_fits BadNumber len
 number_fits n len (b ∷ bs) h =
     either (λ p. Fits 0 len p) (b == 48) _ _ (fraction_fits (n + 1) len bs (omega arith) (omega arith))
-      (either (λ p. Fits 0 len p) (is_ascii_digit b) _ _
-        (fraction_fits _ len _ (omega arith) (behind_digits (n + 1) len bs (omega arith)))
-        (refused_fits BadNumber len))
+    (either (λ p. Fits 0 len p) (is_ascii_digit b) _ _
+    (fraction_fits _ len _ (omega arith) (behind_digits (n + 1) len bs (omega arith)))
+    (refused_fits BadNumber len))
 
 dots_fits : (bs : List ℕ) → Fits 0 (1 + length bs) (dots_part bs)
 dots_fits [] = refused_fits BadCharacter 1
@@ -145,7 +153,7 @@ mark_fits None len h = refused_fits BadCharacter len
 comment_fits : (n len : ℕ) (bs : List ℕ) → 0 < n → n ≤ len → Fits 0 len (comment_part n bs)
 comment_fits n len bs some within =
     either (λ p. Fits 0 len p) (begins (λ b. not (is_break b)) bs) (Refused BadCharacter n) (Dropped n)
-      (record { some = λ e. absurd (cc); within = within }) (record { some = λ e. some; within = within })
+    (record { some = λ e. absurd (cc); within = within }) (record { some = λ e. some; within = within })
 
 plain_fits : (b : ℕ) (bs : List ℕ) → Fits 0 (1 + length bs) (plain_part b bs)
 unfolding plain_part

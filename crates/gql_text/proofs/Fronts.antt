@@ -1,5 +1,5 @@
 -- What stands at the front, from its first byte.
-use Rattle.std.proofs.Common.{◌≡◌, ◌≢◌, ℕ, zero, suc, ◌+◌, ◌-◌, List, [], ◌∷◌, length, take, drop, refl, sym, ap, ◌∙◌, arith, Bool, true, false}
+use Rattle.std.proofs.Common.{◌≡◌, ◌≢◌, ℕ, ◌-◌, List, [], ◌∷◌, length, take, drop, refl, ap, ◌∙◌, Bool, true, false}
 use Rattle.std.specs.Prelude.{◌==◌, ◌&&◌, not}
 use Rattle.std.specs.List.{IsFirstAndRest}
 use Rattle.std.proofs.lemmas.Bool.{ne_eqb}
@@ -25,7 +25,7 @@ first_is_other : (p q r : Bool) → p ≡ false → (p && not (q && r)) ≡ fals
 first_is_other false q r e = refl
 first_is_other true q r e = absurd (cc)
 
-none_from : (b : ℕ) (rest : List ℕ) → (b == 34) ≡ false → one_quote (b ∷ rest) ≡ false
+pub none_from : (b : ℕ) (rest : List ℕ) → (b == 34) ≡ false → one_quote (b ∷ rest) ≡ false
 none_from b [] e = e
 none_from b (c ∷ []) e = e
 none_from b (c ∷ d ∷ bs) e = first_is_other (b == 34) (c == 34) (d == 34) e

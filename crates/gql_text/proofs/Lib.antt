@@ -4,6 +4,8 @@ pub mod Fitting
 pub mod Lines
 pub mod Quotes
 pub mod Readings
+pub mod Longest
+pub mod Grammars
 pub mod Steps
 pub mod Tokens
 pub mod Texts

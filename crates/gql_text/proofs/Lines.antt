@@ -1,15 +1,15 @@
 -- The lines of a text, and what is taken off them.
-use Rattle.std.proofs.Common.{◌≡◌, ◌≢◌, ℕ, zero, suc, ◌+◌, ◌-◌, ◌<◌, ◌≤◌, List, [], ◌∷◌, ◌++◌, length, take, drop, length-drop, drop-drop, get_or, refl, sym, ap, subst, ◌∙◌, arith, Bool, true, false, cond, Option, Some, None, inl, inr, ◌⊎◌, lit<, append_assoc, map, min, Bor}
+use Rattle.std.proofs.Common.{◌≡◌, ℕ, zero, suc, ◌+◌, ◌-◌, ◌<◌, ◌≤◌, List, [], ◌∷◌, ◌++◌, length, take, drop, length-drop, get_or, refl, sym, ap, subst, ◌∙◌, arith, Bool, true, false, cond, Option, Some, None, lit<, append_assoc, map, Bor}
 use Rattle.std.specs.List.{prefix_len, join_with_byte}
 use Rattle.std.specs.Str.{IsUtf8, IsCharBoundary}
-use Rattle.std.specs.Prelude.{◌==◌, if◌then◌else◌, ◌&&◌, ◌||◌, not, slice_range, reverse}
-use Rattle.std.proofs.lemmas.List.{get_or-drop, take_rest, drop_more, drop_all, drop-map, append-nil, map-append, reverse-append, reverse-reverse, length-reverse, take-append-drop, take_at}
+use Rattle.std.specs.Prelude.{◌==◌, ◌&&◌, not, slice_range, reverse}
+use Rattle.std.proofs.lemmas.List.{take_rest, drop_more, drop_all, drop-map, append-nil, map-append, reverse-append, reverse-reverse, length-reverse, take-append-drop, take_at}
 use Rattle.std.proofs.lemmas.List.Sums.{prefix_len-le-length, prefix_len_passes}
 use Rattle.std.proofs.lemmas.Bool.{eqb-true}
 use Rattle.std.proofs.lemmas.Bool.Decides.{nat_tests}
 use Rattle.std.proofs.lemmas.Str.{IsCharBoundary-start}
-use Rattle.gql_text.specs.Chars.{is_break, begins}
-use Rattle.gql_text.specs.Values.{lines_of, longer_line, is_white, indent_of, is_blank_line, indent_of_text, least, common_indent, without_indent, without_common_indent, from_first, up_to_last}
+use Rattle.gql_text.specs.Chars.{is_break}
+use Rattle.gql_text.specs.Values.{lines_of, is_white, indent_of, is_blank_line, indent_of_text, least, common_indent, from_first, up_to_last}
 use Rattle.gql_text.specs.Escapes.{BreaksLine, begins_pair, break_len}
 use Rattle.gql_text.proofs.Cuts.{AsciiBefore, cut_after, both_of}
 use Rattle.gql_text.proofs.Texts.{front_is}
@@ -81,8 +81,11 @@ line_stops (b ∷ bs) h = stops_at b bs (is_break b) refl h (line_stops bs)
 pub indent_cut : (line : List ℕ) (n : ℕ) → IsUtf8 line → n ≤ indent_of line → IsCharBoundary line n
 indent_cut line zero u h = IsCharBoundary-start line u
 indent_cut line (suc n) u h =
-    cut_after line (suc n) u (record { some = omega arith; within = omega (arith, h, prefix_len-le-length is_white line);
-      ascii = let less : suc n - 1 ≡ n = omega arith in rw less (white_ascii (get_or line n 0) (prefix_len_passes is_white line n 0 (omega (arith, h)))) })
+    cut_after line (suc n) u (record {
+      some = omega arith;
+      within = omega (arith, h, prefix_len-le-length is_white line);
+      ascii = let less : suc n - 1 ≡ n = omega arith in rw less (white_ascii (get_or line n 0) (prefix_len_passes is_white line n 0 (omega (arith, h))));
+    })
   where
     white_ascii : (b : ℕ) → is_white b ≡ true → b < 128
     white_ascii b e = grind (arith, nat_tests)
@@ -112,7 +115,7 @@ without_last ys k h =
     let zs = reverse ys in
     let whole : reverse (drop k zs) ++ reverse (take k zs) ≡ ys = sym (reverse-append (take k zs) (drop k zs)) ∙ ap reverse (take-append-drop k zs) ∙ reverse-reverse ys in
     sym (ap (λ xs. take (length ys - k) xs) (sym whole)
-      ∙ take_at (reverse (drop k zs)) (reverse (take k zs)) (length ys - k) (length-reverse (drop k zs) ∙ length-drop k zs ∙ ap (λ n. n - k) (length-reverse ys)))
+    ∙ take_at (reverse (drop k zs)) (reverse (take k zs)) (length ys - k) (length-reverse (drop k zs) ∙ length-drop k zs ∙ ap (λ n. n - k) (length-reverse ys)))
 
 pub reverse_map : {A B : Type 0} (f : A → B) (xs : List A) → reverse (map f xs) ≡ map f (reverse xs)
 reverse_map f [] = refl
@@ -148,7 +151,7 @@ pub indent_more : (lines : List Text) (i : ℕ) (d : Text) (count next t least_o
 unfolding common_indent
 indent_more lines i d count next t all less ti ne inv =
     let step : least count (common_indent (texts (drop i lines))) ≡ least count (least (indent_of_text (get_or lines i d).now) (common_indent (texts (drop (i + 1) lines)))) =
-      ap (λ ys. least count (common_indent (texts ys))) (drop_more lines i d less) in
+    ap (λ ys. least count (common_indent (texts ys))) (drop_more lines i d less) in
     rw ne (least_assoc count t (common_indent (texts (drop (i + 1) lines))) ∙ ap (λ s. least count (least s (common_indent (texts (drop (i + 1) lines))))) ti ∙ sym step ∙ inv)
 
 pub indent_all : (lines : List Text) (i : ℕ) (count least_of_all : Option ℕ) → length lines ≤ i → least count (common_indent (texts (drop i lines))) ≡ least_of_all → count ≡ least_of_all
@@ -172,12 +175,12 @@ trimmed_is lines n m e f short = trimmed_from (take (length lines - n) (drop n l
         → texts (take (length kept - m) kept) ≡ up_to_last (from_first (texts lines))
     trimmed_from kept k f short =
         let from : from_first (texts lines) ≡ texts kept =
-          ap (λ c. drop c (texts lines)) (prefix_map is_blank_line (λ x. x.now) lines) ∙ drop-map (λ x. x.now) (prefix_len blank_text lines) lines ∙ ap texts (sym k) in
+        ap (λ c. drop c (texts lines)) (prefix_map is_blank_line (λ x. x.now) lines) ∙ drop-map (λ x. x.now) (prefix_len blank_text lines) lines ∙ ap texts (sym k) in
         let last : reverse (texts kept) ≡ texts (reverse kept) = reverse_map (λ x. x.now) kept in
         let count : prefix_len is_blank_line (texts (reverse kept)) ≡ m = prefix_map is_blank_line (λ x. x.now) (reverse kept) ∙ sym f in
         sym (ap up_to_last from
-          ∙ ap (λ ys. reverse (from_first ys)) last
-          ∙ ap (λ c. reverse (drop c (texts (reverse kept)))) count
-          ∙ ap reverse (drop-map (λ x. x.now) m (reverse kept))
-          ∙ reverse_map (λ x. x.now) (drop m (reverse kept))
-          ∙ ap texts (without_last kept m short))
+        ∙ ap (λ ys. reverse (from_first ys)) last
+        ∙ ap (λ c. reverse (drop c (texts (reverse kept)))) count
+        ∙ ap reverse (drop-map (λ x. x.now) m (reverse kept))
+        ∙ reverse_map (λ x. x.now) (drop m (reverse kept))
+        ∙ ap texts (without_last kept m short))

@@ -1,8 +1,8 @@
 -- The place behind one more byte.
-use Rattle.std.proofs.Common.{◌≡◌, ◌≢◌, ℕ, zero, suc, ◌+◌, ◌-◌, ◌<◌, ◌≤◌, List, [], ◌∷◌, ◌++◌, length, get_or, take, drop, refl, sym, ap, ◌∙◌, arith, add-one, length-take, Bool, true, false, ◌||◌, ◌&&◌, not, cond, eqb}
+use Rattle.std.proofs.Common.{◌≡◌, ℕ, zero, suc, ◌+◌, ◌-◌, ◌<◌, ◌≤◌, List, [], ◌∷◌, length, get_or, take, refl, ap, ◌∙◌, arith, length-take, ◌&&◌}
 use Rattle.std.proofs.lemmas.List.{reverse-append, take_more, length-reverse}
-use Rattle.std.specs.Prelude.{◌==◌, if◌then◌else◌, reverse, nat_lt}
-use Rattle.gql_text.specs.Place.{place_after, line_behind, column_behind, begins_char, starts_with_return}
+use Rattle.std.specs.Prelude.{◌==◌, reverse, nat_lt}
+use Rattle.gql_text.specs.Place.{place_after, line_behind, column_behind, starts_with_return}
 use Rattle.gql_text.specs.declared.place.Place.{Place}
 
 pub line_bound : (bs : List ℕ) → line_behind bs ≤ 1 + length bs

@@ -1,11 +1,8 @@
 -- What stands between the quotes of a token.
-use Rattle.std.proofs.Common.{◌≡◌, ℕ, ◌+◌, ◌-◌, ◌*◌, ◌<◌, ◌≤◌, List, [], ◌∷◌, length, take, drop, get_or, refl, sym, ap, subst, arith, Bool, true, false, lit<, Result, ◌∙◌}
-use Rattle.std.specs.Prelude.{◌==◌, ◌&&◌, IfOk, nat_eq, nat_le, String, string_bytes}
-use Rattle.std.specs.List.{starts_with, ends_with}
-use Rattle.std.proofs.lemmas.Bool.{eqb-true}
+use Rattle.std.proofs.Common.{◌≡◌, ℕ, List, [], ◌∷◌, refl, arith, true, false, lit<}
 use Rattle.std.proofs.lemmas.Bool.Decides.{nat_tests}
 use Rattle.gql_text.specs.Values.{is_within, between, string_value, block_value, text_value}
-use Rattle.gql_text.proofs.Cuts.{AsciiBefore, both_of}
+use Rattle.gql_text.proofs.Cuts.{AsciiBefore}
 
 abbrev pub three : List ℕ
 three = 34 ∷ 34 ∷ 34 ∷ []

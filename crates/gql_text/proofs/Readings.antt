@@ -1,5 +1,5 @@
 -- Each text has one reading.
-use Rattle.std.proofs.Common.{◌≡◌, ◌≢◌, ℕ, zero, suc, ◌+◌, ◌-◌, ◌<◌, ◌≤◌, List, [], ◌∷◌, ◌++◌, length, take, drop, length-drop, refl, sym, ap, subst, ◌∙◌, arith, Bool, true, false, inl, inr, ◌⊎◌}
+use Rattle.std.proofs.Common.{◌≡◌, ℕ, zero, suc, ◌+◌, ◌<◌, ◌≤◌, List, [], ◌∷◌, ◌++◌, length, take, drop, length-drop, refl, sym, ap, subst, ◌∙◌, arith, Bool, true, false, inl, inr, ◌⊎◌}
 use Rattle.std.specs.Prelude.{◌==◌, ◌&&◌, not}
 use Rattle.std.proofs.lemmas.Bool.{cases_lt}
 use Rattle.gql_text.specs.Chars.{three_quotes, one_quote}
@@ -9,7 +9,6 @@ use Rattle.gql_text.specs.Place.{place_after}
 use Rattle.gql_text.specs.Lexeme.{Lexeme}
 use Rattle.gql_text.specs.Lexis.{Run, closes, goes, stops, refused_at, Stands, block_string, string, plain, Tokens, at_end, dropped, token, Faulty, here, behind_dropped, behind_token, IsLexed, LexFails, too_long, first, text_limit}
 use Rattle.gql_text.specs.Laws.{HasReading}
-use Rattle.gql_text.specs.Parts.{Fits}
 use Rattle.gql_text.specs.declared.place.Place.{Place}
 use Rattle.gql_text.specs.declared.token.Kind.{Kind}
 use Rattle.gql_text.specs.declared.token.Kind.TheVariants.{StringValue, BlockString}
@@ -19,7 +18,6 @@ use Rattle.gql_text.specs.declared.front.Part.{Part}
 use Rattle.gql_text.specs.declared.front.Part.TheVariants.{Dropped, Taken, Refused}
 use Rattle.gql_text.specs.declared.front.Piece.{Piece}
 use Rattle.gql_text.specs.declared.front.Piece.TheVariants.{Closes, Goes, Stops}
-use Rattle.gql_text.proofs.Runs.{IsStep}
 use Rattle.gql_text.proofs.Fitting.{IsPiecewise, strings, blocks, stands_fits}
 
 -- one run
@@ -173,7 +171,9 @@ reads (suc fuel) before (b ∷ bs) h =
 pub reading : (source : List ℕ) → HasReading source
 unfolding Reads
 reading source = elim (cases_lt text_limit (length source)) [
-    inl h ↦ inr (TooLong, place_after [], too_long h refl)
+  | inl h ↦ inr (TooLong, place_after [], too_long h refl)
   | inr h ↦ elim (reads (length source) [] source (omega arith)) [
-        inl r ↦ inl (r.0, record { short = h; tokens_of = r.1 })
-      | inr r ↦ inr (r.0, r.1, first h r.2) ] ]
+    | inl r ↦ inl (r.0, record { short = h; tokens_of = r.1 })
+    | inr r ↦ inr (r.0, r.1, first h r.2)
+  ]
+]

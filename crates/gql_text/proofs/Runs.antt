@@ -1,17 +1,16 @@
 -- Steps of a run over a string, and what each of its pieces takes.
-use Rattle.std.proofs.Common.{◌≡◌, ◌≢◌, ℕ, zero, suc, ◌+◌, ◌<◌, ◌≤◌, List, [], ◌∷◌, length, take, drop, ◌-◌, length-drop, refl, sym, ap, ◌∙◌, arith, Bool, true, false, cond, inl, inr, ◌⊎◌, Option, Some, None}
+use Rattle.std.proofs.Common.{◌≡◌, ℕ, ◌+◌, ◌<◌, ◌≤◌, List, [], ◌∷◌, length, take, drop, ◌-◌, length-drop, refl, sym, ap, ◌∙◌, arith, Bool, true, false, cond, inl, inr, ◌⊎◌, Option, Some, None}
 use Rattle.std.specs.List.{list_any, prefix_len}
-use Rattle.std.specs.Prelude.{codes, ◌==◌, if◌then◌else◌, ◌&&◌, ◌||◌, not, unwrap_or}
+use Rattle.std.specs.Prelude.{codes, ◌==◌, ◌&&◌, ◌||◌, not, unwrap_or}
 use Rattle.std.specs.Char.{is_ascii_hexdigit}
 use Rattle.std.proofs.lemmas.List.{take_all}
 use Rattle.gql_text.specs.Chars.{is_break, is_source_byte, begins, three_quotes}
-use Rattle.gql_text.specs.Pieces.{four_digits, is_high, is_low, escaped_number, short_escape, number_piece, digits_piece, escape_piece, string_piece, block_piece, hex_value}
+use Rattle.gql_text.specs.Pieces.{four_digits, is_high, is_low, escaped_number, short_escape, number_piece, digits_piece, escape_piece, string_piece, block_piece}
 use Rattle.gql_text.specs.Lexis.{Run, closes, goes, stops, refused_at}
 use Rattle.gql_text.specs.declared.token.Kind.{Kind}
 use Rattle.gql_text.specs.declared.token.LexRefusal.{LexRefusal}
-use Rattle.gql_text.specs.declared.token.LexRefusal.TheVariants.{BadCharacter, UnfinishedText, BadEscape, LoneSurrogate}
 use Rattle.gql_text.specs.declared.front.Part.{Part}
-use Rattle.gql_text.specs.declared.front.Part.TheVariants.{Dropped, Taken, Refused}
+use Rattle.gql_text.specs.declared.front.Part.TheVariants.{Taken, Refused}
 use Rattle.gql_text.specs.declared.front.Piece.{Piece}
 use Rattle.gql_text.specs.declared.front.Piece.TheVariants.{Closes, Goes, Stops}
 
@@ -52,12 +51,15 @@ escaped_long (b ∷ c ∷ bs) e = split (λ n. is_low n ≡ true → 6 ≤ lengt
 pub number_goes : (n k : ℕ) (bs : List ℕ) → number_piece n bs ≡ Goes k → (0 < k) × (k ≤ 6 + length bs)
 number_goes n k bs e =
     elim (chosen (is_high n) e) [
-      inl h ↦ elim (chosen (is_low (escaped_number bs)) h.1) [
-          inl g ↦ let twelve : 12 ≡ k = cc in (omega arith, omega (arith, escaped_long bs g.0))
-        | inr g ↦ absurd (cc) ]
-    | inr h ↦ elim (chosen (is_low n) h.1) [
-          inl g ↦ absurd (cc)
-        | inr g ↦ let six : 6 ≡ k = cc in (omega arith, omega arith) ] ]
+      | inl h ↦ elim (chosen (is_low (escaped_number bs)) h.1) [
+        | inl g ↦ let twelve : 12 ≡ k = cc in (omega arith, omega (arith, escaped_long bs g.0))
+        | inr g ↦ absurd (cc)
+      ]
+      | inr h ↦ elim (chosen (is_low n) h.1) [
+        | inl g ↦ absurd (cc)
+        | inr g ↦ let six : 6 ≡ k = cc in (omega arith, omega arith)
+      ]
+    ]
 
 pub short_stops : (k : ℕ) (bs : List ℕ) → short_escape bs ≡ Goes k → ⊥
 short_stops k bs e = elim (chosen (begins (λ b. not (is_break b)) bs) e) [ inl h ↦ cc | inr h ↦ cc ]
@@ -71,26 +73,33 @@ unfolding escape_piece
 escape_goes k [] e = absurd (cc)
 escape_goes k (b ∷ bs) e =
     elim (chosen (is_break b) e) [
-      inl h ↦ absurd (cc)
+      | inl h ↦ absurd (cc)
       | inr h ↦ elim (chosen (list_any (λ c. c == b) (codes "\"\\/bfnrt")) h.1) [
-          inl g ↦ let two : 2 ≡ k = cc in (omega arith, omega arith)
-          | inr g ↦ elim (chosen (b == 117) g.1) [
-              inl d ↦ let r = digits_goes (four_digits bs) k bs refl d.1 in (r.0, omega (arith, r.1))
-              | inr d ↦ absurd (cc) ] ] ]
+        | inl g ↦ let two : 2 ≡ k = cc in (omega arith, omega arith)
+        | inr g ↦ elim (chosen (b == 117) g.1) [
+          | inl d ↦ let r = digits_goes (four_digits bs) k bs refl d.1 in (r.0, omega (arith, r.1))
+          | inr d ↦ absurd (cc)
+        ]
+      ]
+    ]
 
 pub string_goes : (bs : List ℕ) (k : ℕ) → string_piece bs ≡ Goes k → IsStep k bs
 unfolding string_piece
 string_goes [] k e = absurd (cc)
 string_goes (b ∷ bs) k e =
     elim (chosen (is_break b) e) [
-      inl h ↦ absurd (cc)
+      | inl h ↦ absurd (cc)
       | inr h ↦ elim (chosen (b == 34) h.1) [
-          inl g ↦ absurd (cc)
-          | inr g ↦ elim (chosen (b == 92) g.1) [
-              inl d ↦ let r = escape_goes k bs d.1 in record { some = r.0; within = omega (arith, r.1) }
-              | inr d ↦ elim (chosen (is_source_byte b) d.1) [
-                  inl u ↦ let one : 1 ≡ k = cc in record { some = omega arith; within = omega arith }
-                  | inr u ↦ absurd (cc) ] ] ] ]
+        | inl g ↦ absurd (cc)
+        | inr g ↦ elim (chosen (b == 92) g.1) [
+          | inl d ↦ let r = escape_goes k bs d.1 in record { some = r.0; within = omega (arith, r.1) }
+          | inr d ↦ elim (chosen (is_source_byte b) d.1) [
+            | inl u ↦ let one : 1 ≡ k = cc in record { some = omega arith; within = omega arith }
+            | inr u ↦ absurd (cc)
+          ]
+        ]
+      ]
+    ]
 
 pub three_long : (bs : List ℕ) → three_quotes bs ≡ true → 3 ≤ length bs
 three_long [] e = absurd (cc)
@@ -107,12 +116,15 @@ unfolding block_piece
 block_goes [] k e = absurd (cc)
 block_goes (b ∷ bs) k e =
     elim (chosen (three_quotes (b ∷ bs)) e) [
-      inl h ↦ absurd (cc)
+      | inl h ↦ absurd (cc)
       | inr h ↦ elim (chosen (b == 92 && three_quotes bs) h.1) [
-          inl g ↦ let four : 4 ≡ k = cc in record { some = omega arith; within = omega (arith, three_long bs (right_of (b == 92) (three_quotes bs) g.0)) }
-          | inr g ↦ elim (chosen (is_break b || is_source_byte b) g.1) [
-              inl d ↦ let one : 1 ≡ k = cc in record { some = omega arith; within = omega arith }
-              | inr d ↦ absurd (cc) ] ] ]
+        | inl g ↦ let four : 4 ≡ k = cc in record { some = omega arith; within = omega (arith, three_long bs (right_of (b == 92) (three_quotes bs) g.0)) }
+        | inr g ↦ elim (chosen (is_break b || is_source_byte b) g.1) [
+          | inl d ↦ let one : 1 ≡ k = cc in record { some = omega arith; within = omega arith }
+          | inr d ↦ absurd (cc)
+        ]
+      ]
+    ]
 
 pub run_closes : (f : List ℕ → Piece) (kind : Kind) (n k m : ℕ) (bs : List ℕ) → Closes k ≡ f bs → m ≡ n + k → Run f kind n bs (Taken kind m)
 run_closes f kind n k m bs e h = closes (sym e) h

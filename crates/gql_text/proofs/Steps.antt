@@ -1,5 +1,5 @@
 -- One part of a text: the relations go on behind it.
-use Rattle.std.proofs.Common.{◌≡◌, ℕ, ◌+◌, ◌-◌, ◌≤◌, List, [], ◌∷◌, ◌++◌, length, take, drop, drop-drop, append_assoc, refl, sym, ap, ◌∙◌, arith, map}
+use Rattle.std.proofs.Common.{◌≡◌, ℕ, ◌+◌, ◌-◌, ◌≤◌, List, [], ◌∷◌, ◌++◌, length, take, drop, drop-drop, append_assoc, sym, ap, ◌∙◌, arith, map}
 use Rattle.std.specs.Prelude.{slice_range}
 use Rattle.std.proofs.lemmas.List.{map-append, drop-take, take-take, take-append-drop, take_rest}
 use Rattle.std.proofs.Math.ListN.{drop_of_length-le}

@@ -1,17 +1,16 @@
 -- The characters of escapes, and the values of strings piece by piece.
-use Rattle.std.proofs.Common.{◌≡◌, ◌≢◌, ℕ, zero, suc, ◌+◌, ◌-◌, ◌*◌, ◌<◌, ◌≤◌, List, [], ◌∷◌, ◌++◌, length, take, drop, length-drop, drop-drop, get_or, refl, sym, ap, subst, ◌∙◌, arith, Bool, true, false, cond, Option, Some, None, inl, inr, ◌⊎◌, lit<, append_assoc}
+use Rattle.std.proofs.Common.{◌≡◌, ℕ, zero, suc, ◌+◌, ◌-◌, ◌*◌, ◌<◌, ◌≤◌, List, [], ◌∷◌, ◌++◌, length, take, drop, length-drop, get_or, refl, sym, ap, ◌∙◌, arith, Bool, true, false, Option, Some, None, inl, inr, ◌⊎◌, lit<, append_assoc}
 use Rattle.std.specs.List.{prefix_len, list_any}
 use Rattle.std.specs.Char.{is_ascii_hexdigit, InScalarRange}
 use Rattle.std.specs.Int.{IsInRange}
-use Rattle.std.specs.Prelude.{codes, ◌==◌, if◌then◌else◌, ◌&&◌, ◌||◌, not, unwrap_or, encode_utf8, nat_le, nat_lt, slice_range}
+use Rattle.std.specs.Prelude.{codes, ◌==◌, ◌&&◌, not, unwrap_or, encode_utf8, slice_range}
 use Rattle.std.proofs.lemmas.List.{get_or-drop, take_rest}
 use Rattle.std.proofs.lemmas.Bool.{eqb-true}
 use Rattle.std.proofs.lemmas.Bool.Decides.{nat_tests}
-use Rattle.gql_text.specs.Chars.{is_break, begins, three_quotes}
-use Rattle.gql_text.specs.Pieces.{hex_value, four_digits, is_high, is_low, escaped_number, short_escape, number_piece, digits_piece, escape_piece}
+use Rattle.gql_text.specs.Chars.{is_break, three_quotes}
+use Rattle.gql_text.specs.Pieces.{hex_value, four_digits, is_high, is_low, escaped_number, number_piece, digits_piece, escape_piece}
 use Rattle.gql_text.specs.Values.{letter_value, number_value, escape_value, escape_len, escape_text, string_value_behind, string_value, raw_value}
 use Rattle.gql_text.specs.Escapes.{goes}
-use Rattle.gql_text.specs.declared.token.LexRefusal.TheVariants.{UnfinishedText, BadEscape, LoneSurrogate}
 use Rattle.gql_text.specs.declared.front.Piece.{Piece}
 use Rattle.gql_text.specs.declared.front.Piece.TheVariants.{Closes, Goes, Stops}
 use Rattle.gql_text.proofs.Runs.{chosen, split, escape_goes, escaped_long, short_stops}
@@ -34,17 +33,18 @@ four_are n (a ∷ b ∷ []) e = absurd (cc)
 four_are n (a ∷ b ∷ c ∷ []) e = absurd (cc)
 four_are n (a ∷ b ∷ c ∷ d ∷ bs) e =
     elim (chosen (is_ascii_hexdigit a && is_ascii_hexdigit b && is_ascii_hexdigit c && is_ascii_hexdigit d) e) [
-      inl h ↦
-        let abc = both_of (is_ascii_hexdigit a && is_ascii_hexdigit b && is_ascii_hexdigit c) (is_ascii_hexdigit d) h.0 in
-        let ab = both_of (is_ascii_hexdigit a && is_ascii_hexdigit b) (is_ascii_hexdigit c) abc.0 in
-        let a_b = both_of (is_ascii_hexdigit a) (is_ascii_hexdigit b) ab.0 in
-        let a_small : hex_value a < 16 = (hex_small a a_b.0).0 in
-        let b_small : hex_value b < 16 = (hex_small b a_b.1).0 in
-        let c_small : hex_value c < 16 = (hex_small c ab.1).0 in
-        let d_small : hex_value d < 16 = (hex_small d abc.1).0 in
-        let is : hex_value a * 4096 + hex_value b * 256 + hex_value c * 16 + hex_value d ≡ n = cc in
-        record { small = omega (arith, is); long = omega arith; ascii = (hex_small d abc.1).1 }
-      | inr h ↦ absurd (cc) ]
+      | inl h ↦
+          let abc = both_of (is_ascii_hexdigit a && is_ascii_hexdigit b && is_ascii_hexdigit c) (is_ascii_hexdigit d) h.0 in
+          let ab = both_of (is_ascii_hexdigit a && is_ascii_hexdigit b) (is_ascii_hexdigit c) abc.0 in
+          let a_b = both_of (is_ascii_hexdigit a) (is_ascii_hexdigit b) ab.0 in
+          let a_small : hex_value a < 16 = (hex_small a a_b.0).0 in
+          let b_small : hex_value b < 16 = (hex_small b a_b.1).0 in
+          let c_small : hex_value c < 16 = (hex_small c ab.1).0 in
+          let d_small : hex_value d < 16 = (hex_small d abc.1).0 in
+          let is : hex_value a * 4096 + hex_value b * 256 + hex_value c * 16 + hex_value d ≡ n = cc in
+          record { small = omega (arith, is); long = omega arith; ascii = (hex_small d abc.1).1 }
+      | inr h ↦ absurd (cc)
+    ]
 
 some_are : (o : Option ℕ) (bs : List ℕ) → four_digits bs ≡ o → (unwrap_or o 0 < 65536) × (is_low (unwrap_or o 0) ≡ true → get_or bs 3 0 < 128)
 some_are (Some n) bs e = let f = four_are n bs e in (f.small, λ h. f.ascii)
@@ -56,7 +56,7 @@ escaped_are [] = (omega arith, λ h. absurd (cc))
 escaped_are (b ∷ []) = (omega arith, λ h. absurd (cc))
 escaped_are (b ∷ c ∷ bs) =
     split (λ n. (n < 65536) × (is_low n ≡ true → get_or (b ∷ c ∷ bs) 5 0 < 128)) (b == 92 && c == 117) _ _
-      (λ h. some_are (four_digits bs) bs refl) (λ h. (omega arith, λ g. absurd (cc)))
+    (λ h. some_are (four_digits bs) bs refl) (λ h. (omega arith, λ g. absurd (cc)))
 
 -- an escape that goes on ends with an ASCII byte, and is a character
 pub record IsEscape (k : ℕ) (bs : List ℕ) : Type 0 where
@@ -86,17 +86,25 @@ number_escape : (n k b : ℕ) (bs : List ℕ) → four_digits bs ≡ Some n → 
 number_escape n k b bs o e =
     let f = four_are n bs o in
     elim (chosen (is_high n) e) [
-      inl h ↦ elim (chosen (is_low (escaped_number (drop 4 bs))) h.1) [
-          inl g ↦ let twelve : 12 ≡ k = cc in
-            (high_value n (drop 4 bs) h.0 g.0,
-             rw (← twelve) (record { some = lit< tt; within = omega (arith, escaped_long (drop 4 bs) g.0, length-drop 4 bs);
-               ascii = rw get_or-drop at ((escaped_are (drop 4 bs)).1 g.0) }))
-        | inr g ↦ absurd (cc) ]
-    | inr h ↦ elim (chosen (is_low n) h.1) [
-          inl g ↦ absurd (cc)
-        | inr g ↦ let six : 6 ≡ k = cc in
-            (other_value n (drop 4 bs) h.0 g.0 f.small,
-             rw (← six) (record { some = lit< tt; within = omega (arith, f.long); ascii = f.ascii })) ] ]
+      | inl h ↦ elim (chosen (is_low (escaped_number (drop 4 bs))) h.1) [
+        | inl g ↦ let twelve : 12 ≡ k = cc in (
+          high_value n (drop 4 bs) h.0 g.0,
+          rw (← twelve) (record {
+            some = lit< tt;
+            within = omega (arith, escaped_long (drop 4 bs) g.0, length-drop 4 bs);
+            ascii = rw get_or-drop at ((escaped_are (drop 4 bs)).1 g.0);
+          }),
+        )
+        | inr g ↦ absurd (cc)
+      ]
+      | inr h ↦ elim (chosen (is_low n) h.1) [
+        | inl g ↦ absurd (cc)
+        | inr g ↦ let six : 6 ≡ k = cc in (
+          other_value n (drop 4 bs) h.0 g.0 f.small,
+          rw (← six) (record { some = lit< tt; within = omega (arith, f.long); ascii = f.ascii }),
+        )
+      ]
+    ]
 
 digits_escape : (o : Option ℕ) (k b : ℕ) (bs : List ℕ) → four_digits bs ≡ o → digits_piece o bs ≡ Goes k
     → (InScalarRange (number_value (unwrap_or o 0) (drop 4 bs))) × AsciiBefore (92 ∷ b ∷ bs) k
@@ -117,17 +125,20 @@ unfolding escape_piece escape_value
 escape_is k [] e = absurd (cc)
 escape_is k (b ∷ bs) e =
     elim (chosen (is_break b) e) [
-      inl h ↦ absurd (cc)
+      | inl h ↦ absurd (cc)
       | inr h ↦ elim (chosen (list_any (λ c. c == b) (codes "\"\\/bfnrt")) h.1) [
-          inl g ↦ let two : 2 ≡ k = cc in
+        | inl g ↦ let two : 2 ≡ k = cc in
             record {
               ends = rw (← two) (record { some = lit< tt; within = omega arith; ascii = letter_small b g.0 });
-              scalar = rw (not_u b g.0) (inl (letter_scalar b (letter_small b g.0)))
+              scalar = rw (not_u b g.0) (inl (letter_scalar b (letter_small b g.0)));
             }
-          | inr g ↦ elim (chosen (b == 117) g.1) [
-              inl d ↦ let r = digits_escape (four_digits bs) k b bs refl d.1 in
-                record { ends = r.1; scalar = rw d.0 r.0 }
-              | inr d ↦ absurd (cc) ] ] ]
+        | inr g ↦ elim (chosen (b == 117) g.1) [
+          | inl d ↦ let r = digits_escape (four_digits bs) k b bs refl d.1 in
+              record { ends = r.1; scalar = rw d.0 r.0 }
+          | inr d ↦ absurd (cc)
+        ]
+      ]
+    ]
 
 -- behind n bytes
 pub string_behind : (n : ℕ) (bs : List ℕ) → string_value_behind n bs ≡ string_value_behind 0 (drop n bs)

@@ -1,21 +1,21 @@
 -- What holds of each token of a text.
-use Rattle.std.proofs.Common.{◌≡◌, ◌≢◌, ℕ, zero, suc, ◌+◌, ◌-◌, ◌<◌, ◌≤◌, List, [], ◌∷◌, ◌++◌, length, take, drop, length-take, append_assoc, All, refl, sym, ap, subst, ◌∙◌, arith, Bool, true, false, Option, Some, None, inl, inr}
+use Rattle.std.proofs.Common.{◌≡◌, ◌≢◌, ℕ, ◌+◌, ◌-◌, List, [], ◌∷◌, ◌++◌, length, take, drop, length-take, append_assoc, All, refl, sym, ap, subst, ◌∙◌, arith, Option, Some, None}
 use Rattle.std.specs.List.{prefix_len}
 use Rattle.std.specs.Char.{is_ascii_digit}
 use Rattle.std.specs.Prelude.{◌==◌, ◌&&◌, not, slice_range}
-use Rattle.std.proofs.lemmas.List.{append-nil, drop_at, take_min, take-append-drop}
+use Rattle.std.proofs.lemmas.List.{drop_at, take_min, take-append-drop}
 use Rattle.std.proofs.lemmas.List.Elements.{All-nil, All-cons}
 use Rattle.std.proofs.lemmas.Bool.Decides.{nat_tests}
-use Rattle.gql_text.specs.Chars.{is_name_start, is_name_byte, is_break, is_blank, is_source_byte, begins}
+use Rattle.gql_text.specs.Chars.{is_name_start, is_break, is_blank, is_source_byte, begins}
 use Rattle.gql_text.specs.Number.{number_end, exponent_digits, exponent_part, fraction_digits, fraction_part, number_part, spoils_number, is_exponent_mark, sign_len}
-use Rattle.gql_text.specs.Marks.{mark_kind, mark_part, dots_part, order_part, comment_part, plain_part}
+use Rattle.gql_text.specs.Marks.{mark_kind, mark_part, dots_part, order_part, plain_part}
 use Rattle.gql_text.specs.Lexeme.{Lexeme}
-use Rattle.gql_text.specs.Lexis.{Run, closes, goes, stops, Stands, block_string, string, plain, Tokens, at_end, dropped, token, IsLexed}
+use Rattle.gql_text.specs.Lexis.{Run, closes, goes, stops, Stands, block_string, string, plain, Tokens, at_end, dropped, token}
 use Rattle.gql_text.specs.Laws.{IsSliceOf}
 use Rattle.gql_text.specs.declared.token.Kind.{Kind}
-use Rattle.gql_text.specs.declared.token.Kind.TheVariants.{EndOfText, Name, IntValue, FloatValue, StringValue, BlockString, Ellipsis}
+use Rattle.gql_text.specs.declared.token.Kind.TheVariants.{EndOfText, IntValue, FloatValue, StringValue, BlockString}
 use Rattle.gql_text.specs.declared.front.Part.{Part}
-use Rattle.gql_text.specs.declared.front.Part.TheVariants.{Dropped, Taken, Refused}
+use Rattle.gql_text.specs.declared.front.Part.TheVariants.{Taken}
 use Rattle.gql_text.specs.declared.front.Piece.{Piece}
 use Rattle.gql_text.proofs.Fitting.{either}
 
@@ -23,9 +23,9 @@ slice_at : (before rest : List ℕ) (n : ℕ) → take n rest ≡ slice_range (b
 slice_at before rest n =
     let count : length before + length (take n rest) - length before ≡ length (take n rest) = omega arith in
     sym (ap (λ m. take m (drop (length before) (before ++ rest))) count
-      ∙ ap (λ xs. take (length (take n rest)) xs) (drop_at before rest (length before) refl)
-      ∙ ap (λ m. take m rest) (length-take n rest)
-      ∙ take_min n rest)
+    ∙ ap (λ xs. take (length (take n rest)) xs) (drop_at before rest (length before) refl)
+    ∙ ap (λ m. take m rest) (length-take n rest)
+    ∙ take_min n rest)
 
 pub slices_of : (source : List ℕ) {before rest : List ℕ} {ts : List Lexeme} → Tokens before rest ts → before ++ rest ≡ source → All (IsSliceOf source) ts
 slices_of source at_end e = All-nil (IsSliceOf source)
@@ -33,7 +33,7 @@ slices_of source {before} {rest} (dropped {n = n} s t) e =
     slices_of source t (append_assoc before (take n rest) (drop n rest) ∙ ap (λ xs. before ++ xs) (take-append-drop n rest) ∙ e)
 slices_of source {before} {rest} (token {n = n} s t) e =
     All-cons (IsSliceOf source) _ _ (subst (λ xs. take n rest ≡ slice_range xs (length before) (length before + length (take n rest))) e (slice_at before rest n))
-     (slices_of source t (append_assoc before (take n rest) (drop n rest) ∙ ap (λ xs. before ++ xs) (take-append-drop n rest) ∙ e))
+    (slices_of source t (append_assoc before (take n rest) (drop n rest) ∙ ap (λ xs. before ++ xs) (take-append-drop n rest) ∙ e))
 
 -- the part isn't a token of the kind of the text's end
 abbrev IsNoEnd : Part → Type 0
@@ -71,8 +71,8 @@ unfolding number_part
 number_no_end n [] = λ m e. cc
 number_no_end n (b ∷ bs) =
     either (λ p. IsNoEnd p) (b == 48) _ _ (fraction_no (n + 1) bs)
-      (either (λ p. IsNoEnd p) (is_ascii_digit b) _ _
-        (fraction_no (n + 1 + prefix_len is_ascii_digit bs) (drop (prefix_len is_ascii_digit bs) bs)) (λ m e. cc))
+    (either (λ p. IsNoEnd p) (is_ascii_digit b) _ _
+    (fraction_no (n + 1 + prefix_len is_ascii_digit bs) (drop (prefix_len is_ascii_digit bs) bs)) (λ m e. cc))
 
 mark_end : (b : ℕ) → mark_kind b ≡ Some EndOfText → ⊥
 mark_end b e = grind (arith, nat_tests)

@@ -1,8 +1,8 @@
 -- What a value knows of an escape before it reads it.
-use Rattle.std.specs.Prelude.{ℕ, ◌≡◌, List, [], ◌∷◌, Bool, true, false, ◌&&◌, ◌==◌, if◌then◌else◌, drop}
+use Rattle.std.specs.Prelude.{ℕ, ◌≡◌, List, ◌∷◌, Bool, true, false, ◌&&◌, ◌==◌, if◌then◌else◌}
 use Rattle.gql_text.specs.Chars.{is_break, begins}
 use Rattle.gql_text.specs.declared.front.Piece.{Piece}
-use Rattle.gql_text.specs.declared.front.Piece.TheVariants.{Closes, Goes, Stops}
+use Rattle.gql_text.specs.declared.front.Piece.TheVariants.{Goes}
 
 -- the piece belongs to the string
 abbrev pub goes : Piece → Bool

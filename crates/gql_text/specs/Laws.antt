@@ -1,12 +1,9 @@
 -- Laws of tokens and faults.
-use Rattle.std.specs.Prelude.{ℕ, ◌≡◌, ◌≢◌, ◌≤◌, ◌<◌, ◌+◌, ◌⊎◌, List, All, length, take, drop, slice_range, Bool, true, false}
-use Rattle.gql_text.specs.Chars.{is_name_byte, begins}
-use Rattle.gql_text.specs.Number.{spoils_number}
+use Rattle.std.specs.Prelude.{ℕ, ◌≡◌, ◌+◌, ◌⊎◌, List, length, slice_range}
 use Rattle.gql_text.specs.Lexeme.{Lexeme}
 use Rattle.gql_text.specs.Lexis.{Stands, IsLexed, LexFails}
 use Rattle.gql_text.specs.declared.place.Place.{Place}
 use Rattle.gql_text.specs.declared.token.Kind.{Kind}
-use Rattle.gql_text.specs.declared.token.Kind.TheVariants.{EndOfText, Name, IntValue, FloatValue}
 use Rattle.gql_text.specs.declared.token.LexRefusal.{LexRefusal}
 use Rattle.gql_text.specs.declared.front.Part.TheVariants.{Taken}
 

@@ -1,5 +1,6 @@
 pub mod Chars
 pub mod Escapes
+pub mod Grammar
 pub mod Kinds
 pub mod Laws
 pub mod Lexeme

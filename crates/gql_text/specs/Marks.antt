@@ -1,5 +1,5 @@
 -- What stands at the front of a text that doesn't begin with a quote (2.1).
-use Rattle.std.specs.Prelude.{ℕ, ◌+◌, List, [], ◌∷◌, drop, ◌&&◌, ◌||◌, not, ◌==◌, if◌then◌else◌, Option, Some, None}
+use Rattle.std.specs.Prelude.{ℕ, ◌+◌, List, ◌∷◌, drop, ◌&&◌, not, ◌==◌, if◌then◌else◌, Option, Some, None}
 use Rattle.std.specs.List.{prefix_len}
 use Rattle.std.specs.Char.{is_ascii_digit}
 use Rattle.gql_text.specs.declared.token.Kind.{Kind}

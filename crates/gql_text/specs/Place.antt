@@ -1,5 +1,5 @@
 -- Where a token stands: a function of the bytes before it (lines: 2.1.3).
-use Rattle.std.specs.Prelude.{ℕ, ◌+◌, List, [], ◌∷◌, length, Bool, true, false, ◌||◌, ◌&&◌, not, nat_lt, nat_le, ◌==◌, if◌then◌else◌, reverse}
+use Rattle.std.specs.Prelude.{ℕ, ◌+◌, List, [], ◌∷◌, length, Bool, false, ◌||◌, ◌&&◌, not, nat_lt, nat_le, ◌==◌, if◌then◌else◌, reverse}
 use Rattle.gql_text.specs.declared.place.Place.{Place}
 
 -- a byte that begins a character of UTF-8
@@ -26,5 +26,5 @@ abbrev pub place_after : List ℕ → Place
 place_after before = record {
   line = line_behind (reverse before);
   column = column_behind (reverse before);
-  offset = length before
+  offset = length before;
 }

@@ -1,10 +1,10 @@
 -- The value of a string or of a block string: a function of the token's text (2.9.4, StringValue and BlockStringValue()).
-use Rattle.std.specs.Prelude.{ℕ, zero, suc, ◌+◌, ◌-◌, ◌*◌, List, [], ◌∷◌, ◌++◌, length, take, drop, map, reverse, min, Bool, ◌&&◌, ◌||◌, not, nat_le, ◌==◌, if◌then◌else◌, Option, Some, None, unwrap_or, nat_eq, codes, encode_utf8}
+use Rattle.std.specs.Prelude.{ℕ, zero, suc, ◌+◌, ◌-◌, ◌*◌, List, [], ◌∷◌, ◌++◌, length, take, drop, map, reverse, min, Bool, ◌&&◌, ◌||◌, nat_le, ◌==◌, if◌then◌else◌, Option, Some, None, unwrap_or, nat_eq, codes, encode_utf8}
 use Rattle.std.specs.List.{prefix_len, starts_with, ends_with, join_with_byte}
 use Rattle.gql_text.specs.Chars.{is_break, begins, three_quotes}
 use Rattle.gql_text.specs.Pieces.{four_digits, escaped_number, is_high, escape_piece}
 use Rattle.gql_text.specs.declared.front.Piece.{Piece}
-use Rattle.gql_text.specs.declared.front.Piece.TheVariants.{Closes, Goes, Stops}
+use Rattle.gql_text.specs.declared.front.Piece.TheVariants.{Goes}
 
 -- the character of an escape of one letter, by its letter; the others stand for themselves
 abbrev pub letter_value : ℕ → ℕ

@@ -46,7 +46,10 @@ fn line_len(text: &str) -> usize
     ensures value { result ≡ prefix_len (λ b. not (is_break b)) text.now }
     ensures cut { IsCharBoundary text.now result }
 {
-    text.as_bytes().iter().take_while(|byte| **byte != b'\n' && **byte != b'\r').count()
+    text.as_bytes()
+        .iter()
+        .take_while(|byte| **byte != b'\n' && **byte != b'\r')
+        .count()
 }
 
 /// Whether CRLF stands at the front.
@@ -92,7 +95,10 @@ fn indent_len(line: &str) -> usize
     ensures value { result ≡ indent_of line.now }
     ensures short { result ≤ length line.now }
 {
-    line.as_bytes().iter().take_while(|byte| **byte == b'\t' || **byte == b' ').count()
+    line.as_bytes()
+        .iter()
+        .take_while(|byte| **byte == b'\t' || **byte == b' ')
+        .count()
 }
 
 /// Whether a line has nothing but tabs and spaces.

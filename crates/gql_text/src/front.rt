@@ -51,14 +51,20 @@ fn name_len(bytes: &[u8]) -> usize
     ensures value { result ≡ prefix_len is_name_byte bytes.now }
     ensures short { result ≤ length bytes.now }
 {
-    bytes.iter().take_while(|byte| continues_name(**byte)).count()
+    bytes
+        .iter()
+        .take_while(|byte| continues_name(**byte))
+        .count()
 }
 
 fn line_len(bytes: &[u8]) -> usize
     ensures value { result ≡ prefix_len is_source_byte bytes.now }
     ensures short { result ≤ length bytes.now }
 {
-    bytes.iter().take_while(|byte| **byte == b'\t' || **byte >= 32).count()
+    bytes
+        .iter()
+        .take_while(|byte| **byte == b'\t' || **byte >= 32)
+        .count()
 }
 
 /// A comment whose bytes so far are read, if its line ends there.

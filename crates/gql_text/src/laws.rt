@@ -1,7 +1,8 @@
 //! What holds of tokens and faults, as contracts of functions that do nothing.
-ghost use Rattle.std.specs.Prelude.{◌≡◌, ◌≢◌, ◌<◌, ◌≤◌, ℕ, List, All, length, take, drop, false};
+ghost use Rattle.std.specs.Prelude.{◌↔◌, ◌≡◌, ◌≢◌, ◌<◌, ◌≤◌, ℕ, List, All, length, take, drop, false};
 ghost use Rattle.gql_text.specs.Chars.{begins, is_name_byte};
 ghost use Rattle.gql_text.specs.Number.{spoils_number};
+ghost use Rattle.gql_text.specs.Grammar.{IsName, IsInteger, IsFloat};
 ghost use Rattle.gql_text.specs.Lexeme.{Lexeme};
 ghost use Rattle.gql_text.specs.Lexis.{Stands, IsLexed, LexFails};
 ghost use Rattle.gql_text.specs.Laws.{HasReading, IsSliceOf, IsToken};
@@ -17,12 +18,23 @@ pub fn one_reading()
     ensures one_list { (source : List ℕ) (tokens others : List Lexeme) → IsLexed source tokens → IsLexed source others → tokens ≡ others }
     ensures one_fault { (source : List ℕ) (refusal other : LexRefusal) (place elsewhere : Place) → LexFails source refusal place → LexFails source other elsewhere → (refusal ≡ other) × (place ≡ elsewhere) }
     ensures not_both { (source : List ℕ) (tokens : List Lexeme) (refusal : LexRefusal) (place : Place) → IsLexed source tokens → LexFails source refusal place → ⊥ }
-{
-}
+{}
 
 /// Each token's text is the part of the source at its place, and no token has the kind of the text's end.
 pub fn tokens_of_a_text()
     ensures slices { (source : List ℕ) (tokens : List Lexeme) → IsLexed source tokens → All (IsSliceOf source) tokens }
     ensures kinds { (source : List ℕ) (tokens : List Lexeme) → IsLexed source tokens → All (λ token. token.kind ≢ EndOfText) tokens }
-{
-}
+{}
+
+/// A token is as long as it can be: its text alone is that token, and no longer front of the text is a token.
+pub fn longest_match()
+    ensures alone { (rest : List ℕ) (kind : Kind) (n : ℕ) → Stands rest (Taken kind n) → IsToken kind (take n rest) }
+    ensures no_longer { (rest : List ℕ) (kind other : Kind) (n m : ℕ) → Stands rest (Taken kind n) → n < m → m ≤ length rest → IsToken other (take m rest) → ⊥ }
+{}
+
+/// Names and numbers are those of the grammar (2.1.9, 2.9.1, 2.9.2).
+pub fn names_and_numbers()
+    ensures names { (text : List ℕ) → IsToken Name text ↔ IsName text }
+    ensures integers { (text : List ℕ) → IsToken IntValue text ↔ IsInteger text }
+    ensures floats { (text : List ℕ) → IsToken FloatValue text ↔ IsFloat text }
+{}

@@ -54,7 +54,9 @@ pub fn hexadecimal(bytes: &[u8]) -> Option<u32>
         return None;
     };
     if are_digits(*a, *b, *c, *d) {
-        Some(digit_value(*a) * 4096 + digit_value(*b) * 256 + digit_value(*c) * 16 + digit_value(*d))
+        Some(
+            digit_value(*a) * 4096 + digit_value(*b) * 256 + digit_value(*c) * 16 + digit_value(*d),
+        )
     } else {
         None
     }
@@ -87,7 +89,10 @@ fn hexadecimal_len(bytes: &[u8]) -> usize
     ensures value { result ≡ prefix_len is_ascii_hexdigit bytes.now }
     ensures short { result ≤ length bytes.now }
 {
-    bytes.iter().take_while(|byte| byte.is_ascii_hexdigit()).count()
+    bytes
+        .iter()
+        .take_while(|byte| byte.is_ascii_hexdigit())
+        .count()
 }
 
 /// Digits that stop too early, with what stands behind them.

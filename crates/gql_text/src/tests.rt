@@ -16,7 +16,13 @@ fn fault_of(alloc: Global, text: &str) -> (u16, usize, usize, usize) {
 }
 
 /// Asserts that the text is one token of that kind, with that value.
-fn assert_value(rt: &impl Abort, alloc: Global, text: &str, kind: Kind, value: &str) -> Result<(), Fail> {
+fn assert_value(
+    rt: &impl Abort,
+    alloc: Global,
+    text: &str,
+    kind: Kind,
+    value: &str,
+) -> Result<(), Fail> {
     let tokens = lex(alloc, text)?;
     assert_eq!(rt; tokens.len(), 1, "{text}");
     assert_eq!(rt; tokens[0].kind, kind, "{text}");
@@ -29,7 +35,8 @@ fn assert_value(rt: &impl Abort, alloc: Global, text: &str, kind: Kind, value: &
 #[test]
 fn numbers_are_refused_at_their_start(rt: HostRuntime) {
     let texts = [
-        "01", "1.", "1a", "-", "00", "-01", "1.e5", "1e", "1e+", "1.5.", "1e5e", "0x1", "1_", "-a", "1..2", "1...", "--1",
+        "01", "1.", "1a", "-", "00", "-01", "1.e5", "1e", "1e+", "1.5.", "1e5e", "0x1", "1_", "-a",
+        "1..2", "1...", "--1",
     ];
     for text in texts {
         assert_eq!(rt; fault_of(rt.alloc(), text), (102, 1, 1, 0), "{text}");
@@ -135,7 +142,10 @@ fn strings_have_their_values(rt: HostRuntime) -> Result<(), Fail> {
         ("\"quote \\\"\"", "quote \""),
         ("\"\\b\\n\\r\\t\\f\"", "\u{8}\n\r\t\u{c}"),
         ("\"slashes \\\\ \\/\"", "slashes \\ /"),
-        ("\"unicode \\u1234\\u5678\\u90AB\\uCDEF\"", "unicode \u{1234}\u{5678}\u{90AB}\u{CDEF}"),
+        (
+            "\"unicode \\u1234\\u5678\\u90AB\\uCDEF\"",
+            "unicode \u{1234}\u{5678}\u{90AB}\u{CDEF}",
+        ),
         ("\"\\u00e9\\u0041\"", "\u{e9}A"),
         ("\"\\uD83D\\uDE00\"", "\u{1F600}"),
         ("\"\\ud800\\udc00\\udbff\\udfff\"", "\u{10000}\u{10FFFF}"),
@@ -154,10 +164,19 @@ fn block_strings_have_their_values(rt: HostRuntime) -> Result<(), Fail> {
         ("\"\"\"simple\"\"\"", "simple"),
         ("\"\"\" white space \"\"\"", " white space "),
         ("\"\"\"contains \" quote\"\"\"", "contains \" quote"),
-        ("\"\"\"contains \\\"\"\" quotes\"\"\"", "contains \"\"\" quotes"),
+        (
+            "\"\"\"contains \\\"\"\" quotes\"\"\"",
+            "contains \"\"\" quotes",
+        ),
         ("\"\"\"multi\nline\"\"\"", "multi\nline"),
-        ("\"\"\"multi\rline\r\nnormalized\"\"\"", "multi\nline\nnormalized"),
-        ("\"\"\"unescaped \\n\\r\\b\\t\\f\\u1234\"\"\"", "unescaped \\n\\r\\b\\t\\f\\u1234"),
+        (
+            "\"\"\"multi\rline\r\nnormalized\"\"\"",
+            "multi\nline\nnormalized",
+        ),
+        (
+            "\"\"\"unescaped \\n\\r\\b\\t\\f\\u1234\"\"\"",
+            "unescaped \\n\\r\\b\\t\\f\\u1234",
+        ),
         ("\"\"\"slashes \\\\ \\/\"\"\"", "slashes \\\\ \\/"),
         (
             "\"\"\"\n\n        spans\n          multiple\n            lines\n\n        \"\"\"",
@@ -167,7 +186,10 @@ fn block_strings_have_their_values(rt: HostRuntime) -> Result<(), Fail> {
             "\"\"\"\r\n    One\r\n\t     \\\"\"\"two\r\n\r\n    \r\n\"\"\"",
             "One\n  \"\"\"two",
         ),
-        ("\"\"\"    Hello,\n      World!\n\n    Yours,\n      GraphQL.\"\"\"", "    Hello,\n  World!\n\nYours,\n  GraphQL."),
+        (
+            "\"\"\"    Hello,\n      World!\n\n    Yours,\n      GraphQL.\"\"\"",
+            "    Hello,\n  World!\n\nYours,\n  GraphQL.",
+        ),
         ("\"\"\"a\n  b  \n \n  c\"\"\"", "a\nb  \n\nc"),
         ("\"\"\"\n  é\n   \u{1F600}\n\"\"\"", "é\n \u{1F600}"),
         ("\"\"\"  \n\t\n \"\"\"", ""),
@@ -196,9 +218,24 @@ fn tokens_stand_at_their_places(rt: HostRuntime) -> Result<(), Fail> {
     for (token, (kind, text, line, column, offset)) in tokens.iter().zip(expected.iter()) {
         assert_eq!(rt; token.kind, *kind);
         assert_eq!(rt; token.text, *text);
-        assert_eq!(rt; token.place, Place { line: *line, column: *column, offset: *offset }, "{text}");
+        assert_eq!(rt;
+            token.place,
+            Place {
+                line: *line,
+                column: *column,
+                offset: *offset
+            },
+            "{text}"
+        );
     }
-    assert_eq!(rt; end_place(text), Place { line: 5, column: 6, offset: 37 });
+    assert_eq!(rt;
+        end_place(text),
+        Place {
+            line: 5,
+            column: 6,
+            offset: 37
+        }
+    );
     Ok(())
 }
 

@@ -68,7 +68,10 @@ pub fn plain_len(text: &str) -> usize
     ensures value { result ≡ prefix_len (λ b. not (b == 92)) text.now }
     ensures cut { IsCharBoundary text.now result }
 {
-    text.as_bytes().iter().take_while(|byte| **byte != b'\\').count()
+    text.as_bytes()
+        .iter()
+        .take_while(|byte| **byte != b'\\')
+        .count()
 }
 
 /// Writes the character of the escape at the front, and gives what follows the escape.

@@ -1,4 +1,3 @@
-use Rattle.std.proofs.Common.{List, []}
 use Rattle.std.specs.Prelude.{string_bytes}
 use Rattle.gql_text.proofs.Lines.{join_start}
 use Rattle.gql_text.proofs.block.joined.Goals as goal

@@ -6,7 +6,7 @@ use Rattle.gql_text.proofs.block.lines.Given as goal
 abbrev pub invariant-lines : goal.invariant-lines
 invariant-lines l = record {
   utf8 : IsUtf8 l.rest;
-  value : map (λ x. x.now) l.found.items ++ lines_of l.rest ≡ lines_of l.text
+  value : map (λ x. x.now) l.found.items ++ lines_of l.rest ≡ lines_of l.text;
 }
 
 abbrev pub decreases-lines : goal.decreases-lines

@@ -1,6 +1,5 @@
-use Rattle.std.proofs.Common.{◌≡◌, ◌++◌, ◌<◌, List, length, take, drop, arith, sym, ap, ◌∙◌}
+use Rattle.std.proofs.Common.{◌++◌, ◌<◌, length, drop, arith, sym, ap, ◌∙◌}
 use Rattle.std.specs.Prelude.{string_bytes}
-use Rattle.std.proofs.lemmas.Bool.{eqb-true, eqb-false}
 use Rattle.std.proofs.lemmas.List.{append-nil, nil_from_length}
 use Rattle.std.proofs.lemmas.Bool.Decides.{nat_tests}
 use Rattle.gql_text.specs.Values.{raw_value}
@@ -18,15 +17,15 @@ pub pieces-preserved-then-not-is_empty : goal.pieces-preserved-then-not-is_empty
 pieces-preserved-then-not-is_empty c = record {
   utf8 = c.in_ok-rest.ensures.utf8;
   value = c.in_ok-rest.ensures.value
-    ∙ written raw_value c.pieces.rest.now (string_bytes c.pieces.value) (string_bytes c.push_str.new.self) c.range.result.now c.range_from-rest.result.now c.args.text.now c.plain_len-count.result
-        c.in_ok-push_str.ensures.bytes c.range.ensures.value c.range_from-rest.ensures.value c.plain_len-count.ensures.value (raw_run c.pieces.rest.now) c.pieces.invariant.value
+      ∙ written raw_value c.pieces.rest.now (string_bytes c.pieces.value) (string_bytes c.push_str.new.self) c.range.result.now c.range_from-rest.result.now c.args.text.now c.plain_len-count.result
+      c.in_ok-push_str.ensures.bytes c.range.ensures.value c.range_from-rest.ensures.value c.plain_len-count.ensures.value (raw_run c.pieces.rest.now) c.pieces.invariant.value;
 }
 
 pub pieces-preserved : goal.pieces-preserved
 pieces-preserved c = record {
   utf8 = c.range_from-rest.utf8;
   value = written raw_value c.pieces.rest.now (string_bytes c.pieces.value) (string_bytes c.push_str.new.self) c.range.result.now c.range_from-rest.result.now c.args.text.now c.plain_len-count.result
-        c.in_ok-push_str.ensures.bytes c.range.ensures.value c.range_from-rest.ensures.value c.plain_len-count.ensures.value (raw_run c.pieces.rest.now) c.pieces.invariant.value
+      c.in_ok-push_str.ensures.bytes c.range.ensures.value c.range_from-rest.ensures.value c.plain_len-count.ensures.value (raw_run c.pieces.rest.now) c.pieces.invariant.value;
 }
 
 pub returns : goal.returns

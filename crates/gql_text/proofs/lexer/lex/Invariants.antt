@@ -1,4 +1,4 @@
-use Rattle.std.proofs.Common.{◌≡◌, ◌+◌, ◌-◌, ◌≤◌, ℕ, take, drop, length, List, [], ◌∷◌, ◌++◌, map}
+use Rattle.std.proofs.Common.{◌≡◌, ◌-◌, ◌≤◌, take, drop, length, List, [], ◌++◌, map}
 use Rattle.std.specs.Str.{IsCharBoundary}
 use Rattle.gql_text.specs.Lexis.{Tokens, Faulty}
 use Rattle.gql_text.specs.Lexeme.{Lexeme, lexeme}
@@ -14,7 +14,7 @@ invariant-parts l = record {
   known : l.place ≡ place_after (take l.place.offset l.source);
   cut : IsCharBoundary l.source l.place.offset;
   tokens : (ts : List Lexeme) → Tokens (take l.place.offset l.source) (drop l.place.offset l.source) ts → Tokens [] l.source (map lexeme l.tokens.items ++ ts);
-  fault : (f : LexRefusal) (p : Place) → Faulty (take l.place.offset l.source) (drop l.place.offset l.source) f p → Faulty [] l.source f p
+  fault : (f : LexRefusal) (p : Place) → Faulty (take l.place.offset l.source) (drop l.place.offset l.source) f p → Faulty [] l.source f p;
 }
 
 abbrev pub decreases-parts : goal.decreases-parts

@@ -1,4 +1,4 @@
-use Rattle.std.proofs.Common.{arith, ◌≡◌, ◌≤◌, length, ℕ, ◌+◌, ◌-◌, ◌<◌, take, drop, length-drop, List, refl, sym, ap}
+use Rattle.std.proofs.Common.{drop, length-drop}
 use Rattle.gql_text.specs.Lexis.{Stands}
 use Rattle.gql_text.proofs.Steps.{stood}
 use Rattle.gql_text.proofs.Fitting.{stands_fits}
@@ -11,7 +11,9 @@ stands c = stood c.args.source.now c.args.offset _ (rw c.as_bytes.ensures.value 
 
 pub returns-clause-stands : goal.returns-clause-stands
 returns-clause-stands c = stands c
+
 pub returns-clause-fits : goal.returns-clause-fits
 returns-clause-fits c = rw length-drop at (stands_fits (stands c))
+
 pub returns-clause-cuts : goal.returns-clause-cuts
 returns-clause-cuts c = cut_behind c.args.source.now c.args.offset _ c.utf8.source c.requires.cut (stands c)

@@ -1,4 +1,4 @@
-use Rattle.std.proofs.Common.{arith, ◌≡◌, ◌≤◌, length, ℕ, ◌+◌, take, length-take, refl, sym, ap, ◌∙◌}
+use Rattle.std.proofs.Common.{arith, ◌+◌, length-take, ap}
 use Rattle.gql_text.specs.declared.place.Place.{Place}
 use Rattle.gql_text.proofs.lexer.past_part.Goals as goal
 

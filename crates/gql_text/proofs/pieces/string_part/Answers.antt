@@ -1,4 +1,4 @@
-use Rattle.std.proofs.Common.{rules, arith, ◌≡◌, ℕ, ◌+◌, ◌-◌, ◌≤◌, drop, length, length-drop, drop-drop, refl, sym}
+use Rattle.std.proofs.Common.{arith, drop, length-drop, drop-drop, sym}
 use Rattle.gql_text.specs.Pieces.{string_piece}
 use Rattle.gql_text.specs.declared.token.Kind.TheVariants.{StringValue}
 use Rattle.gql_text.proofs.Runs.{IsStep, string_goes, run_closes, run_stops, run_goes, seen}
@@ -21,7 +21,7 @@ pieces-smaller c = omega (arith, (step c).some, (step c).within, length-drop c.p
 pub pieces-preserved : goal.pieces-preserved
 pieces-preserved c = record {
   within = omega (arith, (step c).within, length-drop c.pieces.read c.args.bytes.now);
-  run = λ p r. c.pieces.invariant.run p (run_goes string_piece StringValue _ _ _ _ _ p (seen string_piece c.args.bytes.now c.pieces.read _ c.in-Goes.ensures) (omega arith) (sym (drop-drop c.in-Goes.count c.pieces.read c.args.bytes.now)) r)
+  run = λ p r. c.pieces.invariant.run p (run_goes string_piece StringValue _ _ _ _ _ p (seen string_piece c.args.bytes.now c.pieces.read _ c.in-Goes.ensures) (omega arith) (sym (drop-drop c.in-Goes.count c.pieces.read c.args.bytes.now)) r);
 }
 
 pub returns-in-Closes : goal.returns-in-Closes

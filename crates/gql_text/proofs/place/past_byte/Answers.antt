@@ -1,5 +1,5 @@
-use Rattle.std.proofs.Common.{rules, arith, ◌≡◌, ◌+◌, take}
-use Rattle.gql_text.proofs.Places.{place_bound, reverse_more, return_before}
+use Rattle.std.proofs.Common.{arith}
+use Rattle.gql_text.proofs.Places.{place_bound}
 use Rattle.gql_text.proofs.place.past_byte.Goals as goal
 
 pub overflow_add-line : goal.overflow_add-line

@@ -1,4 +1,4 @@
-use Rattle.std.proofs.Common.{◌≡◌, ℕ, List, refl, ap, sym, subst}
+use Rattle.std.proofs.Common.{◌≡◌, ℕ, List, refl, sym, subst}
 use Rattle.std.specs.Prelude.{IsTrue}
 use Rattle.std.specs.Char.{InScalarRange}
 use Rattle.gql_text.specs.Escapes.{goes}
@@ -6,7 +6,7 @@ use Rattle.gql_text.specs.Pieces.{escape_piece}
 use Rattle.gql_text.specs.Values.{escape_value}
 use Rattle.gql_text.specs.declared.front.Piece.{Piece}
 use Rattle.gql_text.specs.declared.front.Piece.TheVariants.{Closes, Goes, Stops}
-use Rattle.gql_text.proofs.Texts.{escape_is, IsEscape}
+use Rattle.gql_text.proofs.Texts.{escape_is}
 use Rattle.gql_text.proofs.value.escape_character.Goals as goal
 
 scalar_of : (bs : List ℕ) (p : Piece) → escape_piece bs ≡ p → IsTrue (goes p) → InScalarRange (escape_value bs)

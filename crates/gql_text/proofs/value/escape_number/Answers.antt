@@ -1,5 +1,5 @@
 use Rattle.std.proofs.Common.{arith, sym}
-use Rattle.gql_text.proofs.Texts.{four_are, AreFour}
+use Rattle.gql_text.proofs.Texts.{four_are}
 use Rattle.gql_text.proofs.value.escape_number.Goals as goal
 
 pub numbered_character-requires : goal.numbered_character-requires

@@ -10,12 +10,12 @@ use Rattle.gql_text.proofs.value.text_value.Goals as goal
 pub inside-requires-clause-start : goal.inside-requires-clause-start
 inside-requires-clause-start c =
     cut_after c.args.token.now.text.now 3 (subst IsUtf8 c.as_bytes.ensures.value c.as_bytes.ensures.utf8)
-      (three_start c.args.token.now.text.now (ap (is_within three) (sym c.as_bytes.ensures.value) ∙ sym c.is_quoted.ensures ∙ c.if-is_quoted.true))
+    (three_start c.args.token.now.text.now (ap (is_within three) (sym c.as_bytes.ensures.value) ∙ sym c.is_quoted.ensures ∙ c.if-is_quoted.true))
 
 pub inside-requires-then-is_quoted-2-clause-start : goal.inside-requires-then-is_quoted-2-clause-start
 inside-requires-then-is_quoted-2-clause-start c =
     cut_after c.args.token.now.text.now 1 (subst IsUtf8 c.as_bytes.ensures.value c.as_bytes.ensures.utf8)
-      (one_start c.args.token.now.text.now (ap (is_within one) (sym c.as_bytes-else-is_quoted.ensures.value) ∙ sym c.is_quoted-else-is_quoted.ensures ∙ c.if-is_quoted-2.true))
+    (one_start c.args.token.now.text.now (ap (is_within one) (sym c.as_bytes-else-is_quoted.ensures.value) ∙ sym c.is_quoted-else-is_quoted.ensures ∙ c.if-is_quoted-2.true))
 
 pub returns-then-is_quoted : goal.returns-then-is_quoted
 returns-then-is_quoted c =

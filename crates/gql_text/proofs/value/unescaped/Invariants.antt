@@ -7,7 +7,7 @@ use Rattle.gql_text.proofs.value.unescaped.Given as goal
 abbrev pub invariant-pieces : goal.invariant-pieces
 invariant-pieces l = record {
   utf8 : IsUtf8 l.rest;
-  value : string_bytes l.value ++ string_value l.rest ≡ string_value l.text
+  value : string_bytes l.value ++ string_value l.rest ≡ string_value l.text;
 }
 
 abbrev pub decreases-pieces : goal.decreases-pieces
