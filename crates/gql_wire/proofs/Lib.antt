@@ -5,3 +5,5 @@ pub mod Gained
 pub mod Fields
 pub mod Phrases
 pub mod Splitting
+pub mod Decided
+pub mod Exists

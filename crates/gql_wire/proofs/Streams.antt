@@ -1,14 +1,19 @@
 -- One more byte of a head or a body.
-use Rattle.std.proofs.Common.{◌≡◌, ◌≢◌, ◌⊎◌, inl, inr, ℕ, zero, suc, ◌+◌, ◌-◌, ◌≤◌, ◌<◌, List, [], ◌∷◌, ◌++◌, length, take, drop, refl, sym, ap, ◌∙◌, subst, arith, Bool, true, false, length-take, length-drop, eqb-true, append_assoc, take-add, length-append, Option, Some, None}
+use Rattle.std.proofs.Common.{◌≡◌, ◌≢◌, ◌⊎◌, inl, inr, ℕ, zero, suc, ◌+◌, ◌-◌, ◌≤◌, ◌<◌, List, [], ◌∷◌, ◌++◌, length, take, drop, refl, sym, ap, ◌∙◌, subst, arith, Bool, true, false, length-take, length-drop, eqb-true, append_assoc, take-add, Option, Some, None}
 use Rattle.std.specs.Prelude.{◌==◌, ◌&&◌, nat_eq}
 use Rattle.std.specs.List.{ends_with}
-use Rattle.std.proofs.lemmas.List.{take-take, take_all, take-append-drop, take-append-le}
+use Rattle.std.specs.Cmp.Lexicographic.{same_text}
+use Rattle.std.proofs.lemmas.List.{take-take, take_all, take-append-drop}
 use Rattle.std.proofs.lemmas.Bool.Decides.{leb_tells}
 use Rattle.httparse.specs.Spans.{span_bytes}
 use Rattle.gql_wire.specs.Head.{Says, expects}
 use Rattle.gql_wire.specs.declared.stream.Pending.{Pending}
 use Rattle.gql_wire.specs.Stream.{Req, request, IsRequest, behind_blank, whole, begins_blank, skip_blank, IsOpen, IsHead, head_end, head_limit}
 use Rattle.gql_wire.specs.Held.{IsHeld, IsBodyOpen, IsBodyDone, AreWithin}
+
+-- a head has the four bytes of its end
+pub head_full : (bytes : List ℕ) → IsHead bytes → 4 ≤ length bytes
+head_full bytes h = omega (arith, ap length (same_text head_end (drop (length bytes - 4) bytes) (sym h.ended)), length-drop (length bytes - 4) bytes)
 
 pub skip_same : (bs : List ℕ) → begins_blank bs ≡ false → skip_blank bs ≡ bs
 skip_same [] e = refl
@@ -27,13 +32,12 @@ opened bs some pre begun ended = record {
 
 -- with the last byte the head is whole
 pub headed : (bs : List ℕ) → 0 < length bs → IsOpen (take (length bs - 1) bs) → length (take (length bs - 1) bs) < head_limit → begins_blank bs ≡ false → ends_with nat_eq bs head_end ≡ true
-    → 4 ≤ length bs → IsHead bs
-headed bs some pre less begun ended full = record {
+    → IsHead bs
+headed bs some pre less begun ended = record {
   begun = begun;
   ended = ended;
   before = λ k h. let below : k ≤ length bs - 1 = omega arith in
       rw (take-take k (length bs - 1) bs below) at (pre.unended k (omega (arith, length-take (length bs - 1) bs)));
-  full = full;
   short = omega (arith, length-take (length bs - 1) bs);
 }
 
@@ -100,7 +104,7 @@ request_behind (a ∷ b ∷ xs) ys r h = elim (tells (a == 13 && b == 10)) [
 
 pub held_skips : (bs : List ℕ) (p : Option Pending) → IsHeld bs p → skip_blank bs ≡ bs
 held_skips bs None h = skip_same bs h.0.begun
-held_skips bs (Some p) h = skip_same bs (begun_on p.head bs (omega (arith, h.head.full, length-take p.head bs)) h.head.begun)
+held_skips bs (Some p) h = skip_same bs (begun_on p.head bs (omega (arith, head_full (take p.head bs) h.head, length-take p.head bs)) h.head.begun)
 
 -- more bytes of a piece, behind what was skipped
 pub more_skipped : (old now new piece : List ℕ) (i n : ℕ) → now ≡ skip_blank (old ++ take i piece) → new ≡ skip_blank (now ++ take n (drop i piece))

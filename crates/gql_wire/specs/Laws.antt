@@ -1,6 +1,7 @@
 -- Laws over streams.
-use Rattle.std.specs.Prelude.{ℕ, ◌≡◌, ◌+◌, ◌-◌, List, [], ◌++◌, length}
-use Rattle.gql_wire.specs.Stream.{Req, IsRequest, Placed, Splits, StaysOpen, IsUnfinished, skip_blank}
+use Rattle.std.specs.Prelude.{ℕ, ◌≡◌, ◌+◌, ◌-◌, List, [], ◌∷◌, ◌++◌, length}
+use Rattle.std.specs.List.{flat_map}
+use Rattle.gql_wire.specs.Stream.{Req, IsRequest, Placed, Splits, Requests, StaysOpen, IsUnfinished, skip_blank}
 
 -- bytes begin with one request at most
 abbrev pub OneReading : Type 0
@@ -10,6 +11,10 @@ OneReading = (a b x y : List ℕ) (r q : Req) → IsRequest a r → IsRequest b 
 abbrev pub OneSplit : Type 0
 OneSplit = (at : ℕ) (bytes : List ℕ) (rs qs : List Placed) (r q : List ℕ) → Splits at bytes rs r → Splits at bytes qs q → (rs ≡ qs) × (r ≡ q)
 
+-- and each stream has one
+abbrev pub SomeSplit : Type 0
+SomeSplit = (at : ℕ) (bytes : List ℕ) → (rs : List Placed) × (r : List ℕ) × Splits at bytes rs r
+
 -- where a stream was open behind its requests, more bytes give the requests of its rest and them
 abbrev pub Feeding : Type 0
 Feeding = (at : ℕ) (a b : List ℕ) (rs qs : List Placed) (r q : List ℕ) → Splits at a rs r → StaysOpen rs
@@ -18,6 +23,19 @@ Feeding = (at : ℕ) (a b : List ℕ) (rs qs : List Placed) (r q : List ℕ) →
 -- a stream that closed drops what follows
 abbrev pub Closed : Type 0
 Closed = (at : ℕ) (a b : List ℕ) (rs : List Placed) (r : List ℕ) → Splits at a rs r → (StaysOpen rs → ⊥) → Splits at (a ++ b) rs r
+
+-- what pieces complete, one after another, behind held bytes that begin at an offset, and what is
+-- held behind them; a piece that closes the stream is the last that counts
+pub data Feeds : ℕ → List ℕ → List (List ℕ) → List Placed → List ℕ → Type 0 where
+  end : {at : ℕ} {held : List ℕ} → Feeds at held [] [] held
+  goes : {at : ℕ} {held piece rest final : List ℕ} {pieces : List (List ℕ)} {rs qs : List Placed} → Splits at (held ++ piece) rs rest → StaysOpen rs
+      → Feeds (at + (length (held ++ piece) - length rest)) rest pieces qs final → Feeds at held (piece ∷ pieces) (rs ++ qs) final
+  closed : {at : ℕ} {held piece rest : List ℕ} {pieces : List (List ℕ)} {rs : List Placed} → Splits at (held ++ piece) rs rest → (StaysOpen rs → ⊥)
+      → Feeds at held (piece ∷ pieces) rs rest
+
+-- any pieces give the requests and the rest of their bytes in a row
+abbrev pub AnyPieces : Type 0
+AnyPieces = (pieces : List (List ℕ)) (rs : List Placed) (r : List ℕ) → Feeds 0 [] pieces rs r → Requests (flat_map (λ piece. piece) pieces) rs r
 
 -- the rest is unfinished, and has no pairs CR LF at its front
 abbrev pub RestUnfinished : Type 0

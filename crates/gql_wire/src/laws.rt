@@ -1,5 +1,5 @@
 //! Laws over the requests of a stream. The functions do nothing: what they ensure is the law.
-ghost use Rattle.gql_wire.specs.Laws.{OneReading, OneSplit, Feeding, Closed, RestUnfinished, NothingUnfinished};
+ghost use Rattle.gql_wire.specs.Laws.{OneReading, OneSplit, SomeSplit, Feeding, Closed, AnyPieces, RestUnfinished, NothingUnfinished};
 
 /// Bytes begin with one request at most, so it doesn't matter how a stream is cut into pieces.
 pub fn one_reading()
@@ -11,6 +11,11 @@ pub fn one_split()
     ensures { OneSplit }
 {}
 
+/// Each stream has a list of requests, and a rest.
+pub fn some_split()
+    ensures { SomeSplit }
+{}
+
 /// Bytes that are fed to an open stream complete the requests of its rest and them.
 pub fn feeding()
     ensures { Feeding }
@@ -19,6 +24,11 @@ pub fn feeding()
 /// Bytes that are fed to a closed stream change nothing.
 pub fn closed_drops()
     ensures { Closed }
+{}
+
+/// Any pieces of a stream complete its requests.
+pub fn any_pieces()
+    ensures { AnyPieces }
 {}
 
 /// What is left of a stream is unfinished.

@@ -260,6 +260,7 @@ impl Framer {
         ensures moved { IfOk result (λ taken. IfSome taken.1 (λ _. 0 < taken.0)) }
         ensures more { IfOk result (λ taken. IfNone taken.1
             ((taken.0 ≡ length piece.now) × (self.new ≡ skip_blank (self.old ++ piece.now)))) }
+        ensures none { IfOk result (λ taken. IfNone taken.1 (IsUnfinished (self.old ++ piece.now))) }
         ensures framed { IfOk result (λ taken. IfSome taken.1 (λ framed.
             (self.new ≡ []) × IsRequest (self.old ++ take taken.0 piece.now) (req framed))) }
         ensures rest { IfOk result (λ _. IsUnfinished self.new) }

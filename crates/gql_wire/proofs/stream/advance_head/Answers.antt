@@ -8,10 +8,10 @@ pub returns-then-begins_with_blank : goal.returns-then-begins_with_blank
 returns-then-begins_with_blank c = only_blank c.args.bytes.now c.requires.held.0.begun (sym c.begins_with_blank.ensures ∙ c.if-begins_with_blank.true)
 
 pub returns-in-Refuse : goal.returns-in-Refuse
-returns-in-Refuse c = stops (headed c.args.bytes.now c.requires.some c.requires.held.0 c.requires.held.1 (sym c.begins_with_blank.ensures ∙ c.if-begins_with_blank.false) (sym c.ends_with.ensures.value ∙ c.if-ends_with.true) (c.if-ends_with.ensures.bound refl)) c.in-Refuse.ensures.says
+returns-in-Refuse c = stops (headed c.args.bytes.now c.requires.some c.requires.held.0 c.requires.held.1 (sym c.begins_with_blank.ensures ∙ c.if-begins_with_blank.false) (sym c.ends_with.ensures.value ∙ c.if-ends_with.true)) c.in-Refuse.ensures.says
 
 head : (c : In-Expects) → IsHead c.args.bytes.now
-head c = headed c.args.bytes.now c.requires.some c.requires.held.0 c.requires.held.1 (sym c.begins_with_blank.ensures ∙ c.if-begins_with_blank.false) (sym c.ends_with.ensures.value ∙ c.if-ends_with.true) (c.if-ends_with.ensures.bound refl)
+head c = headed c.args.bytes.now c.requires.some c.requires.held.0 c.requires.held.1 (sym c.begins_with_blank.ensures ∙ c.if-begins_with_blank.false) (sym c.ends_with.ensures.value ∙ c.if-ends_with.true)
 
 pub returns-then-length-eq0 : goal.returns-then-length-eq0
 returns-then-length-eq0 c = done c.args.bytes.now _ refl c.if-length-eq0.true (head (goal.at.returns-then-length-eq0 c).In-Expects) c.in-Expects.ensures.says c.in-Expects.ensures.within

@@ -1,4 +1,6 @@
-use Rattle.std.proofs.Common.{arith, length-drop}
+use Rattle.std.proofs.Common.{arith, length-drop, ◌≡◌, take, ◌++◌}
+use Rattle.std.proofs.lemmas.List.{take_all}
+use Rattle.gql_wire.proofs.Splitting.{unskipped}
 use Rattle.gql_wire.proofs.Streams.{more_skipped, more_requested}
 use Rattle.gql_wire.proofs.stream.Framer.take.Goals as goal
 
@@ -12,3 +14,8 @@ parts-preserved c = record {
   within = omega (arith, rw c.rest_from.ensures at c.in_ok-count.ensures.within.1, length-drop c.parts.taken c.args.piece.now);
   same = more_skipped c.args.self.now c.parts.self c.step.new.self c.args.piece.now c.parts.taken c.in_ok-count.count c.parts.invariant.same (rw (c.in_default.is, c.rest_from.ensures) at c.in_ok-count.ensures.found);
 }
+
+pub returns-clause-none : goal.returns-clause-none
+returns-clause-none c =
+    let all : take c.parts.taken c.args.piece.now ≡ c.args.piece.now = take_all c.parts.taken c.args.piece.now c.parts-test.false in
+    unskipped (c.args.self.now ++ c.args.piece.now) (rw (c.parts.invariant.same, all) at c.touch-2.ensures.unfinished)
