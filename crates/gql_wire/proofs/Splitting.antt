@@ -1,6 +1,7 @@
 -- The list of a stream's requests.
-use Rattle.std.proofs.Common.{◌≡◌, inl, inr, ℕ, suc, ◌+◌, ◌-◌, ◌≤◌, List, [], ◌∷◌, ◌++◌, length, drop, refl, sym, ap, ◌∙◌, subst, arith, true, false, append_assoc, length-append, eqb-true, append-nil}
+use Rattle.std.proofs.Common.{take, ◌≡◌, inl, inr, ℕ, suc, ◌+◌, ◌-◌, ◌≤◌, List, [], ◌∷◌, ◌++◌, length, drop, refl, sym, ap, ◌∙◌, subst, arith, true, false, append_assoc, length-append, eqb-true, append-nil}
 use Rattle.std.specs.Prelude.{◌==◌, ◌&&◌}
+use Rattle.std.proofs.lemmas.List.{take-append-drop}
 use Rattle.std.specs.List.{flat_map}
 use Rattle.gql_wire.specs.Laws.{Feeds, end, goes, closed}
 use Rattle.gql_wire.specs.Stream.{Req, IsRequest, behind_blank, long, stops, whole, closes, skip_blank, IsUnfinished, Placed, Splits, unfinished, last, next, StaysOpen}
@@ -160,3 +161,15 @@ fed at held _ _ r u e (closed {piece} {pieces = more} {rs} s not) =
 
 pub any_pieces_lem : (pieces : List (List ℕ)) (rs : List Placed) (r : List ℕ) → Feeds 0 [] pieces rs r → Splits 0 (flat_map (λ piece. piece) pieces) rs r
 any_pieces_lem pieces rs r f = fed 0 [] pieces rs r nothing_unfinished refl f
+
+-- the bytes of a piece behind those that were taken
+taken : (held piece : List ℕ) (n : ℕ) → (held ++ take n piece) ++ drop n piece ≡ held ++ piece
+taken held piece n = append_assoc held (take n piece) (drop n piece) ∙ ap (λ (z : List ℕ). held ++ z) (take-append-drop n piece)
+
+pub taken_next : (at n : ℕ) (held piece : List ℕ) (r : Req) (rs : List Placed) (rest : List ℕ) → IsRequest (held ++ take n piece) r → closes r ≡ false
+    → Splits (at + length (held ++ take n piece)) (drop n piece) rs rest → Splits at (held ++ piece) (record { request = r; end = at + length (held ++ take n piece) } ∷ rs) rest
+taken_next at n held piece r rs rest g c s = next g c (taken held piece n) s
+
+pub taken_last : (at n : ℕ) (held piece : List ℕ) (r : Req) → IsRequest (held ++ take n piece) r → closes r ≡ true
+    → Splits at (held ++ piece) (record { request = r; end = at + length (held ++ take n piece) } ∷ []) []
+taken_last at n held piece r g c = last (drop n piece) g c (taken held piece n)

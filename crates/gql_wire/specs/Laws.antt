@@ -1,7 +1,7 @@
 -- Laws over streams.
-use Rattle.std.specs.Prelude.{ℕ, ◌≡◌, ◌+◌, ◌-◌, List, [], ◌∷◌, ◌++◌, length}
+use Rattle.std.specs.Prelude.{ℕ, ◌≡◌, ◌+◌, ◌-◌, List, [], ◌∷◌, ◌++◌, length, take, drop, true, false}
 use Rattle.std.specs.List.{flat_map}
-use Rattle.gql_wire.specs.Stream.{Req, IsRequest, Placed, Splits, Requests, StaysOpen, IsUnfinished, skip_blank}
+use Rattle.gql_wire.specs.Stream.{Req, IsRequest, closes, Placed, Splits, Requests, StaysOpen, IsUnfinished, skip_blank}
 
 -- bytes begin with one request at most
 abbrev pub OneReading : Type 0
@@ -14,6 +14,17 @@ OneSplit = (at : ℕ) (bytes : List ℕ) (rs qs : List Placed) (r q : List ℕ) 
 -- and each stream has one
 abbrev pub SomeSplit : Type 0
 SomeSplit = (at : ℕ) (bytes : List ℕ) → (rs : List Placed) × (r : List ℕ) × Splits at bytes rs r
+
+-- a request that held bytes and the first n of a piece are is the next one of them and the piece
+abbrev pub TakenNext : Type 0
+TakenNext = (at n : ℕ) (held piece : List ℕ) (r : Req) (rs : List Placed) (rest : List ℕ) → IsRequest (held ++ take n piece) r → closes r ≡ false
+    → Splits (at + length (held ++ take n piece)) (drop n piece) rs rest
+    → Splits at (held ++ piece) (record { request = r; end = at + length (held ++ take n piece) } ∷ rs) rest
+
+-- and where it closes the connection, the last one
+abbrev pub TakenLast : Type 0
+TakenLast = (at n : ℕ) (held piece : List ℕ) (r : Req) → IsRequest (held ++ take n piece) r → closes r ≡ true
+    → Splits at (held ++ piece) (record { request = r; end = at + length (held ++ take n piece) } ∷ []) []
 
 -- where a stream was open behind its requests, more bytes give the requests of its rest and them
 abbrev pub Feeding : Type 0

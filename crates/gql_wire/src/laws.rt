@@ -1,5 +1,5 @@
 //! Laws over the requests of a stream. The functions do nothing: what they ensure is the law.
-ghost use Rattle.gql_wire.specs.Laws.{OneReading, OneSplit, SomeSplit, Feeding, Closed, AnyPieces, RestUnfinished, NothingUnfinished};
+ghost use Rattle.gql_wire.specs.Laws.{OneReading, OneSplit, SomeSplit, TakenNext, TakenLast, Feeding, Closed, AnyPieces, RestUnfinished, NothingUnfinished};
 
 /// Bytes begin with one request at most, so it doesn't matter how a stream is cut into pieces.
 pub fn one_reading()
@@ -14,6 +14,16 @@ pub fn one_split()
 /// Each stream has a list of requests, and a rest.
 pub fn some_split()
     ensures { SomeSplit }
+{}
+
+/// A request that a piece completes is the next of the stream.
+pub fn taken_is_next()
+    ensures { TakenNext }
+{}
+
+/// A request that a piece completes and that closes the connection is the last of the stream.
+pub fn taken_is_last()
+    ensures { TakenLast }
 {}
 
 /// Bytes that are fed to an open stream complete the requests of its rest and them.
