@@ -5,4 +5,5 @@ pub mod Gained
 pub mod Fields
 pub mod Phrases
 pub mod Splitting
-pub mod Skipping
+pub mod Decided
+pub mod Exists

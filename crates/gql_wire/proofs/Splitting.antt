@@ -1,8 +1,11 @@
 -- The list of a stream's requests.
-use Rattle.std.proofs.Common.{◌≡◌, inl, inr, ℕ, suc, ◌+◌, ◌-◌, ◌≤◌, List, [], ◌∷◌, ◌++◌, length, drop, refl, sym, ap, ◌∙◌, subst, arith, true, false, append_assoc, length-append, eqb-true, append-nil}
+use Rattle.std.proofs.Common.{take, ◌≡◌, inl, inr, ℕ, suc, ◌+◌, ◌-◌, ◌≤◌, List, [], ◌∷◌, ◌++◌, length, drop, refl, sym, ap, ◌∙◌, subst, arith, true, false, append_assoc, length-append, eqb-true, append-nil}
 use Rattle.std.specs.Prelude.{◌==◌, ◌&&◌}
+use Rattle.std.proofs.lemmas.List.{take-append-drop}
+use Rattle.std.specs.List.{flat_map}
+use Rattle.gql_wire.specs.Laws.{Feeds, end, goes, closed}
 use Rattle.gql_wire.specs.Stream.{Req, IsRequest, behind_blank, long, stops, whole, closes, skip_blank, IsUnfinished, Placed, Splits, unfinished, last, next, StaysOpen}
-use Rattle.gql_wire.proofs.Streams.{tells, both}
+use Rattle.gql_wire.proofs.Streams.{head_full, tells, both}
 use Rattle.gql_wire.proofs.Unique.{one_reading_lem, not_blank, cut_left, nothing_unfinished}
 
 placed : {r q : Req} {m n : ℕ} → r ≡ q → m ≡ n → ◌≡◌ {A = Placed} (record { request = r; end = m }) (record { request = q; end = n })
@@ -33,13 +36,17 @@ one_split_lem at bytes _ _ r q (next {front = a} {more = m} {r = x} {rs = xs} g 
     let rest = one_split_lem (at + length a) m xs ys r q s t' in
     (cons_same (placed one.1 (ap (λ (z : List ℕ). at + length z) one.0)) rest.0, rest.1)
 
+-- of bytes behind a pair, a request is behind it
+behind_pair : (a front more : List ℕ) (r : Req) → IsRequest front r → front ++ more ≡ 13 ∷ 10 ∷ a → (f : List ℕ) × IsRequest f r × (f ++ more ≡ a)
+behind_pair a _ more r (behind_blank {bytes = f} g) e = (f, g, ap (λ (z : List ℕ). drop 2 z) e)
+behind_pair a front more r (long o n) e = absurd (not_blank front a more [] o.begun (omega arith) (e ∙ ap (λ (z : List ℕ). 13 ∷ 10 ∷ z) (sym (append-nil a))))
+behind_pair a front more r (stops h s) e = absurd (not_blank front a more [] h.begun (omega (arith, head_full front h)) (e ∙ ap (λ (z : List ℕ). 13 ∷ 10 ∷ z) (sym (append-nil a))))
+behind_pair a _ more r (whole {head = h} {body = b} ih s) e =
+    absurd (not_blank h a (b ++ more) [] ih.begun (omega (arith, head_full h ih)) (sym (append_assoc h b more) ∙ e ∙ ap (λ (z : List ℕ). 13 ∷ 10 ∷ z) (sym (append-nil a))))
+
 -- no front of the bytes behind CR LF is a request either
 pub blank_unfinished : (bytes : List ℕ) → IsUnfinished bytes → IsUnfinished (13 ∷ 10 ∷ bytes)
-blank_unfinished bytes u _ more r (behind_blank {bytes = a} g) e = u a more r g (ap (λ (z : List ℕ). drop 2 z) e)
-blank_unfinished bytes u front more r (long o n) e = not_blank front bytes more [] o.begun (omega arith) (e ∙ ap (λ (z : List ℕ). 13 ∷ 10 ∷ z) (sym (append-nil bytes)))
-blank_unfinished bytes u front more r (stops h s) e = not_blank front bytes more [] h.begun (omega (arith, h.full)) (e ∙ ap (λ (z : List ℕ). 13 ∷ 10 ∷ z) (sym (append-nil bytes)))
-blank_unfinished bytes u _ more r (whole {head = h} {body = b} ih s) e =
-    not_blank h bytes (b ++ more) [] ih.begun (omega (arith, ih.full)) (sym (append_assoc h b more) ∙ e ∙ ap (λ (z : List ℕ). 13 ∷ 10 ∷ z) (sym (append-nil bytes)))
+blank_unfinished bytes u front more r g e = let had = behind_pair bytes front more r g e in u had.0 more r had.1 had.2
 
 two_more : (at n : ℕ) → at + 2 + n ≡ at + suc (suc n)
 two_more at n = omega arith
@@ -124,3 +131,45 @@ rest_unfinished at bytes _ r (unfinished u e) =
     (λ front more x g f. let had = with_blanks bytes front more x g (f ∙ e) in u had.0 more x had.1 had.2, ap skip_blank e ∙ skip_twice bytes ∙ sym e)
 rest_unfinished at bytes _ _ (last m g c e) = (nothing_unfinished, refl)
 rest_unfinished at bytes _ r (next {front = f} {more = m} {rs = xs} g c e t) = rest_unfinished (at + length f) m xs r t
+
+-- a request with dropped pairs is one behind them
+without_blanks : (a front more : List ℕ) (r : Req) → IsRequest front r → front ++ more ≡ a → (f : List ℕ) × IsRequest f r × (f ++ more ≡ skip_blank a)
+without_blanks [] front more r g e = (front, g, e)
+without_blanks (x ∷ []) front more r g e = (front, g, e)
+without_blanks (x ∷ y ∷ a) front more r g e = elim (tells (x == 13 && y == 10)) [
+  | inl t ↦ let p = both (x == 13) (y == 10) t in
+      let first : x ≡ 13 = eqb-true x 13 p.0 in let second : y ≡ 10 = eqb-true y 10 p.1 in
+      let pair : front ++ more ≡ 13 ∷ 10 ∷ a = cc in
+      let had = behind_pair a front more r g pair in
+      rw t (without_blanks a had.0 more r had.1 had.2)
+  | inr t ↦ rw t (front, g, e)
+]
+
+-- bytes are unfinished where they are behind dropped pairs
+pub unskipped : (a : List ℕ) → IsUnfinished (skip_blank a) → IsUnfinished a
+unskipped a u front more r g e = let had = without_blanks a front more r g e in u had.0 more r had.1 had.2
+
+fed : (at : ℕ) (held : List ℕ) (pieces : List (List ℕ)) (rs : List Placed) (r : List ℕ) → IsUnfinished held → skip_blank held ≡ held → Feeds at held pieces rs r
+    → Splits at (held ++ flat_map (λ piece. piece) pieces) rs r
+fed at held _ _ _ u e end = rw (append-nil held) (unfinished u (sym e))
+fed at held _ _ r u e (goes {piece} {rest} {pieces = more} {rs} {qs} s stays f) =
+    let left = rest_unfinished at (held ++ piece) rs rest s in
+    let behind = fed (at + (length (held ++ piece) - length rest)) rest more qs r left.0 left.1 f in
+    rw (← (append_assoc held piece (flat_map (λ p. p) more))) (feeding_lem at (held ++ piece) (flat_map (λ p. p) more) rs qs rest r s stays behind)
+fed at held _ _ r u e (closed {piece} {pieces = more} {rs} s not) =
+    rw (← (append_assoc held piece (flat_map (λ p. p) more))) (closed_lem at (held ++ piece) (flat_map (λ p. p) more) rs r s not)
+
+pub any_pieces_lem : (pieces : List (List ℕ)) (rs : List Placed) (r : List ℕ) → Feeds 0 [] pieces rs r → Splits 0 (flat_map (λ piece. piece) pieces) rs r
+any_pieces_lem pieces rs r f = fed 0 [] pieces rs r nothing_unfinished refl f
+
+-- the bytes of a piece behind those that were taken
+taken : (held piece : List ℕ) (n : ℕ) → (held ++ take n piece) ++ drop n piece ≡ held ++ piece
+taken held piece n = append_assoc held (take n piece) (drop n piece) ∙ ap (λ (z : List ℕ). held ++ z) (take-append-drop n piece)
+
+pub taken_next : (at n : ℕ) (held piece : List ℕ) (r : Req) (rs : List Placed) (rest : List ℕ) → IsRequest (held ++ take n piece) r → closes r ≡ false
+    → Splits (at + length (held ++ take n piece)) (drop n piece) rs rest → Splits at (held ++ piece) (record { request = r; end = at + length (held ++ take n piece) } ∷ rs) rest
+taken_next at n held piece r rs rest g c s = next g c (taken held piece n) s
+
+pub taken_last : (at n : ℕ) (held piece : List ℕ) (r : Req) → IsRequest (held ++ take n piece) r → closes r ≡ true
+    → Splits at (held ++ piece) (record { request = r; end = at + length (held ++ take n piece) } ∷ []) []
+taken_last at n held piece r g c = last (drop n piece) g c (taken held piece n)

@@ -1,5 +1,5 @@
 -- Bytes begin with one request at most.
-use Rattle.std.proofs.Common.{◌≡◌, inl, inr, ℕ, zero, suc, ◌≤◌, ◌<◌, List, [], ◌∷◌, ◌++◌, length, take, drop, refl, sym, ap, ◌∙◌, arith, Bool, true, false, append_assoc, length-append, length-take, Option, Some, None}
+use Rattle.std.proofs.Common.{◌+◌, ◌≡◌, inl, inr, ℕ, zero, suc, ◌≤◌, ◌<◌, List, [], ◌∷◌, ◌++◌, length, take, drop, refl, sym, ap, ◌∙◌, arith, Bool, true, false, append_assoc, length-append, length-take, Option, Some, None}
 use Rattle.std.specs.Prelude.{nat_eq}
 use Rattle.std.specs.List.{ends_with}
 use Rattle.std.proofs.lemmas.List.{take-append-le, take_all, append-nil, take-append-drop}
@@ -8,7 +8,8 @@ use Rattle.std.proofs.lemmas.Bool.Decides.{leb_tells}
 use Rattle.httparse.specs.Grammar.{RequestHead}
 use Rattle.httparse.proofs.GrammarLemmas.{request_unique}
 use Rattle.gql_wire.specs.Head.{Says, Said, refuse, expects, unread, read, judged, parts_of}
-use Rattle.gql_wire.specs.Held.{IsHeld, IsBodyOpen}
+use Rattle.gql_wire.proofs.Streams.{head_full}
+use Rattle.gql_wire.specs.Held.{IsHeld}
 use Rattle.gql_wire.specs.Stream.{IsUnfinished, Req, request, IsRequest, behind_blank, long, stops, whole, IsHead, IsOpen, begins_blank, head_end, head_limit}
 use Rattle.gql_wire.specs.declared.head.HeadRefusal.{HeadRefusal}
 use Rattle.gql_wire.specs.declared.stream.Pending.{Pending}
@@ -76,11 +77,11 @@ pub one_reading_lem : (a b x y : List ℕ) (r q : Req) → IsRequest a r → IsR
 one_reading_lem _ _ x y r q (behind_blank {bytes = a} g) (behind_blank {bytes = b} h) e =
     let rest = one_reading_lem a b x y r q g h (ap (λ (z : List ℕ). drop 2 z) e) in (ap (λ (z : List ℕ). 13 ∷ 10 ∷ z) rest.0, rest.1)
 one_reading_lem _ b x y r q (behind_blank {bytes = a} g) (long o n) e = absurd (not_blank b a y x o.begun (omega arith) (sym e))
-one_reading_lem _ b x y r q (behind_blank {bytes = a} g) (stops h s) e = absurd (not_blank b a y x h.begun (omega (arith, h.full)) (sym e))
-one_reading_lem _ _ x y r q (behind_blank {bytes = a} g) (whole {head} {body} h s) e = absurd (not_blank head a (body ++ y) x h.begun (omega (arith, h.full)) (sym (append_assoc head body y) ∙ sym e))
+one_reading_lem _ b x y r q (behind_blank {bytes = a} g) (stops h s) e = absurd (not_blank b a y x h.begun (omega (arith, head_full b h)) (sym e))
+one_reading_lem _ _ x y r q (behind_blank {bytes = a} g) (whole {head} {body} h s) e = absurd (not_blank head a (body ++ y) x h.begun (omega (arith, head_full head h)) (sym (append_assoc head body y) ∙ sym e))
 one_reading_lem a _ x y r q (long o n) (behind_blank {bytes = b} g) e = absurd (not_blank a b x y o.begun (omega arith) e)
-one_reading_lem a _ x y r q (stops h s) (behind_blank {bytes = b} g) e = absurd (not_blank a b x y h.begun (omega (arith, h.full)) e)
-one_reading_lem _ _ x y r q (whole {head} {body} h s) (behind_blank {bytes = b} g) e = absurd (not_blank head b (body ++ x) y h.begun (omega (arith, h.full)) (sym (append_assoc head body x) ∙ e))
+one_reading_lem a _ x y r q (stops h s) (behind_blank {bytes = b} g) e = absurd (not_blank a b x y h.begun (omega (arith, head_full a h)) e)
+one_reading_lem _ _ x y r q (whole {head} {body} h s) (behind_blank {bytes = b} g) e = absurd (not_blank head b (body ++ x) y h.begun (omega (arith, head_full head h)) (sym (append_assoc head body x) ∙ e))
 one_reading_lem a b x y r q (long o n) (long p m) e = (same_front a b x y e (omega arith), refl)
 one_reading_lem a b x y r q (long o n) (stops h s) e = absurd (not_long a b x y o n h e)
 one_reading_lem a b x y r q (stops h s) (long o n) e = absurd (not_long b a y x o n h (sym e))
@@ -115,26 +116,28 @@ open_unfinished bytes front more r o less (long p n) e = absurd (omega (arith, a
 open_unfinished bytes front more r o less (stops h s) e = open_head bytes front more o h e
 open_unfinished bytes _ more r o less (whole {head = h} {body = b} ih s) e = open_head bytes h (b ++ more) o ih (sym (append_assoc h b more) ∙ e)
 
-pub body_unfinished : (bytes front more : List ℕ) (r : Req) (p : Pending) → IsBodyOpen bytes p → IsRequest front r → front ++ more ≡ bytes → ⊥
-body_unfinished bytes _ more r p o (behind_blank {bytes = a} g) e =
-    not_blank (take p.head bytes) a (drop p.head bytes) more o.head.begun (omega (arith, o.head.full)) (take-append-drop p.head bytes ∙ sym e)
-body_unfinished bytes front more r p o (long q n) e = not_long front (take p.head bytes) more (drop p.head bytes) q n o.head (e ∙ sym (take-append-drop p.head bytes))
-body_unfinished bytes front more r p o (stops h s) e =
-    let same : front ≡ take p.head bytes = one_head front (take p.head bytes) more (drop p.head bytes) h o.head (e ∙ sym (take-append-drop p.head bytes)) in
-    let clash = says_unique (rw same at s) o.says in absurd (let r : zero ≡ suc zero = cc in omega arith)
-body_unfinished bytes _ more r p o (whole {head = h} {body = b} ih s) e =
-    let same : h ≡ take p.head bytes = one_head h (take p.head bytes) (b ++ more) (drop p.head bytes) ih o.head (sym (append_assoc h b more) ∙ e ∙ sym (take-append-drop p.head bytes)) in
-    let said = says_unique (rw same at s) o.says in
-    let len : length b ≡ p.length = cc in
-    absurd (omega (arith, len, o.unfilled, o.within, ap length e, ap length same, length-append (h ++ b) more, length-append h b, length-take p.head bytes))
+-- nor of a head with a part of its body
+pub body_unfinished : (bytes front more : List ℕ) (r : Req) (k n : ℕ) (method target : List ℕ) (closing : Bool) → k ≤ length bytes → IsHead (take k bytes)
+    → Says (take k bytes) (expects method target n closing) → length bytes < k + n → IsRequest front r → front ++ more ≡ bytes → ⊥
+body_unfinished bytes _ more r k n m t c within head says less (behind_blank {bytes = a} g) e =
+    not_blank (take k bytes) a (drop k bytes) more head.begun (omega (arith, head_full (take k bytes) head)) (take-append-drop k bytes ∙ sym e)
+body_unfinished bytes front more r k n m t c within head says less (long q l) e = not_long front (take k bytes) more (drop k bytes) q l head (e ∙ sym (take-append-drop k bytes))
+body_unfinished bytes front more r k n m t c within head says less (stops h s) e =
+    let same : front ≡ take k bytes = one_head front (take k bytes) more (drop k bytes) h head (e ∙ sym (take-append-drop k bytes)) in
+    let clash = says_unique (rw same at s) says in absurd (let r : zero ≡ suc zero = cc in omega arith)
+body_unfinished bytes _ more r k n m t c within head says less (whole {head = h} {body = b} ih s) e =
+    let same : h ≡ take k bytes = one_head h (take k bytes) (b ++ more) (drop k bytes) ih head (sym (append_assoc h b more) ∙ e ∙ sym (take-append-drop k bytes)) in
+    let said = says_unique (rw same at s) says in
+    let len : length b ≡ n = cc in
+    absurd (omega (arith, len, less, within, ap length e, ap length same, length-append (h ++ b) more, length-append h b, length-take k bytes))
 
 pub held_unfinished : (bytes : List ℕ) (p : Option Pending) → IsHeld bytes p → IsUnfinished bytes
 held_unfinished bytes None h front more r g e = open_unfinished bytes front more r h.0 h.1 g e
-held_unfinished bytes (Some p) h front more r g e = body_unfinished bytes front more r p h g e
+held_unfinished bytes (Some p) h front more r g e = body_unfinished bytes front more r p.head p.length _ _ p.closing h.within h.head h.says h.unfilled g e
 
 -- no bytes are an unfinished request
 pub nothing_unfinished : IsUnfinished []
 nothing_unfinished _ more r (behind_blank {bytes = a} g) e = absurd (omega (arith, ap length e, length-append (13 ∷ 10 ∷ a) more))
 nothing_unfinished front more r (long p n) e = absurd (omega (arith, ap length e, length-append front more))
-nothing_unfinished front more r (stops h s) e = absurd (omega (arith, h.full, ap length e, length-append front more))
-nothing_unfinished _ more r (whole {head = h} {body = b} ih s) e = absurd (omega (arith, ih.full, ap length e, length-append (h ++ b) more, length-append h b))
+nothing_unfinished front more r (stops h s) e = absurd (omega (arith, head_full front h, ap length e, length-append front more))
+nothing_unfinished _ more r (whole {head = h} {body = b} ih s) e = absurd (omega (arith, head_full h ih, ap length e, length-append (h ++ b) more, length-append h b))

@@ -1,5 +1,5 @@
--- What a framer holds of a request, and what one more byte of a head comes to.
-use Rattle.std.specs.Prelude.{ℕ, ◌≡◌, ◌+◌, ◌<◌, ◌≤◌, List, [], length, take, map, Option, Some, None, ◌==◌, ◌&&◌, if◌then◌else◌}
+-- What a framer holds of a request, and what more bytes of a head come to.
+use Rattle.std.specs.Prelude.{ℕ, ◌≢◌, slice_index, ◌≡◌, ◌+◌, ◌<◌, ◌≤◌, List, [], length, take, map, Option, Some, None, ◌==◌, ◌&&◌, if◌then◌else◌}
 use Rattle.httparse.specs.Spans.{span_bytes, header_bytes, IsWithin, IsRequestAt}
 use Rattle.httparse.specs.Grammar.{RequestHead}
 use Rattle.httparse.specs.declared.spans.HeaderSpan.{HeaderSpan}
@@ -64,7 +64,18 @@ abbrev pub IsHeld : List ℕ → Option Pending → Type 0
 IsHeld bytes None = IsOpen bytes × (length bytes < head_limit)
 IsHeld bytes (Some p) = IsBodyOpen bytes p
 
--- what one more byte of a head comes to
+-- to an open head of n bytes came at most one line end, the last of the bytes
+pub record IsGrown (n : ℕ) (bytes : List ℕ) : Type 0 where
+  pub held : IsOpen (take n bytes)
+  pub some : n < length bytes
+  pub line : (k : ℕ) → n ≤ k → k + 1 < length bytes → slice_index bytes k ≢ 10
+  pub within : length bytes ≤ head_limit
+
+-- to some open head
+abbrev pub GrowsByLine : List ℕ → Type 0
+GrowsByLine bytes = (n : ℕ) × IsGrown n bytes
+
+-- what more bytes of a head come to
 abbrev pub Advances : List ℕ → Advance → Type 0
 Advances bytes advance.Blank = skip_blank bytes ≡ []
 Advances bytes advance.More = IsHeld bytes None × (skip_blank bytes ≡ bytes)

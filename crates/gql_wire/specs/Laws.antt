@@ -1,6 +1,7 @@
 -- Laws over streams.
-use Rattle.std.specs.Prelude.{ℕ, ◌≡◌, ◌+◌, ◌-◌, List, [], ◌++◌, length}
-use Rattle.gql_wire.specs.Stream.{Req, IsRequest, Placed, Splits, StaysOpen, IsUnfinished, skip_blank}
+use Rattle.std.specs.Prelude.{ℕ, ◌≡◌, ◌+◌, ◌-◌, List, [], ◌∷◌, ◌++◌, length, take, drop, true, false}
+use Rattle.std.specs.List.{flat_map}
+use Rattle.gql_wire.specs.Stream.{Req, IsRequest, closes, Placed, Splits, Requests, StaysOpen, IsUnfinished, skip_blank}
 
 -- bytes begin with one request at most
 abbrev pub OneReading : Type 0
@@ -9,6 +10,21 @@ OneReading = (a b x y : List ℕ) (r q : Req) → IsRequest a r → IsRequest b 
 -- a stream has one list of requests at most, and one rest
 abbrev pub OneSplit : Type 0
 OneSplit = (at : ℕ) (bytes : List ℕ) (rs qs : List Placed) (r q : List ℕ) → Splits at bytes rs r → Splits at bytes qs q → (rs ≡ qs) × (r ≡ q)
+
+-- and each stream has one
+abbrev pub SomeSplit : Type 0
+SomeSplit = (at : ℕ) (bytes : List ℕ) → (rs : List Placed) × (r : List ℕ) × Splits at bytes rs r
+
+-- a request that held bytes and the first n of a piece are is the next one of them and the piece
+abbrev pub TakenNext : Type 0
+TakenNext = (at n : ℕ) (held piece : List ℕ) (r : Req) (rs : List Placed) (rest : List ℕ) → IsRequest (held ++ take n piece) r → closes r ≡ false
+    → Splits (at + length (held ++ take n piece)) (drop n piece) rs rest
+    → Splits at (held ++ piece) (record { request = r; end = at + length (held ++ take n piece) } ∷ rs) rest
+
+-- and where it closes the connection, the last one
+abbrev pub TakenLast : Type 0
+TakenLast = (at n : ℕ) (held piece : List ℕ) (r : Req) → IsRequest (held ++ take n piece) r → closes r ≡ true
+    → Splits at (held ++ piece) (record { request = r; end = at + length (held ++ take n piece) } ∷ []) []
 
 -- where a stream was open behind its requests, more bytes give the requests of its rest and them
 abbrev pub Feeding : Type 0
@@ -19,6 +35,19 @@ Feeding = (at : ℕ) (a b : List ℕ) (rs qs : List Placed) (r q : List ℕ) →
 abbrev pub Closed : Type 0
 Closed = (at : ℕ) (a b : List ℕ) (rs : List Placed) (r : List ℕ) → Splits at a rs r → (StaysOpen rs → ⊥) → Splits at (a ++ b) rs r
 
+-- what pieces complete, one after another, behind held bytes that begin at an offset, and what is
+-- held behind them; a piece that closes the stream is the last that counts
+pub data Feeds : ℕ → List ℕ → List (List ℕ) → List Placed → List ℕ → Type 0 where
+  end : {at : ℕ} {held : List ℕ} → Feeds at held [] [] held
+  goes : {at : ℕ} {held piece rest final : List ℕ} {pieces : List (List ℕ)} {rs qs : List Placed} → Splits at (held ++ piece) rs rest → StaysOpen rs
+      → Feeds (at + (length (held ++ piece) - length rest)) rest pieces qs final → Feeds at held (piece ∷ pieces) (rs ++ qs) final
+  closed : {at : ℕ} {held piece rest : List ℕ} {pieces : List (List ℕ)} {rs : List Placed} → Splits at (held ++ piece) rs rest → (StaysOpen rs → ⊥)
+      → Feeds at held (piece ∷ pieces) rs rest
+
+-- any pieces give the requests and the rest of their bytes in a row
+abbrev pub AnyPieces : Type 0
+AnyPieces = (pieces : List (List ℕ)) (rs : List Placed) (r : List ℕ) → Feeds 0 [] pieces rs r → Requests (flat_map (λ piece. piece) pieces) rs r
+
 -- the rest is unfinished, and has no pairs CR LF at its front
 abbrev pub RestUnfinished : Type 0
 RestUnfinished = (at : ℕ) (bytes : List ℕ) (rs : List Placed) (r : List ℕ) → Splits at bytes rs r → IsUnfinished r × (skip_blank r ≡ r)
@@ -26,7 +55,3 @@ RestUnfinished = (at : ℕ) (bytes : List ℕ) (rs : List Placed) (r : List ℕ)
 -- no bytes are an unfinished request
 abbrev pub NothingUnfinished : Type 0
 NothingUnfinished = IsUnfinished []
-
--- where the bytes behind the pairs CR LF at the front are unfinished, so are all of them
-abbrev pub SkippedUnfinished : Type 0
-SkippedUnfinished = (bytes : List ℕ) → IsUnfinished (skip_blank bytes) → IsUnfinished bytes

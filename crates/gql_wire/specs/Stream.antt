@@ -53,7 +53,6 @@ pub record IsHead (bytes : List ℕ) : Type 0 where
   pub begun : begins_blank bytes ≡ false
   pub ended : ends_with nat_eq bytes head_end ≡ true
   pub before : (k : ℕ) → k < length bytes → ends_with nat_eq (take k bytes) head_end ≡ false
-  pub full : 4 ≤ length bytes
   pub short : length bytes ≤ head_limit
 
 -- these bytes are one request. Pairs CR LF before a head are dropped. A head that is not at its end

@@ -1,4 +1,4 @@
-ghost use Rattle.std.specs.Prelude.{◌≡◌, ◌≤◌, length, take, drop};
+ghost use Rattle.std.specs.Prelude.{◌≡◌, ◌≢◌, ◌+◌, ◌<◌, ◌≤◌, ℕ, length, take, drop, slice_index};
 
 /// The first bytes.
 pub fn front(bytes: &[u8], count: usize) -> &[u8]
@@ -14,4 +14,19 @@ pub fn rest_from(bytes: &[u8], start: usize) -> &[u8]
     ensures { result.now ≡ drop start bytes.now }
 {
     &bytes[start..]
+}
+
+/// How many bytes there are up to the first line feed, with it, or all of them.
+pub fn line_len(bytes: &[u8]) -> usize
+    requires { 0 < length bytes.now }
+    ensures some { 0 < result }
+    ensures within { result ≤ length bytes.now }
+    ensures line { (k : ℕ) → k + 1 < result → slice_index bytes.now k ≢ 10 }
+{
+    for (index, byte) in bytes.iter().enumerate() {
+        if *byte == b'\n' {
+            return index + 1;
+        }
+    }
+    bytes.len()
 }

@@ -1,9 +1,9 @@
 ghost use Rattle.std.specs.Prelude.{◌≡◌, ◌+◌, ◌<◌, ◌≤◌, ◌-◌, Some, None, ◌++◌, ◌∷◌, [], List, ℕ, length, take, IfOk, OnErr, IfNone, IfSome, MatchOption, nat_lt};
 ghost use Rattle.gql_wire.specs.Stream.{IsUnfinished, IsRequest, req, begins_blank, skip_blank};
-ghost use Rattle.gql_wire.specs.Held.{IsHeld, IsBodyOpen, IsBodyDone, Advances};
+ghost use Rattle.gql_wire.specs.Held.{IsHeld, GrowsByLine, IsBodyOpen, IsBodyDone, Advances};
 
 use crate::head::{HeadRefusal, HeadSays, read_head};
-use crate::part::{front, rest_from};
+use crate::part::{front, line_len, rest_from};
 use httparse::spans::Span;
 use std::alloc::{AllocError, Global};
 use std::marker::Model;
@@ -41,7 +41,7 @@ pub struct Pending {
     pub closing: bool,
 }
 
-/// What one more byte comes to.
+/// What more bytes of a head come to.
 #[derive(Clone, Copy)]
 pub enum Advance {
     Blank,
@@ -80,10 +80,9 @@ fn begins_with_blank(bytes: &[u8]) -> bool
     matches!(bytes, [b'\r', b'\n', ..])
 }
 
-/// What the bytes of a head come to, of which the last is new.
+/// What the bytes of a head come to, to which a part of a line came.
 fn advance_head(bytes: &[u8]) -> Advance
-    requires some { 0 < length bytes.now }
-    requires held { IsHeld (take (length bytes.now - 1) bytes.now) None }
+    requires { GrowsByLine bytes.now }
     ensures { Advances bytes.now result }
 {
     if begins_with_blank(bytes) {
@@ -139,45 +138,51 @@ fn request_of(alloc: Global, bytes: &[u8], pending: Pending) -> Result<Framed, A
     })
 }
 
-/// Takes one byte of a head.
+/// Takes bytes of a head, up to the end of a line.
 fn push_head(
     bytes: &mut Vec<u8>,
     pending: &mut Option<Pending>,
-    byte: u8,
-) -> Result<Option<Framed>, AllocError>
+    piece: &[u8],
+) -> Result<(usize, Option<Framed>), AllocError>
     requires held { IsHeld bytes.old.items None }
     requires none { pending.old ≡ None }
+    requires some { 0 < length piece.now }
     ensures held { IsHeld bytes.new.items pending.new }
-    ensures found { IfOk result (λ found. MatchOption found
-        (bytes.new.items ≡ skip_blank (bytes.old.items ++ byte ∷ []))
-        (λ framed. (bytes.new.items ≡ []) × IsRequest (bytes.old.items ++ byte ∷ []) (req framed))) }
+    ensures within { IfOk result (λ taken. (0 < taken.0) × (taken.0 ≤ length piece.now)) }
+    ensures found { IfOk result (λ taken. MatchOption taken.1
+        (bytes.new.items ≡ skip_blank (bytes.old.items ++ take taken.0 piece.now))
+        (λ framed. (bytes.new.items ≡ []) × IsRequest (bytes.old.items ++ take taken.0 piece.now) (req framed))) }
     ensures emptied { OnErr result (bytes.new.items ≡ []) }
 {
-    let Ok(()) = bytes.push(byte) else {
+    let count = line_len(piece).min(8192 - bytes.len());
+    let Ok(()) = bytes.extend_from_slice(front(piece, count)) else {
         bytes.clear();
         return Err(AllocError);
     };
     match advance_head(bytes.as_slice()) {
         Advance::Blank => {
             bytes.clear();
-            Ok(None)
+            Ok((count, None))
         }
-        Advance::More => Ok(None),
+        Advance::More => Ok((count, None)),
         Advance::Await(expected) => {
             *pending = Some(expected);
-            Ok(None)
+            Ok((count, None))
         }
         Advance::Done(expected) => {
             let framed = request_of(*bytes.allocator(), bytes.as_slice(), expected);
             bytes.clear();
-            Ok(Some(framed?))
+            Ok((count, Some(framed?)))
         }
         Advance::Refuse { refusal, bodiless } => {
             bytes.clear();
-            Ok(Some(Framed::Refused {
-                number: refusal,
-                bodiless,
-            }))
+            Ok((
+                count,
+                Some(Framed::Refused {
+                    number: refusal,
+                    bodiless,
+                }),
+            ))
         }
     }
 }
@@ -226,7 +231,7 @@ impl Framer {
         }
     }
 
-    /// Takes bytes of a part of a request: one of a head, or all that a body lacks.
+    /// Takes bytes of a part of a request: of one line of a head, or all that a body lacks.
     fn step(&mut self, piece: &[u8]) -> Result<(usize, Option<Framed>), AllocError>
         requires { 0 < length piece.now }
         ensures within { IfOk result (λ taken. (0 < taken.0) × (taken.0 ≤ length piece.now)) }
@@ -236,10 +241,7 @@ impl Framer {
         ensures emptied { OnErr result (self.new ≡ []) }
     {
         match self.pending {
-            None => {
-                let framed = push_head(&mut self.bytes, &mut self.pending, piece[0])?;
-                Ok((1, framed))
-            }
+            None => push_head(&mut self.bytes, &mut self.pending, piece),
             Some(expected) => fill_body(&mut self.bytes, &mut self.pending, expected, piece),
         }
     }
@@ -260,9 +262,9 @@ impl Framer {
         ensures moved { IfOk result (λ taken. IfSome taken.1 (λ _. 0 < taken.0)) }
         ensures more { IfOk result (λ taken. IfNone taken.1
             ((taken.0 ≡ length piece.now) × (self.new ≡ skip_blank (self.old ++ piece.now)))) }
+        ensures none { IfOk result (λ taken. IfNone taken.1 (IsUnfinished (self.old ++ piece.now))) }
         ensures framed { IfOk result (λ taken. IfSome taken.1 (λ framed.
             (self.new ≡ []) × IsRequest (self.old ++ take taken.0 piece.now) (req framed))) }
-        ensures unfinished { IfOk result (λ taken. IfNone taken.1 (IsUnfinished (self.old ++ piece.now))) }
         ensures rest { IfOk result (λ _. IsUnfinished self.new) }
         ensures emptied { OnErr result (self.new ≡ []) }
     {

@@ -9,7 +9,7 @@ requests-init c = record { within = omega arith; served = served_init _ _ _ _ re
 
 pub returns-in_default-clause-ok : goal.returns-in_default-clause-ok
 returns-in_default-clause-ok c =
-    let unfinished = rw (c.in_default.is, c.rest_from.ensures) at c.in_ok-count.ensures.unfinished in
+    let unfinished = rw (c.in_default.is, c.rest_from.ensures) at c.in_ok-count.ensures.none in
     let more = rw (c.in_default.is, c.rest_from.ensures) at c.in_ok-count.ensures.more in
     serves_open c.requests.invariant.served unfinished c.take.new.self more.1
 

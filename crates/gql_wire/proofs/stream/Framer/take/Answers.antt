@@ -1,7 +1,6 @@
-use Rattle.std.proofs.Common.{arith, length-drop, ◌≡◌, ◌++◌, take, subst, sym, ap, ◌∙◌}
-use Rattle.std.proofs.lemmas.Grind.{common_steps}
-use Rattle.gql_wire.specs.Stream.{IsUnfinished, skip_blank}
-use Rattle.gql_wire.proofs.Skipping.{skip_unfinished}
+use Rattle.std.proofs.Common.{arith, length-drop, ◌≡◌, take, ◌++◌}
+use Rattle.std.proofs.lemmas.List.{take_all}
+use Rattle.gql_wire.proofs.Splitting.{unskipped}
 use Rattle.gql_wire.proofs.Streams.{more_skipped, more_requested}
 use Rattle.gql_wire.proofs.stream.Framer.take.Goals as goal
 
@@ -16,8 +15,7 @@ parts-preserved c = record {
   same = more_skipped c.args.self.now c.parts.self c.step.new.self c.args.piece.now c.parts.taken c.in_ok-count.count c.parts.invariant.same (rw (c.in_default.is, c.rest_from.ensures) at c.in_ok-count.ensures.found);
 }
 
-pub returns-clause-unfinished : goal.returns-clause-unfinished
-returns-clause-unfinished c =
-    let all : take c.parts.taken c.args.piece.now ≡ c.args.piece.now = grind (arith, common_steps) in
-    let same : c.parts.self ≡ skip_blank (c.args.self.now ++ c.args.piece.now) = grind (arith, common_steps, c.parts.invariant.same, all) in
-    skip_unfinished _ (subst IsUnfinished same c.touch-2.ensures.unfinished)
+pub returns-clause-none : goal.returns-clause-none
+returns-clause-none c =
+    let all : take c.parts.taken c.args.piece.now ≡ c.args.piece.now = take_all c.parts.taken c.args.piece.now c.parts-test.false in
+    unskipped (c.args.self.now ++ c.args.piece.now) (rw (c.parts.invariant.same, all) at c.touch-2.ensures.unfinished)
