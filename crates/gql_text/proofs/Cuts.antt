@@ -148,7 +148,7 @@ number_ascii s n (b ∷ bs) e =
 mark_ascii : (b : ℕ) (kind : Kind) → mark_kind b ≡ Some kind → b < 128
 mark_ascii b kind e = grind (arith, nat_tests)
 
-both_of : (a b : Bool) → (a && b) ≡ true → (a ≡ true) × (b ≡ true)
+pub both_of : (a b : Bool) → (a && b) ≡ true → (a ≡ true) × (b ≡ true)
 both_of true b e = (refl, e)
 both_of false b e = absurd (cc)
 

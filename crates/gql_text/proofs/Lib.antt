@@ -1,6 +1,9 @@
 pub mod Places
 pub mod Runs
 pub mod Fitting
+pub mod Lines
+pub mod Quotes
 pub mod Steps
+pub mod Texts
 pub mod Fronts
 pub mod Cuts

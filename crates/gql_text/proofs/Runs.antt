@@ -59,7 +59,7 @@ number_goes n k bs e =
           inl g ↦ absurd (cc)
         | inr g ↦ let six : 6 ≡ k = cc in (omega arith, omega arith) ] ]
 
-short_stops : (k : ℕ) (bs : List ℕ) → short_escape bs ≡ Goes k → ⊥
+pub short_stops : (k : ℕ) (bs : List ℕ) → short_escape bs ≡ Goes k → ⊥
 short_stops k bs e = elim (chosen (begins (λ b. not (is_break b)) bs) e) [ inl h ↦ cc | inr h ↦ cc ]
 
 digits_goes : (o : Option ℕ) (k : ℕ) (bs : List ℕ) → four_digits bs ≡ o → digits_piece o bs ≡ Goes k → (0 < k) × (k ≤ 2 + length bs)

@@ -1,4 +1,5 @@
 pub mod Chars
+pub mod Escapes
 pub mod Kinds
 pub mod Lexeme
 pub mod Lexis
@@ -8,3 +9,4 @@ pub mod Numbers
 pub mod Parts
 pub mod Pieces
 pub mod Place
+pub mod Values

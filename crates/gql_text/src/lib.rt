@@ -1,13 +1,16 @@
 //! The lexical tokens of a GraphQL text, each with its place (GraphQL specification, October 2021, section 2.1).
 #![tactic(auto)]
 
+mod block;
 mod front;
 mod lexer;
 mod number;
 mod pieces;
 mod place;
 mod token;
+mod value;
 
 pub use lexer::{end_place, lex};
 pub use place::Place;
 pub use token::{Kind, LexFault, LexRefusal, Token};
+pub use value::text_value;
