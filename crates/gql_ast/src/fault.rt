@@ -15,7 +15,7 @@ pub enum FileSide {
 }
 
 /// A place in a file.
-#[derive(Drop)]
+#[derive(Debug, Drop)]
 pub struct FilePlace {
     pub side: FileSide,
     pub file: FileName,
@@ -37,7 +37,7 @@ impl FilePlace {
 
 /// What breaks a rule: about which text, at which places (none, one or two), and the definition that owns it. A
 /// fault of the schema has no owner.
-#[derive(Drop)]
+#[derive(Debug, Drop)]
 pub struct Fault {
     pub rule: Rule,
     pub about: Text,

@@ -1,8 +1,9 @@
-ghost use Rattle.std.specs.Prelude.{◌≡◌, ◌↔◌, IsTrue, IsSome, IfSome, Some, refl, bytes_eq};
+ghost use Rattle.std.specs.Prelude.{◌≡◌, ◌↔◌, ◌&&◌, nat_lt, nat_le, length, IsTrue, IsSome, IfSome, Some, refl, bytes_eq};
 ghost use Rattle.std.specs.Ordering.{nat_cmp};
+ghost use Rattle.std.specs.List.{list_all};
 ghost use Rattle.std.specs.Cmp.{partial_equiv_from_equiv};
 ghost use Rattle.std.specs.Cmp.Lexicographic.{slice_cmp, nat_list_eq_equiv, nat_list_cmp_total, texts_ties, texts_po};
-ghost use Rattle.gql_ast.specs.FileNames.{IsFileName, is_file_name_byte};
+ghost use Rattle.gql_ast.specs.FileNames.{is_file_name, is_file_name_byte};
 
 use arrayvec::ArrayString;
 use std::alloc::AllocError;
@@ -11,7 +12,7 @@ use std::marker::Model;
 
 /// The name of a file: 1 to 64 letters, digits, `_`, `.` and `-`, held in place and ordered by bytes.
 /// Contracts see the list of its bytes.
-#[derive(Drop)]
+#[derive(Debug, Drop)]
 pub struct FileName {
     text: ArrayString<64>,
 }
@@ -30,13 +31,25 @@ fn is_name_byte(byte: u8) -> bool
     byte.is_ascii_alphanumeric() || byte == b'_' || byte == b'.' || byte == b'-'
 }
 
+fn has_name_length(text: &str) -> bool
+    ensures { result ≡ (nat_lt 0 (length text.now) && nat_le (length text.now) 64) }
+{
+    !text.is_empty() && text.len() <= 64
+}
+
+fn has_name_bytes(text: &str) -> bool
+    ensures { result ≡ list_all is_file_name_byte text.now }
+{
+    text.bytes().all(is_name_byte)
+}
+
 impl FileName {
     /// Reads a name; none where the text is no name of a file.
     pub fn read(text: &str) -> Option<FileName>
         ensures name { IfSome result (λ n. n ≡ text.now) }
-        ensures exact { IsSome result ↔ IsFileName text.now }
+        ensures exact { IsSome result ↔ IsTrue (is_file_name text.now) }
     {
-        if text.is_empty() || !text.bytes().all(is_name_byte) {
+        if !has_name_length(text) || !has_name_bytes(text) {
             return None;
         }
         match ArrayString::try_from(text) {

@@ -1,2 +1,4 @@
-pub mod TypeNames
+pub mod Refusals
 pub mod Report
+pub mod State
+pub mod TypeNames

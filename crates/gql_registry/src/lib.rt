@@ -1,7 +1,10 @@
-//! The registry: files in, faults out.
+//! The registry: schema files in, faults out.
 #![tactic(auto)]
 
+mod refusal;
+mod registry;
 mod report;
 mod type_names;
 
-pub use report::report_of;
+pub use refusal::Refusal;
+pub use registry::{Edited, MAX_FILES, MAX_FILE_BYTES, Registry};

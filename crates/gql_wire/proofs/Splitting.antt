@@ -1,0 +1,126 @@
+-- The list of a stream's requests.
+use Rattle.std.proofs.Common.{◌≡◌, inl, inr, ℕ, suc, ◌+◌, ◌-◌, ◌≤◌, List, [], ◌∷◌, ◌++◌, length, drop, refl, sym, ap, ◌∙◌, subst, arith, true, false, append_assoc, length-append, eqb-true, append-nil}
+use Rattle.std.specs.Prelude.{◌==◌, ◌&&◌}
+use Rattle.gql_wire.specs.Stream.{Req, IsRequest, behind_blank, long, stops, whole, closes, skip_blank, IsUnfinished, Placed, Splits, unfinished, last, next, StaysOpen}
+use Rattle.gql_wire.proofs.Streams.{tells, both}
+use Rattle.gql_wire.proofs.Unique.{one_reading_lem, not_blank, cut_left, nothing_unfinished}
+
+placed : {r q : Req} {m n : ℕ} → r ≡ q → m ≡ n → ◌≡◌ {A = Placed} (record { request = r; end = m }) (record { request = q; end = n })
+placed {r} {q} {m} {n} e f = cc
+
+cons_same : {p q : Placed} {ps qs : List Placed} → p ≡ q → ps ≡ qs → p ∷ ps ≡ q ∷ qs
+cons_same {p} {q} {ps} {qs} e f = cc
+
+pub one_split_lem : (at : ℕ) (bytes : List ℕ) (rs qs : List Placed) (r q : List ℕ) → Splits at bytes rs r → Splits at bytes qs q → (rs ≡ qs) × (r ≡ q)
+one_split_lem at bytes _ _ r q (unfinished u e) (unfinished v f) = (refl, e ∙ sym f)
+one_split_lem at bytes _ _ r _ (unfinished u e) (last {front = b} m {r = x} g c f) = absurd (u b m x g f)
+one_split_lem at bytes _ _ r q (unfinished u e) (next {front = b} {more = m} {r = x} g c f s) = absurd (u b m x g f)
+one_split_lem at bytes _ _ _ q (last {front = a} m {r = x} g c f) (unfinished u e) = absurd (u a m x g f)
+one_split_lem at bytes _ _ r q (next {front = a} {more = m} {r = x} g c f s) (unfinished u e) = absurd (u a m x g f)
+one_split_lem at bytes _ _ _ _ (last {front = a} m {r = x} g c e) (last {front = b} n {r = y} h d f) =
+    let one = one_reading_lem a b m n x y g h (e ∙ sym f) in
+    (cons_same (placed one.1 (ap (λ (z : List ℕ). at + length z) one.0)) refl, refl)
+one_split_lem at bytes _ _ _ q (last {front = a} m {r = x} g c e) (next {front = b} {more = n} {r = y} h d f s) =
+    let one = one_reading_lem a b m n x y g h (e ∙ sym f) in
+    let clash : true ≡ false = sym c ∙ ap closes one.1 ∙ d in absurd (cc)
+one_split_lem at bytes _ _ r _ (next {front = a} {more = m} {r = x} g c e s) (last {front = b} n {r = y} h d f) =
+    let one = one_reading_lem a b m n x y g h (e ∙ sym f) in
+    let clash : false ≡ true = sym c ∙ ap closes one.1 ∙ d in absurd (cc)
+one_split_lem at bytes _ _ r q (next {front = a} {more = m} {r = x} {rs = xs} g c e s) (next {front = b} {more = n} {r = y} {rs = ys} h d f t) =
+    let one = one_reading_lem a b m n x y g h (e ∙ sym f) in
+    let same : m ≡ n = cut_left a m n (e ∙ sym f ∙ ap (λ (z : List ℕ). z ++ n) (sym one.0)) in
+    let t' : Splits (at + length a) m ys q = rw (one.0, same) t in
+    let rest = one_split_lem (at + length a) m xs ys r q s t' in
+    (cons_same (placed one.1 (ap (λ (z : List ℕ). at + length z) one.0)) rest.0, rest.1)
+
+-- no front of the bytes behind CR LF is a request either
+blank_unfinished : (bytes : List ℕ) → IsUnfinished bytes → IsUnfinished (13 ∷ 10 ∷ bytes)
+blank_unfinished bytes u _ more r (behind_blank {bytes = a} g) e = u a more r g (ap (λ (z : List ℕ). drop 2 z) e)
+blank_unfinished bytes u front more r (long o n) e = not_blank front bytes more [] o.begun (omega arith) (e ∙ ap (λ (z : List ℕ). 13 ∷ 10 ∷ z) (sym (append-nil bytes)))
+blank_unfinished bytes u front more r (stops h s) e = not_blank front bytes more [] h.begun (omega (arith, h.full)) (e ∙ ap (λ (z : List ℕ). 13 ∷ 10 ∷ z) (sym (append-nil bytes)))
+blank_unfinished bytes u _ more r (whole {head = h} {body = b} ih s) e =
+    not_blank h bytes (b ++ more) [] ih.begun (omega (arith, ih.full)) (sym (append_assoc h b more) ∙ e ∙ ap (λ (z : List ℕ). 13 ∷ 10 ∷ z) (sym (append-nil bytes)))
+
+two_more : (at n : ℕ) → at + 2 + n ≡ at + suc (suc n)
+two_more at n = omega arith
+
+-- CR LF before the bytes gives the same requests, two bytes on
+blank_before : (at : ℕ) (bytes : List ℕ) (rs : List Placed) (r : List ℕ) → Splits (at + 2) bytes rs r → Splits at (13 ∷ 10 ∷ bytes) rs r
+blank_before at bytes _ r (unfinished u e) = unfinished (blank_unfinished bytes u) e
+blank_before at bytes _ _ (last {front = a} m {r = x} g c e) =
+    let end : ◌≡◌ {A = Placed} (record { request = x; end = at + length (13 ∷ 10 ∷ a) }) (record { request = x; end = at + 2 + length a }) = placed refl (sym (two_more at (length a))) in
+    subst (λ (p : Placed). Splits at (13 ∷ 10 ∷ bytes) (p ∷ []) []) end (last m (behind_blank g) c (ap (λ (z : List ℕ). 13 ∷ 10 ∷ z) e))
+blank_before at bytes _ r (next {front = a} {more = m} {r = x} {rs = xs} g c e s) =
+    let end : ◌≡◌ {A = Placed} (record { request = x; end = at + length (13 ∷ 10 ∷ a) }) (record { request = x; end = at + 2 + length a }) = placed refl (sym (two_more at (length a))) in
+    let s' : Splits (at + length (13 ∷ 10 ∷ a)) m xs r = subst (λ (n : ℕ). Splits n m xs r) (two_more at (length a)) s in
+    subst (λ (p : Placed). Splits at (13 ∷ 10 ∷ bytes) (p ∷ xs) r) end (next (behind_blank g) c (ap (λ (z : List ℕ). 13 ∷ 10 ∷ z) e) s')
+
+skip_short : (a : List ℕ) → length (skip_blank a) ≤ length a
+skip_short [] = omega arith
+skip_short (x ∷ []) = omega arith
+skip_short (x ∷ y ∷ a) = elim (tells (x == 13 && y == 10)) [
+  | inl e ↦ rw e (omega (arith, skip_short a))
+  | inr e ↦ rw e (omega arith)
+]
+
+-- pairs CR LF before the bytes give the same requests
+skipped_before : (at : ℕ) (a b : List ℕ) (rs : List Placed) (r : List ℕ) → Splits (at + (length a - length (skip_blank a))) (skip_blank a ++ b) rs r → Splits at (a ++ b) rs r
+skipped_before at [] b rs r s = subst (λ (n : ℕ). Splits n b rs r) (omega arith) s
+skipped_before at (x ∷ []) b rs r s = subst (λ (n : ℕ). Splits n (x ∷ b) rs r) (omega arith) s
+skipped_before at (x ∷ y ∷ a) b rs r s = elim (tells (x == 13 && y == 10)) [
+  | inl e ↦ let p = both (x == 13) (y == 10) e in
+      let f : x ≡ 13 = eqb-true x 13 p.0 in let g : y ≡ 10 = eqb-true y 10 p.1 in
+      let s' = rw e at s in
+      let n : at + (length (x ∷ y ∷ a) - length (skip_blank a)) ≡ at + 2 + (length a - length (skip_blank a)) = omega (arith, skip_short a) in
+      rw (f, g) (blank_before at (a ++ b) rs r (skipped_before (at + 2) a b rs r (subst (λ (n : ℕ). Splits n (skip_blank a ++ b) rs r) n s')))
+  | inr e ↦ let s' = rw e at s in
+      let n : at + (length (x ∷ y ∷ a) - length (x ∷ y ∷ a)) ≡ at = omega arith in
+      subst (λ (n : ℕ). Splits n (x ∷ y ∷ (a ++ b)) rs r) n s'
+]
+
+-- the rest is no longer than the bytes
+rest_short : (at : ℕ) (bytes : List ℕ) (rs : List Placed) (r : List ℕ) → Splits at bytes rs r → length r ≤ length bytes
+rest_short at bytes _ r (unfinished u e) = omega (arith, skip_short bytes, ap length e)
+rest_short at bytes _ _ (last m g c e) = omega arith
+rest_short at bytes _ r (next {front = a} {more = m} {rs = xs} g c e s) = omega (arith, rest_short (at + length a) m xs r s, ap length e, length-append a m)
+
+pub feeding_lem : (at : ℕ) (a b : List ℕ) (rs qs : List Placed) (r q : List ℕ) → Splits at a rs r → StaysOpen rs
+    → Splits (at + (length a - length r)) (r ++ b) qs q → Splits at (a ++ b) (rs ++ qs) q
+feeding_lem at a b _ qs r q (unfinished u e) stays s = skipped_before at a b qs q (subst (λ (z : List ℕ). Splits (at + (length a - length z)) (z ++ b) qs q) e s)
+feeding_lem at a b _ qs _ q (last m g c e) stays s = let clash : true ≡ false = sym c ∙ stays.0 in absurd (cc)
+feeding_lem at a b _ qs r q (next {front = f} {more = m} {rs = xs} g c e t) stays s =
+    let n : at + (length a - length r) ≡ at + length f + (length m - length r) = omega (arith, rest_short (at + length f) m xs r t, ap length e, length-append f m) in
+    next g c (sym (append_assoc f m b) ∙ ap (λ (z : List ℕ). z ++ b) e)
+    (feeding_lem (at + length f) m b xs qs r q t stays.1 (subst (λ (n : ℕ). Splits n (r ++ b) qs q) n s))
+
+pub closed_lem : (at : ℕ) (a b : List ℕ) (rs : List Placed) (r : List ℕ) → Splits at a rs r → (StaysOpen rs → ⊥) → Splits at (a ++ b) rs r
+closed_lem at a b _ r (unfinished u e) not = absurd (not (tt {0}))
+closed_lem at a b _ _ (last {front = f} m g c e) not = last (m ++ b) g c (sym (append_assoc f m b) ∙ ap (λ (z : List ℕ). z ++ b) e)
+closed_lem at a b _ r (next {front = f} {more = m} {rs = xs} g c e t) not =
+    next g c (sym (append_assoc f m b) ∙ ap (λ (z : List ℕ). z ++ b) e) (closed_lem (at + length f) m b xs r t (λ stays. not (c, stays)))
+
+-- a request behind dropped pairs is one with them
+with_blanks : (a front more : List ℕ) (r : Req) → IsRequest front r → front ++ more ≡ skip_blank a → (f : List ℕ) × IsRequest f r × (f ++ more ≡ a)
+with_blanks [] front more r g e = (front, g, e)
+with_blanks (x ∷ []) front more r g e = (front, g, e)
+with_blanks (x ∷ y ∷ a) front more r g e = elim (tells (x == 13 && y == 10)) [
+  | inl t ↦ let p = both (x == 13) (y == 10) t in
+      let had = with_blanks a front more r g (rw t at e) in
+      let first : 13 ≡ x = sym (eqb-true x 13 p.0) in let second : 10 ≡ y = sym (eqb-true y 10 p.1) in
+      (13 ∷ 10 ∷ had.0, behind_blank had.1, rw had.2 (cc))
+  | inr t ↦ (front, g, rw t at e)
+]
+
+skip_twice : (a : List ℕ) → skip_blank (skip_blank a) ≡ skip_blank a
+skip_twice [] = refl
+skip_twice (x ∷ []) = refl
+skip_twice (x ∷ y ∷ a) = elim (tells (x == 13 && y == 10)) [
+  | inl e ↦ rw e (skip_twice a)
+  | inr e ↦ rw e (rw e refl)
+]
+
+pub rest_unfinished : (at : ℕ) (bytes : List ℕ) (rs : List Placed) (r : List ℕ) → Splits at bytes rs r → IsUnfinished r × (skip_blank r ≡ r)
+rest_unfinished at bytes _ r (unfinished u e) =
+    (λ front more x g f. let had = with_blanks bytes front more x g (f ∙ e) in u had.0 more x had.1 had.2, ap skip_blank e ∙ skip_twice bytes ∙ sym e)
+rest_unfinished at bytes _ _ (last m g c e) = (nothing_unfinished, refl)
+rest_unfinished at bytes _ r (next {front = f} {more = m} {rs = xs} g c e t) = rest_unfinished (at + length f) m xs r t

@@ -1,0 +1,140 @@
+-- Bytes begin with one request at most.
+use Rattle.std.proofs.Common.{◌≡◌, inl, inr, ℕ, zero, suc, ◌≤◌, ◌<◌, List, [], ◌∷◌, ◌++◌, length, take, drop, refl, sym, ap, ◌∙◌, arith, Bool, true, false, append_assoc, length-append, length-take, Option, Some, None}
+use Rattle.std.specs.Prelude.{nat_eq}
+use Rattle.std.specs.List.{ends_with}
+use Rattle.std.proofs.lemmas.List.{take-append-le, take_all, append-nil, take-append-drop}
+use Rattle.std.proofs.Math.Seq.{take-append_seam, drop-append_seam}
+use Rattle.std.proofs.lemmas.Bool.Decides.{leb_tells}
+use Rattle.httparse.specs.Grammar.{RequestHead}
+use Rattle.httparse.proofs.GrammarLemmas.{request_unique}
+use Rattle.gql_wire.specs.Head.{Says, Said, refuse, expects, unread, read, judged, parts_of}
+use Rattle.gql_wire.specs.Held.{IsHeld, IsBodyOpen}
+use Rattle.gql_wire.specs.Stream.{IsUnfinished, Req, request, IsRequest, behind_blank, long, stops, whole, IsHead, IsOpen, begins_blank, head_end, head_limit}
+use Rattle.gql_wire.specs.declared.head.HeadRefusal.{HeadRefusal}
+use Rattle.gql_wire.specs.declared.stream.Pending.{Pending}
+
+pub says_unique : {head : List ℕ} {s t : Said} → Says head s → Says head t → s ≡ t
+says_unique (unread n) (unread m) = refl
+says_unique (unread n) (read {h = h} r) = absurd (n h r.reads r.few)
+says_unique (read {h = h} r) (unread n) = absurd (n h r.reads r.few)
+says_unique (read {head} {h = h} r) (read {h = k} q) = ap (λ (g : RequestHead). judged (parts_of g)) (request_unique head h k [] [] r.reads q.reads).0
+
+prefix_of : (a b x y : List ℕ) → a ++ x ≡ b ++ y → length a ≤ length b → take (length a) b ≡ a
+prefix_of a b x y e h = sym (take-append-le (length a) b y h) ∙ ap (λ (s : List ℕ). take (length a) s) (sym e) ∙ take-append_seam a x
+
+pub same_front : (a b x y : List ℕ) → a ++ x ≡ b ++ y → length a ≡ length b → a ≡ b
+same_front a b x y e h = sym (prefix_of a b x y e (omega arith)) ∙ take_all (length a) b (omega arith)
+
+-- what ends here is no shorter front of what doesn't end before
+not_before : (a b x y : List ℕ) → ends_with nat_eq a head_end ≡ true → ((k : ℕ) → k < length b → ends_with nat_eq (take k b) head_end ≡ false) → a ++ x ≡ b ++ y → length b ≤ length a
+not_before a b x y ended unended e = elim (leb_tells (length b) (length a)) [
+  | inl (w, h) ↦ h
+  | inr (w, h) ↦ let f = rw (prefix_of a b x y e (omega arith)) at (unended (length a) h) in absurd (let bad : true ≡ false = sym ended ∙ f in cc)
+]
+
+pub one_head : (a b x y : List ℕ) → IsHead a → IsHead b → a ++ x ≡ b ++ y → a ≡ b
+one_head a b x y h k e =
+    let p = not_before a b x y h.ended k.before e in
+    let q = not_before b a y x k.ended h.before (sym e) in
+    same_front a b x y e (omega arith)
+
+-- a head that is too long holds no head
+not_long : (a b x y : List ℕ) → IsOpen a → length a ≡ head_limit → IsHead b → a ++ x ≡ b ++ y → ⊥
+not_long a b x y o n h e =
+    let less : length b ≤ length a = omega (arith, h.short) in
+    let f = rw (prefix_of b a y x (sym e) less) at (o.unended (length b) less) in
+    let bad : true ≡ false = sym h.ended ∙ f in absurd (let r : zero ≡ suc zero = cc in omega arith)
+
+begun_of : (a x : List ℕ) → 2 ≤ length a → begins_blank a ≡ begins_blank (a ++ x)
+begun_of [] x h = absurd (omega arith)
+begun_of (a ∷ []) x h = absurd (omega arith)
+begun_of (a ∷ b ∷ bs) x h = refl
+
+-- what begins with no empty line is not behind one
+pub not_blank : (a b x y : List ℕ) → begins_blank a ≡ false → 2 ≤ length a → a ++ x ≡ (13 ∷ 10 ∷ b) ++ y → ⊥
+not_blank a b x y f h e = let bad : false ≡ true = sym f ∙ begun_of a x h ∙ ap begins_blank e in absurd (let r : zero ≡ suc zero = cc in omega arith)
+
+-- two whole requests with one head
+whole_same : (h b c x y m n t u : List ℕ) (v w : Bool) → b ++ x ≡ c ++ y → expects m t (length b) v ≡ expects n u (length c) w
+    → (h ++ b ≡ h ++ c) × (request m t b v ≡ request n u c w)
+whole_same h b c x y m n t u v w e f =
+    let len : length b ≡ length c = cc in
+    let same : b ≡ c = same_front b c x y e len in
+    let method : m ≡ n = cc in let target : t ≡ u = cc in let closing : v ≡ w = cc in
+    (ap (λ (z : List ℕ). h ++ z) same, cc)
+
+pub cut_left : (h b c : List ℕ) → h ++ b ≡ h ++ c → b ≡ c
+cut_left h b c e = sym (drop-append_seam h b) ∙ ap (λ (z : List ℕ). drop (length h) z) e ∙ drop-append_seam h c
+
+refused_whole : (h k b x y : List ℕ) (f : HeadRefusal) (fb : Bool) (m t : List ℕ) (v : Bool) → IsHead h → IsHead k → Says h (refuse f fb) → Says k (expects m t (length b) v)
+    → h ++ x ≡ (k ++ b) ++ y → ⊥
+refused_whole h k b x y f fb m t v ih ik s w e =
+    let same : h ≡ k = one_head h k x (b ++ y) ih ik (e ∙ append_assoc k b y) in
+    let clash : refuse f fb ≡ expects m t (length b) v = says_unique (rw same at s) w in absurd (let r : zero ≡ suc zero = cc in omega arith)
+
+pub one_reading_lem : (a b x y : List ℕ) (r q : Req) → IsRequest a r → IsRequest b q → a ++ x ≡ b ++ y → (a ≡ b) × (r ≡ q)
+one_reading_lem _ _ x y r q (behind_blank {bytes = a} g) (behind_blank {bytes = b} h) e =
+    let rest = one_reading_lem a b x y r q g h (ap (λ (z : List ℕ). drop 2 z) e) in (ap (λ (z : List ℕ). 13 ∷ 10 ∷ z) rest.0, rest.1)
+one_reading_lem _ b x y r q (behind_blank {bytes = a} g) (long o n) e = absurd (not_blank b a y x o.begun (omega arith) (sym e))
+one_reading_lem _ b x y r q (behind_blank {bytes = a} g) (stops h s) e = absurd (not_blank b a y x h.begun (omega (arith, h.full)) (sym e))
+one_reading_lem _ _ x y r q (behind_blank {bytes = a} g) (whole {head} {body} h s) e = absurd (not_blank head a (body ++ y) x h.begun (omega (arith, h.full)) (sym (append_assoc head body y) ∙ sym e))
+one_reading_lem a _ x y r q (long o n) (behind_blank {bytes = b} g) e = absurd (not_blank a b x y o.begun (omega arith) e)
+one_reading_lem a _ x y r q (stops h s) (behind_blank {bytes = b} g) e = absurd (not_blank a b x y h.begun (omega (arith, h.full)) e)
+one_reading_lem _ _ x y r q (whole {head} {body} h s) (behind_blank {bytes = b} g) e = absurd (not_blank head b (body ++ x) y h.begun (omega (arith, h.full)) (sym (append_assoc head body x) ∙ e))
+one_reading_lem a b x y r q (long o n) (long p m) e = (same_front a b x y e (omega arith), refl)
+one_reading_lem a b x y r q (long o n) (stops h s) e = absurd (not_long a b x y o n h e)
+one_reading_lem a b x y r q (stops h s) (long o n) e = absurd (not_long b a y x o n h (sym e))
+one_reading_lem a _ x y r q (long o n) (whole {head} {body} h s) e = absurd (not_long a head x (body ++ y) o n h (e ∙ append_assoc head body y))
+one_reading_lem _ b x y r q (whole {head} {body} h s) (long o n) e = absurd (not_long b head y (body ++ x) o n h (sym e ∙ append_assoc head body x))
+one_reading_lem a b x y r q (stops {refusal = f} {bodiless = fb} h s) (stops {refusal = g} {bodiless = gb} k t) e =
+    let same : a ≡ b = one_head a b x y h k e in
+    let said : refuse f fb ≡ refuse g gb = says_unique (rw same at s) t in
+    (same, cc)
+one_reading_lem a _ x y r q (stops {refusal = f} {bodiless = fb} h s) (whole {head} {body} {method} {target} {closing} k t) e = absurd (refused_whole a head body x y f fb method target closing h k s t e)
+one_reading_lem _ b x y r q (whole {head} {body} {method} {target} {closing} k t) (stops {refusal = f} {bodiless = fb} h s) e = absurd (refused_whole b head body y x f fb method target closing h k s t (sym e))
+one_reading_lem _ _ x y r q (whole {head = h} {body = b} {method = m} {target = t} {closing = v} ih s) (whole {head = k} {body = c} {method = n} {target = u} {closing = w} ik z) e =
+    let apart : h ++ (b ++ x) ≡ k ++ (c ++ y) = sym (append_assoc h b x) ∙ e ∙ append_assoc k c y in
+    let same : h ≡ k = one_head h k (b ++ x) (c ++ y) ih ik apart in
+    let bodies : b ++ x ≡ c ++ y = cut_left h (b ++ x) (c ++ y) (apart ∙ ap (λ (f : List ℕ). f ++ (c ++ y)) (sym same)) in
+    let both = whole_same h b c x y m n t u v w bodies (says_unique s (rw (← same) at z)) in
+    (both.0 ∙ ap (λ (f : List ℕ). f ++ c) same, both.1)
+
+-- in an open head there is no head
+open_head : (bytes head more : List ℕ) → IsOpen bytes → IsHead head → head ++ more ≡ bytes → ⊥
+open_head bytes head more o h e =
+    let less : length head ≤ length bytes = omega (arith, ap length e, length-append head more) in
+    let front : take (length head) bytes ≡ head = ap (λ (s : List ℕ). take (length head) s) (sym e) ∙ take-append_seam head more in
+    let f = rw front at (o.unended (length head) less) in
+    let bad : true ≡ false = sym h.ended ∙ f in absurd (let r : zero ≡ suc zero = cc in omega arith)
+
+-- no front of what is held is a request
+pub open_unfinished : (bytes front more : List ℕ) (r : Req) → IsOpen bytes → length bytes < head_limit → IsRequest front r → front ++ more ≡ bytes → ⊥
+open_unfinished bytes _ more r o less (behind_blank {bytes = a} g) e =
+    not_blank bytes a [] more o.begun (omega (arith, ap length e, length-append (13 ∷ 10 ∷ a) more)) (append-nil bytes ∙ sym e)
+open_unfinished bytes front more r o less (long p n) e = absurd (omega (arith, ap length e, length-append front more))
+open_unfinished bytes front more r o less (stops h s) e = open_head bytes front more o h e
+open_unfinished bytes _ more r o less (whole {head = h} {body = b} ih s) e = open_head bytes h (b ++ more) o ih (sym (append_assoc h b more) ∙ e)
+
+pub body_unfinished : (bytes front more : List ℕ) (r : Req) (p : Pending) → IsBodyOpen bytes p → IsRequest front r → front ++ more ≡ bytes → ⊥
+body_unfinished bytes _ more r p o (behind_blank {bytes = a} g) e =
+    not_blank (take p.head bytes) a (drop p.head bytes) more o.head.begun (omega (arith, o.head.full)) (take-append-drop p.head bytes ∙ sym e)
+body_unfinished bytes front more r p o (long q n) e = not_long front (take p.head bytes) more (drop p.head bytes) q n o.head (e ∙ sym (take-append-drop p.head bytes))
+body_unfinished bytes front more r p o (stops h s) e =
+    let same : front ≡ take p.head bytes = one_head front (take p.head bytes) more (drop p.head bytes) h o.head (e ∙ sym (take-append-drop p.head bytes)) in
+    let clash = says_unique (rw same at s) o.says in absurd (let r : zero ≡ suc zero = cc in omega arith)
+body_unfinished bytes _ more r p o (whole {head = h} {body = b} ih s) e =
+    let same : h ≡ take p.head bytes = one_head h (take p.head bytes) (b ++ more) (drop p.head bytes) ih o.head (sym (append_assoc h b more) ∙ e ∙ sym (take-append-drop p.head bytes)) in
+    let said = says_unique (rw same at s) o.says in
+    let len : length b ≡ p.length = cc in
+    absurd (omega (arith, len, o.unfilled, o.within, ap length e, ap length same, length-append (h ++ b) more, length-append h b, length-take p.head bytes))
+
+pub held_unfinished : (bytes : List ℕ) (p : Option Pending) → IsHeld bytes p → IsUnfinished bytes
+held_unfinished bytes None h front more r g e = open_unfinished bytes front more r h.0 h.1 g e
+held_unfinished bytes (Some p) h front more r g e = body_unfinished bytes front more r p h g e
+
+-- no bytes are an unfinished request
+pub nothing_unfinished : IsUnfinished []
+nothing_unfinished _ more r (behind_blank {bytes = a} g) e = absurd (omega (arith, ap length e, length-append (13 ∷ 10 ∷ a) more))
+nothing_unfinished front more r (long p n) e = absurd (omega (arith, ap length e, length-append front more))
+nothing_unfinished front more r (stops h s) e = absurd (omega (arith, h.full, ap length e, length-append front more))
+nothing_unfinished _ more r (whole {head = h} {body = b} ih s) e = absurd (omega (arith, ih.full, ap length e, length-append (h ++ b) more, length-append h b))

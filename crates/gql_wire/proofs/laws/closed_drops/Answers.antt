@@ -1,0 +1,5 @@
+use Rattle.gql_wire.proofs.Splitting.{closed_lem}
+use Rattle.gql_wire.proofs.laws.closed_drops.Goals as goal
+
+pub returns : goal.returns
+returns c = closed_lem

@@ -1,0 +1,28 @@
+use Rattle.std.proofs.Common.{arith, refl, sym, length, ◌∙◌, ◌-◌, length-take}
+use Rattle.gql_wire.proofs.Streams.{skip_same, opened, headed, only_blank, done, awaited}
+use Rattle.gql_wire.specs.Stream.{long, stops, IsHead}
+use Rattle.gql_wire.proofs.stream.advance_head.Goals as goal
+use Rattle.gql_wire.proofs.stream.advance_head.Goals.{In-Expects}
+
+pub returns-then-begins_with_blank : goal.returns-then-begins_with_blank
+returns-then-begins_with_blank c = (refl, only_blank c.args.bytes.now c.requires.held.0.begun (sym c.begins_with_blank.ensures ∙ c.if-begins_with_blank.true))
+
+pub returns-in-Refuse : goal.returns-in-Refuse
+returns-in-Refuse c = stops (headed c.args.bytes.now c.requires.some c.requires.held.0 c.requires.held.1 (sym c.begins_with_blank.ensures ∙ c.if-begins_with_blank.false) (sym c.ends_with.ensures.value ∙ c.if-ends_with.true) (c.if-ends_with.ensures.bound refl)) c.in-Refuse.ensures.says
+
+head : (c : In-Expects) → IsHead c.args.bytes.now
+head c = headed c.args.bytes.now c.requires.some c.requires.held.0 c.requires.held.1 (sym c.begins_with_blank.ensures ∙ c.if-begins_with_blank.false) (sym c.ends_with.ensures.value ∙ c.if-ends_with.true) (c.if-ends_with.ensures.bound refl)
+
+pub returns-then-length-eq0 : goal.returns-then-length-eq0
+returns-then-length-eq0 c = done c.args.bytes.now _ refl c.if-length-eq0.true (head (goal.at.returns-then-length-eq0 c).In-Expects) c.in-Expects.ensures.says c.in-Expects.ensures.within
+
+pub returns-else-length-eq0 : goal.returns-else-length-eq0
+returns-else-length-eq0 c = (awaited c.args.bytes.now _ refl c.if-length-eq0.false (head (goal.at.returns-else-length-eq0 c).In-Expects) c.in-Expects.ensures.says c.in-Expects.ensures.within, skip_same c.args.bytes.now (sym c.begins_with_blank.ensures ∙ c.if-begins_with_blank.false))
+
+pub returns-then-bytes-eq8192 : goal.returns-then-bytes-eq8192
+returns-then-bytes-eq8192 c = long (opened c.args.bytes.now c.requires.some c.requires.held.0 (sym c.begins_with_blank.ensures ∙ c.if-begins_with_blank.false) (sym c.ends_with.ensures.value ∙ c.if-ends_with.false)) c.if-bytes-eq8192.true
+
+pub returns-else-bytes-eq8192 : goal.returns-else-bytes-eq8192
+returns-else-bytes-eq8192 c =
+    let begun = sym c.begins_with_blank.ensures ∙ c.if-begins_with_blank.false in
+    ((opened c.args.bytes.now c.requires.some c.requires.held.0 begun (sym c.ends_with.ensures.value ∙ c.if-ends_with.false), omega (arith, c.requires.held.1, length-take (length c.args.bytes.now - 1) c.args.bytes.now)), skip_same c.args.bytes.now begun)

@@ -1,0 +1,73 @@
+-- What a framer holds of a request, and what one more byte comes to.
+use Rattle.std.specs.Prelude.{ℕ, ◌≡◌, ◌+◌, ◌<◌, ◌≤◌, List, [], length, take, map, Option, Some, None, ◌==◌, ◌&&◌, if◌then◌else◌}
+use Rattle.httparse.specs.Spans.{span_bytes, header_bytes, IsWithin, IsRequestAt}
+use Rattle.httparse.specs.Grammar.{RequestHead}
+use Rattle.httparse.specs.declared.spans.HeaderSpan.{HeaderSpan}
+use Rattle.httparse.specs.declared.spans.RequestSpans.{RequestSpans}
+use Rattle.gql_wire.specs.Head.{body_limit, is_length, number_from, length_in, Parts, Said, refuse, expects, Says}
+use Rattle.gql_wire.specs.Stream.{IsHead, IsOpen, IsRequest, refused, skip_blank, head_limit}
+use Rattle.gql_wire.specs.declared.head.HeadSays.{HeadSays}
+use Rattle.gql_wire.specs.declared.head.HeadSays.TheVariants as code
+use Rattle.gql_wire.specs.declared.stream.Pending.{Pending}
+use Rattle.gql_wire.specs.declared.stream.Advance.{Advance}
+use Rattle.gql_wire.specs.declared.stream.Advance.TheVariants as advance
+
+-- the length that a further value says, behind those that said this
+abbrev pub next_said : Option ℕ → List ℕ → Option ℕ
+next_said None v = length_in v
+next_said (Some n) v = if is_length v && number_from 0 v == n then Some n else None
+
+-- the spans are those of a head that these bytes are as a whole
+abbrev pub IsWholeHead : List ℕ → List HeaderSpan → RequestSpans → Type 0
+IsWholeHead head headers spans = (h : RequestHead) × IsRequestAt head headers spans h × (spans.len ≡ length head)
+
+-- the parts that the spans cover
+abbrev pub parts_at : List ℕ → List HeaderSpan → RequestSpans → Parts
+parts_at head headers spans = record {
+  method = span_bytes head spans.method;
+  target = span_bytes head spans.path;
+  minor = spans.version;
+  fields = map (header_bytes head) headers;
+}
+
+-- what the code's answer says of the head
+abbrev pub said_by : List ℕ → HeadSays → Said
+said_by head (code.Refuse refusal bodiless) = refuse refusal bodiless
+said_by head (code.Expects method target length closing) = expects (span_bytes head method) (span_bytes head target) length closing
+
+-- the spans lie in the head, and the body is within its limit
+abbrev pub AreSpansWithin : ℕ → HeadSays → Type 0
+AreSpansWithin n (code.Refuse refusal bodiless) = Unit {0}
+AreSpansWithin n (code.Expects method target length closing) = IsWithin n method × IsWithin n target × (length ≤ body_limit)
+
+-- the spans of the method and the target lie in the head, and the body is within its limit
+abbrev pub AreWithin : Pending → Type 0
+AreWithin p = IsWithin p.head p.method × IsWithin p.head p.target × (p.length ≤ body_limit)
+
+-- a head and a part of its body
+pub record IsBodyOpen (bytes : List ℕ) (p : Pending) : Type 0 where
+  pub within : p.head ≤ length bytes
+  pub head : IsHead (take p.head bytes)
+  pub says : Says (take p.head bytes) (expects (span_bytes (take p.head bytes) p.method) (span_bytes (take p.head bytes) p.target) p.length p.closing)
+  pub spans : AreWithin p
+  pub unfilled : length bytes < p.head + p.length
+
+-- a head and its whole body
+pub record IsBodyDone (bytes : List ℕ) (p : Pending) : Type 0 where
+  pub head : IsHead (take p.head bytes)
+  pub says : Says (take p.head bytes) (expects (span_bytes (take p.head bytes) p.method) (span_bytes (take p.head bytes) p.target) p.length p.closing)
+  pub spans : AreWithin p
+  pub filled : length bytes ≡ p.head + p.length
+
+-- what the framer holds: the beginning of a request
+abbrev pub IsHeld : List ℕ → Option Pending → Type 0
+IsHeld bytes None = IsOpen bytes × (length bytes < head_limit)
+IsHeld bytes (Some p) = IsBodyOpen bytes p
+
+-- what one more byte comes to
+abbrev pub Advances : List ℕ → Option Pending → Advance → Type 0
+Advances bytes pending advance.Blank = (pending ≡ None) × (skip_blank bytes ≡ [])
+Advances bytes pending advance.More = IsHeld bytes pending × (skip_blank bytes ≡ bytes)
+Advances bytes pending (advance.Await p) = IsBodyOpen bytes p × (skip_blank bytes ≡ bytes)
+Advances bytes pending (advance.Done p) = IsBodyDone bytes p
+Advances bytes pending (advance.Refuse refusal bodiless) = IsRequest bytes (refused refusal bodiless)

@@ -1,0 +1,270 @@
+ghost use Rattle.std.specs.Prelude.{◌≡◌, ◌+◌, ◌<◌, ◌≤◌, ℕ, length, map, All, IsTrue, IfSome, IfNone, codes, take, drop, slice_range};
+ghost use Rattle.std.specs.Str.{str_eq_ignore_ascii_case, bytes_eq};
+ghost use Rattle.std.specs.List.{list_all, list_any, prefix_len};
+ghost use Rattle.std.specs.Char.{is_ascii_digit};
+ghost use Rattle.httparse.specs.Grammar.{is_ows, skip_ows};
+ghost use Rattle.httparse.specs.Spans.{IsRequestWithin, header_bytes, span_bytes, IsWithin, IsHeaderWithin};
+ghost use Rattle.gql_wire.specs.Head.{IsNoHead, Says, number_of, is_named, values_of, number_from, length_in, length_said, is_item_byte, items_of, is_close, names_close, is_head, judged};
+ghost use Rattle.gql_wire.specs.Held.{next_said, IsWholeHead, parts_at, said_by, AreSpansWithin};
+
+use httparse::Status;
+use httparse::spans::{EMPTY_HEADER_SPAN, HeaderSpan, RequestSpans, Span, parse_request};
+
+/// Why a head is refused. The connection closes behind each.
+#[derive(Clone, Copy, Debug, PartialEq, Eq)]
+pub enum HeadRefusal {
+    /// 301: it is no head of HTTP/1.0 or 1.1, or has more than 32 fields.
+    BadHead,
+    /// 302: its first 8,192 bytes do not end it.
+    LongHead,
+    /// 303: its body has more than 262,144 bytes.
+    LongBody,
+    /// 304: it asks for a transfer coding.
+    TransferCoding,
+    /// 307: a Content-Length is not 1 to 18 digits, or two differ in value.
+    BadLength,
+}
+
+impl HeadRefusal {
+    ghost use Rattle.gql_wire.specs.Head.{number_of};
+
+    /// The number that a client sees.
+    pub fn number(self) -> u16
+        ensures { result ≡ number_of self }
+    {
+        match self {
+            HeadRefusal::BadHead => 301,
+            HeadRefusal::LongHead => 302,
+            HeadRefusal::LongBody => 303,
+            HeadRefusal::TransferCoding => 304,
+            HeadRefusal::BadLength => 307,
+        }
+    }
+}
+
+/// What a head comes to. The spans lie in it.
+#[derive(Clone, Copy, Debug)]
+pub enum HeadSays {
+    Refuse {
+        refusal: HeadRefusal,
+        bodiless: bool,
+    },
+    Expects {
+        method: Span,
+        target: Span,
+        length: usize,
+        closing: bool,
+    },
+}
+
+fn is_same_word(name: &[u8], word: &[u8]) -> bool
+    ensures { result ≡ str_eq_ignore_ascii_case name.now word.now }
+{
+    name.eq_ignore_ascii_case(word)
+}
+
+fn are_digits(value: &[u8]) -> bool
+    ensures { result ≡ list_all is_ascii_digit value.now }
+{
+    value.iter().all(|byte| byte.is_ascii_digit())
+}
+
+fn are_blanks(bytes: &[u8]) -> bool
+    ensures { result ≡ list_all is_ows bytes.now }
+{
+    bytes.iter().all(|byte| *byte == b' ' || *byte == b'\t')
+}
+
+/// The length that a field's value says.
+fn value_length(value: &[u8]) -> Option<usize>
+    ensures { result ≡ length_in value.now }
+{
+    if value.is_empty() || value.len() > 18 || !are_digits(value) {
+        return None;
+    }
+    let mut number = 0;
+    for byte in value {
+        number = 10 * number + usize::from(byte.wrapping_sub(b'0'));
+    }
+    Some(number)
+}
+
+/// The length that a further value says, behind those that said this.
+fn said_after(said: Option<usize>, value: &[u8]) -> Option<usize>
+    ensures { result ≡ next_said said value.now }
+{
+    let length = value_length(value)?;
+    match said {
+        Some(earlier) if earlier != length => None,
+        _ => Some(length),
+    }
+}
+
+/// The length of the body that the fields say: 0 where there is none.
+fn body_length(head: &[u8], fields: &[HeaderSpan]) -> Option<usize>
+    requires { All (IsHeaderWithin (length head.now)) fields.now }
+    ensures { result ≡ length_said (values_of (codes "content-length") (map (header_bytes head.now) fields.now)) }
+{
+    let mut said = None;
+    for field in fields {
+        if is_same_word(field.name.of(head), b"content-length") {
+            let Some(length) = said_after(said, field.value.of(head)) else {
+                return None;
+            };
+            said = Some(length);
+        }
+    }
+    Some(said.unwrap_or(0))
+}
+
+/// Whether a field of this name is there.
+fn has_field(head: &[u8], fields: &[HeaderSpan], word: &[u8]) -> bool
+    requires { All (IsHeaderWithin (length head.now)) fields.now }
+    ensures { result ≡ list_any (is_named word.now) (map (header_bytes head.now) fields.now) }
+{
+    for field in fields {
+        if is_same_word(field.name.of(head), word) {
+            return true;
+        }
+    }
+    false
+}
+
+/// The bytes behind the blanks at the front.
+fn behind_blanks(bytes: &[u8]) -> &[u8]
+    ensures { result.now ≡ skip_ows bytes.now }
+{
+    let mut rest = bytes;
+    'blanks: while let [b' ' | b'\t', behind @ ..] = rest {
+        rest = behind;
+    }
+    rest
+}
+
+/// Whether the item is `close`, with blanks around it.
+fn is_close_item(item: &[u8]) -> bool
+    ensures { result ≡ is_close item.now }
+{
+    let word = behind_blanks(item);
+    word.len() >= 5 && is_same_word(&word[..5], b"close") && are_blanks(&word[5..])
+}
+
+/// How many bytes stand before the first comma.
+fn first_item(list: &[u8]) -> usize
+    ensures { result ≡ prefix_len is_item_byte list.now }
+{
+    list.iter().take_while(|byte| **byte != b',').count()
+}
+
+/// The first bytes.
+fn front(bytes: &[u8], count: usize) -> &[u8]
+    requires { count ≤ length bytes.now }
+    ensures { result.now ≡ take count bytes.now }
+{
+    &bytes[..count]
+}
+
+/// The bytes from there on.
+fn rest_from(bytes: &[u8], start: usize) -> &[u8]
+    requires { start ≤ length bytes.now }
+    ensures { result.now ≡ drop start bytes.now }
+{
+    &bytes[start..]
+}
+
+/// Whether `close` stands in the list.
+#[tactic(auto, using(crate::proofs::Fields::close_first, crate::proofs::Fields::close_one))]
+fn has_close(value: &[u8]) -> bool
+    ensures { result ≡ names_close value.now }
+{
+    let mut rest = value;
+    let mut end = first_item(rest);
+    'items: while end < rest.len() {
+        if is_close_item(front(rest, end)) {
+            return true;
+        }
+        rest = rest_from(rest, end + 1);
+        end = first_item(rest);
+    }
+    is_close_item(rest)
+}
+
+/// Whether a field Connection names `close`.
+fn asks_to_close(head: &[u8], fields: &[HeaderSpan]) -> bool
+    requires { All (IsHeaderWithin (length head.now)) fields.now }
+    ensures { result ≡ list_any names_close (values_of (codes "connection") (map (header_bytes head.now) fields.now)) }
+{
+    for field in fields {
+        if is_same_word(field.name.of(head), b"connection") && has_close(field.value.of(head)) {
+            return true;
+        }
+    }
+    false
+}
+
+fn is_head_method(method: &[u8]) -> bool
+    ensures { result ≡ is_head method.now }
+{
+    method == b"HEAD".as_slice()
+}
+
+/// Where the parts of a head are, if the bytes are one as a whole.
+fn whole_head(head: &[u8], fields: &mut [HeaderSpan]) -> Option<RequestSpans>
+    requires { length fields.old ≤ 32 }
+    ensures some { IfSome result (λ spans. IsWholeHead head.now fields.new spans) }
+    ensures none { IfNone result (IsNoHead (length fields.old) head.now) }
+    ensures within { IfSome result (λ spans. IsRequestWithin head.now fields.new spans) }
+{
+    match parse_request(head, fields) {
+        Ok(Status::Complete(spans)) if spans.len == head.len() => Some(spans),
+        _ => None,
+    }
+}
+
+/// What a head with these parts comes to.
+fn judge(head: &[u8], spans: RequestSpans, fields: &[HeaderSpan]) -> HeadSays
+    requires method { IsWithin (length head.now) spans.method }
+    requires path { IsWithin (length head.now) spans.path }
+    requires fields_within { All (IsHeaderWithin (length head.now)) fields.now }
+    ensures says { said_by head.now result ≡ judged (parts_at head.now fields.now spans) }
+    ensures within { AreSpansWithin (length head.now) result }
+{
+    let bodiless = is_head_method(spans.method.of(head));
+    if has_field(head, fields, b"transfer-encoding") {
+        return HeadSays::Refuse {
+            refusal: HeadRefusal::TransferCoding,
+            bodiless,
+        };
+    }
+    match body_length(head, fields) {
+        None => HeadSays::Refuse {
+            refusal: HeadRefusal::BadLength,
+            bodiless,
+        },
+        Some(length) if length > 262_144 => HeadSays::Refuse {
+            refusal: HeadRefusal::LongBody,
+            bodiless,
+        },
+        Some(length) => HeadSays::Expects {
+            method: spans.method,
+            target: spans.path,
+            length,
+            closing: spans.version == 0 || asks_to_close(head, fields),
+        },
+    }
+}
+
+/// What these bytes come to, as a head.
+pub fn read_head(head: &[u8]) -> HeadSays
+    ensures says { Says head.now (said_by head.now result) }
+    ensures within { AreSpansWithin (length head.now) result }
+{
+    let mut fields = [EMPTY_HEADER_SPAN; 32];
+    match whole_head(head, &mut fields) {
+        None => HeadSays::Refuse {
+            refusal: HeadRefusal::BadHead,
+            bodiless: false,
+        },
+        Some(spans) => judge(head, spans, &fields[..spans.headers]),
+    }
+}
