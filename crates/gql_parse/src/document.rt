@@ -1,0 +1,72 @@
+//! Whole documents: from a source to its tree, or to the one fault that it has.
+ghost use Rattle.std.specs.Prelude.{◌≡◌, ◌⊎◌, ℕ, List, [], map, IfOk, Ok, Err};
+ghost use Rattle.gql_text.specs.Lexeme.{Lexeme, lexeme};
+ghost use Rattle.gql_text.specs.declared.place.Place.{Place as ThePlace};
+ghost use Rattle.gql_ast.specs.declared.definition.Document.{Document as TheDocument};
+ghost use Rattle.gql_grammar.specs.Files.{Accepts, OrMemory, Parses, Refuses};
+ghost use Rattle.gql_grammar.specs.Sources.{IsFaultOf, IsSourceOf};
+ghost use Rattle.gql_grammar.specs.declared.fault.SyntaxFault.{SyntaxFault as TheFault};
+ghost use Rattle.gql_grammar.specs.declared.fault.SyntaxRefusal.{SyntaxRefusal as TheRefusal};
+ghost use Rattle.gql_parse.specs.Documents.{executable};
+
+use crate::executable::read;
+use gql_ast::{Document, FileName};
+use gql_grammar::{SyntaxFault, looked_at, placed};
+use gql_text::{Place, Token, end_place, lex};
+use std::alloc::Global;
+
+// Only the tokens before the 101st level are read, so that the calls within each other are bounded, too.
+fn parse_looked_at(
+    alloc: Global,
+    tokens: &[Token<'_>],
+    file: &FileName,
+    end: Place,
+) -> Result<Document, SyntaxFault>
+    ensures { Parses (executable file.now) end (map lexeme tokens.now) result }
+{
+    let looked = looked_at(tokens);
+    match read(alloc, &tokens[..looked], file) {
+        Ok(document) => Ok(document),
+        Err(error) => Err(placed(error, tokens, end)),
+    }
+}
+
+/// The document that tokens are, or their fault. The end is the place behind the text.
+pub fn parse_tokens(
+    alloc: Global,
+    tokens: &[Token<'_>],
+    file: &FileName,
+    end: Place,
+) -> Result<Document, SyntaxFault>
+    // What is parsed derives from the tokens, and opens at most 100 levels.
+    ensures accepted { IfOk result (λ d. Accepts (executable file.now) (map lexeme tokens.now) d) }
+    // What derives from the tokens with at most 100 levels is parsed.
+    ensures complete { (d : TheDocument) → Accepts (executable file.now) (map lexeme tokens.now) d → OrMemory result (Ok d) }
+    // A fault is where the tokens are refused.
+    ensures refused { (number : TheRefusal) (place : ThePlace) → result ≡ Err (SyntaxFault.At number place)
+        → Refuses (executable file.now) end (map lexeme tokens.now) (SyntaxFault.At number place) }
+    // Where the tokens are refused is the fault.
+    ensures faulty { (fault : TheFault) → Refuses (executable file.now) end (map lexeme tokens.now) fault → OrMemory result (Err fault) }
+{
+    parse_looked_at(alloc, tokens, file, end)
+}
+
+/// The document that a source is, or its fault: one of the lexer, else 111 or 112.
+pub fn parse(alloc: Global, file: FileName, source: &str) -> Result<Document, SyntaxFault>
+    ensures accepted { IfOk result (λ d. IsSourceOf (executable file) source.now d) }
+    ensures refused { (number : TheRefusal) (place : ThePlace) → result ≡ Err (SyntaxFault.At number place)
+        → IsFaultOf (executable file) source.now (SyntaxFault.At number place) }
+{
+    match lex(alloc, source) {
+        Ok(tokens) => parse_looked_at(alloc, tokens.as_slice(), &file, end_place(source)),
+        Err(fault) => Err(SyntaxFault::of(fault)),
+    }
+}
+
+/// Tokens are one document, or have one fault, and never both.
+pub fn one_answer()
+    ensures document { (file : List ℕ) (ts : List Lexeme) (a b : TheDocument) → Accepts (executable file) ts a → Accepts (executable file) ts b → a ≡ b }
+    ensures fault { (file : List ℕ) (end : ThePlace) (ts : List Lexeme) (f g : TheFault) → Refuses (executable file) end ts f → Refuses (executable file) end ts g → f ≡ g }
+    ensures apart { (file : List ℕ) (end : ThePlace) (ts : List Lexeme) (d : TheDocument) (f : TheFault) → Accepts (executable file) ts d → Refuses (executable file) end ts f → ⊥ }
+    ensures some { (file : List ℕ) (end : ThePlace) (ts : List Lexeme) → ((d : TheDocument) × Accepts (executable file) ts d) ⊎ ((f : TheFault) × Refuses (executable file) end ts f) }
+{}
