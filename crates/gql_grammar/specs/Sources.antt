@@ -18,4 +18,4 @@ IsSourceOf p source a = (ts : List Lexeme) × IsLexed source ts × Accepts p ts 
 abbrev pub IsFaultOf : {A : Type 0} {d : ℕ → ℕ} {s : Bool} → Symbol d s A → List ℕ → SyntaxFault → Type 0
 IsFaultOf p source fault =
     ((number : LexRefusal) × (place : Place) × LexFails source number place × (At (refusal_of number) place ≡ fault))
-        ⊎ ((ts : List Lexeme) × IsLexed source ts × Refuses p (place_after source) ts fault)
+    ⊎ ((ts : List Lexeme) × IsLexed source ts × Refuses p (place_after source) ts fault)
