@@ -67,7 +67,7 @@ block_closes (b ∷ bs) k e =
           inl g ↦ absurd (cc)
           | inr g ↦ elim (chosen (is_break b || is_source_byte b) g.1) [ inl d ↦ absurd (cc) | inr d ↦ absurd (cc) ] ] ]
 
-either : {A : Type 0} (P : A → Type 0) (b : Bool) (x y : A) → P x → P y → P (cond b x y)
+pub either : {A : Type 0} (P : A → Type 0) (b : Bool) (x y : A) → P x → P y → P (cond b x y)
 either P true x y p q = p
 either P false x y p q = q
 

@@ -3,7 +3,9 @@ pub mod Runs
 pub mod Fitting
 pub mod Lines
 pub mod Quotes
+pub mod Readings
 pub mod Steps
+pub mod Tokens
 pub mod Texts
 pub mod Fronts
 pub mod Cuts

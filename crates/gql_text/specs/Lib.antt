@@ -1,6 +1,7 @@
 pub mod Chars
 pub mod Escapes
 pub mod Kinds
+pub mod Laws
 pub mod Lexeme
 pub mod Lexis
 pub mod Marks

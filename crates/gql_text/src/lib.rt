@@ -3,10 +3,13 @@
 
 mod block;
 mod front;
+pub mod laws;
 mod lexer;
 mod number;
 mod pieces;
 mod place;
+#[cfg(test)]
+mod tests;
 mod token;
 mod value;
 

@@ -5,3 +5,4 @@ pub mod Gained
 pub mod Fields
 pub mod Phrases
 pub mod Splitting
+pub mod Skipping

@@ -34,7 +34,7 @@ one_split_lem at bytes _ _ r q (next {front = a} {more = m} {r = x} {rs = xs} g 
     (cons_same (placed one.1 (ap (λ (z : List ℕ). at + length z) one.0)) rest.0, rest.1)
 
 -- no front of the bytes behind CR LF is a request either
-blank_unfinished : (bytes : List ℕ) → IsUnfinished bytes → IsUnfinished (13 ∷ 10 ∷ bytes)
+pub blank_unfinished : (bytes : List ℕ) → IsUnfinished bytes → IsUnfinished (13 ∷ 10 ∷ bytes)
 blank_unfinished bytes u _ more r (behind_blank {bytes = a} g) e = u a more r g (ap (λ (z : List ℕ). drop 2 z) e)
 blank_unfinished bytes u front more r (long o n) e = not_blank front bytes more [] o.begun (omega arith) (e ∙ ap (λ (z : List ℕ). 13 ∷ 10 ∷ z) (sym (append-nil bytes)))
 blank_unfinished bytes u front more r (stops h s) e = not_blank front bytes more [] h.begun (omega (arith, h.full)) (e ∙ ap (λ (z : List ℕ). 13 ∷ 10 ∷ z) (sym (append-nil bytes)))

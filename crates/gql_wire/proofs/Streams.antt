@@ -1,18 +1,14 @@
 -- One more byte of a head or a body.
-use Rattle.std.proofs.Common.{◌≡◌, ◌≢◌, ◌⊎◌, inl, inr, ℕ, zero, suc, ◌+◌, ◌-◌, ◌≤◌, ◌<◌, List, [], ◌∷◌, ◌++◌, length, take, drop, refl, sym, ap, ◌∙◌, subst, arith, Bool, true, false, length-take, length-drop, eqb-true, append_assoc, get_or, Option, Some, None}
+use Rattle.std.proofs.Common.{◌≡◌, ◌≢◌, ◌⊎◌, inl, inr, ℕ, zero, suc, ◌+◌, ◌-◌, ◌≤◌, ◌<◌, List, [], ◌∷◌, ◌++◌, length, take, drop, refl, sym, ap, ◌∙◌, subst, arith, Bool, true, false, length-take, length-drop, eqb-true, append_assoc, take-add, length-append, Option, Some, None}
 use Rattle.std.specs.Prelude.{◌==◌, ◌&&◌, nat_eq}
 use Rattle.std.specs.List.{ends_with}
-use Rattle.std.proofs.lemmas.List.{take-take, take_all, take-append-drop, take_more}
+use Rattle.std.proofs.lemmas.List.{take-take, take_all, take-append-drop, take-append-le}
 use Rattle.std.proofs.lemmas.Bool.Decides.{leb_tells}
 use Rattle.httparse.specs.Spans.{span_bytes}
 use Rattle.gql_wire.specs.Head.{Says, expects}
 use Rattle.gql_wire.specs.declared.stream.Pending.{Pending}
 use Rattle.gql_wire.specs.Stream.{Req, request, IsRequest, behind_blank, whole, begins_blank, skip_blank, IsOpen, IsHead, head_end, head_limit}
 use Rattle.gql_wire.specs.Held.{IsHeld, IsBodyOpen, IsBodyDone, AreWithin}
-
--- a head and its body are of a size that is known
-pub head_short : (bytes : List ℕ) (p : Pending) → IsBodyOpen bytes p → p.head + p.length ≤ 270336
-head_short bytes p o = omega (arith, o.within, o.head.short, o.spans.2, length-take p.head bytes)
 
 pub skip_same : (bs : List ℕ) → begins_blank bs ≡ false → skip_blank bs ≡ bs
 skip_same [] e = refl
@@ -68,21 +64,6 @@ awaited bs p n some h s w =
     let e : take p.head bs ≡ bs = take_all p.head bs (omega arith) in
     record { within = omega arith; head = rw e h; says = rw e s; spans = w; unfilled = omega arith }
 
-front_same : (bs : List ℕ) (n : ℕ) → n ≤ length (take (length bs - 1) bs) → take n (take (length bs - 1) bs) ≡ take n bs
-front_same bs n h = take-take n (length bs - 1) bs (omega (arith, length-take (length bs - 1) bs))
-
-pub body_more : (bs : List ℕ) (p : Pending) → 0 < length bs → IsBodyOpen (take (length bs - 1) bs) p → length bs < p.head + p.length → IsBodyOpen bs p × (skip_blank bs ≡ bs)
-body_more bs p some o less =
-    let e : take p.head (take (length bs - 1) bs) ≡ take p.head bs = front_same bs p.head o.within in
-    let h : IsHead (take p.head bs) = rw e at o.head in
-    let full : 4 ≤ p.head = omega (arith, h.full, length-take p.head bs) in
-    (record { within = omega (arith, o.within, length-take (length bs - 1) bs); head = h; says = rw e at o.says; spans = o.spans; unfilled = less }, skip_same bs (begun_on p.head bs (omega arith) h.begun))
-
-pub body_full : (bs : List ℕ) (p : Pending) → 0 < length bs → IsBodyOpen (take (length bs - 1) bs) p → p.head + p.length ≤ length bs → IsBodyDone bs p
-body_full bs p some o more =
-    let e : take p.head (take (length bs - 1) bs) ≡ take p.head bs = front_same bs p.head o.within in
-    record { head = rw e at o.head; says = rw e at o.says; spans = o.spans; filled = omega (arith, o.unfilled, length-take (length bs - 1) bs) }
-
 pub done_request : (bs m t b : List ℕ) (p : Pending) → IsBodyDone bs p → m ≡ span_bytes (take p.head bs) p.method → t ≡ span_bytes (take p.head bs) p.target → b ≡ drop p.head bs
     → IsRequest bs (request m t b p.closing)
 done_request bs m t b p d em et eb =
@@ -121,17 +102,17 @@ pub held_skips : (bs : List ℕ) (p : Option Pending) → IsHeld bs p → skip_b
 held_skips bs None h = skip_same bs h.0.begun
 held_skips bs (Some p) h = skip_same bs (begun_on p.head bs (omega (arith, h.head.full, length-take p.head bs)) h.head.begun)
 
--- one more byte, behind what was skipped
-pub more_skipped : (old now new piece : List ℕ) (i : ℕ) → i < length piece → now ≡ skip_blank (old ++ take i piece) → new ≡ skip_blank (now ++ get_or piece i 0 ∷ [])
-    → new ≡ skip_blank (old ++ take (i + 1) piece)
-more_skipped old now new piece i h e f =
-    f ∙ ap (λ (xs : List ℕ). skip_blank (xs ++ get_or piece i 0 ∷ [])) e ∙ skip_append (old ++ take i piece) (get_or piece i 0 ∷ [])
-    ∙ ap skip_blank (append_assoc old (take i piece) (get_or piece i 0 ∷ []) ∙ ap (λ (xs : List ℕ). old ++ xs) (sym (take_more piece i 0 h)))
+-- more bytes of a piece, behind what was skipped
+pub more_skipped : (old now new piece : List ℕ) (i n : ℕ) → now ≡ skip_blank (old ++ take i piece) → new ≡ skip_blank (now ++ take n (drop i piece))
+    → new ≡ skip_blank (old ++ take (i + n) piece)
+more_skipped old now new piece i n e f =
+    f ∙ ap (λ (xs : List ℕ). skip_blank (xs ++ take n (drop i piece))) e ∙ skip_append (old ++ take i piece) (take n (drop i piece))
+    ∙ ap skip_blank (append_assoc old (take i piece) (take n (drop i piece)) ∙ ap (λ (xs : List ℕ). old ++ xs) (sym (take-add i n piece)))
 
-pub more_requested : (old now piece : List ℕ) (i : ℕ) (r : Req) → i < length piece → now ≡ skip_blank (old ++ take i piece) → IsRequest (now ++ get_or piece i 0 ∷ []) r
-    → IsRequest (old ++ take (i + 1) piece) r
-more_requested old now piece i r h e f =
-    let g : IsRequest ((old ++ take i piece) ++ get_or piece i 0 ∷ []) r = request_behind (old ++ take i piece) (get_or piece i 0 ∷ []) r (rw e at f) in
-    let same : (old ++ take i piece) ++ get_or piece i 0 ∷ [] ≡ old ++ take (i + 1) piece =
-    append_assoc old (take i piece) (get_or piece i 0 ∷ []) ∙ ap (λ (xs : List ℕ). old ++ xs) (sym (take_more piece i 0 h)) in
+pub more_requested : (old now piece : List ℕ) (i n : ℕ) (r : Req) → now ≡ skip_blank (old ++ take i piece) → IsRequest (now ++ take n (drop i piece)) r
+    → IsRequest (old ++ take (i + n) piece) r
+more_requested old now piece i n r e f =
+    let g : IsRequest ((old ++ take i piece) ++ take n (drop i piece)) r = request_behind (old ++ take i piece) (take n (drop i piece)) r (rw e at f) in
+    let same : (old ++ take i piece) ++ take n (drop i piece) ≡ old ++ take (i + n) piece =
+    append_assoc old (take i piece) (take n (drop i piece)) ∙ ap (λ (xs : List ℕ). old ++ xs) (sym (take-add i n piece)) in
     rw same at g

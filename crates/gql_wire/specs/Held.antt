@@ -1,4 +1,4 @@
--- What a framer holds of a request, and what one more byte comes to.
+-- What a framer holds of a request, and what one more byte of a head comes to.
 use Rattle.std.specs.Prelude.{ℕ, ◌≡◌, ◌+◌, ◌<◌, ◌≤◌, List, [], length, take, map, Option, Some, None, ◌==◌, ◌&&◌, if◌then◌else◌}
 use Rattle.httparse.specs.Spans.{span_bytes, header_bytes, IsWithin, IsRequestAt}
 use Rattle.httparse.specs.Grammar.{RequestHead}
@@ -64,10 +64,10 @@ abbrev pub IsHeld : List ℕ → Option Pending → Type 0
 IsHeld bytes None = IsOpen bytes × (length bytes < head_limit)
 IsHeld bytes (Some p) = IsBodyOpen bytes p
 
--- what one more byte comes to
-abbrev pub Advances : List ℕ → Option Pending → Advance → Type 0
-Advances bytes pending advance.Blank = (pending ≡ None) × (skip_blank bytes ≡ [])
-Advances bytes pending advance.More = IsHeld bytes pending × (skip_blank bytes ≡ bytes)
-Advances bytes pending (advance.Await p) = IsBodyOpen bytes p × (skip_blank bytes ≡ bytes)
-Advances bytes pending (advance.Done p) = IsBodyDone bytes p
-Advances bytes pending (advance.Refuse refusal bodiless) = IsRequest bytes (refused refusal bodiless)
+-- what one more byte of a head comes to
+abbrev pub Advances : List ℕ → Advance → Type 0
+Advances bytes advance.Blank = skip_blank bytes ≡ []
+Advances bytes advance.More = IsHeld bytes None × (skip_blank bytes ≡ bytes)
+Advances bytes (advance.Await p) = IsBodyOpen bytes p × (skip_blank bytes ≡ bytes)
+Advances bytes (advance.Done p) = IsBodyDone bytes p
+Advances bytes (advance.Refuse refusal bodiless) = IsRequest bytes (refused refusal bodiless)

@@ -26,3 +26,7 @@ RestUnfinished = (at : ℕ) (bytes : List ℕ) (rs : List Placed) (r : List ℕ)
 -- no bytes are an unfinished request
 abbrev pub NothingUnfinished : Type 0
 NothingUnfinished = IsUnfinished []
+
+-- where the bytes behind the pairs CR LF at the front are unfinished, so are all of them
+abbrev pub SkippedUnfinished : Type 0
+SkippedUnfinished = (bytes : List ℕ) → IsUnfinished (skip_blank bytes) → IsUnfinished bytes

@@ -1,5 +1,6 @@
-ghost use Rattle.std.specs.Prelude.{◌≡◌, ◌+◌, ◌-◌, ◌^◌, ◌<◌, ◌≤◌, ◌++◌, ◌↔◌, ◌≢◌, [], List, ℕ, Option, Some, None, length, take, drop, min, IfOk, OnOk, OnErr, MatchResult, IsOk, IsErr, vec_len};
-ghost use Rattle.gql_wire.specs.Device.{Gains, GainsPrefix};
+ghost use Rattle.std.specs.Prelude.{◌≡◌, ◌+◌, ◌-◌, ◌^◌, ◌<◌, ◌≤◌, ◌++◌, ◌↔◌, ◌≢◌, [], List, ℕ, Option, Some, None, length, take, drop, min, IfOk, OnOk, OnErr, MatchResult, IsTrue, IsOk, IsErr};
+ghost use Rattle.std.specs.Io.KnownBytes.{ReadConsumes, WriteAppends};
+ghost use Rattle.gql_wire.specs.Device.{Gains, GainsPrefix, next_failing};
 
 use std::alloc::Global;
 use std::io::{Read, Write};
@@ -57,6 +58,24 @@ pub trait Sink {
         ensures failed { MatchResult result (λ _. failures self.new ≡ failures self.old) (λ _. failures self.new ≡ failures self.old + 1) };
 }
 
+/// Whether this call goes well, of a device of which so many calls do before one fails.
+fn goes_well(failing: &mut Option<u64>) -> bool
+    ensures now { IsTrue result ↔ (failing.old ≢ Some 0) }
+    ensures next { failing.new ≡ next_failing failing.old }
+{
+    match *failing {
+        None => true,
+        Some(0) => {
+            *failing = None;
+            false
+        }
+        Some(count) => {
+            *failing = Some(count - 1);
+            true
+        }
+    }
+}
+
 /// Bytes in memory.
 #[derive(Drop)]
 pub struct MemSource<'a> {
@@ -66,7 +85,7 @@ pub struct MemSource<'a> {
     pub at: usize,
     /// The most bytes that a call moves.
     pub most: usize,
-    /// Which call fails, counted from 1.
+    /// How many calls go well before one fails, if one does.
     pub failing: Option<u64>,
     /// How many calls were made.
     pub reads: u64,
@@ -77,7 +96,7 @@ pub struct MemSource<'a> {
 }
 
 impl<'a> MemSource<'a> {
-    /// These bytes, at most so many a call, of which one call may fail.
+    /// These bytes, at most so many a call, and so many calls go well before one fails.
     pub fn new(bytes: &'a [u8], most: usize, failing: Option<u64>) -> MemSource<'a>
         requires { 0 < most }
         ensures bytes { result.bytes.now ≡ bytes.now }
@@ -105,9 +124,26 @@ impl<'a> Source for MemSource<'a> {
 
     ghost failures = { λ s. s.failures };
 
-    fn read(&mut self, piece: &mut [u8]) -> Result<usize, ReadFailed> {
+    fn read(&mut self, piece: &mut [u8]) -> Result<usize, ReadFailed>
+        requires countable { self.old.reads < 2 ^ 64 - 1 }
+        requires failable { self.old.failures < 2 ^ 64 - 1 }
+
+        // What each source ensures.
+        ensures within { IfOk result (λ n. n ≤ length piece.new) }
+        ensures bytes { IfOk result (λ n. Gains (Some (take self.old.at self.old.bytes.now)) (Some (take self.new.at self.new.bytes.now)) (take n piece.new)) }
+        ensures none { OnErr result (Gains (Some (take self.old.at self.old.bytes.now)) (Some (take self.new.at self.new.bytes.now)) []) }
+        ensures counted { self.new.reads ≡ self.old.reads + 1 }
+        ensures failed { MatchResult result (λ _. self.new.failures ≡ self.old.failures) (λ _. self.new.failures ≡ self.old.failures + 1) }
+
+        // It fails at its call alone, and else moves as many bytes as it may.
+        ensures fails { IsErr result ↔ (self.old.failing ≡ Some 0) }
+        ensures next { self.new.failing ≡ next_failing self.old.failing }
+        ensures moved { IfOk result (λ n. (n ≡ min (min (length self.old.bytes.now - self.old.at) (length piece.old)) self.old.most) × (self.new.at ≡ self.old.at + n)) }
+        ensures still { OnErr result (self.new.at ≡ self.old.at) }
+        ensures kept { (self.new.bytes.now ≡ self.old.bytes.now) × (self.new.most ≡ self.old.most) }
+    {
         self.reads += 1;
-        if self.failing == Some(self.reads) {
+        if !goes_well(&mut self.failing) {
             self.failures += 1;
             return Err(ReadFailed);
         }
@@ -126,30 +162,27 @@ pub struct MemSink {
     pub bytes: Vec<u8>,
     /// The most bytes that a call moves.
     pub most: usize,
-    /// Which call fails, counted from 1.
+    /// How many calls go well before one fails, if one does.
     pub failing: Option<u64>,
-    /// How many calls were made.
-    pub writes: u64,
-    /// How many of them failed, for want of memory too.
+    /// How many calls failed, for want of memory too.
     pub failures: u64,
     ghost moves: { 0 < most },
 }
 
 impl MemSink {
-    /// An empty sink that takes at most so many bytes a call, of which one call may fail.
+    /// An empty sink that takes at most so many bytes a call, and so many calls go well before one
+    /// fails.
     pub fn new(alloc: Global, most: usize, failing: Option<u64>) -> MemSink
         requires { 0 < most }
         ensures bytes { result.bytes.items ≡ [] }
         ensures most { result.most ≡ most }
         ensures failing { result.failing ≡ failing }
-        ensures writes { result.writes ≡ 0 }
         ensures failures { result.failures ≡ 0 }
     {
         MemSink {
             bytes: Vec::new(alloc),
             most,
             failing,
-            writes: 0,
             failures: 0,
         }
     }
@@ -160,9 +193,24 @@ impl Sink for MemSink {
 
     ghost failures = { λ s. s.failures };
 
-    fn write(&mut self, bytes: &[u8]) -> Result<usize, WriteFailed> {
-        self.writes = self.writes.saturating_add(1);
-        if self.failing == Some(self.writes) {
+    fn write(&mut self, bytes: &[u8]) -> Result<usize, WriteFailed>
+        requires failable { self.old.failures < 2 ^ 64 - 1 }
+        requires some { 0 < length bytes.now }
+
+        // What each sink ensures.
+        ensures within { IfOk result (λ n. n ≤ length bytes.now) }
+        ensures moved { IfOk result (λ n. 0 < n) }
+        ensures bytes { IfOk result (λ n. Gains (Some self.old.bytes.items) (Some self.new.bytes.items) (take n bytes.now)) }
+        ensures none { OnErr result (Gains (Some self.old.bytes.items) (Some self.new.bytes.items) []) }
+        ensures failed { MatchResult result (λ _. self.new.failures ≡ self.old.failures) (λ _. self.new.failures ≡ self.old.failures + 1) }
+
+        // It fails at its call, or for want of memory, and else takes as many bytes as it may.
+        ensures fails { self.old.failing ≡ Some 0 → IsErr result }
+        ensures next { self.new.failing ≡ next_failing self.old.failing }
+        ensures count { IfOk result (λ n. n ≡ min (length bytes.now) self.old.most) }
+        ensures kept { self.new.most ≡ self.old.most }
+    {
+        if !goes_well(&mut self.failing) {
             self.failures += 1;
             return Err(WriteFailed);
         }
@@ -189,6 +237,7 @@ pub struct ReadDevice<R: Read> {
 impl<R: Read> ReadDevice<R> {
     /// The device, of which no read was made.
     pub fn new(inner: R) -> ReadDevice<R>
+        ensures inner { result.inner ≡ inner }
         ensures reads { result.reads ≡ 0 }
         ensures failures { result.failures ≡ 0 }
     {
@@ -207,7 +256,20 @@ impl<R: Read> Source for ReadDevice<R> {
 
     ghost failures = { λ s. s.failures };
 
-    fn read(&mut self, piece: &mut [u8]) -> Result<usize, ReadFailed> {
+    fn read(&mut self, piece: &mut [u8]) -> Result<usize, ReadFailed>
+        requires countable { self.old.reads < 2 ^ 64 - 1 }
+        requires failable { self.old.failures < 2 ^ 64 - 1 }
+
+        // What each source that tells no bytes ensures.
+        ensures within { IfOk result (λ n. n ≤ length piece.new) }
+        ensures bytes { IfOk result (λ n. Gains None None (take n piece.new)) }
+        ensures none { OnErr result (Gains None None []) }
+        ensures counted { self.new.reads ≡ self.old.reads + 1 }
+        ensures failed { MatchResult result (λ _. self.new.failures ≡ self.old.failures) (λ _. self.new.failures ≡ self.old.failures + 1) }
+
+        // Where the device's own type tells what is left of it, that is what is read.
+        ensures through { ReadConsumes (R.remaining self.old.inner) (R.remaining self.new.inner) result piece.new }
+    {
         self.reads += 1;
         let Ok(count) = self.inner.read(piece) else {
             self.failures += 1;
@@ -229,7 +291,8 @@ pub struct WriteDevice<W: Write> {
 impl<W: Write> WriteDevice<W> {
     /// The device, of which no write failed.
     pub fn new(inner: W) -> WriteDevice<W>
-        ensures { result.failures ≡ 0 }
+        ensures inner { result.inner ≡ inner }
+        ensures failures { result.failures ≡ 0 }
     {
         WriteDevice { inner, failures: 0 }
     }
@@ -240,7 +303,20 @@ impl<W: Write> Sink for WriteDevice<W> {
 
     ghost failures = { λ s. s.failures };
 
-    fn write(&mut self, bytes: &[u8]) -> Result<usize, WriteFailed> {
+    fn write(&mut self, bytes: &[u8]) -> Result<usize, WriteFailed>
+        requires failable { self.old.failures < 2 ^ 64 - 1 }
+        requires some { 0 < length bytes.now }
+
+        // What each sink that tells no bytes ensures.
+        ensures within { IfOk result (λ n. n ≤ length bytes.now) }
+        ensures moved { IfOk result (λ n. 0 < n) }
+        ensures bytes { IfOk result (λ n. Gains None None (take n bytes.now)) }
+        ensures none { OnErr result (Gains None None []) }
+        ensures failed { MatchResult result (λ _. self.new.failures ≡ self.old.failures) (λ _. self.new.failures ≡ self.old.failures + 1) }
+
+        // Where the device's own type tells what it holds, that is where the bytes go.
+        ensures through { WriteAppends (W.contents self.old.inner) (W.contents self.new.inner) result bytes.now }
+    {
         match self.inner.write(bytes) {
             Ok(count) if count > 0 => Ok(count),
             _ => {

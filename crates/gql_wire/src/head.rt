@@ -7,6 +7,7 @@ ghost use Rattle.httparse.specs.Spans.{IsRequestWithin, header_bytes, span_bytes
 ghost use Rattle.gql_wire.specs.Head.{IsNoHead, Says, number_of, is_named, values_of, number_from, length_in, length_said, is_item_byte, items_of, is_close, names_close, is_head, judged};
 ghost use Rattle.gql_wire.specs.Held.{next_said, IsWholeHead, parts_at, said_by, AreSpansWithin};
 
+use crate::part::{front, rest_from};
 use httparse::Status;
 use httparse::spans::{EMPTY_HEADER_SPAN, HeaderSpan, RequestSpans, Span, parse_request};
 
@@ -154,22 +155,6 @@ fn first_item(list: &[u8]) -> usize
     ensures { result ≡ prefix_len is_item_byte list.now }
 {
     list.iter().take_while(|byte| **byte != b',').count()
-}
-
-/// The first bytes.
-fn front(bytes: &[u8], count: usize) -> &[u8]
-    requires { count ≤ length bytes.now }
-    ensures { result.now ≡ take count bytes.now }
-{
-    &bytes[..count]
-}
-
-/// The bytes from there on.
-fn rest_from(bytes: &[u8], start: usize) -> &[u8]
-    requires { start ≤ length bytes.now }
-    ensures { result.now ≡ drop start bytes.now }
-{
-    &bytes[start..]
 }
 
 /// Whether `close` stands in the list.

@@ -1,5 +1,5 @@
 //! Laws over the requests of a stream. The functions do nothing: what they ensure is the law.
-ghost use Rattle.gql_wire.specs.Laws.{OneReading, OneSplit, Feeding, Closed, RestUnfinished, NothingUnfinished};
+ghost use Rattle.gql_wire.specs.Laws.{OneReading, OneSplit, Feeding, Closed, RestUnfinished, NothingUnfinished, SkippedUnfinished};
 
 /// Bytes begin with one request at most, so it doesn't matter how a stream is cut into pieces.
 pub fn one_reading()
@@ -29,4 +29,9 @@ pub fn rest_is_unfinished()
 /// No bytes are an unfinished request.
 pub fn nothing_is_unfinished()
     ensures { NothingUnfinished }
+{}
+
+/// Pairs CR LF before a head finish no request.
+pub fn blanks_finish_nothing()
+    ensures { SkippedUnfinished }
 {}

@@ -6,7 +6,10 @@ mod answer;
 mod device;
 mod head;
 pub mod laws;
+mod part;
 mod stream;
+#[cfg(test)]
+mod tests;
 
 pub use answer::{ANSWER_HEAD_ROOM, Allow, answer_head};
 pub use device::{

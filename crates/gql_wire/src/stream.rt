@@ -1,14 +1,15 @@
-ghost use Rattle.std.specs.Prelude.{◌≡◌, ◌+◌, ◌<◌, ◌≤◌, ◌-◌, None, ◌++◌, ◌∷◌, [], List, ℕ, length, take, IfOk, OnErr, IfNone, IfSome, MatchOption, nat_lt};
+ghost use Rattle.std.specs.Prelude.{◌≡◌, ◌+◌, ◌<◌, ◌≤◌, ◌-◌, Some, None, ◌++◌, ◌∷◌, [], List, ℕ, length, take, IfOk, OnErr, IfNone, IfSome, MatchOption, nat_lt};
 ghost use Rattle.gql_wire.specs.Stream.{IsUnfinished, IsRequest, req, begins_blank, skip_blank};
-ghost use Rattle.gql_wire.specs.Held.{IsHeld, IsBodyDone, Advances};
+ghost use Rattle.gql_wire.specs.Held.{IsHeld, IsBodyOpen, IsBodyDone, Advances};
 
 use crate::head::{HeadRefusal, HeadSays, read_head};
+use crate::part::{front, rest_from};
 use httparse::spans::Span;
 use std::alloc::{AllocError, Global};
 use std::marker::Model;
 
 /// A request, or a head that is refused.
-#[derive(Drop)]
+#[derive(Debug, Drop, PartialEq, Eq)]
 pub enum Framed {
     /// A request whose body came.
     Request {
@@ -72,24 +73,6 @@ impl Model for Framer {
     ghost invariant = { λ f. IsHeld f.bytes.items f.pending };
 }
 
-/// What the bytes come to, of which the last is new.
-fn advance_by(bytes: &[u8], pending: Option<Pending>) -> Advance
-    requires some { 0 < length bytes.now }
-    requires held { IsHeld (take (length bytes.now - 1) bytes.now) pending }
-    ensures { Advances bytes.now pending result }
-{
-    match pending {
-        Some(pending) => {
-            if bytes.len() < pending.head + pending.length {
-                Advance::More
-            } else {
-                Advance::Done(pending)
-            }
-        }
-        None => advance_head(bytes),
-    }
-}
-
 /// Whether CR LF stands at the front.
 fn begins_with_blank(bytes: &[u8]) -> bool
     ensures { result ≡ begins_blank bytes.now }
@@ -97,11 +80,11 @@ fn begins_with_blank(bytes: &[u8]) -> bool
     matches!(bytes, [b'\r', b'\n', ..])
 }
 
-/// The same in a head.
+/// What the bytes of a head come to, of which the last is new.
 fn advance_head(bytes: &[u8]) -> Advance
     requires some { 0 < length bytes.now }
     requires held { IsHeld (take (length bytes.now - 1) bytes.now) None }
-    ensures { Advances bytes.now None result }
+    ensures { Advances bytes.now result }
 {
     if begins_with_blank(bytes) {
         Advance::Blank
@@ -156,6 +139,82 @@ fn request_of(alloc: Global, bytes: &[u8], pending: Pending) -> Result<Framed, A
     })
 }
 
+/// Takes one byte of a head.
+fn push_head(
+    bytes: &mut Vec<u8>,
+    pending: &mut Option<Pending>,
+    byte: u8,
+) -> Result<Option<Framed>, AllocError>
+    requires held { IsHeld bytes.old.items None }
+    requires none { pending.old ≡ None }
+    ensures held { IsHeld bytes.new.items pending.new }
+    ensures found { IfOk result (λ found. MatchOption found
+        (bytes.new.items ≡ skip_blank (bytes.old.items ++ byte ∷ []))
+        (λ framed. (bytes.new.items ≡ []) × IsRequest (bytes.old.items ++ byte ∷ []) (req framed))) }
+    ensures emptied { OnErr result (bytes.new.items ≡ []) }
+{
+    let Ok(()) = bytes.push(byte) else {
+        bytes.clear();
+        return Err(AllocError);
+    };
+    match advance_head(bytes.as_slice()) {
+        Advance::Blank => {
+            bytes.clear();
+            Ok(None)
+        }
+        Advance::More => Ok(None),
+        Advance::Await(expected) => {
+            *pending = Some(expected);
+            Ok(None)
+        }
+        Advance::Done(expected) => {
+            let framed = request_of(*bytes.allocator(), bytes.as_slice(), expected);
+            bytes.clear();
+            Ok(Some(framed?))
+        }
+        Advance::Refuse { refusal, bodiless } => {
+            bytes.clear();
+            Ok(Some(Framed::Refused {
+                number: refusal,
+                bodiless,
+            }))
+        }
+    }
+}
+
+/// Takes the bytes of a body that are left of it, as many as there are.
+fn fill_body(
+    bytes: &mut Vec<u8>,
+    pending: &mut Option<Pending>,
+    expected: Pending,
+    piece: &[u8],
+) -> Result<(usize, Option<Framed>), AllocError>
+    requires held { IsBodyOpen bytes.old.items expected }
+    requires same { pending.old ≡ Some expected }
+    requires some { 0 < length piece.now }
+    ensures held { IsHeld bytes.new.items pending.new }
+    ensures within { IfOk result (λ taken. (0 < taken.0) × (taken.0 ≤ length piece.now)) }
+    ensures found { IfOk result (λ taken. MatchOption taken.1
+        (bytes.new.items ≡ skip_blank (bytes.old.items ++ take taken.0 piece.now))
+        (λ framed. (bytes.new.items ≡ []) × IsRequest (bytes.old.items ++ take taken.0 piece.now) (req framed))) }
+    ensures emptied { OnErr result (bytes.new.items ≡ []) }
+{
+    let missing = expected.head + expected.length - bytes.len();
+    let count = missing.min(piece.len());
+    let Ok(()) = bytes.extend_from_slice(front(piece, count)) else {
+        bytes.clear();
+        *pending = None;
+        return Err(AllocError);
+    };
+    if count < missing {
+        return Ok((count, None));
+    }
+    let framed = request_of(*bytes.allocator(), bytes.as_slice(), expected);
+    bytes.clear();
+    *pending = None;
+    Ok((count, Some(framed?)))
+}
+
 impl Framer {
     /// A framer that holds nothing.
     pub fn new(alloc: Global) -> Self
@@ -167,48 +226,21 @@ impl Framer {
         }
     }
 
-    fn clear(&mut self)
-        ensures { self.new ≡ [] }
-    {
-        self.bytes.clear();
-        self.pending = None;
-    }
-
-    /// Takes one byte.
-    fn push(&mut self, byte: u8) -> Result<Option<Framed>, AllocError>
-        ensures found { IfOk result (λ found. MatchOption found
-            (self.new ≡ skip_blank (self.old ++ byte ∷ []))
-            (λ framed. (self.new ≡ []) × IsRequest (self.old ++ byte ∷ []) (req framed))) }
+    /// Takes bytes of a part of a request: one of a head, or all that a body lacks.
+    fn step(&mut self, piece: &[u8]) -> Result<(usize, Option<Framed>), AllocError>
+        requires { 0 < length piece.now }
+        ensures within { IfOk result (λ taken. (0 < taken.0) × (taken.0 ≤ length piece.now)) }
+        ensures found { IfOk result (λ taken. MatchOption taken.1
+            (self.new ≡ skip_blank (self.old ++ take taken.0 piece.now))
+            (λ framed. (self.new ≡ []) × IsRequest (self.old ++ take taken.0 piece.now) (req framed))) }
         ensures emptied { OnErr result (self.new ≡ []) }
     {
-        let Ok(()) = self.bytes.push(byte) else {
-            self.clear();
-            return Err(AllocError);
-        };
-        match advance_by(self.bytes.as_slice(), self.pending) {
-            Advance::Blank => {
-                self.bytes.clear();
-                Ok(None)
+        match self.pending {
+            None => {
+                let framed = push_head(&mut self.bytes, &mut self.pending, piece[0])?;
+                Ok((1, framed))
             }
-            Advance::More => Ok(None),
-            Advance::Await(pending) => {
-                self.pending = Some(pending);
-                Ok(None)
-            }
-            Advance::Done(pending) => {
-                let framed = request_of(*self.bytes.allocator(), self.bytes.as_slice(), pending);
-                self.bytes.clear();
-                self.pending = None;
-                Ok(Some(framed?))
-            }
-            Advance::Refuse { refusal, bodiless } => {
-                self.bytes.clear();
-                self.pending = None;
-                Ok(Some(Framed::Refused {
-                    number: refusal,
-                    bodiless,
-                }))
-            }
+            Some(expected) => fill_body(&mut self.bytes, &mut self.pending, expected, piece),
         }
     }
 
@@ -225,22 +257,27 @@ impl Framer {
     /// refused what was held is lost.
     pub fn take(&mut self, piece: &[u8]) -> Result<(usize, Option<Framed>), AllocError>
         ensures within { IfOk result (λ taken. taken.0 ≤ length piece.now) }
+        ensures moved { IfOk result (λ taken. IfSome taken.1 (λ _. 0 < taken.0)) }
         ensures more { IfOk result (λ taken. IfNone taken.1
             ((taken.0 ≡ length piece.now) × (self.new ≡ skip_blank (self.old ++ piece.now)))) }
         ensures framed { IfOk result (λ taken. IfSome taken.1 (λ framed.
             (self.new ≡ []) × IsRequest (self.old ++ take taken.0 piece.now) (req framed))) }
+        ensures unfinished { IfOk result (λ taken. IfNone taken.1 (IsUnfinished (self.old ++ piece.now))) }
         ensures rest { IfOk result (λ _. IsUnfinished self.new) }
         ensures emptied { OnErr result (self.new ≡ []) }
     {
         self.touch();
-        for (index, byte) in piece.iter().enumerate() {
-            if let Some(framed) = self.push(*byte)? {
+        let mut taken = 0;
+        'parts: while taken < piece.len() {
+            let (count, framed) = self.step(rest_from(piece, taken))?;
+            taken += count;
+            if let Some(framed) = framed {
                 self.touch();
-                return Ok((index + 1, Some(framed)));
+                return Ok((taken, Some(framed)));
             }
         }
         self.touch();
-        Ok((piece.len(), None))
+        Ok((taken, None))
     }
 
     /// Whether an unfinished request is held.

@@ -5,7 +5,7 @@ use Rattle.gql_wire.proofs.stream.advance_head.Goals as goal
 use Rattle.gql_wire.proofs.stream.advance_head.Goals.{In-Expects}
 
 pub returns-then-begins_with_blank : goal.returns-then-begins_with_blank
-returns-then-begins_with_blank c = (refl, only_blank c.args.bytes.now c.requires.held.0.begun (sym c.begins_with_blank.ensures ∙ c.if-begins_with_blank.true))
+returns-then-begins_with_blank c = only_blank c.args.bytes.now c.requires.held.0.begun (sym c.begins_with_blank.ensures ∙ c.if-begins_with_blank.true)
 
 pub returns-in-Refuse : goal.returns-in-Refuse
 returns-in-Refuse c = stops (headed c.args.bytes.now c.requires.some c.requires.held.0 c.requires.held.1 (sym c.begins_with_blank.ensures ∙ c.if-begins_with_blank.false) (sym c.ends_with.ensures.value ∙ c.if-ends_with.true) (c.if-ends_with.ensures.bound refl)) c.in-Refuse.ensures.says

@@ -1,8 +1,12 @@
-use Rattle.std.proofs.Common.{◌≡◌, take, ◌++◌}
+use Rattle.std.proofs.Common.{◌≡◌, ◌≤◌, ◌-◌, length, take, ◌++◌}
 use Rattle.gql_wire.specs.Stream.{skip_blank}
 use Rattle.gql_wire.proofs.stream.Framer.take.Given as goal
 
-abbrev pub invariant-loop-index : goal.invariant-loop-index
-invariant-loop-index l = record {
-  same : l.self ≡ skip_blank (l.initial.self ++ take l.index l.piece);
+abbrev pub invariant-parts : goal.invariant-parts
+invariant-parts l = record {
+  within : l.taken ≤ length l.piece;
+  same : l.self ≡ skip_blank (l.initial.self ++ take l.taken l.piece);
 }
+
+abbrev pub decreases-parts : goal.decreases-parts
+decreases-parts l = length l.piece - l.taken

@@ -1,0 +1,112 @@
+-- The answers: their statuses and bodies, and their bytes.
+use Rattle.std.specs.Prelude.{ℕ, List, [], ◌∷◌, ◌++◌, length, codes, decimal, Option, Some, None, Bool, if◌then◌else◌, Result, Ok, Err}
+use Rattle.json.specs.Print.{quoted}
+use Rattle.gql_text.specs.declared.place.Place.{Place}
+use Rattle.gql_grammar.specs.Files.{number_of}
+use Rattle.gql_grammar.specs.declared.fault.SyntaxRefusal.{SyntaxRefusal}
+use Rattle.gql_grammar.specs.declared.fault.SyntaxRefusal.TheVariants as syntax
+use Rattle.gql_ast.specs.declared.fault.Fault.{Fault}
+use Rattle.gql_registry.specs.declared.refusal.Refusal.{Refusal}
+use Rattle.gql_registry.specs.declared.refusal.Refusal.TheVariants as refusal
+use Rattle.gql_registry.specs.declared.registry.Edited.{Edited}
+use Rattle.gql_registry.specs.State.{State}
+use Rattle.gql_registry.specs.Report.{report_of}
+use Rattle.gql_wire.specs.Answer.{answer_head_of}
+use Rattle.gql_wire.specs.declared.answer.Allow.{Allow}
+use Rattle.gql_wire.specs.declared.head.HeadRefusal.{HeadRefusal}
+use Rattle.gql_wire.specs.declared.head.HeadRefusal.TheVariants as head
+use Rattle.gql_wire.specs.Head as wire
+use Rattle.gql_http.specs.Json.{faults_text, report_text, edited_text}
+
+-- an answer: its status, the methods of the route where the status is 405, and its body
+pub record Said : Type 0 where
+  pub status : ℕ
+  pub allow : Option Allow
+  pub body : List ℕ
+
+abbrev pub said : ℕ → List ℕ → Said
+said status body = record { status = status; allow = None; body = body }
+
+-- the bytes of an answer: its head, and its body unless it is left off
+unfoldable pub answer_bytes : Bool → Bool → Said → List ℕ
+answer_bytes closing bodiless a = answer_head_of a.status a.allow (length a.body) closing ++ (if bodiless then [] else a.body)
+
+-- ---- the bodies of refusals
+
+-- a refusal with its message and number
+unfoldable pub error_text : List ℕ → ℕ → List ℕ
+error_text message number = codes "{\"errors\":[{\"message\":" ++ quoted message ++ codes ",\"extensions\":{\"code\":" ++ decimal number ++ codes "}}]}"
+
+-- what a syntax refusal says
+abbrev pub syntax_message : SyntaxRefusal → List ℕ
+syntax_message syntax.BadCharacter = codes "syntax: bad character"
+syntax_message syntax.BadNumber = codes "syntax: bad number"
+syntax_message syntax.UnfinishedText = codes "syntax: unfinished text"
+syntax_message syntax.BadEscape = codes "syntax: bad escape"
+syntax_message syntax.LoneSurrogate = codes "syntax: lone surrogate"
+syntax_message syntax.TooLong = codes "syntax: too long"
+syntax_message syntax.Unexpected = codes "syntax: unexpected token"
+syntax_message syntax.TooDeep = codes "syntax: too deep"
+
+-- what, and where
+unfoldable pub located_text : List ℕ → Place → List ℕ
+located_text message place = codes "{\"errors\":[{\"message\":" ++ quoted message ++ codes ",\"locations\":[{\"line\":" ++ decimal place.line
+    ++ codes ",\"column\":" ++ decimal place.column ++ codes "}]"
+
+-- a syntax refusal with its place and its own number
+unfoldable pub syntax_text : SyntaxRefusal → Place → List ℕ
+syntax_text number place = located_text (syntax_message number) place ++ codes ",\"extensions\":{\"code\":201,\"syntax\":" ++ decimal (number_of number) ++ codes "}}]}"
+
+-- a stale edit, with the present revision
+unfoldable pub stale_text : ℕ → List ℕ
+stale_text revision = codes "{\"errors\":[{\"message\":\"stale revision\",\"extensions\":{\"code\":206,\"revision\":" ++ decimal revision ++ codes "}}]}"
+
+-- a faulty operation, with its faults
+unfoldable pub faulty_text : List Fault → List ℕ
+faulty_text faults = codes "{\"errors\":[{\"message\":\"operation is faulty\",\"extensions\":{\"code\":209,\"faults\":[" ++ faults_text faults ++ codes "]}}]}"
+
+-- ---- which answer
+
+-- the answer to a refusal of the registry; none for want of memory
+abbrev pub refusal_said : Refusal → Option Said
+refusal_said (refusal.Syntax number place) = Some (said 400 (syntax_text number place))
+refusal_said refusal.NotText = Some (said 400 (error_text (codes "body is not UTF-8") 202))
+refusal_said refusal.TooLong = Some (said 413 (error_text (codes "file is too long") 203))
+refusal_said refusal.NoFile = Some (said 404 (error_text (codes "no such file") 204))
+refusal_said refusal.FilesFull = Some (said 409 (error_text (codes "too many files") 205))
+refusal_said (refusal.Stale revision) = Some (said 409 (stale_text revision))
+refusal_said refusal.BadData = Some (said 400 (error_text (codes "data is not accepted") 207))
+refusal_said refusal.NoOperation = Some (said 404 (error_text (codes "no such operation") 208))
+refusal_said (refusal.Faulty faults) = Some (said 422 (faulty_text faults))
+refusal_said refusal.TooLarge = Some (said 422 (error_text (codes "answer is too large") 210))
+refusal_said refusal.Memory = None
+refusal_said refusal.Spent = Some (said 409 (error_text (codes "revisions are spent") 212))
+
+-- the answer to an edit
+abbrev pub edit_said : Result Edited Refusal → Option Said
+edit_said (Ok e) = Some (said 200 (edited_text e.revision e.faults))
+edit_said (Err r) = refusal_said r
+
+-- the answer to a head that is refused
+abbrev pub head_said : HeadRefusal → Said
+head_said head.BadHead = said 400 (error_text (codes "bad head") 301)
+head_said head.LongHead = said 431 (error_text (codes "head is too long") 302)
+head_said head.LongBody = said 413 (error_text (codes "body is too long") 303)
+head_said head.TransferCoding = said 501 (error_text (codes "transfer coding is not served") 304)
+head_said head.BadLength = said 400 (error_text (codes "bad content length") 307)
+
+-- no resource has the target
+abbrev pub no_route : Said
+no_route = said 404 (error_text (codes "no such route") 305)
+
+-- the resource doesn't serve the method
+abbrev pub not_allowed : Allow → Said
+not_allowed methods = record { status = 405; allow = Some methods; body = error_text (codes "method is not allowed") 306 }
+
+-- the query isn't served
+abbrev pub bad_query : Said
+bad_query = said 400 (error_text (codes "bad query") 308)
+
+-- the answer to a call for the report
+abbrev pub report_said : State → Said
+report_said s = said 200 (report_text s.revision (report_of s.files))

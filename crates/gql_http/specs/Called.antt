@@ -1,0 +1,27 @@
+-- What the code's calls say.
+use Rattle.std.specs.Prelude.{ℕ, List}
+use Rattle.gql_http.specs.Answers.{Said, no_route, not_allowed, bad_query}
+use Rattle.gql_http.specs.Routes as spec
+use Rattle.gql_http.specs.declared.route.Call.{Call}
+use Rattle.gql_http.specs.declared.route.Call.TheVariants as call
+use Rattle.gql_http.specs.declared.route.Resource.{Resource}
+use Rattle.gql_http.specs.declared.route.Resource.TheVariants as resource
+use Rattle.gql_http.specs.declared.route.RouteRefusal.{RouteRefusal}
+use Rattle.gql_http.specs.declared.route.RouteRefusal.TheVariants as refusal
+
+-- the answer to a request that is no call
+abbrev pub route_said : RouteRefusal → Said
+route_said refusal.NoRoute = no_route
+route_said (refusal.NotAllowed methods) = not_allowed methods
+route_said refusal.BadQuery = bad_query
+
+abbrev pub call_said : Call → spec.Call
+call_said call.Report = spec.report
+call_said (call.PutSchema name) = spec.put_schema name
+call_said (call.RemoveSchema name) = spec.remove_schema name
+call_said (call.Refused r) = spec.refused (route_said r)
+
+abbrev pub resource_said : Resource → spec.Resource
+resource_said resource.Nothing = spec.nothing
+resource_said resource.Report = spec.the_report
+resource_said (resource.SchemaFile name) = spec.schema_file name

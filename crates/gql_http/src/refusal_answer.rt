@@ -1,0 +1,117 @@
+//! The answers to refusals.
+ghost use Rattle.std.specs.Prelude.{◌≡◌, IfOk, Some, IsTrue};
+ghost use Rattle.gql_wire.specs.Answer.{is_answered};
+ghost use Rattle.gql_http.specs.Answers.{refusal_said, head_said, said, error_text};
+ghost use Rattle.gql_http.specs.Called.{route_said};
+ghost use Rattle.gql_http.specs.Said.{answer_said};
+
+use crate::answer::Answer;
+use crate::refusal_body::{error_body, faulty_body, stale_body, syntax_body};
+use crate::route::RouteRefusal;
+use gql_registry::Refusal;
+use gql_wire::HeadRefusal;
+use http::StatusCode;
+use std::alloc::{AllocError, Global};
+
+/// The answer to a head that is refused.
+pub fn head_answer(alloc: Global, refusal: HeadRefusal) -> Result<Answer, AllocError>
+    ensures { IfOk result (λ a. answer_said a ≡ head_said refusal) }
+{
+    match refusal {
+        HeadRefusal::BadHead => simple(alloc, StatusCode::BAD_REQUEST, "bad head", 301),
+        HeadRefusal::LongHead => simple(
+            alloc,
+            StatusCode::REQUEST_HEADER_FIELDS_TOO_LARGE,
+            "head is too long",
+            302,
+        ),
+        HeadRefusal::LongBody => {
+            simple(alloc, StatusCode::PAYLOAD_TOO_LARGE, "body is too long", 303)
+        }
+        HeadRefusal::TransferCoding => simple(
+            alloc,
+            StatusCode::NOT_IMPLEMENTED,
+            "transfer coding is not served",
+            304,
+        ),
+        HeadRefusal::BadLength => {
+            simple(alloc, StatusCode::BAD_REQUEST, "bad content length", 307)
+        }
+    }
+}
+
+/// The answer to a request that is no call.
+pub fn route_answer(alloc: Global, refusal: RouteRefusal) -> Result<Answer, AllocError>
+    ensures { IfOk result (λ a. answer_said a ≡ route_said refusal) }
+{
+    match refusal {
+        RouteRefusal::NoRoute => simple(alloc, StatusCode::NOT_FOUND, "no such route", 305),
+        RouteRefusal::NotAllowed(methods) => Ok(Answer {
+            status: StatusCode::METHOD_NOT_ALLOWED,
+            allow: Some(methods),
+            body: error_body(alloc, "method is not allowed", 306)?,
+        }),
+        RouteRefusal::BadQuery => simple(alloc, StatusCode::BAD_REQUEST, "bad query", 308),
+    }
+}
+
+fn simple(
+    alloc: Global,
+    status: StatusCode,
+    message: &str,
+    number: u64,
+) -> Result<Answer, AllocError>
+    requires { IsTrue (is_answered status) }
+    ensures { IfOk result (λ a. answer_said a ≡ said status (error_text message.now number)) }
+{
+    Ok(Answer {
+        status,
+        allow: None,
+        body: error_body(alloc, message, number)?,
+    })
+}
+
+fn with_body(status: StatusCode, body: Vec<u8>) -> Answer
+    requires { IsTrue (is_answered status) }
+    ensures { answer_said result ≡ said status body.items }
+{
+    Answer {
+        status,
+        allow: None,
+        body,
+    }
+}
+
+/// The answer to a refusal of the registry. For want of memory there is none.
+pub fn refusal_answer(alloc: Global, refusal: &Refusal) -> Result<Answer, AllocError>
+    ensures { IfOk result (λ a. refusal_said refusal.now ≡ Some (answer_said a)) }
+{
+    match refusal {
+        Refusal::Syntax { number, place } => {
+            let body = syntax_body(alloc, *number, *place)?;
+            Ok(with_body(StatusCode::BAD_REQUEST, body))
+        }
+        Refusal::NotText => simple(alloc, StatusCode::BAD_REQUEST, "body is not UTF-8", 202),
+        Refusal::TooLong => simple(alloc, StatusCode::PAYLOAD_TOO_LARGE, "file is too long", 203),
+        Refusal::NoFile => simple(alloc, StatusCode::NOT_FOUND, "no such file", 204),
+        Refusal::FilesFull => simple(alloc, StatusCode::CONFLICT, "too many files", 205),
+        Refusal::Stale { revision } => {
+            let body = stale_body(alloc, *revision)?;
+            Ok(with_body(StatusCode::CONFLICT, body))
+        }
+        Refusal::BadData => simple(alloc, StatusCode::BAD_REQUEST, "data is not accepted", 207),
+        Refusal::NoOperation => simple(alloc, StatusCode::NOT_FOUND, "no such operation", 208),
+        Refusal::Faulty { faults } => {
+            let body = faulty_body(alloc, faults.as_slice())?;
+            Ok(with_body(StatusCode::UNPROCESSABLE_ENTITY, body))
+        }
+        Refusal::TooLarge => simple(
+            alloc,
+            StatusCode::UNPROCESSABLE_ENTITY,
+            "answer is too large",
+            210,
+        ),
+        Refusal::Memory => Err(AllocError),
+        Refusal::Spent => simple(alloc, StatusCode::CONFLICT, "revisions are spent", 212),
+    }
+}

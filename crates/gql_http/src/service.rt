@@ -1,0 +1,146 @@
+//! One request after another, made on the registry.
+ghost use Rattle.std.specs.Prelude.{◌≡◌, ◌++◌, ◌+◌, ◌≤◌, OnOk, OnErr, IfOk, IsErr, List, [], ℕ, Some, vec_len, vec_capacity};
+ghost use Rattle.gql_registry.specs.State.{state_of};
+ghost use Rattle.gql_wire.specs.Stream.{req};
+ghost use Rattle.gql_http.specs.Answers.{Said, edit_said, report_said};
+ghost use Rattle.gql_http.specs.Called.{call_said};
+ghost use Rattle.gql_http.specs.Said.{answer_said, ended_bytes};
+ghost use Rattle.gql_http.specs.Routes as routes;
+ghost use Rattle.gql_http.specs.Service.{Step, Calls, is_head};
+
+use crate::answer::{Answer, Ending};
+use crate::refusal_answer::{head_answer, refusal_answer, route_answer};
+use crate::report_body::report_body;
+use crate::route::{Call, call_of};
+use crate::write_answer::{EDIT_ROOM, write_answer, write_edited};
+use gql_ast::FileName;
+use gql_registry::{Edited, Refusal, Registry};
+use gql_wire::Framed;
+use http::StatusCode;
+use std::alloc::{AllocError, Global};
+
+fn report_answer(alloc: Global, registry: &Registry) -> Result<Answer, AllocError>
+    ensures { IfOk result (λ a. answer_said a ≡ report_said (state_of registry.now)) }
+{
+    let faults = registry.report()?;
+    Ok(Answer {
+        status: StatusCode::OK,
+        allow: None,
+        body: report_body(alloc, registry.revision(), faults.as_slice())?,
+    })
+}
+
+/// Writes the answer to an edit. For an accepted one there is room.
+fn write_edit(
+    alloc: Global,
+    out: &mut Vec<u8>,
+    edited: Result<Edited, Refusal>,
+    ending: Ending,
+) -> Result<(), AllocError>
+    requires { vec_len out.old + EDIT_ROOM ≤ vec_capacity out.old }
+    ensures ok { OnOk result ((a : Said) × (edit_said edited ≡ Some a) × (out.new.items ≡ out.old.items ++ ended_bytes ending a)) }
+    ensures err { OnErr result (IsErr edited × (out.new.items ≡ out.old.items)) }
+{
+    match edited {
+        Ok(edited) => {
+            write_edited(out, edited, ending);
+            Ok(())
+        }
+        Err(refusal) => write_answer(out, &refusal_answer(alloc, &refusal)?, ending),
+    }
+}
+
+fn put_schema(
+    alloc: Global,
+    registry: &mut Registry,
+    out: &mut Vec<u8>,
+    name: FileName,
+    body: &[u8],
+    ending: Ending,
+) -> Result<(), AllocError>
+    ensures ok { OnOk result ((a : Said) × Calls (state_of registry.old) (routes.put_schema name) body.now a (state_of registry.new)
+        × (out.new.items ≡ out.old.items ++ ended_bytes ending a)) }
+    ensures err { OnErr result ((state_of registry.new ≡ state_of registry.old) × (out.new.items ≡ out.old.items)) }
+{
+    out.reserve(EDIT_ROOM)?;
+    let edited = registry.put_schema(name, body);
+    write_edit(alloc, out, edited, ending)
+}
+
+fn remove_schema(
+    alloc: Global,
+    registry: &mut Registry,
+    out: &mut Vec<u8>,
+    name: FileName,
+    ending: Ending,
+) -> Result<(), AllocError>
+    ensures ok { OnOk result ((a : Said) × Calls (state_of registry.old) (routes.remove_schema name) [] a (state_of registry.new)
+        × (out.new.items ≡ out.old.items ++ ended_bytes ending a)) }
+    ensures err { OnErr result ((state_of registry.new ≡ state_of registry.old) × (out.new.items ≡ out.old.items)) }
+{
+    out.reserve(EDIT_ROOM)?;
+    let edited = registry.remove_schema(name);
+    write_edit(alloc, out, edited, ending)
+}
+
+fn make_call(
+    alloc: Global,
+    registry: &mut Registry,
+    out: &mut Vec<u8>,
+    call: Call,
+    body: &[u8],
+    ending: Ending,
+) -> Result<(), AllocError>
+    ensures ok { OnOk result ((a : Said) × Calls (state_of registry.old) (call_said call) body.now a (state_of registry.new)
+        × (out.new.items ≡ out.old.items ++ ended_bytes ending a)) }
+    ensures err { OnErr result ((state_of registry.new ≡ state_of registry.old) × (out.new.items ≡ out.old.items)) }
+{
+    match call {
+        Call::Report => write_answer(out, &report_answer(alloc, registry)?, ending),
+        Call::PutSchema(name) => put_schema(alloc, registry, out, name, body, ending),
+        Call::RemoveSchema(name) => remove_schema(alloc, registry, out, name, ending),
+        Call::Refused(refusal) => write_answer(out, &route_answer(alloc, refusal)?, ending),
+    }
+}
+
+/// Makes a request on the registry and writes its answer. Where memory is wanting, the request isn't made and nothing
+/// is written.
+pub fn step(
+    alloc: Global,
+    registry: &mut Registry,
+    out: &mut Vec<u8>,
+    framed: &Framed,
+) -> Result<(), AllocError>
+    ensures ok { OnOk result ((bytes : List ℕ) × Step (state_of registry.old) (req framed.now) bytes (state_of registry.new)
+        × (out.new.items ≡ out.old.items ++ bytes)) }
+    ensures err { OnErr result ((state_of registry.new ≡ state_of registry.old) × (out.new.items ≡ out.old.items)) }
+{
+    match framed {
+        Framed::Request {
+            method,
+            target,
+            body,
+            closing,
+        } => {
+            let ending = Ending {
+                closing: *closing,
+                bodiless: is_head(method.as_slice()),
+            };
+            let call = call_of(method.as_slice(), target.as_slice());
+            make_call(alloc, registry, out, call, body.as_slice(), ending)
+        }
+        Framed::Refused { number, bodiless } => {
+            let ending = Ending {
+                closing: true,
+                bodiless: *bodiless,
+            };
+            write_answer(out, &head_answer(alloc, *number)?, ending)
+        }
+    }
+}
+
+fn is_head(method: &[u8]) -> bool
+    ensures { result ≡ is_head method.now }
+{
+    method == b"HEAD".as_slice()
+}

@@ -1,0 +1,23 @@
+-- Laws of tokens and faults.
+use Rattle.std.specs.Prelude.{ℕ, ◌≡◌, ◌≢◌, ◌≤◌, ◌<◌, ◌+◌, ◌⊎◌, List, All, length, take, drop, slice_range, Bool, true, false}
+use Rattle.gql_text.specs.Chars.{is_name_byte, begins}
+use Rattle.gql_text.specs.Number.{spoils_number}
+use Rattle.gql_text.specs.Lexeme.{Lexeme}
+use Rattle.gql_text.specs.Lexis.{Stands, IsLexed, LexFails}
+use Rattle.gql_text.specs.declared.place.Place.{Place}
+use Rattle.gql_text.specs.declared.token.Kind.{Kind}
+use Rattle.gql_text.specs.declared.token.Kind.TheVariants.{EndOfText, Name, IntValue, FloatValue}
+use Rattle.gql_text.specs.declared.token.LexRefusal.{LexRefusal}
+use Rattle.gql_text.specs.declared.front.Part.TheVariants.{Taken}
+
+-- the text has tokens, or it has a fault
+abbrev pub HasReading : List ℕ → Type 0
+HasReading source = ((tokens : List Lexeme) × IsLexed source tokens) ⊎ ((refusal : LexRefusal) × (place : Place) × LexFails source refusal place)
+
+-- each token's text is the part of the source at its place
+abbrev pub IsSliceOf : List ℕ → Lexeme → Type 0
+IsSliceOf source token = token.text ≡ slice_range source token.place.offset (token.place.offset + length token.text)
+
+-- the text as a whole is one token of that kind
+abbrev pub IsToken : Kind → List ℕ → Type 0
+IsToken kind text = Stands text (Taken kind (length text))
