@@ -1,6 +1,6 @@
 //! Whole documents: from a source to its tree, or to the one fault that it has.
 ghost use Rattle.std.specs.Prelude.{◌≡◌, ◌⊎◌, ℕ, List, [], map, IfOk, Ok, Err};
-ghost use Rattle.gql_text.specs.Lexeme.{Lexeme, lexeme};
+ghost use Rattle.gql_text.specs.Lexeme.{lexeme};
 ghost use Rattle.gql_text.specs.declared.place.Place.{Place as ThePlace};
 ghost use Rattle.gql_ast.specs.declared.definition.Document.{Document as TheDocument};
 ghost use Rattle.gql_grammar.specs.Files.{Accepts, OrMemory, Parses, Refuses};
@@ -53,9 +53,15 @@ pub fn parse_tokens(
 
 /// The document that a source is, or its fault: one of the lexer, else 111 or 112.
 pub fn parse(alloc: Global, file: FileName, source: &str) -> Result<Document, SyntaxFault>
+    // What is parsed is what the source's tokens derive, with at most 100 levels.
     ensures accepted { IfOk result (λ d. IsSourceOf (executable file) source.now d) }
+    // What the source's tokens derive is parsed.
+    ensures complete { (d : TheDocument) → IsSourceOf (executable file) source.now d → OrMemory result (Ok d) }
+    // A fault is that of the source.
     ensures refused { (number : TheRefusal) (place : ThePlace) → result ≡ Err (SyntaxFault.At number place)
         → IsFaultOf (executable file) source.now (SyntaxFault.At number place) }
+    // The fault of the source is told.
+    ensures faulty { (fault : TheFault) → IsFaultOf (executable file) source.now fault → OrMemory result (Err fault) }
 {
     match lex(alloc, source) {
         Ok(tokens) => parse_looked_at(alloc, tokens.as_slice(), &file, end_place(source)),
@@ -63,10 +69,10 @@ pub fn parse(alloc: Global, file: FileName, source: &str) -> Result<Document, Sy
     }
 }
 
-/// Tokens are one document, or have one fault, and never both.
+/// A source is one document, or has one fault, and never both.
 pub fn one_answer()
-    ensures document { (file : List ℕ) (ts : List Lexeme) (a b : TheDocument) → Accepts (executable file) ts a → Accepts (executable file) ts b → a ≡ b }
-    ensures fault { (file : List ℕ) (end : ThePlace) (ts : List Lexeme) (f g : TheFault) → Refuses (executable file) end ts f → Refuses (executable file) end ts g → f ≡ g }
-    ensures apart { (file : List ℕ) (end : ThePlace) (ts : List Lexeme) (d : TheDocument) (f : TheFault) → Accepts (executable file) ts d → Refuses (executable file) end ts f → ⊥ }
-    ensures some { (file : List ℕ) (end : ThePlace) (ts : List Lexeme) → ((d : TheDocument) × Accepts (executable file) ts d) ⊎ ((f : TheFault) × Refuses (executable file) end ts f) }
+    ensures document { (file source : List ℕ) (a b : TheDocument) → IsSourceOf (executable file) source a → IsSourceOf (executable file) source b → a ≡ b }
+    ensures fault { (file source : List ℕ) (f g : TheFault) → IsFaultOf (executable file) source f → IsFaultOf (executable file) source g → f ≡ g }
+    ensures apart { (file source : List ℕ) (d : TheDocument) (f : TheFault) → IsSourceOf (executable file) source d → IsFaultOf (executable file) source f → ⊥ }
+    ensures some { (file source : List ℕ) → ((d : TheDocument) × IsSourceOf (executable file) source d) ⊎ ((f : TheFault) × IsFaultOf (executable file) source f) }
 {}
