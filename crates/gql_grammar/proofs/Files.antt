@@ -1,10 +1,10 @@
 -- Whole texts: one answer for each.
-use Rattle.std.proofs.Common.{◌≡◌, ◌≢◌, ◌≤◌, ◌⊎◌, inl, inr, ℕ, zero, suc, List, [], ◌∷◌, length, Result, Ok, Err, Bool, true, false, IfOk, sym, refl, ◌∙◌, ap, subst, arith}
+use Rattle.std.proofs.Common.{◌≡◌, ◌≢◌, ◌≤◌, ◌⊎◌, inl, inr, ℕ, List, [], ◌∷◌, Result, Ok, Err, Bool, true, false, IfOk, sym, refl, ◌∙◌, ap, subst, arith}
 use borrow.Author.Tests.{leb-true, leb-false}
 use lib.Dec.{leb}
 use Rattle.gql_text.specs.Lexeme.{Lexeme}
 use Rattle.gql_text.specs.declared.place.Place.{Place}
-use Rattle.gql_grammar.specs.Symbol.{Symbol, Outcome, Derives, Fails, Shifts, and_then, end, pure, whole, ◌>>=◌}
+use Rattle.gql_grammar.specs.Symbol.{Symbol, Outcome, Derives, Shifts, and_then, end, pure, whole, ◌>>=◌}
 use Rattle.gql_grammar.specs.Levels.{level, most_levels, looked_at, depth}
 use Rattle.gql_grammar.specs.Files.{Accepts, Refuses, Parses, OrMemory, fault_by, placed}
 use Rattle.gql_grammar.specs.declared.error.ParseError.{ParseError}
@@ -13,7 +13,7 @@ use Rattle.gql_grammar.specs.declared.fault.SyntaxRefusal.{SyntaxRefusal}
 use Rattle.gql_grammar.specs.declared.fault.SyntaxFault.{SyntaxFault}
 use Rattle.gql_grammar.specs.declared.fault.SyntaxFault.TheVariants.{At, Memory}
 use Rattle.gql_grammar.proofs.Levels.{all, over}
-use Rattle.gql_grammar.proofs.Outcomes.{values_same, apart, places_same, one_value, no_fault, one_place}
+use Rattle.gql_grammar.proofs.Outcomes.{values_same, apart, places_same, one_value, one_place}
 
 -- ---- reading all of the tokens
 

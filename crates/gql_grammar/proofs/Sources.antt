@@ -1,5 +1,5 @@
 -- What a parser of sources answers.
-use Rattle.std.proofs.Common.{◌≡◌, ◌≢◌, ◌⊎◌, inl, inr, ℕ, List, [], Result, Ok, Err, Bool, IfOk, sym, refl, ◌∙◌, ap, subst}
+use Rattle.std.proofs.Common.{◌≡◌, ◌⊎◌, inl, inr, ℕ, List, [], Result, Ok, Err, Bool, IfOk, sym, refl, ◌∙◌, ap, subst}
 use Rattle.gql_text.specs.Lexeme.{Lexeme}
 use Rattle.gql_text.specs.Lexis.{IsLexed, IsLexFault}
 use Rattle.gql_text.specs.Place.{place_after}

@@ -1,7 +1,7 @@
 -- A recursive symbol is read as its rule with the symbol itself inside, where the rule takes a token first.
-use Rattle.std.proofs.Common.{◌≡◌, ℕ, zero, suc, ◌<◌, ◌||◌, Bool, true, false, List, [], ◌∷◌, ◌++◌, length, Ok, Err, refl, ap, ◌∙◌, cond, subst, arith}
+use Rattle.std.proofs.Common.{◌≡◌, ℕ, zero, suc, ◌<◌, Bool, true, false, List, [], ◌∷◌, ◌++◌, length, Ok, Err, refl, ap, ◌∙◌, cond, arith}
 use Rattle.gql_text.specs.Lexeme.{Lexeme}
-use Rattle.gql_grammar.specs.Symbol.{Symbol, Phrase, Part, Outcome, Reader, Leaves, Takes, and_then, choose}
+use Rattle.gql_grammar.specs.Symbol.{Symbol, Phrase, Outcome, Reader, Leaves, Takes, and_then, choose}
 use Rattle.gql_grammar.specs.Repetition.{further, while_from}
 use Rattle.gql_grammar.specs.Recursion.{nested, recursive}
 

@@ -1,5 +1,5 @@
 //! Whole texts: the tokens that are looked at, and faults with their places.
-ghost use Rattle.std.specs.Prelude.{◌≡◌, ◌≤◌, ◌<◌, ◌++◌, List, [], ◌∷◌, length, map, take, drop};
+ghost use Rattle.std.specs.Prelude.{◌≡◌, ◌≤◌, ◌<◌, ◌++◌, List, [], ◌∷◌, length, map, take};
 ghost use Rattle.gql_text.specs.Lexeme.{Lexeme, lexeme};
 ghost use Rattle.gql_grammar.specs.Levels.{depth, level, looked_at as the_looked_at, most_levels, shift};
 ghost use lib.Dec.{leb};

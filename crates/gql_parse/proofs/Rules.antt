@@ -1,5 +1,5 @@
 -- The recursive rules: each takes a token before it comes to itself.
-use Rattle.std.proofs.Common.{◌≡◌, ◌∙◌, ◌<◌, ℕ, zero, suc, List, [], ◌∷◌, Bool, true, false, length, refl, arith}
+use Rattle.std.proofs.Common.{◌≡◌, ◌∙◌, ℕ, suc, List, [], ◌∷◌, Bool, true, false, refl, arith}
 use Rattle.gql_text.specs.Lexeme.{Lexeme}
 use Rattle.gql_text.specs.declared.token.Kind.{Kind}
 use Rattle.gql_text.specs.declared.token.Kind.TheVariants as k
@@ -7,9 +7,8 @@ use Rattle.gql_ast.specs.declared.literal.Literal.{Literal}
 use Rattle.gql_ast.specs.declared.type_ref.TypeRef.{TypeRef}
 use Rattle.gql_ast.specs.declared.executable.Selection.{Selection}
 use Rattle.gql_ast.specs.declared.executable.Selection.TheVariants as s
-use Rattle.gql_grammar.specs.Symbol.{Phrase, Part, ◌>>=◌, pure, token, before, kind_of, relaxed, sees, sees_name}
-use Rattle.gql_grammar.specs.Recursion.{recursive}
-use Rattle.gql_grammar.proofs.Unrolled.{Agree, Guarded, after, later, first, chosen, agree_further, unrolled}
+use Rattle.gql_grammar.specs.Symbol.{Phrase, ◌>>=◌, pure, token, before, kind_of, relaxed, sees, sees_name}
+use Rattle.gql_grammar.proofs.Unrolled.{Agree, after, later, first, chosen, agree_further, unrolled}
 use Rattle.gql_parse.specs.Names.{name}
 use Rattle.gql_parse.specs.Values.{list_of, object_field_of, object_of, value_by, value_of, value}
 use Rattle.gql_parse.specs.Types.{list_type_of, nullable_by, type_ref_of, type_ref}

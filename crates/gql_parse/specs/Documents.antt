@@ -5,7 +5,7 @@ use Rattle.gql_ast.specs.declared.definition.Tree.{Tree}
 use Rattle.gql_ast.specs.declared.definition.Tree.TheVariants as t
 use Rattle.gql_ast.specs.declared.definition.Definition.{Definition}
 use Rattle.gql_ast.specs.declared.definition.Document.{Document}
-use Rattle.gql_grammar.specs.Symbol.{Phrase, ◌>>=◌, ◌>>◌, pure, by_test, before, sees_word, whole}
+use Rattle.gql_grammar.specs.Symbol.{Phrase, ◌>>=◌, pure, by_test, before, sees_word, whole}
 use Rattle.gql_grammar.specs.Repetition.{some_while}
 use Rattle.gql_parse.specs.Operations.{operation, fragment}
 

@@ -1,5 +1,5 @@
 -- Selection sets (2.4), fields (2.5) and fragments in them (2.8).
-use Rattle.std.specs.Prelude.{ℕ, List, [], Option, Some, None, Bool, true, false, not, bytes_eq, codes}
+use Rattle.std.specs.Prelude.{ℕ, List, [], Option, Some, None, Bool, false, not, bytes_eq, codes}
 use Rattle.gql_text.specs.Lexeme.{Lexeme}
 use Rattle.gql_text.specs.declared.token.Kind.{Kind}
 use Rattle.gql_text.specs.declared.token.Kind.TheVariants as k
@@ -9,7 +9,7 @@ use Rattle.gql_ast.specs.declared.executable.Selection.TheVariants as s
 use Rattle.gql_ast.specs.declared.executable.Field.{Field, roll-Field}
 use Rattle.gql_ast.specs.declared.executable.InlineFragment.{InlineFragment, roll-InlineFragment}
 use Rattle.gql_ast.specs.declared.executable.Spread.{Spread}
-use Rattle.gql_grammar.specs.Symbol.{Phrase, Part, ◌>>=◌, ◌>>◌, pure, refuse, token, name_where, word, by_kind, by_test, sees, sees_name, sees_word, before, optional, relaxed}
+use Rattle.gql_grammar.specs.Symbol.{Phrase, Part, ◌>>=◌, ◌>>◌, pure, refuse, token, name_where, word, by_kind, by_test, sees, sees_name, sees_word, before, optional}
 use Rattle.gql_grammar.specs.Repetition.{some_while}
 use Rattle.gql_grammar.specs.Recursion.{recursive}
 use Rattle.gql_parse.specs.Names.{name, name_of}

@@ -1,5 +1,5 @@
 -- Values (2.9).
-use Rattle.std.specs.Prelude.{ℕ, List, Bool, true, false, bytes_eq, codes, if◌then◌else◌}
+use Rattle.std.specs.Prelude.{Bool, true, false, bytes_eq, codes, if◌then◌else◌}
 use Rattle.gql_text.specs.Lexeme.{Lexeme}
 use Rattle.gql_text.specs.Values.{text_value}
 use Rattle.gql_text.specs.declared.token.Kind.{Kind}

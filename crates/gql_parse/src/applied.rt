@@ -1,5 +1,5 @@
 //! Arguments and directives (GraphQL specification, 2.6 and 2.12), with constant values or not.
-ghost use Rattle.std.specs.Prelude.{◌≡◌, ◌<◌, ◌≤◌, length, OnOk};
+ghost use Rattle.std.specs.Prelude.{◌<◌, ◌≤◌, length, OnOk};
 ghost use Rattle.gql_text.specs.declared.token.Kind.TheVariants as k;
 ghost use Rattle.gql_grammar.specs.Symbol.{Reads, before};
 ghost use Rattle.gql_grammar.specs.Repetition.{some_while};

@@ -1,5 +1,5 @@
 //! Whole documents: from a source to its tree, or to the one fault that it has.
-ghost use Rattle.std.specs.Prelude.{◌≡◌, ◌⊎◌, ℕ, List, [], map, IfOk, Ok, Err};
+ghost use Rattle.std.specs.Prelude.{◌≡◌, ◌⊎◌, ℕ, List, map, IfOk, Ok, Err};
 ghost use Rattle.gql_text.specs.Lexeme.{lexeme};
 ghost use Rattle.gql_text.specs.declared.place.Place.{Place as ThePlace};
 ghost use Rattle.gql_ast.specs.declared.definition.Document.{Document as TheDocument};
@@ -15,7 +15,7 @@ use gql_grammar::{SyntaxFault, looked_at, placed};
 use gql_text::{Place, Token, end_place, lex};
 use std::alloc::Global;
 
-// Only the tokens before the 101st level are read, so that the calls within each other are bounded, too.
+// No token behind the one that opens level 101 is read, which bounds how deep calls stand within each other, too.
 fn parse_looked_at(
     alloc: Global,
     tokens: &[Token<'_>],

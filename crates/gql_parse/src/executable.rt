@@ -1,5 +1,5 @@
 //! Executable documents (GraphQL specification, 2.2).
-ghost use Rattle.std.specs.Prelude.{◌≡◌, ◌<◌, ◌≤◌, [], length, map, OnOk};
+ghost use Rattle.std.specs.Prelude.{◌<◌, [], length, map, OnOk};
 ghost use Rattle.gql_text.specs.declared.token.Kind.TheVariants as k;
 ghost use Rattle.gql_text.specs.Lexeme.{lexeme};
 ghost use Rattle.gql_grammar.specs.Symbol.{Reads, before};

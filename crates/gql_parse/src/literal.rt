@@ -1,7 +1,6 @@
 //! Values (GraphQL specification, 2.9).
-ghost use Rattle.std.specs.Prelude.{◌≡◌, ◌<◌, ◌≤◌, length, OnOk};
+ghost use Rattle.std.specs.Prelude.{◌<◌, ◌≤◌, length, OnOk};
 ghost use Rattle.gql_text.specs.declared.token.Kind.TheVariants as k;
-ghost use Rattle.gql_text.specs.Lexeme.{lexeme};
 ghost use Rattle.gql_grammar.specs.Symbol.{Reads, before};
 ghost use Rattle.gql_grammar.specs.Repetition.{any_while};
 ghost use Rattle.gql_parse.specs.Values as spec;

@@ -1,5 +1,5 @@
 //! Type references (GraphQL specification, 2.11).
-ghost use Rattle.std.specs.Prelude.{◌≡◌, ◌<◌, ◌≤◌, length, OnOk};
+ghost use Rattle.std.specs.Prelude.{◌<◌, ◌≤◌, length, OnOk};
 ghost use Rattle.gql_grammar.specs.Symbol.{Reads, by_kind};
 ghost use Rattle.gql_parse.specs.Types as spec;
 

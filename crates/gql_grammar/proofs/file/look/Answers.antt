@@ -1,4 +1,4 @@
-use Rattle.std.proofs.Common.{◌≡◌, ◌<◌, ◌+◌, ◌∙◌, ℕ, List, length, get_or, drop, map, false, sym, subst, arith}
+use Rattle.std.proofs.Common.{◌≡◌, ◌<◌, ◌+◌, ◌∙◌, ℕ, List, length, get_or, drop, map, false, sym, subst}
 use lib.Dec.{leb}
 use Rattle.gql_text.specs.Lexeme.{lexeme}
 use Rattle.gql_text.specs.declared.token.Token.{Token}
