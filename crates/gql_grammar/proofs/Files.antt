@@ -1,17 +1,19 @@
 -- Whole texts: one answer for each.
-use Rattle.std.proofs.Common.{◌≡◌, ◌≢◌, ◌≤◌, ◌⊎◌, inl, inr, ℕ, zero, suc, List, [], ◌∷◌, length, Result, Ok, Err, Bool, IfOk, sym, refl, ◌∙◌, ap, subst, arith}
+use Rattle.std.proofs.Common.{◌≡◌, ◌≢◌, ◌≤◌, ◌⊎◌, inl, inr, ℕ, List, [], ◌∷◌, Result, Ok, Err, Bool, true, false, IfOk, sym, refl, ◌∙◌, ap, subst, arith}
+use borrow.Author.Tests.{leb-true, leb-false}
+use lib.Dec.{leb}
 use Rattle.gql_text.specs.Lexeme.{Lexeme}
 use Rattle.gql_text.specs.declared.place.Place.{Place}
-use Rattle.gql_grammar.specs.Symbol.{Symbol, Outcome, Derives, Fails, Shifts, and_then, end, pure, whole, ◌>>=◌}
-use Rattle.gql_grammar.specs.Levels.{level, most_levels, looked_at, looked_from, left_out, left_from, depth}
+use Rattle.gql_grammar.specs.Symbol.{Symbol, Outcome, Derives, Shifts, and_then, end, pure, whole, ◌>>=◌}
+use Rattle.gql_grammar.specs.Levels.{level, most_levels, looked_at, depth}
 use Rattle.gql_grammar.specs.Files.{Accepts, Refuses, Parses, OrMemory, fault_by, placed}
 use Rattle.gql_grammar.specs.declared.error.ParseError.{ParseError}
 use Rattle.gql_grammar.specs.declared.error.ParseError.TheVariants as e
 use Rattle.gql_grammar.specs.declared.fault.SyntaxRefusal.{SyntaxRefusal}
 use Rattle.gql_grammar.specs.declared.fault.SyntaxFault.{SyntaxFault}
 use Rattle.gql_grammar.specs.declared.fault.SyntaxFault.TheVariants.{At, Memory}
-use Rattle.gql_grammar.proofs.Levels.{full, all, shallow, kept}
-use Rattle.gql_grammar.proofs.Outcomes.{values_same, apart, places_same, one_value, no_fault, one_place}
+use Rattle.gql_grammar.proofs.Levels.{all, over}
+use Rattle.gql_grammar.proofs.Outcomes.{values_same, apart, places_same, one_value, one_place}
 
 -- ---- reading all of the tokens
 
@@ -33,12 +35,12 @@ whole_rest p ts a rest h = whole_by a (p.read ts) rest h
 balanced : {A : Type 0} (ts : List Lexeme) (a : A) (o : Outcome A) → Shifts (λ n. n) ts o → o ≡ Ok (a, []) → level 0 ts ≡ 0
 balanced ts a o h is = let P : Outcome _ → Type 0 = λ q. Shifts (λ n. n) ts q in subst P is h 0
 
-none_left_by : (ts : List Lexeme) (rest : List Lexeme) → left_out ts ≡ rest → level 0 (looked_at ts) ≡ 0 → rest ≡ []
-none_left_by ts [] is h = refl
-none_left_by ts (t ∷ rest) is h = let many : level 0 (looked_at ts) ≡ most_levels = full 0 ts t rest (omega arith) is in absurd (omega arith)
+shallow_by : (pass : Bool) (ts : List Lexeme) → leb (depth ts) most_levels ≡ pass → level 0 (looked_at ts) ≡ 0 → depth ts ≤ most_levels
+shallow_by true ts h none = leb-true (depth ts) most_levels h
+shallow_by false ts h none = let many = over 0 ts (leb-false (depth ts) most_levels h) (omega arith) in absurd (omega arith)
 
-none_left : (ts : List Lexeme) → level 0 (looked_at ts) ≡ 0 → left_out ts ≡ []
-none_left ts h = none_left_by ts (left_out ts) refl h
+shallow : (ts : List Lexeme) → level 0 (looked_at ts) ≡ 0 → depth ts ≤ most_levels
+shallow ts none = shallow_by (leb (depth ts) most_levels) ts refl none
 
 memory_apart : (number : SyntaxRefusal) (place : Place) → At number place ≡ Memory → ⊥
 memory_apart number place h = cc
@@ -46,13 +48,13 @@ memory_apart number place h = cc
 module _ {A : Type 0} {s : Bool} (p : Symbol (λ n. n) s A) (end_place : Place) (ts : List Lexeme) where
   read_accepts : (a : A) → p.read (looked_at ts) ≡ Ok (a, []) → Accepts p ts a
   read_accepts a is =
-      let none = none_left ts (balanced (looked_at ts) a (p.read (looked_at ts)) (p.shifts (looked_at ts)) is) in
-      let every : looked_at ts ≡ ts = all 0 ts none in
-      (subst (λ us. Derives p us a []) every (subst (p.Allows (looked_at ts)) is (p.holds (looked_at ts))), shallow 0 ts (omega arith) none)
+      let least = shallow ts (balanced (looked_at ts) a (p.read (looked_at ts)) (p.shifts (looked_at ts)) is) in
+      let every : looked_at ts ≡ ts = all 0 ts least in
+      (subst (λ us. Derives p us a []) every (subst (p.Allows (looked_at ts)) is (p.holds (looked_at ts))), least)
 
   accepts_read : (a : A) → Accepts p ts a → p.read (looked_at ts) ≡ Ok (a, [])
   accepts_read a h =
-      let every : looked_at ts ≡ ts = all 0 ts (kept 0 ts h.1) in
+      let every : looked_at ts ≡ ts = all 0 ts h.1 in
       p.only (looked_at ts) (Ok (a, [])) (subst (λ us. Derives p us a []) (sym every) h.0)
 
   -- what is parsed is accepted
@@ -81,7 +83,7 @@ module _ {A : Type 0} {s : Bool} (p : Symbol (λ n. n) s A) (end_place : Place) 
   refused_parsed (Err (At number place)) h fault k =
       let told = h (memory_apart number place) in
       let same : told.0 ≡ k.0 = places_same told.0 k.0 (sym told.1 ∙ p.only (looked_at ts) (Err k.0) k.1) in
-      inl (ap Err (sym told.2 ∙ ap (λ j. fault_by end_place (looked_at ts) j (left_out ts)) same ∙ k.2))
+      inl (ap Err (sym told.2 ∙ ap (λ j. fault_by end_place ts j) same ∙ k.2))
 
   -- ---- one answer for each text
 
@@ -89,14 +91,14 @@ module _ {A : Type 0} {s : Bool} (p : Symbol (λ n. n) s A) (end_place : Place) 
   one_tree a b h k = one_value p ts a b h.0 k.0
 
   pub one_fault : (f g : SyntaxFault) → Refuses p end_place ts f → Refuses p end_place ts g → f ≡ g
-  one_fault f g h k = sym h.2 ∙ ap (λ j. fault_by end_place (looked_at ts) j (left_out ts)) (one_place p (looked_at ts) h.0 k.0 h.1 k.1) ∙ k.2
+  one_fault f g h k = sym h.2 ∙ ap (λ j. fault_by end_place ts j) (one_place p (looked_at ts) h.0 k.0 h.1 k.1) ∙ k.2
 
   pub not_both : (a : A) (f : SyntaxFault) → Accepts p ts a → Refuses p end_place ts f → ⊥
   not_both a f h k = apart a k.0 (sym (accepts_read a h) ∙ p.only (looked_at ts) (Err k.0) k.1)
 
   answered : (o : Outcome A) → p.read (looked_at ts) ≡ o → ((a : A) (rest : List Lexeme) → o ≡ Ok (a, rest) → rest ≡ []) → ((a : A) × Accepts p ts a) ⊎ ((f : SyntaxFault) × Refuses p end_place ts f)
   answered (Ok r) is over = inl (r.0, read_accepts r.0 (is ∙ ap (λ rest. Ok (r.0, rest)) (over r.0 r.1 refl)))
-  answered (Err k) is over = inr (fault_by end_place (looked_at ts) k (left_out ts), (k, subst (p.Allows (looked_at ts)) is (p.holds (looked_at ts)), refl))
+  answered (Err k) is over = inr (fault_by end_place ts k, (k, subst (p.Allows (looked_at ts)) is (p.holds (looked_at ts)), refl))
 
   -- a symbol that reads all of the tokens accepts or refuses each text
   pub some_answer : ((us : List Lexeme) (a : A) (rest : List Lexeme) → p.read us ≡ Ok (a, rest) → rest ≡ []) → ((a : A) × Accepts p ts a) ⊎ ((f : SyntaxFault) × Refuses p end_place ts f)
@@ -104,6 +106,6 @@ module _ {A : Type 0} {s : Bool} (p : Symbol (λ n. n) s A) (end_place : Place) 
 
 -- a fault with its place is that of the tokens
 pub placed_parsed : {A : Type 0} {s : Bool} (p : Symbol (λ n. n) s A) (end_place : Place) (ts : List Lexeme) (x : ParseError) → ((k : ℕ) → x ≡ e.Unexpected k → p.read (looked_at ts) ≡ Err k)
-    → (fault : SyntaxFault) → fault ≡ placed end_place ts x → fault ≢ Memory → (k : ℕ) × (p.read (looked_at ts) ≡ Err k) × (fault_by end_place (looked_at ts) k (left_out ts) ≡ fault)
+    → (fault : SyntaxFault) → fault ≡ placed end_place ts x → fault ≢ Memory → (k : ℕ) × (p.read (looked_at ts) ≡ Err k) × (fault_by end_place ts k ≡ fault)
 placed_parsed p end_place ts e.Memory h fault is other = absurd (other is)
 placed_parsed p end_place ts (e.Unexpected k) h fault is other = (k, h k refl, sym is)

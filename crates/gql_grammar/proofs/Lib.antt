@@ -4,3 +4,4 @@ pub mod Outcomes
 pub mod Unrolled
 pub mod Levels
 pub mod Files
+pub mod Sources

@@ -1,7 +1,7 @@
 -- One outcome for each list of tokens.
-use Rattle.std.proofs.Common.{◌≡◌, ◌<◌, ◌⊎◌, inl, inr, ℕ, zero, suc, List, [], ◌∷◌, length, Result, Ok, Err, Bool, IfOk, sym, refl, ◌∙◌, ap, subst, arith}
+use Rattle.std.proofs.Common.{◌≡◌, ◌<◌, ℕ, List, [], ◌∷◌, length, Ok, Err, Bool, sym, refl, ◌∙◌, ap, arith}
 use Rattle.gql_text.specs.Lexeme.{Lexeme}
-use Rattle.gql_grammar.specs.Symbol.{Symbol, Outcome, Derives, Fails, Takes, Then, end, whole}
+use Rattle.gql_grammar.specs.Symbol.{Symbol, Outcome, Derives, Fails, end}
 
 pub end_none : (ts : List Lexeme) → length ts ≡ 0 → end.read ts ≡ Ok (tt, ts)
 unfolding end

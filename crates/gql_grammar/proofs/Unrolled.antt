@@ -1,8 +1,7 @@
 -- A recursive symbol is read as its rule with the symbol itself inside, where the rule takes a token first.
-use Rattle.std.proofs.Common.{◌≡◌, ℕ, zero, suc, ◌<◌, ◌||◌, Bool, true, false, List, [], ◌∷◌, ◌++◌, length, Ok, Err, refl, ap, ◌∙◌, cond, subst, arith}
+use Rattle.std.proofs.Common.{◌≡◌, ℕ, zero, suc, ◌<◌, Bool, true, false, List, [], ◌∷◌, ◌++◌, length, Ok, Err, refl, ap, ◌∙◌, cond, arith}
 use Rattle.gql_text.specs.Lexeme.{Lexeme}
-use Rattle.gql_text.specs.declared.token.Kind.{Kind}
-use Rattle.gql_grammar.specs.Symbol.{Symbol, Phrase, Part, Outcome, Reader, Leaves, Takes, and_then, by_kind, by_test, choose, takes_less, ◌>>=◌}
+use Rattle.gql_grammar.specs.Symbol.{Symbol, Phrase, Outcome, Reader, Leaves, Takes, and_then, choose}
 use Rattle.gql_grammar.specs.Repetition.{further, while_from}
 use Rattle.gql_grammar.specs.Recursion.{nested, recursive}
 
@@ -10,42 +9,30 @@ use Rattle.gql_grammar.specs.Recursion.{nested, recursive}
 abbrev pub Agree : {A : Type 0} {d : ℕ → ℕ} {s : Bool} → ℕ → Symbol d s A → Symbol d s A → Type 0
 Agree n p q = (ts : List Lexeme) → length ts < n → p.read ts ≡ q.read ts
 
-pub agree_same : {A : Type 0} {d : ℕ → ℕ} {s : Bool} (n : ℕ) (p : Symbol d s A) → Agree n p p
-agree_same n p ts h = refl
-
-pub agree_less : {A : Type 0} {d : ℕ → ℕ} {s : Bool} (n : ℕ) (p q : Symbol d s A) → Agree n p q → Agree (suc n) p q → Agree n p q
-agree_less n p q h k ts less = h ts less
-
+-- one part and then others that read alike
 no_more : (s : Bool) (m n : ℕ) → Leaves s m n → Leaves false m n
 no_more true m n h = omega arith
 no_more false m n h = h
 
-second_agrees : {A B : Type 0} {e : ℕ → ℕ} {t : Bool} (s : Bool) (n : ℕ) (ts : List Lexeme) (o : Outcome A) (q r : A → Symbol e t B) → length ts < n → Takes s ts o
-    → ((a : A) → Agree n (q a) (r a)) → and_then o (λ a. (q a).read) ≡ and_then o (λ a. (r a).read)
-second_agrees s n ts (Ok x) q r less h k = let fewer = no_more s (length x.1) (length ts) h in k x.0 x.1 (omega (arith, fewer))
-second_agrees s n ts (Err x) q r less h k = refl
-
-pub agree_then : {A B : Type 0} {d e : ℕ → ℕ} {s t : Bool} (n : ℕ) (p p' : Symbol d s A) (q r : A → Symbol e t B) → Agree n p p' → ((a : A) → Agree n (q a) (r a)) → Agree n (p >>= q) (p' >>= r)
-agree_then {s = s} n p p' q r h k ts less = second_agrees s n ts (p.read ts) q r less (p.takes ts) k ∙ ap (λ o. and_then o (λ a. (r a).read)) (h ts less)
-
-later_agrees : {A B : Type 0} {e : ℕ → ℕ} {t : Bool} (n : ℕ) (ts : List Lexeme) (o : Outcome A) (q r : A → Symbol e t B) → length ts < suc n → Takes true ts o
-    → ((a : A) → Agree n (q a) (r a)) → and_then o (λ a. (q a).read) ≡ and_then o (λ a. (r a).read)
-later_agrees n ts (Ok x) q r less h k = k x.0 x.1 (omega (arith, h))
-later_agrees n ts (Err x) q r less h k = refl
+pub after : {A B : Type 0} (s : Bool) (n : ℕ) (ts : List Lexeme) (o : Outcome A) (f g : A → Reader B) → length ts < n → Takes s ts o
+    → ((a : A) (us : List Lexeme) → length us < n → f a us ≡ g a us) → and_then o f ≡ and_then o g
+after s n ts (Ok x) f g less h k = let fewer = no_more s (length x.1) (length ts) h in k x.0 x.1 (omega (arith, fewer))
+after s n ts (Err x) f g less h k = refl
 
 -- what stands behind a token is shorter
-pub agree_later : {A B : Type 0} {d e : ℕ → ℕ} {t : Bool} (n : ℕ) (p : Symbol d true A) (q r : A → Symbol e t B) → ((a : A) → Agree n (q a) (r a)) → Agree (suc n) (p >>= q) (p >>= r)
-agree_later n p q r k ts less = later_agrees n ts (p.read ts) q r less (p.takes ts) k
+pub later : {A B : Type 0} (n : ℕ) (ts : List Lexeme) (o : Outcome A) (f g : A → Reader B) → length ts < suc n → Takes true ts o
+    → ((a : A) (us : List Lexeme) → length us < n → f a us ≡ g a us) → and_then o f ≡ and_then o g
+later n ts (Ok x) f g less h k = k x.0 x.1 (omega (arith, h))
+later n ts (Err x) f g less h k = refl
 
-pub agree_kind : {A : Type 0} {d : ℕ → ℕ} {s : Bool} (n : ℕ) (f g : Kind → Symbol d s A) → ((k : Kind) → Agree n (f k) (g k)) → Agree n (by_kind f) (by_kind g)
-agree_kind n f g h ts less = h _ ts less
+-- two first parts that read alike
+pub first : {A B : Type 0} (o p : Outcome A) (f : A → Reader B) → o ≡ p → and_then o f ≡ and_then p f
+first o p f h = ap (λ q. and_then q f) h
 
-chosen : {A : Type 0} {d : ℕ → ℕ} {s : Bool} (pass : Bool) (p p' q q' : Symbol d s A) (ts : List Lexeme) → p.read ts ≡ p'.read ts → q.read ts ≡ q'.read ts → (choose pass p q).read ts ≡ (choose pass p' q').read ts
+-- a choice of parts that read alike
+pub chosen : {A : Type 0} {d : ℕ → ℕ} {s : Bool} (pass : Bool) (p p' q q' : Symbol d s A) (ts : List Lexeme) → p.read ts ≡ p'.read ts → q.read ts ≡ q'.read ts → (choose pass p q).read ts ≡ (choose pass p' q').read ts
 chosen true p p' q q' ts h k = h
 chosen false p p' q q' ts h k = k
-
-pub agree_test : {A : Type 0} {d : ℕ → ℕ} {s : Bool} (n : ℕ) (test : List Lexeme → Bool) (p p' q q' : Symbol d s A) → Agree n p p' → Agree n q q' → Agree n (by_test test p q) (by_test test p' q')
-agree_test n test p p' q q' h k ts less = chosen (test ts) p p' q q' ts (h ts less) (k ts less)
 
 turn_agrees : {A : Type 0} (n m : ℕ) (test : List Lexeme → Bool) (item other : Phrase A) (found : List A) (ts : List Lexeme) (o : Outcome A) → length ts < n → Takes true ts o
     → ((found : List A) (us : List Lexeme) → length us < n → while_from test item.read m found us ≡ while_from test other.read m found us)

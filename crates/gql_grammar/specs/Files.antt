@@ -1,5 +1,6 @@
 -- Whole texts: which are accepted, and where the others are refused.
-use Rattle.std.specs.Prelude.{◌≡◌, ◌≢◌, ◌⊎◌, ℕ, zero, suc, ◌≤◌, ◌-◌, Bool, List, [], ◌∷◌, length, drop, Result, Ok, Err}
+use Rattle.std.specs.Prelude.{◌≡◌, ◌≢◌, ◌⊎◌, ℕ, zero, suc, ◌≤◌, ◌-◌, Bool, List, [], ◌∷◌, length, drop, if◌then◌else◌, Result, Ok, Err}
+use lib.Dec.{leb}
 use Rattle.gql_text.specs.Lexeme.{Lexeme}
 use Rattle.gql_text.specs.declared.place.Place.{Place}
 use Rattle.gql_text.specs.declared.token.LexRefusal.{LexRefusal}
@@ -12,7 +13,7 @@ use Rattle.gql_grammar.specs.declared.fault.SyntaxFault.{SyntaxFault}
 use Rattle.gql_grammar.specs.declared.fault.SyntaxFault.TheVariants.{At, Memory}
 use Rattle.gql_grammar.specs.declared.error.ParseError.{ParseError}
 use Rattle.gql_grammar.specs.declared.error.ParseError.TheVariants as e
-use Rattle.gql_grammar.specs.Levels.{depth, most_levels, looked_at, left_out}
+use Rattle.gql_grammar.specs.Levels.{depth, most_levels, looked_at}
 use Rattle.gql_grammar.specs.Symbol.{Symbol, Derives, Fails}
 
 -- the number that users see
@@ -52,25 +53,25 @@ first_place end (t ∷ ts) = t.place
 abbrev pub place_left : Place → List Lexeme → ℕ → Place
 place_left end ts k = first_place end (drop (length ts - k) ts)
 
--- The fault where the tokens that are looked at fail with k of them left, and `rest` are left out. At their end it is
--- the first of those, which opens a level too many; else the token that cannot stand there, or the end of the text.
-abbrev pub fault_by : Place → List Lexeme → ℕ → List Lexeme → SyntaxFault
-fault_by end looked zero (t ∷ rest) = At r.TooDeep t.place
-fault_by end looked k rest = At r.Unexpected (place_left end looked k)
+-- The fault of tokens of which those that are looked at fail with k of them left: the token that cannot stand there, or
+-- the end of the text. Where they fail at their end and too many levels are open, it is the last that is looked at.
+abbrev pub fault_by : Place → List Lexeme → ℕ → SyntaxFault
+fault_by end ts zero = if leb (depth ts) most_levels then At r.Unexpected end else At r.TooDeep (place_left end (looked_at ts) 1)
+fault_by end ts (suc k) = At r.Unexpected (place_left end (looked_at ts) (suc k))
 
 -- where tokens are refused: those that are looked at fail
 abbrev pub Refuses : {A : Type 0} {d : ℕ → ℕ} {s : Bool} → Symbol d s A → Place → List Lexeme → SyntaxFault → Type 0
-Refuses p end ts fault = (k : ℕ) × Fails p (looked_at ts) k × (fault_by end (looked_at ts) k (left_out ts) ≡ fault)
+Refuses p end ts fault = (k : ℕ) × Fails p (looked_at ts) k × (fault_by end ts k ≡ fault)
 
 -- What a function that parses whole texts answers: as the tokens that are looked at are read, unless memory runs out.
 abbrev pub Parses : {A : Type 0} {d : ℕ → ℕ} {s : Bool} → Symbol d s A → Place → List Lexeme → Result A SyntaxFault → Type 0
 Parses p end ts (Ok a) = p.read (looked_at ts) ≡ Ok (a, [])
-Parses p end ts (Err fault) = fault ≢ Memory → (k : ℕ) × (p.read (looked_at ts) ≡ Err k) × (fault_by end (looked_at ts) k (left_out ts) ≡ fault)
+Parses p end ts (Err fault) = fault ≢ Memory → (k : ℕ) × (p.read (looked_at ts) ≡ Err k) × (fault_by end ts k ≡ fault)
 
 -- A fault with its place, where the tokens that are looked at were read.
 abbrev pub placed : Place → List Lexeme → ParseError → SyntaxFault
 placed end ts e.Memory = Memory
-placed end ts (e.Unexpected k) = fault_by end (looked_at ts) k (left_out ts)
+placed end ts (e.Unexpected k) = fault_by end ts k
 
 -- this answer, unless memory runs out
 abbrev pub OrMemory : {A : Type 0} → Result A SyntaxFault → Result A SyntaxFault → Type 0

@@ -37,16 +37,8 @@ most_levels = 100
 
 abbrev pub looked_from : ℕ → List Lexeme → List Lexeme
 looked_from n [] = []
-looked_from n (t ∷ ts) = if leb (shift t.kind n) most_levels then t ∷ looked_from (shift t.kind n) ts else []
+looked_from n (t ∷ ts) = t ∷ (if leb (shift t.kind n) most_levels then looked_from (shift t.kind n) ts else [])
 
--- The tokens that are looked at: those before the one that opens a level too many, or all.
+-- The tokens that are looked at: all, or those up to the first that opens a level too many, which is the last of them.
 abbrev pub looked_at : List Lexeme → List Lexeme
 looked_at ts = looked_from 0 ts
-
-abbrev pub left_from : ℕ → List Lexeme → List Lexeme
-left_from n [] = []
-left_from n (t ∷ ts) = if leb (shift t.kind n) most_levels then left_from (shift t.kind n) ts else t ∷ ts
-
--- the tokens that are not looked at
-abbrev pub left_out : List Lexeme → List Lexeme
-left_out ts = left_from 0 ts

@@ -3,3 +3,4 @@ pub mod Symbol
 pub mod Repetition
 pub mod Recursion
 pub mod Files
+pub mod Sources

@@ -1,6 +1,5 @@
 -- A symbol that stands in its own rule.
-use Rattle.std.specs.Prelude.{◌≡◌, ℕ, zero, suc, ◌<◌, List, length, Err}
-use Rattle.gql_text.specs.Lexeme.{Lexeme}
+use Rattle.std.specs.Prelude.{ℕ, zero, suc, length}
 use Rattle.gql_grammar.specs.Symbol.{Phrase, refuse}
 
 -- the rule within itself, this many times

@@ -2,9 +2,8 @@
 use Rattle.std.specs.Prelude.{◌≡◌, ℕ, zero, suc, ◌<◌, ◌≤◌, Bool, true, false, if◌then◌else◌, List, [], ◌∷◌, ◌++◌, length, Ok, Err, refl}
 use Rattle.std.proofs.Common.{arith, sym, ap, ap₂, ◌∙◌, cond, append_assoc, append-nil, subst}
 use Rattle.gql_text.specs.Lexeme.{Lexeme}
-use Rattle.gql_text.specs.declared.token.Kind.{Kind}
 use Rattle.gql_grammar.specs.Levels.{level}
-use Rattle.gql_grammar.specs.Symbol.{Symbol, Phrase, Part, Outcome, Reader, Rule, Takes, Shifts, and_then, before, sees, ◌>>=◌}
+use Rattle.gql_grammar.specs.Symbol.{Phrase, Part, Outcome, Reader, Rule, Takes, Shifts, and_then, ◌>>=◌}
 
 -- The number bounds the turns. Each takes a token, so more than the count of the tokens is enough.
 unfoldable pub while_from : {A : Type 0} → (List Lexeme → Bool) → Reader A → ℕ → List A → Reader (List A)

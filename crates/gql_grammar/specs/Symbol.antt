@@ -1,7 +1,7 @@
 -- A grammar symbol: what it derives, where it fails, and how it is read.
-use Rattle.std.specs.Prelude.{◌≡◌, ◌≢◌, ℕ, zero, suc, ◌<◌, ◌≤◌, ◌⊎◌, ◌||◌, ◌&&◌, not, bytes_eq, Bool, true, false, if◌then◌else◌, List, [], ◌∷◌, length, Result, Ok, Err, refl}
-use Rattle.std.proofs.Common.{inl, inr, arith, sym, ap, ap₂, ◌∙◌, cond, subst, true≢false}
-use Rattle.gql_text.specs.Kinds.{same_kind, same_kind_true, same_kind_same, same_kind_other}
+use Rattle.std.specs.Prelude.{◌≡◌, ℕ, ◌<◌, ◌≤◌, ◌⊎◌, ◌||◌, ◌&&◌, not, bytes_eq, Bool, true, false, if◌then◌else◌, List, [], ◌∷◌, length, Result, Ok, Err, refl}
+use Rattle.std.proofs.Common.{inl, inr, arith, ap, ap₂, ◌∙◌, cond}
+use Rattle.gql_text.specs.Kinds.{same_kind, same_kind_true}
 use Rattle.gql_text.specs.Lexeme.{Lexeme}
 use Rattle.gql_text.specs.declared.token.Kind.{Kind}
 use Rattle.gql_text.specs.declared.token.Kind.TheVariants.{EndOfText, Name}

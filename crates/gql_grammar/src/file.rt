@@ -1,7 +1,8 @@
 //! Whole texts: the tokens that are looked at, and faults with their places.
-ghost use Rattle.std.specs.Prelude.{◌≡◌, ◌≤◌, ◌<◌, ◌++◌, List, [], ◌∷◌, length, map, take, drop};
+ghost use Rattle.std.specs.Prelude.{◌≡◌, ◌≤◌, ◌<◌, ◌++◌, List, [], ◌∷◌, length, map, take};
 ghost use Rattle.gql_text.specs.Lexeme.{Lexeme, lexeme};
-ghost use Rattle.gql_grammar.specs.Levels.{depth, left_out, level, looked_at as the_looked_at, shift};
+ghost use Rattle.gql_grammar.specs.Levels.{depth, level, looked_at as the_looked_at, most_levels, shift};
+ghost use lib.Dec.{leb};
 ghost use Rattle.gql_grammar.specs.Files.{place_left as the_place_left, placed as the_placed};
 
 use crate::error::ParseError;
@@ -23,20 +24,29 @@ fn shifted(level: usize, kind: Kind) -> usize
     }
 }
 
-/// How many of the tokens are looked at: those before the first that opens a level too many, or all.
-pub fn looked_at(tokens: &[Token<'_>]) -> usize
-    ensures within { result ≤ length tokens.now }
-    ensures value { map lexeme (take result tokens.now) ≡ the_looked_at (map lexeme tokens.now) }
-    ensures rest { map lexeme (drop result tokens.now) ≡ left_out (map lexeme tokens.now) }
+// How many of the tokens are looked at, and whether at most 100 levels are open at one time.
+#[tactic(auto, using(crate::proofs::Levels::deep_none, crate::proofs::Levels::deep_here, crate::proofs::Levels::deep_later))]
+fn look(tokens: &[Token<'_>]) -> (usize, bool)
+    ensures within { result.0 ≤ length tokens.now }
+    ensures value { map lexeme (take result.0 tokens.now) ≡ the_looked_at (map lexeme tokens.now) }
+    ensures shallow { result.1 ≡ leb (depth (map lexeme tokens.now)) most_levels }
 {
     let mut level = 0;
     'tokens: for i in 0..tokens.len() {
         level = shifted(level, tokens[i].kind);
         if level > MAX_LEVELS {
-            return i;
+            return (i + 1, false);
         }
     }
-    tokens.len()
+    (tokens.len(), true)
+}
+
+/// How many of the tokens are looked at: all, or those up to the first that opens a level too many.
+pub fn looked_at(tokens: &[Token<'_>]) -> usize
+    ensures within { result ≤ length tokens.now }
+    ensures value { map lexeme (take result tokens.now) ≡ the_looked_at (map lexeme tokens.now) }
+{
+    look(tokens).0
 }
 
 // The place of the token from which `left` tokens are left, or the end's.
@@ -56,28 +66,29 @@ fn place_left(tokens: &[Token<'_>], left: usize, end: Place) -> Place
 pub fn placed(error: ParseError, tokens: &[Token<'_>], end: Place) -> SyntaxFault
     ensures { result ≡ the_placed end (map lexeme tokens.now) error }
 {
+    let (count, shallow) = look(tokens);
+    let looked = &tokens[..count];
     match error {
         ParseError::Memory => SyntaxFault::Memory,
-        ParseError::Unexpected(left) => {
-            let looked = looked_at(tokens);
-            if left == 0 && looked < tokens.len() {
-                return SyntaxFault::At {
-                    number: SyntaxRefusal::TooDeep,
-                    place: tokens[looked].place,
-                };
-            }
-            SyntaxFault::At {
-                number: SyntaxRefusal::Unexpected,
-                place: place_left(&tokens[..looked], left, end),
-            }
-        }
+        ParseError::Unexpected(0) if shallow => SyntaxFault::At {
+            number: SyntaxRefusal::Unexpected,
+            place: end,
+        },
+        ParseError::Unexpected(0) => SyntaxFault::At {
+            number: SyntaxRefusal::TooDeep,
+            place: place_left(looked, 1, end),
+        },
+        ParseError::Unexpected(left) => SyntaxFault::At {
+            number: SyntaxRefusal::Unexpected,
+            place: place_left(looked, left, end),
+        },
     }
 }
 
-/// The tokens that are looked at are all, or those before the one that opens level 101.
+/// The tokens that are looked at are all, or those up to the first that opens level 101.
 pub fn levels_law()
-    ensures parts { (ts : List Lexeme) → the_looked_at ts ++ left_out ts ≡ ts }
-    ensures shallow { (ts : List Lexeme) → depth (the_looked_at ts) ≤ 100 }
-    ensures all { (ts : List Lexeme) → depth ts ≤ 100 → left_out ts ≡ [] }
-    ensures over { (ts rest : List Lexeme) (t : Lexeme) → left_out ts ≡ t ∷ rest → 100 < shift t.kind (level 0 (the_looked_at ts)) }
+    ensures front { (ts : List Lexeme) → (rest : List Lexeme) × (the_looked_at ts ++ rest ≡ ts) }
+    ensures all { (ts : List Lexeme) → depth ts ≤ most_levels → the_looked_at ts ≡ ts }
+    ensures over { (ts : List Lexeme) → most_levels < depth ts → level 0 (the_looked_at ts) ≡ 101 }
+    ensures first { (ts before : List Lexeme) (t : Lexeme) → the_looked_at ts ≡ before ++ t ∷ [] → depth before ≤ most_levels }
 {}

@@ -48,24 +48,28 @@ fn a_cursor_reads_tokens_in_order(rt: HostRuntime) -> Result<(), Fail> {
 }
 
 #[test]
-fn the_101st_level_is_not_looked_at(rt: HostRuntime) {
-    let tokens = [token(Kind::LeftBrace, "{", 7); 101];
+fn nothing_is_looked_at_behind_the_101st_level(rt: HostRuntime) {
+    let tokens = [token(Kind::LeftBrace, "{", 7); 102];
     let end = place(700);
-    assert_eq!(rt; looked_at(&tokens), 100);
+    let at_level = SyntaxFault::At {
+        number: SyntaxRefusal::TooDeep,
+        place: place(7),
+    };
+    let at_token = SyntaxFault::At {
+        number: SyntaxRefusal::Unexpected,
+        place: place(7),
+    };
+    let at_end = SyntaxFault::At {
+        number: SyntaxRefusal::Unexpected,
+        place: end,
+    };
+    assert_eq!(rt; looked_at(&tokens), 101);
     assert_eq!(rt; looked_at(&tokens[..100]), 100);
-    assert_eq!(rt;
-        placed(ParseError::Unexpected(0), &tokens, end),
-        SyntaxFault::At {
-            number: SyntaxRefusal::TooDeep,
-            place: place(7)
-        }
-    );
+    assert_eq!(rt; placed(ParseError::Unexpected(0), &tokens, end), at_level);
+    assert_eq!(rt; placed(ParseError::Unexpected(1), &tokens, end), at_token);
     assert_eq!(rt;
         placed(ParseError::Unexpected(0), &tokens[..100], end),
-        SyntaxFault::At {
-            number: SyntaxRefusal::Unexpected,
-            place: end
-        }
+        at_end
     );
     assert_eq!(rt;
         placed(ParseError::Memory, &tokens, end),

@@ -1,0 +1,21 @@
+-- Sources: the texts whose tokens a symbol derives, and the faults of the others.
+use Rattle.std.specs.Prelude.{◌≡◌, ◌⊎◌, ℕ, Bool, List}
+use Rattle.gql_text.specs.Lexeme.{Lexeme}
+use Rattle.gql_text.specs.Lexis.{IsLexed, LexFails}
+use Rattle.gql_text.specs.Place.{place_after}
+use Rattle.gql_text.specs.declared.place.Place.{Place}
+use Rattle.gql_text.specs.declared.token.LexRefusal.{LexRefusal}
+use Rattle.gql_grammar.specs.Symbol.{Symbol}
+use Rattle.gql_grammar.specs.Files.{Accepts, Refuses, refusal_of}
+use Rattle.gql_grammar.specs.declared.fault.SyntaxFault.{SyntaxFault}
+use Rattle.gql_grammar.specs.declared.fault.SyntaxFault.TheVariants.{At}
+
+-- the source is tokens that the symbol accepts as this value
+abbrev pub IsSourceOf : {A : Type 0} {d : ℕ → ℕ} {s : Bool} → Symbol d s A → List ℕ → A → Type 0
+IsSourceOf p source a = (ts : List Lexeme) × IsLexed source ts × Accepts p ts a
+
+-- the source has a fault of the lexer, or is tokens that the symbol refuses
+abbrev pub IsFaultOf : {A : Type 0} {d : ℕ → ℕ} {s : Bool} → Symbol d s A → List ℕ → SyntaxFault → Type 0
+IsFaultOf p source fault =
+    ((number : LexRefusal) × (place : Place) × LexFails source number place × (At (refusal_of number) place ≡ fault))
+    ⊎ ((ts : List Lexeme) × IsLexed source ts × Refuses p (place_after source) ts fault)

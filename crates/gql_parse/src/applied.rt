@@ -1,0 +1,107 @@
+//! Arguments and directives (GraphQL specification, 2.6 and 2.12), with constant values or not.
+ghost use Rattle.std.specs.Prelude.{◌<◌, ◌≤◌, length, OnOk};
+ghost use Rattle.gql_text.specs.declared.token.Kind.TheVariants as k;
+ghost use Rattle.gql_grammar.specs.Symbol.{Reads, before};
+ghost use Rattle.gql_grammar.specs.Repetition.{some_while};
+ghost use Rattle.gql_parse.specs.Directives as spec;
+
+use crate::literal::value;
+use crate::names::name;
+use gql_ast::{Argument, Directive, Items};
+use gql_grammar::{Cursor, ParseError};
+use gql_text::Kind;
+use std::alloc::Global;
+
+#[tactic(auto, unfolding(crate::specs::Directives::argument))]
+fn argument(alloc: Global, cursor: &mut Cursor<'_>, constant: bool) -> Result<Argument, ParseError>
+    ensures value { Reads ((spec.argument constant).read cursor.old) result cursor.new }
+    ensures shorter { OnOk result (length cursor.new < length cursor.old) }
+{
+    let name = name(alloc, cursor)?;
+    cursor.expect(Kind::Colon)?;
+    let value = value(alloc, cursor, constant)?;
+    Ok(Argument { name, value })
+}
+
+#[tactic(auto, using(gql_grammar::proofs::Loops::going_init, gql_grammar::proofs::Loops::going_on))]
+fn argument_list(
+    alloc: Global,
+    cursor: &mut Cursor<'_>,
+    constant: bool,
+) -> Result<Items<Argument>, ParseError>
+    ensures value { Reads ((some_while (before k.RightParenthesis) (spec.argument constant)).read cursor.old) result cursor.new }
+    ensures shorter { OnOk result (length cursor.new < length cursor.old) }
+{
+    let mut found = Items::new(alloc);
+    found.push(argument(alloc, cursor, constant)?)?;
+    'arguments: while cursor.before(Kind::RightParenthesis) {
+        found.push(argument(alloc, cursor, constant)?)?;
+    }
+    Ok(found)
+}
+
+#[tactic(auto, unfolding(crate::specs::Directives::arguments))]
+fn arguments(
+    alloc: Global,
+    cursor: &mut Cursor<'_>,
+    constant: bool,
+) -> Result<Items<Argument>, ParseError>
+    ensures value { Reads ((spec.arguments constant).read cursor.old) result cursor.new }
+    ensures shorter { OnOk result (length cursor.new < length cursor.old) }
+{
+    cursor.expect(Kind::LeftParenthesis)?;
+    let found = argument_list(alloc, cursor, constant)?;
+    cursor.expect(Kind::RightParenthesis)?;
+    Ok(found)
+}
+
+/// The arguments of a field or a directive, or none (2.6).
+pub fn optional_arguments(
+    alloc: Global,
+    cursor: &mut Cursor<'_>,
+    constant: bool,
+) -> Result<Items<Argument>, ParseError>
+    ensures value { Reads ((spec.optional_arguments constant).read cursor.old) result cursor.new }
+    ensures shorter { OnOk result (length cursor.new ≤ length cursor.old) }
+{
+    if !cursor.sees(Kind::LeftParenthesis) {
+        return Ok(Items::new(alloc));
+    }
+    arguments(alloc, cursor, constant)
+}
+
+#[tactic(auto, unfolding(crate::specs::Directives::directive))]
+fn directive(
+    alloc: Global,
+    cursor: &mut Cursor<'_>,
+    constant: bool,
+) -> Result<Directive, ParseError>
+    ensures value { Reads ((spec.directive constant).read cursor.old) result cursor.new }
+    ensures shorter { OnOk result (length cursor.new < length cursor.old) }
+{
+    let mark = cursor.expect(Kind::At)?;
+    let name = name(alloc, cursor)?;
+    let arguments = optional_arguments(alloc, cursor, constant)?;
+    Ok(Directive {
+        place: mark.place,
+        name,
+        arguments,
+    })
+}
+
+/// The directives that stand next, of which there may be none (2.12). The values of constant ones have no variables.
+#[tactic(auto, unfolding(crate::specs::Directives::directives), using(gql_grammar::proofs::Loops::going_init, gql_grammar::proofs::Loops::going_on))]
+pub fn directives(
+    alloc: Global,
+    cursor: &mut Cursor<'_>,
+    constant: bool,
+) -> Result<Items<Directive>, ParseError>
+    ensures value { Reads ((spec.directives constant).read cursor.old) result cursor.new }
+    ensures shorter { OnOk result (length cursor.new ≤ length cursor.old) }
+{
+    let mut found = Items::new(alloc);
+    'directives: while cursor.sees(Kind::At) {
+        found.push(directive(alloc, cursor, constant)?)?;
+    }
+    Ok(found)
+}

@@ -1,0 +1,78 @@
+//! Whole documents: from a source to its tree, or to the one fault that it has.
+ghost use Rattle.std.specs.Prelude.{◌≡◌, ◌⊎◌, ℕ, List, map, IfOk, Ok, Err};
+ghost use Rattle.gql_text.specs.Lexeme.{lexeme};
+ghost use Rattle.gql_text.specs.declared.place.Place.{Place as ThePlace};
+ghost use Rattle.gql_ast.specs.declared.definition.Document.{Document as TheDocument};
+ghost use Rattle.gql_grammar.specs.Files.{Accepts, OrMemory, Parses, Refuses};
+ghost use Rattle.gql_grammar.specs.Sources.{IsFaultOf, IsSourceOf};
+ghost use Rattle.gql_grammar.specs.declared.fault.SyntaxFault.{SyntaxFault as TheFault};
+ghost use Rattle.gql_grammar.specs.declared.fault.SyntaxRefusal.{SyntaxRefusal as TheRefusal};
+ghost use Rattle.gql_parse.specs.Documents.{executable};
+
+use crate::executable::read;
+use gql_ast::{Document, FileName};
+use gql_grammar::{SyntaxFault, looked_at, placed};
+use gql_text::{Place, Token, end_place, lex};
+use std::alloc::Global;
+
+// No token behind the one that opens level 101 is read, which bounds how deep calls stand within each other, too.
+fn parse_looked_at(
+    alloc: Global,
+    tokens: &[Token<'_>],
+    file: &FileName,
+    end: Place,
+) -> Result<Document, SyntaxFault>
+    ensures { Parses (executable file.now) end (map lexeme tokens.now) result }
+{
+    let looked = looked_at(tokens);
+    match read(alloc, &tokens[..looked], file) {
+        Ok(document) => Ok(document),
+        Err(error) => Err(placed(error, tokens, end)),
+    }
+}
+
+/// The document that tokens are, or their fault. The end is the place behind the text.
+pub fn parse_tokens(
+    alloc: Global,
+    tokens: &[Token<'_>],
+    file: &FileName,
+    end: Place,
+) -> Result<Document, SyntaxFault>
+    // What is parsed derives from the tokens, and opens at most 100 levels.
+    ensures accepted { IfOk result (λ d. Accepts (executable file.now) (map lexeme tokens.now) d) }
+    // What derives from the tokens with at most 100 levels is parsed.
+    ensures complete { (d : TheDocument) → Accepts (executable file.now) (map lexeme tokens.now) d → OrMemory result (Ok d) }
+    // A fault is where the tokens are refused.
+    ensures refused { (number : TheRefusal) (place : ThePlace) → result ≡ Err (SyntaxFault.At number place)
+        → Refuses (executable file.now) end (map lexeme tokens.now) (SyntaxFault.At number place) }
+    // Where the tokens are refused is the fault.
+    ensures faulty { (fault : TheFault) → Refuses (executable file.now) end (map lexeme tokens.now) fault → OrMemory result (Err fault) }
+{
+    parse_looked_at(alloc, tokens, file, end)
+}
+
+/// The document that a source is, or its fault: one of the lexer, else 111 or 112.
+pub fn parse(alloc: Global, file: FileName, source: &str) -> Result<Document, SyntaxFault>
+    // What is parsed is what the source's tokens derive, with at most 100 levels.
+    ensures accepted { IfOk result (λ d. IsSourceOf (executable file) source.now d) }
+    // What the source's tokens derive is parsed.
+    ensures complete { (d : TheDocument) → IsSourceOf (executable file) source.now d → OrMemory result (Ok d) }
+    // A fault is that of the source.
+    ensures refused { (number : TheRefusal) (place : ThePlace) → result ≡ Err (SyntaxFault.At number place)
+        → IsFaultOf (executable file) source.now (SyntaxFault.At number place) }
+    // The fault of the source is told.
+    ensures faulty { (fault : TheFault) → IsFaultOf (executable file) source.now fault → OrMemory result (Err fault) }
+{
+    match lex(alloc, source) {
+        Ok(tokens) => parse_looked_at(alloc, tokens.as_slice(), &file, end_place(source)),
+        Err(fault) => Err(SyntaxFault::of(fault)),
+    }
+}
+
+/// A source is one document, or has one fault, and never both.
+pub fn one_answer()
+    ensures document { (file source : List ℕ) (a b : TheDocument) → IsSourceOf (executable file) source a → IsSourceOf (executable file) source b → a ≡ b }
+    ensures fault { (file source : List ℕ) (f g : TheFault) → IsFaultOf (executable file) source f → IsFaultOf (executable file) source g → f ≡ g }
+    ensures apart { (file source : List ℕ) (d : TheDocument) (f : TheFault) → IsSourceOf (executable file) source d → IsFaultOf (executable file) source f → ⊥ }
+    ensures some { (file source : List ℕ) → ((d : TheDocument) × IsSourceOf (executable file) source d) ⊎ ((f : TheFault) × IsFaultOf (executable file) source f) }
+{}

@@ -1,0 +1,70 @@
+//! Executable documents (GraphQL specification, 2.2).
+ghost use Rattle.std.specs.Prelude.{◌<◌, [], length, map, OnOk};
+ghost use Rattle.gql_text.specs.declared.token.Kind.TheVariants as k;
+ghost use Rattle.gql_text.specs.Lexeme.{lexeme};
+ghost use Rattle.gql_grammar.specs.Symbol.{Reads, before};
+ghost use Rattle.gql_grammar.specs.Repetition.{some_while};
+ghost use Rattle.gql_parse.specs.Documents as spec;
+
+use crate::operations::{fragment, operation};
+use gql_ast::{Definition, Document, FileName, Items, Shared, Tree};
+use gql_grammar::{Cursor, ParseError};
+use gql_text::{Kind, Token};
+use std::alloc::Global;
+
+/// An operation or a fragment.
+#[tactic(auto, unfolding(crate::specs::Documents::definition))]
+pub fn definition(alloc: Global, cursor: &mut Cursor<'_>) -> Result<Tree, ParseError>
+    ensures value { Reads (spec.definition.read cursor.old) result cursor.new }
+    ensures shorter { OnOk result (length cursor.new < length cursor.old) }
+{
+    if cursor.sees_word("fragment") {
+        Ok(Tree::Fragment(fragment(alloc, cursor)?))
+    } else {
+        Ok(Tree::Operation(operation(alloc, cursor)?))
+    }
+}
+
+#[tactic(auto, unfolding(crate::specs::Documents::definition_in))]
+fn definition_in(
+    alloc: Global,
+    cursor: &mut Cursor<'_>,
+    file: &FileName,
+) -> Result<Definition, ParseError>
+    ensures value { Reads ((spec.definition_in file.now).read cursor.old) result cursor.new }
+    ensures shorter { OnOk result (length cursor.new < length cursor.old) }
+{
+    let tree = definition(alloc, cursor)?;
+    Ok(Definition {
+        file: file.copy(),
+        tree: Shared::new(alloc, tree)?,
+    })
+}
+
+#[tactic(auto, using(gql_grammar::proofs::Loops::going_init, gql_grammar::proofs::Loops::going_on))]
+fn definitions(
+    alloc: Global,
+    cursor: &mut Cursor<'_>,
+    file: &FileName,
+) -> Result<Items<Definition>, ParseError>
+    ensures value { Reads ((some_while (before k.EndOfText) (spec.definition_in file.now)).read cursor.old) result cursor.new }
+    ensures shorter { OnOk result (length cursor.new < length cursor.old) }
+{
+    let mut found = Items::new(alloc);
+    found.push(definition_in(alloc, cursor, file)?)?;
+    'definitions: while cursor.before(Kind::EndOfText) {
+        found.push(definition_in(alloc, cursor, file)?)?;
+    }
+    Ok(found)
+}
+
+/// The document that all of the tokens are.
+#[tactic(auto, unfolding(crate::specs::Documents::executable, crate::specs::Documents::document))]
+pub fn read(alloc: Global, tokens: &[Token<'_>], file: &FileName) -> Result<Document, ParseError>
+    ensures { Reads ((spec.executable file.now).read (map lexeme tokens.now)) result [] }
+{
+    let mut cursor = Cursor::new(tokens);
+    let definitions = definitions(alloc, &mut cursor, file)?;
+    cursor.end()?;
+    Ok(Document { definitions })
+}

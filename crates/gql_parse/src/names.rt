@@ -1,0 +1,34 @@
+//! Names (GraphQL specification, 2.1.9).
+ghost use Rattle.std.specs.Prelude.{◌<◌, ◌≤◌, length, OnOk};
+ghost use Rattle.gql_grammar.specs.Symbol.{Reads};
+ghost use Rattle.gql_parse.specs.Names as spec;
+
+use gql_ast::{Name, Text};
+use gql_grammar::{Cursor, ParseError};
+use gql_text::Kind;
+use std::alloc::Global;
+
+/// A name.
+#[tactic(auto, unfolding(crate::specs::Names::name))]
+pub fn name(alloc: Global, cursor: &mut Cursor<'_>) -> Result<Name, ParseError>
+    ensures value { Reads (spec.name.read cursor.old) result cursor.new }
+    ensures shorter { OnOk result (length cursor.new < length cursor.old) }
+{
+    let token = cursor.expect(Kind::Name)?;
+    Ok(Name {
+        place: token.place,
+        text: Text::from_str(alloc, token.text)?,
+    })
+}
+
+/// The name of an operation, which may be absent (2.3).
+#[tactic(auto, unfolding(crate::specs::Names::some_name))]
+pub fn optional_name(alloc: Global, cursor: &mut Cursor<'_>) -> Result<Option<Name>, ParseError>
+    ensures value { Reads (spec.optional_name.read cursor.old) result cursor.new }
+    ensures shorter { OnOk result (length cursor.new ≤ length cursor.old) }
+{
+    if !cursor.sees(Kind::Name) {
+        return Ok(None);
+    }
+    Ok(Some(name(alloc, cursor)?))
+}
