@@ -5,4 +5,4 @@
 mod object;
 mod schema_file;
 
-pub use schema_file::parse_sdl;
+pub use schema_file::{one_answer, parse_sdl};

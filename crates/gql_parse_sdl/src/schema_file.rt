@@ -1,15 +1,17 @@
-ghost use Rattle.std.specs.Prelude.{◌≡◌, IfOk, Err, [], map};
+ghost use Rattle.std.specs.Prelude.{◌≡◌, ◌⊎◌, ℕ, List, IfOk, Ok, Err, [], map};
 ghost use Rattle.gql_text.specs.Lexeme.{lexeme};
-ghost use Rattle.gql_text.specs.declared.place.Place.{Place};
+ghost use Rattle.gql_text.specs.declared.place.Place.{Place as ThePlace};
+ghost use Rattle.gql_ast.specs.declared.definition.Document.{Document as TheDocument};
 ghost use Rattle.gql_grammar.specs.Symbol.{Reads};
-ghost use Rattle.gql_grammar.specs.Files.{Parses};
-ghost use Rattle.gql_grammar.specs.declared.fault.SyntaxRefusal.{SyntaxRefusal};
+ghost use Rattle.gql_grammar.specs.Files.{Parses, OrMemory};
+ghost use Rattle.gql_grammar.specs.declared.fault.SyntaxFault.{SyntaxFault as TheFault};
+ghost use Rattle.gql_grammar.specs.declared.fault.SyntaxRefusal.{SyntaxRefusal as TheRefusal};
 ghost use Rattle.gql_parse_sdl.specs.SchemaFiles as spec;
 
 use crate::object::object;
 use gql_ast::{Definition, Document, FileName, Items, Shared, Tree};
 use gql_grammar::{Cursor, ParseError, SyntaxFault, looked_at, placed};
-use gql_text::{Kind, Token, end_place, lex};
+use gql_text::{Kind, Place, Token, end_place, lex};
 use std::alloc::Global;
 
 #[tactic(auto, unfolding(crate::specs::SchemaFiles::definition))]
@@ -43,7 +45,7 @@ fn definitions(
     Ok(found)
 }
 
-#[tactic(auto, unfolding(crate::specs::SchemaFiles::schema_file))]
+#[tactic(auto, unfolding(crate::specs::SchemaFiles::schema_file, crate::specs::SchemaFiles::document))]
 fn document(alloc: Global, file: &FileName, tokens: &[Token<'_>]) -> Result<Document, ParseError>
     ensures { Reads ((spec.schema_file file.now).read (map lexeme tokens.now)) result [] }
 {
@@ -57,7 +59,7 @@ fn from_tokens(
     alloc: Global,
     file: &FileName,
     tokens: &[Token<'_>],
-    end: gql_text::Place,
+    end: Place,
 ) -> Result<Document, SyntaxFault>
     ensures { Parses (spec.schema_file file.now) end (map lexeme tokens.now) result }
 {
@@ -72,12 +74,26 @@ fn from_tokens(
 /// none is refused at the first place where it cannot go on: by the lexer (101 to 106), or else by the grammar (111,
 /// and 112 for the 101st brace or bracket open at one time).
 pub fn parse_sdl(alloc: Global, file: FileName, source: &str) -> Result<Document, SyntaxFault>
+    // What is parsed is what the source's tokens derive, with at most 100 levels.
     ensures accepted { IfOk result (spec.IsSchemaFile file source.now) }
-    ensures refused { (number : SyntaxRefusal) (place : Place) → result ≡ Err (SyntaxFault.At number place)
-        → spec.IsSchemaFault file source.now number place }
+    // What the source's tokens derive is parsed.
+    ensures complete { (d : TheDocument) → spec.IsSchemaFile file source.now d → OrMemory result (Ok d) }
+    // A fault is that of the source.
+    ensures refused { (number : TheRefusal) (place : ThePlace) → result ≡ Err (SyntaxFault.At number place)
+        → spec.IsSchemaFault file source.now (SyntaxFault.At number place) }
+    // The fault of the source is told.
+    ensures faulty { (fault : TheFault) → spec.IsSchemaFault file source.now fault → OrMemory result (Err fault) }
 {
     match lex(alloc, source) {
-        Err(fault) => Err(SyntaxFault::of(fault)),
         Ok(tokens) => from_tokens(alloc, &file, tokens.as_slice(), end_place(source)),
+        Err(fault) => Err(SyntaxFault::of(fault)),
     }
 }
+
+/// A source is one schema file, or has one fault, and never both.
+pub fn one_answer()
+    ensures document { (file source : List ℕ) (a b : TheDocument) → spec.IsSchemaFile file source a → spec.IsSchemaFile file source b → a ≡ b }
+    ensures fault { (file source : List ℕ) (f g : TheFault) → spec.IsSchemaFault file source f → spec.IsSchemaFault file source g → f ≡ g }
+    ensures apart { (file source : List ℕ) (d : TheDocument) (f : TheFault) → spec.IsSchemaFile file source d → spec.IsSchemaFault file source f → ⊥ }
+    ensures some { (file source : List ℕ) → ((d : TheDocument) × spec.IsSchemaFile file source d) ⊎ ((f : TheFault) × spec.IsSchemaFault file source f) }
+{}

@@ -3,6 +3,7 @@ use Rattle.std.specs.Prelude.{ℕ, ◌≡◌, ◌<◌, ◌≤◌, ◌+◌, ◌^�
 use Rattle.gql_ast.specs.FileMaps.{file_named, with_file, without_file}
 use Rattle.gql_ast.specs.declared.definition.Document.{Document}
 use Rattle.gql_ast.specs.declared.files.Files.{Files}
+use Rattle.gql_grammar.specs.declared.fault.SyntaxFault.TheVariants.{At}
 use Rattle.gql_parse_sdl.specs.SchemaFiles.{IsSchemaFile, IsSchemaFault}
 use Rattle.gql_registry.specs.Report.{report_of}
 use Rattle.gql_registry.specs.declared.refusal.Refusal.{Refusal}
@@ -66,7 +67,7 @@ PutsSchema s name bytes (Err refusal.TooLong) t = (s.revision < last_revision) �
 PutsSchema s name bytes (Err refusal.NotText) t =
     (s.revision < last_revision) × (length bytes ≤ file_limit) × ¬ (IsUtf8 bytes) × (t ≡ s)
 PutsSchema s name bytes (Err (refusal.Syntax number place)) t =
-    (s.revision < last_revision) × (length bytes ≤ file_limit) × IsUtf8 bytes × IsSchemaFault name bytes number place × (t ≡ s)
+    (s.revision < last_revision) × (length bytes ≤ file_limit) × IsUtf8 bytes × IsSchemaFault name bytes (At number place) × (t ≡ s)
 PutsSchema s name bytes (Err refusal.FilesFull) t =
     (s.revision < last_revision) × (length bytes ≤ file_limit) × IsUtf8 bytes × ((document : Document) × IsSchemaFile name bytes document)
     × (file_named s.files.schema name ≡ None) × (most_files ≤ length s.files.schema) × (t ≡ s)
