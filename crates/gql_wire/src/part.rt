@@ -1,4 +1,4 @@
-ghost use Rattle.std.specs.Prelude.{◌≡◌, ◌≢◌, ◌+◌, ◌<◌, ◌≤◌, ℕ, length, take, drop, slice_index};
+ghost use Rattle.std.specs.Prelude.{◌≡◌, ◌≢◌, ◌+◌, ◌-◌, ◌<◌, ◌≤◌, ℕ, length, take, drop, slice_index};
 
 /// The first bytes.
 pub fn front(bytes: &[u8], count: usize) -> &[u8]
@@ -21,6 +21,7 @@ pub fn line_len(bytes: &[u8]) -> usize
     requires { 0 < length bytes.now }
     ensures some { 0 < result }
     ensures within { result ≤ length bytes.now }
+    ensures ended { result < length bytes.now → slice_index bytes.now (result - 1) ≡ 10 }
     ensures line { (k : ℕ) → k + 1 < result → slice_index bytes.now k ≢ 10 }
 {
     for (index, byte) in bytes.iter().enumerate() {
