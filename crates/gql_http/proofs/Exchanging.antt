@@ -1,5 +1,5 @@
 -- A pipe's pieces, one after another.
-use Rattle.std.proofs.Common.{◌≡◌, ◌⊎◌, inl, inr, ℕ, List, [], ◌∷◌, ◌++◌, Bool, true, false, cond, Option, Some, None, refl, sym, ap, ◌∙◌, subst, append_assoc, append-nil}
+use Rattle.std.proofs.Common.{◌≡◌, ◌⊎◌, inl, inr, ℕ, List, [], ◌++◌, Bool, true, false, cond, Option, Some, None, refl, sym, ap, ◌∙◌, subst, append_assoc, append-nil}
 use Rattle.gql_registry.specs.State.{State}
 use Rattle.gql_wire.specs.Device.{Gains, GainsPrefix}
 use Rattle.gql_wire.specs.Laws.{Feeding, NothingUnfinished}

@@ -1,12 +1,11 @@
 -- Pieces of a connection's bytes, one behind another.
-use Rattle.std.proofs.Common.{◌≡◌, ℕ, ◌+◌, ◌-◌, List, [], ◌∷◌, ◌++◌, length, map, Bool, true, false, cond, Option, Some, None, refl, sym, ap, ◌∙◌, subst, arith, append_assoc, add_assoc, eqb-true}
+use Rattle.std.proofs.Common.{◌≡◌, ℕ, ◌+◌, ◌-◌, List, [], ◌∷◌, ◌++◌, length, map, Bool, true, false, cond, Option, Some, refl, sym, ap, ◌∙◌, subst, arith, append_assoc, add_assoc, eqb-true}
 use Rattle.std.specs.Prelude.{◌==◌, ◌&&◌}
-use Rattle.std.specs.List.{flat_map}
 use Rattle.std.proofs.lemmas.Grind.{common_steps}
 use Rattle.gql_registry.specs.State.{State}
-use Rattle.gql_wire.specs.Stream.{Req, IsRequest, behind_blank, IsUnfinished, Placed, Splits, unfinished, last, next, closes, skip_blank, StaysOpen}
+use Rattle.gql_wire.specs.Stream.{Req, behind_blank, Placed, Splits, unfinished, last, next, closes, skip_blank, StaysOpen}
 use Rattle.gql_wire.specs.Laws.{Feeding, NothingUnfinished}
-use Rattle.gql_http.specs.Service.{Step, Run, done, more}
+use Rattle.gql_http.specs.Service.{Run, done, more}
 use Rattle.gql_http.specs.Exchange.{requests_of, joined, is_closed, Serves, Begins, here, behind, Breaks}
 
 -- the requests, this many bytes later

@@ -1,5 +1,5 @@
 -- The answers: their statuses and bodies, and their bytes.
-use Rattle.std.specs.Prelude.{ℕ, List, [], ◌∷◌, ◌++◌, length, codes, decimal, Option, Some, None, Bool, if◌then◌else◌, Result, Ok, Err}
+use Rattle.std.specs.Prelude.{ℕ, List, [], ◌++◌, length, codes, decimal, Option, Some, None, Bool, if◌then◌else◌, Result, Ok, Err}
 use Rattle.json.specs.Print.{quoted}
 use Rattle.gql_text.specs.declared.place.Place.{Place}
 use Rattle.gql_grammar.specs.Files.{number_of}
@@ -15,7 +15,6 @@ use Rattle.gql_wire.specs.Answer.{answer_head_of}
 use Rattle.gql_wire.specs.declared.answer.Allow.{Allow}
 use Rattle.gql_wire.specs.declared.head.HeadRefusal.{HeadRefusal}
 use Rattle.gql_wire.specs.declared.head.HeadRefusal.TheVariants as head
-use Rattle.gql_wire.specs.Head as wire
 use Rattle.gql_http.specs.Json.{faults_text, report_text, edited_text}
 
 -- an answer: its status, the methods of the route where the status is 405, and its body

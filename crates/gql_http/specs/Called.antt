@@ -1,5 +1,4 @@
 -- What the code's calls say.
-use Rattle.std.specs.Prelude.{ℕ, List}
 use Rattle.gql_http.specs.Answers.{Said, no_route, not_allowed, bad_query}
 use Rattle.gql_http.specs.Routes as spec
 use Rattle.gql_http.specs.declared.route.Call.{Call}

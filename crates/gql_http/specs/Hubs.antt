@@ -1,5 +1,5 @@
 -- What a hub holds: the state of the service, and the unfinished bytes of each open connection.
-use Rattle.std.specs.Prelude.{ℕ, zero, suc, ◌≡◌, List, [], ◌++◌, Option, Some, None, Bool, true, false, IsSome, nat_lt, length}
+use Rattle.std.specs.Prelude.{ℕ, zero, suc, ◌≡◌, List, ◌++◌, Option, Some, None, Bool, true, false, nat_lt, length}
 use Rattle.gql_registry.specs.State.{State}
 use Rattle.gql_registry.specs.State as registry
 use Rattle.gql_http.specs.Exchange.{Serves, Breaks}

@@ -1,5 +1,5 @@
 -- What a pipe writes for what it reads.
-use Rattle.std.specs.Prelude.{ℕ, ◌≡◌, List, [], Bool, true, false, Option, Some, None, Result, Ok, Err, ◌⊎◌}
+use Rattle.std.specs.Prelude.{ℕ, ◌≡◌, List, Bool, true, false, Option, Result, Ok, Err, ◌⊎◌}
 use Rattle.gql_registry.specs.State.{State}
 use Rattle.gql_wire.specs.Device.{Gains, GainsPrefix}
 use Rattle.gql_http.specs.Exchange.{Serves, Breaks}

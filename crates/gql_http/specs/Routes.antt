@@ -1,8 +1,7 @@
 -- Which call a request is.
-use Rattle.std.specs.Prelude.{ℕ, List, [], ◌∷◌, not, take, drop, codes, bytes_eq, nat_eq, ◌==◌, Bool, if◌then◌else◌}
+use Rattle.std.specs.Prelude.{ℕ, List, not, take, drop, codes, bytes_eq, nat_eq, ◌==◌, Bool, if◌then◌else◌}
 use Rattle.std.specs.List.{prefix_len, list_any, starts_with}
 use Rattle.gql_ast.specs.FileNames.{is_file_name}
-use Rattle.gql_wire.specs.declared.answer.Allow.{Allow}
 use Rattle.gql_wire.specs.declared.answer.Allow.TheVariants.{PutDelete, Get}
 use Rattle.gql_http.specs.Answers.{Said, no_route, not_allowed, bad_query}
 

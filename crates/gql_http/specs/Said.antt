@@ -1,5 +1,5 @@
 -- What the code's answers say.
-use Rattle.std.specs.Prelude.{ℕ, ◌≡◌, ◌++◌, List, Some, Vec}
+use Rattle.std.specs.Prelude.{ℕ, List}
 use Rattle.gql_http.specs.Answers.{Said, answer_bytes}
 use Rattle.gql_http.specs.declared.answer.Answer.{Answer}
 use Rattle.gql_http.specs.declared.answer.Ending.{Ending}

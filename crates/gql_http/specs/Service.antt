@@ -1,5 +1,5 @@
 -- The service as a machine: what each request answers, and the state that it leaves.
-use Rattle.std.specs.Prelude.{ℕ, ◌≡◌, List, [], ◌∷◌, ◌++◌, codes, bytes_eq, Bool, true, false, Option, Some, Result}
+use Rattle.std.specs.Prelude.{ℕ, ◌≡◌, List, [], ◌∷◌, codes, bytes_eq, Bool, true, Some, Result}
 use Rattle.gql_registry.specs.State.{State, PutsSchema, RemovesSchema}
 use Rattle.gql_registry.specs.declared.refusal.Refusal.{Refusal}
 use Rattle.gql_registry.specs.declared.registry.Edited.{Edited}

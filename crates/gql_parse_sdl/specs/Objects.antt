@@ -1,8 +1,8 @@
 -- The grammar of object types (GraphQL specification, 3.6).
-use Rattle.std.specs.Prelude.{ℕ, List, [], ◌∷◌, Bool, true, false, None, codes, if◌then◌else◌}
+use Rattle.std.specs.Prelude.{List, [], Bool, true, false, None, codes}
 use Rattle.gql_text.specs.Lexeme.{Lexeme}
 use Rattle.gql_text.specs.declared.token.Kind.TheVariants as k
-use Rattle.gql_grammar.specs.Symbol.{Symbol, Phrase, Part, token, word, optional, sees, before, pure, ◌>>=◌, ◌>>◌}
+use Rattle.gql_grammar.specs.Symbol.{Phrase, Part, token, word, optional, sees, before, pure, ◌>>=◌, ◌>>◌}
 use Rattle.gql_grammar.specs.Repetition.{some_while}
 use Rattle.gql_ast.specs.declared.text.Name.{Name}
 use Rattle.gql_ast.specs.declared.type_ref.TypeRef.{TypeRef}

@@ -1,6 +1,6 @@
 -- Counting and finding names among those that the code holds.
-use Rattle.std.proofs.Common.{◌≡◌, ◌<◌, ℕ, length, get_or, take, append_assoc, append-nil, ◌+◌, List, [], ◌∷◌, ◌++◌, map, bytes_eq, codes, Bool, refl, sym, ap, ◌∙◌, arith, filter, cond, true, false}
-use Rattle.std.specs.List.{sum_by, list_any, list_all}
+use Rattle.std.proofs.Common.{◌≡◌, ◌<◌, ℕ, length, get_or, take, append_assoc, append-nil, ◌+◌, List, [], ◌∷◌, ◌++◌, map, bytes_eq, codes, Bool, refl, sym, ap, ◌∙◌, arith, filter, cond, true}
+use Rattle.std.specs.List.{sum_by, list_any}
 use Rattle.std.proofs.lemmas.List.Sums.{sum_by-cons}
 use Rattle.std.proofs.lemmas.Grind.{common_steps}
 use Rattle.std.proofs.lemmas.List.{take_more}

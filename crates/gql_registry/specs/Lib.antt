@@ -2,3 +2,4 @@ pub mod Refusals
 pub mod Report
 pub mod State
 pub mod TypeNames
+pub mod Laws

@@ -1,10 +1,11 @@
 //! The registry: schema files in, faults out.
 #![tactic(auto)]
 
+pub mod laws;
 mod refusal;
 mod registry;
 mod report;
 mod type_names;
 
 pub use refusal::Refusal;
-pub use registry::{Edited, MAX_FILES, MAX_FILE_BYTES, Registry};
+pub use registry::{Edited, MAX_FILE_BYTES, MAX_FILES, Registry};

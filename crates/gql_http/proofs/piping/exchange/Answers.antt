@@ -1,4 +1,4 @@
-use Rattle.std.proofs.Common.{rules, arith, refl, sym, ap, ◌∙◌, ◌++◌, ◌+◌, take, ◌≡◌, true, false}
+use Rattle.std.proofs.Common.{arith, refl, ◌∙◌, ◌++◌}
 use Rattle.gql_http.specs.Hubs.{is_unfinished, rest_of}
 use Rattle.gql_http.proofs.Exchanging.{exchanged_init, answered, told_nothing, told_more, fed_some, fed_up_to, fed_closed, fed_open}
 use Rattle.gql_http.proofs.piping.exchange.Goals as goal

@@ -1,4 +1,4 @@
-use Rattle.std.proofs.Common.{rules, ◌++◌, codes, decimal}
+use Rattle.std.proofs.Common.{codes, decimal}
 use Rattle.json.specs.Print.{quoted}
 use Rattle.gql_http.specs.Answers.{located_text}
 use Rattle.gql_http.proofs.Appended.{seven_parts}

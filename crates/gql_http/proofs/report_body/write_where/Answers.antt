@@ -1,4 +1,4 @@
-use Rattle.std.proofs.Common.{rules, ◌++◌, codes}
+use Rattle.std.proofs.Common.{codes}
 use Rattle.gql_http.specs.Json.{where_text, places_text, owner_text}
 use Rattle.gql_http.proofs.Appended.{five_parts}
 use Rattle.gql_http.proofs.report_body.write_where.Goals as goal

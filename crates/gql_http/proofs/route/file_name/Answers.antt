@@ -1,4 +1,4 @@
-use Rattle.std.proofs.Common.{rules, ◌≡◌, false, refl}
+use Rattle.std.proofs.Common.{◌≡◌, false, refl}
 use Rattle.gql_ast.specs.FileNames.{is_file_name}
 use Rattle.gql_http.proofs.Names.{no_text_no_name}
 use Rattle.gql_http.proofs.route.file_name.Goals as goal

@@ -1,6 +1,5 @@
-use Rattle.std.proofs.Common.{rules, arith, refl, sym, ap, ◌∙◌, ◌++◌, ◌+◌, drop, take, ◌≡◌, true, false}
+use Rattle.std.proofs.Common.{arith, refl, sym, ◌∙◌, ◌+◌, drop}
 use Rattle.gql_wire.specs.Stream.{req}
-use Rattle.gql_wire.specs.Stream as stream
 use Rattle.gql_http.proofs.Serving.{served_init, served_next, serves_open, serves_closed, cut_at, within_more, served_breaks, kept_breaks, on_error}
 use Rattle.gql_http.proofs.serve.serve.Goals as goal
 

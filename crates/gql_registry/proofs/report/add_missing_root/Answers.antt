@@ -1,4 +1,4 @@
-use Rattle.std.proofs.Common.{rules, arith, sym, ◌∙◌, ◌≡◌, true}
+use Rattle.std.proofs.Common.{arith, sym, ◌∙◌, ◌≡◌, true}
 use Rattle.std.proofs.lemmas.Grind.{common_steps}
 use Rattle.gql_registry.proofs.Names.{defined_root}
 use Rattle.gql_registry.proofs.report.add_missing_root.Goals as goal

@@ -1,5 +1,4 @@
-use Rattle.std.proofs.Common.{rules, arith, ◌∙◌, sym, bytes_eq, map, nat_lt, ◌≡◌}
-use Rattle.std.proofs.lemmas.Grind.{common_steps}
+use Rattle.std.proofs.Common.{arith, sym, map, nat_lt}
 use Rattle.gql_registry.specs.TypeNames.{NamedType, named}
 use Rattle.gql_registry.specs.Report.{count_of}
 use Rattle.gql_registry.proofs.Names.{repeated_step}

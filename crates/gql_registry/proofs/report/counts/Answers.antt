@@ -1,4 +1,4 @@
-use Rattle.std.proofs.Common.{arith, take, bytes_eq, cond, ◌≤◌, length}
+use Rattle.std.proofs.Common.{arith, take, bytes_eq}
 use Rattle.std.proofs.lemmas.Grind.{text_counts, common_steps}
 use Rattle.std.proofs.lemmas.List.Sums.{count_by-le-length}
 use Rattle.gql_registry.specs.declared.type_names.TypeName.{TypeName}

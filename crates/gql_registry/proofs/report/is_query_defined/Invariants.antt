@@ -1,4 +1,4 @@
-use Rattle.std.proofs.Common.{◌≡◌, map, take, bytes_eq, codes, false}
+use Rattle.std.proofs.Common.{◌≡◌, take, bytes_eq, codes, false}
 use Rattle.std.specs.List.{list_any}
 use Rattle.gql_registry.specs.declared.type_names.TypeName.{TypeName}
 use Rattle.gql_registry.proofs.report.is_query_defined.Given as goal
