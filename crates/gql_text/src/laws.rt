@@ -6,9 +6,10 @@ ghost use Rattle.gql_text.specs.Grammar.{IsName, IsInteger, IsFloat};
 ghost use Rattle.gql_text.specs.Lexeme.{Lexeme};
 ghost use Rattle.gql_text.specs.Lexis.{Stands, IsLexed, LexFails};
 ghost use Rattle.gql_text.specs.Laws.{HasReading, IsSliceOf, IsToken};
+ghost use Rattle.gql_text.specs.Values.{between, string_value, block_value, text_value};
 ghost use Rattle.gql_text.specs.declared.place.Place.{Place};
 ghost use Rattle.gql_text.specs.declared.token.Kind.{Kind};
-ghost use Rattle.gql_text.specs.declared.token.Kind.TheVariants.{EndOfText, Name, IntValue, FloatValue};
+ghost use Rattle.gql_text.specs.declared.token.Kind.TheVariants.{EndOfText, Name, IntValue, FloatValue, StringValue, BlockString};
 ghost use Rattle.gql_text.specs.declared.token.LexRefusal.{LexRefusal};
 ghost use Rattle.gql_text.specs.declared.front.Part.TheVariants.{Taken};
 
@@ -37,4 +38,12 @@ pub fn names_and_numbers()
     ensures names { (text : List ℕ) → IsToken Name text ↔ IsName text }
     ensures integers { (text : List ℕ) → IsToken IntValue text ↔ IsInteger text }
     ensures floats { (text : List ℕ) → IsToken FloatValue text ↔ IsFloat text }
+{}
+
+/// The value of a string's token is that of what stands between its quotes, of a block string's that of its block
+/// between its quotes, and any other token is its own value (2.9.4).
+pub fn values_of_tokens()
+    ensures strings { (text : List ℕ) → IsToken StringValue text → text_value text ≡ string_value (between 1 text) }
+    ensures blocks { (text : List ℕ) → IsToken BlockString text → text_value text ≡ block_value (between 3 text) }
+    ensures others { (text : List ℕ) (kind : Kind) → kind ≢ StringValue → kind ≢ BlockString → IsToken kind text → text_value text ≡ text }
 {}
