@@ -7,6 +7,7 @@ pub mod Readings
 pub mod Longest
 pub mod Grammars
 pub mod Quoted
+pub mod Punctuators
 pub mod Steps
 pub mod Tokens
 pub mod Texts

@@ -39,7 +39,8 @@ fn digit_value(byte: u8) -> u32
 
 /// Whether these four bytes are hexadecimal digits.
 fn are_digits(a: u8, b: u8, c: u8, d: u8) -> bool
-    ensures { result ≡ (is_ascii_hexdigit a && is_ascii_hexdigit b && is_ascii_hexdigit c && is_ascii_hexdigit d) }
+    ensures { result ≡
+        (is_ascii_hexdigit a && is_ascii_hexdigit b && is_ascii_hexdigit c && is_ascii_hexdigit d) }
 {
     a.is_ascii_hexdigit() && b.is_ascii_hexdigit() && c.is_ascii_hexdigit() && d.is_ascii_hexdigit()
 }
