@@ -66,13 +66,13 @@ pub fn hexadecimal(bytes: &[u8]) -> Option<u32>
 pub fn is_high_half(number: u32) -> bool
     ensures { result ≡ is_high number }
 {
-    55296 <= number && number < 56320
+    0xD800 <= number && number < 0xDC00
 }
 
 pub fn is_low_half(number: u32) -> bool
     ensures { result ≡ is_low number }
 {
-    56320 <= number && number < 57344
+    0xDC00 <= number && number < 0xE000
 }
 
 /// The number that an escape by number at the front writes, or 0.

@@ -31,7 +31,7 @@ fn numbered_character(number: u32, behind: &[u8]) -> u32
     ensures { result ≡ number_value number behind.now }
 {
     if is_high_half(number) {
-        65536 + (number - 55296) * 1024 + number_ahead(behind).saturating_sub(56320)
+        0x1_0000 + (number - 0xD800) * 0x400 + number_ahead(behind).saturating_sub(0xDC00)
     } else {
         number
     }
