@@ -147,7 +147,7 @@ pub record IsNumber (k : Kind) (bs : List ℕ) : Type 0 where
 not_48 : (b : ℕ) → (b == 48) ≡ false → b ≢ 48
 not_48 b e = λ h. absurd (let same : (b == 48) ≡ true = rw h refl in cc)
 
-number_whole : (k : Kind) (n i : ℕ) (bs : List ℕ) → number_part n bs ≡ Taken k i → i ≡ n + length bs → IsNumber k bs
+pub number_whole : (k : Kind) (n i : ℕ) (bs : List ℕ) → number_part n bs ≡ Taken k i → i ≡ n + length bs → IsNumber k bs
 unfolding number_part
 number_whole k n i [] e w = absurd (cc)
 number_whole k n i (b ∷ bs) e w = elim (chosen (b == 48) e) [
@@ -321,10 +321,10 @@ mark_none k i (Some j) w e = w cc
 mark_none k i None w e = cc
 
 -- the name, or the number, that a part which begins with no quote is
-word_part : (k : Kind) (i b : ℕ) (bs : List ℕ) → IsWord k → plain_part b bs ≡ Taken k i
+pub word_part : (k : Kind) (i b : ℕ) (bs : List ℕ) → Ellipsis ≢ k → ((c : ℕ) → mark_kind c ≡ Some k → ⊥) → plain_part b bs ≡ Taken k i
     → ((is_name_start b ≡ true) × (Taken Name (1 + prefix_len is_name_byte bs) ≡ Taken k i)) ⊎ (((b ≡ 45) × (number_part 1 bs ≡ Taken k i)) ⊎ (number_part 0 (b ∷ bs) ≡ Taken k i))
 unfolding plain_part
-word_part k i b bs w e = elim (chosen (is_blank b) e) [
+word_part k i b bs no_dots no_mark e = elim (chosen (is_blank b) e) [
   | inl h ↦ absurd (let f = h.1 in cc)
   | inr h ↦ elim (chosen (is_name_start b) h.1) [
     | inl g ↦ inl g
@@ -335,10 +335,10 @@ word_part k i b bs w e = elim (chosen (is_blank b) e) [
         | inr u ↦ elim (chosen (b == 35) u.1) [
           | inl v ↦ absurd (elim (chosen (begins (λ c. not (is_break c)) (drop (prefix_len is_source_byte bs) bs)) v.1) [ inl x ↦ let f = x.1 in cc | inr x ↦ let f = x.1 in cc ])
           | inr v ↦ elim (chosen (b == 46) v.1) [
-            | inl x ↦ absurd (dots_kind k i bs w.no_dots x.1)
+            | inl x ↦ absurd (dots_kind k i bs no_dots x.1)
             | inr x ↦ elim (chosen (b == 239) x.1) [
               | inl y ↦ absurd (order_none bs k i y.1)
-              | inr y ↦ absurd (mark_none k i (mark_kind b) (w.no_mark b) y.1)
+              | inr y ↦ absurd (mark_none k i (mark_kind b) (no_mark b) y.1)
             ]
           ]
         ]
@@ -347,7 +347,7 @@ word_part k i b bs w e = elim (chosen (is_blank b) e) [
   ]
 ]
 
-run_kind_is : (f : List ℕ → Piece) (kind : Kind) {n : ℕ} {bs : List ℕ} {p : Part} → Run f kind n bs p → (k : Kind) (i : ℕ) → p ≡ Taken k i → kind ≡ k
+pub run_kind_is : (f : List ℕ → Piece) (kind : Kind) {n : ℕ} {bs : List ℕ} {p : Part} → Run f kind n bs p → (k : Kind) (i : ℕ) → p ≡ Taken k i → kind ≡ k
 run_kind_is f kind (closes {n = m} e l) k i h = cc
 run_kind_is f kind (goes {n = m} e r) k i h = run_kind_is f kind r k i h
 run_kind_is f kind (stops {n = m} e l) k i h = absurd (cc)
@@ -362,7 +362,7 @@ pub record IsWordToken (k : Kind) (text : List ℕ) : Type 0 where
 word_token : (k : Kind) {text : List ℕ} {p : Part} → IsWord k → Stands text p → p ≡ Taken k (length text) → IsWordToken k text
 word_token k w (block_string e r) h = absurd (w.no_block (run_kind_is _ BlockString r k _ h))
 word_token k w (string e r) h = absurd (w.no_string (run_kind_is _ StringValue r k _ h))
-word_token k w (plain {b = b} {bs = bs} x y e) h = record { first = b; rest = bs; parts = refl; word = word_part k (length (b ∷ bs)) b bs w (sym e ∙ h) }
+word_token k w (plain {b = b} {bs = bs} x y e) h = record { first = b; rest = bs; parts = refl; word = word_part k (length (b ∷ bs)) b bs w.no_dots w.no_mark (sym e ∙ h) }
 
 words_int : IsWord IntValue
 words_int = record { no_string = λ e. cc; no_block = λ e. cc; no_dots = λ e. cc; no_mark = λ b. (mark_no_number b).0 }

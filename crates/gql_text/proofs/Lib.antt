@@ -6,6 +6,8 @@ pub mod Quotes
 pub mod Readings
 pub mod Longest
 pub mod Grammars
+pub mod Quoted
+pub mod Punctuators
 pub mod Steps
 pub mod Tokens
 pub mod Texts

@@ -404,7 +404,7 @@ no_quote_of true true false e h = absurd (cc)
 no_quote_of true false r e h = absurd (cc)
 no_quote_of false q r e h = refl
 
-no_quote : (b : ℕ) (bs : List ℕ) → three_quotes (b ∷ bs) ≡ false → one_quote (b ∷ bs) ≡ false → (b == 34) ≡ false
+pub no_quote : (b : ℕ) (bs : List ℕ) → three_quotes (b ∷ bs) ≡ false → one_quote (b ∷ bs) ≡ false → (b == 34) ≡ false
 no_quote b [] e h = h
 no_quote b (c ∷ []) e h = h
 no_quote b (c ∷ d ∷ bs) e h = no_quote_of (b == 34) (c == 34) (d == 34) e h

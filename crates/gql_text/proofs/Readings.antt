@@ -41,7 +41,7 @@ split_quotes true false r e h = cc
 split_quotes false q r e h = cc
 
 -- one quote and three can't stand together
-quotes_apart : (text : List ℕ) → three_quotes text ≡ true → one_quote text ≡ true → ⊥
+pub quotes_apart : (text : List ℕ) → three_quotes text ≡ true → one_quote text ≡ true → ⊥
 quotes_apart [] e h = cc
 quotes_apart (a ∷ []) e h = cc
 quotes_apart (a ∷ b ∷ []) e h = cc

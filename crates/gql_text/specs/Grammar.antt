@@ -1,5 +1,7 @@
--- Names and numbers in the specification's own words (2.1.9, 2.9.1, 2.9.2).
-use Rattle.std.specs.Prelude.{ℕ, ◌≡◌, ◌≢◌, ◌<◌, ◌⊎◌, List, [], ◌∷◌, ◌++◌, length, IsTrue}
+-- Punctuators, names and numbers in the specification's own words (2.1.8, 2.1.9, 2.9.1, 2.9.2).
+use Rattle.std.specs.Prelude.{ℕ, ◌≡◌, ◌≢◌, ◌<◌, ◌⊎◌, List, [], ◌∷◌, ◌++◌, length, IsTrue, Option, Some, None, codes}
+use Rattle.gql_text.specs.declared.token.Kind.{Kind}
+use Rattle.gql_text.specs.declared.token.Kind.TheVariants.{Bang, Dollar, Ampersand, LeftParenthesis, RightParenthesis, Ellipsis, Colon, Equals, At, LeftBracket, RightBracket, LeftBrace, Pipe, RightBrace}
 use Rattle.std.specs.List.{list_all}
 use Rattle.std.specs.Char.{is_ascii_digit}
 use Rattle.gql_text.specs.Chars.{is_name_start, is_name_byte}
@@ -60,3 +62,21 @@ pub record IsFloat (text : List ℕ) : Type 0 where
   pub parts : text ≡ integer ++ tail
   pub is_integer : IsInteger integer
   pub is_tail : IsFloatTail tail
+
+-- Punctuator: its bytes (2.1.8)
+abbrev pub mark_text : Kind → Option (List ℕ)
+mark_text Bang = Some (codes "!")
+mark_text Dollar = Some (codes "$")
+mark_text Ampersand = Some (codes "&")
+mark_text LeftParenthesis = Some (codes "(")
+mark_text RightParenthesis = Some (codes ")")
+mark_text Ellipsis = Some (codes "...")
+mark_text Colon = Some (codes ":")
+mark_text Equals = Some (codes "=")
+mark_text At = Some (codes "@")
+mark_text LeftBracket = Some (codes "[")
+mark_text RightBracket = Some (codes "]")
+mark_text LeftBrace = Some (codes "{")
+mark_text Pipe = Some (codes "|")
+mark_text RightBrace = Some (codes "}")
+mark_text _ = None

@@ -21,10 +21,10 @@ four_digits _ = None
 
 -- the first and the second half of a surrogate pair
 abbrev pub is_high : ℕ → Bool
-is_high n = nat_le 55296 n && nat_lt n 56320
+is_high n = nat_le 0xD800 n && nat_lt n 0xDC00
 
 abbrev pub is_low : ℕ → Bool
-is_low n = nat_le 56320 n && nat_lt n 57344
+is_low n = nat_le 0xDC00 n && nat_lt n 0xE000
 
 -- the number that an escape \u at the front writes, or 0 where none stands there
 unfoldable pub escaped_number : List ℕ → ℕ

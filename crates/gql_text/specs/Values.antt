@@ -18,7 +18,7 @@ letter_value b =
 
 -- the character of an escape by number, with these bytes behind its digits: the halves of a pair make one
 abbrev pub number_value : ℕ → List ℕ → ℕ
-number_value n bs = if is_high n then 65536 + (n - 55296) * 1024 + (escaped_number bs - 56320) else n
+number_value n bs = if is_high n then 0x1_0000 + (n - 0xD800) * 0x400 + (escaped_number bs - 0xDC00) else n
 
 -- the character of an escape, behind its backslash
 unfoldable pub escape_value : List ℕ → ℕ

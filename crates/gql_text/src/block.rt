@@ -12,7 +12,8 @@ use std::alloc::{AllocError, Global};
 /// Leaves out the backslash at the front if three quotes follow it, and gives what follows the backslash.
 fn push_backslash<'a>(value: &mut String, text: &'a str) -> Result<&'a str, AllocError>
     requires { StartsEscape text.now }
-    ensures value { IfOk result (λ rest. string_bytes value.new ++ raw_value rest.now ≡ string_bytes value.old ++ raw_value text.now) }
+    ensures value { IfOk result (λ rest.
+        string_bytes value.new ++ raw_value rest.now ≡ string_bytes value.old ++ raw_value text.now) }
     ensures shorter { IfOk result (λ rest. length rest.now < length text.now) }
     ensures utf8 { IfOk result (λ rest. IsUtf8 rest.now) }
 {
@@ -150,7 +151,8 @@ fn cut(line: &str, count: usize) -> &str
 /// The lines without the common indent of all but the first.
 #[tactic(auto, unfolding(crate::specs::Values::without_common_indent))]
 fn cut_lines<'a>(alloc: Global, lines: &[&'a str]) -> Result<Vec<&'a str>, AllocError>
-    ensures { IfOk result (λ found. map (λ x. x.now) found.items ≡ without_common_indent (map (λ x. x.now) lines.now)) }
+    ensures { IfOk result (λ found.
+        map (λ x. x.now) found.items ≡ without_common_indent (map (λ x. x.now) lines.now)) }
 {
     let mut found = Vec::new(alloc);
     let Some((first, others)) = lines.split_first() else {

@@ -1,40 +1,60 @@
 //! What holds of tokens and faults, as contracts of functions that do nothing.
-ghost use Rattle.std.specs.Prelude.{◌↔◌, ◌≡◌, ◌≢◌, ◌<◌, ◌≤◌, ℕ, List, All, length, take, drop, false};
-ghost use Rattle.gql_text.specs.Chars.{begins, is_name_byte};
-ghost use Rattle.gql_text.specs.Number.{spoils_number};
-ghost use Rattle.gql_text.specs.Grammar.{IsName, IsInteger, IsFloat};
+ghost use Rattle.std.specs.Prelude.{◌↔◌, ◌≡◌, ◌≢◌, ◌<◌, ◌≤◌, ℕ, List, All, length, take, Some};
+ghost use Rattle.gql_text.specs.Grammar.{IsName, IsInteger, IsFloat, mark_text};
 ghost use Rattle.gql_text.specs.Lexeme.{Lexeme};
 ghost use Rattle.gql_text.specs.Lexis.{Stands, IsLexed, LexFails};
 ghost use Rattle.gql_text.specs.Laws.{HasReading, IsSliceOf, IsToken};
+ghost use Rattle.gql_text.specs.Values.{between, string_value, block_value, text_value};
 ghost use Rattle.gql_text.specs.declared.place.Place.{Place};
 ghost use Rattle.gql_text.specs.declared.token.Kind.{Kind};
-ghost use Rattle.gql_text.specs.declared.token.Kind.TheVariants.{EndOfText, Name, IntValue, FloatValue};
+ghost use Rattle.gql_text.specs.declared.token.Kind.TheVariants.{EndOfText, Name, IntValue, FloatValue, StringValue, BlockString};
 ghost use Rattle.gql_text.specs.declared.token.LexRefusal.{LexRefusal};
 ghost use Rattle.gql_text.specs.declared.front.Part.TheVariants.{Taken};
 
 /// A text has tokens or a fault, never both, and no two token lists or two faults.
 pub fn one_reading()
     ensures some { (source : List ℕ) → HasReading source }
-    ensures one_list { (source : List ℕ) (tokens others : List Lexeme) → IsLexed source tokens → IsLexed source others → tokens ≡ others }
-    ensures one_fault { (source : List ℕ) (refusal other : LexRefusal) (place elsewhere : Place) → LexFails source refusal place → LexFails source other elsewhere → (refusal ≡ other) × (place ≡ elsewhere) }
-    ensures not_both { (source : List ℕ) (tokens : List Lexeme) (refusal : LexRefusal) (place : Place) → IsLexed source tokens → LexFails source refusal place → ⊥ }
+    ensures one_list { (source : List ℕ) (tokens others : List Lexeme)
+        → IsLexed source tokens → IsLexed source others → tokens ≡ others }
+    ensures one_fault { (source : List ℕ) (refusal other : LexRefusal) (place elsewhere : Place)
+        → LexFails source refusal place → LexFails source other elsewhere
+        → (refusal ≡ other) × (place ≡ elsewhere) }
+    ensures not_both { (source : List ℕ) (tokens : List Lexeme) (refusal : LexRefusal) (place : Place)
+        → IsLexed source tokens → LexFails source refusal place → ⊥ }
 {}
 
 /// Each token's text is the part of the source at its place, and no token has the kind of the text's end.
 pub fn tokens_of_a_text()
-    ensures slices { (source : List ℕ) (tokens : List Lexeme) → IsLexed source tokens → All (IsSliceOf source) tokens }
-    ensures kinds { (source : List ℕ) (tokens : List Lexeme) → IsLexed source tokens → All (λ token. token.kind ≢ EndOfText) tokens }
+    ensures slices { (source : List ℕ) (tokens : List Lexeme)
+        → IsLexed source tokens → All (IsSliceOf source) tokens }
+    ensures kinds { (source : List ℕ) (tokens : List Lexeme)
+        → IsLexed source tokens → All (λ token. token.kind ≢ EndOfText) tokens }
 {}
 
 /// A token is as long as it can be: its text alone is that token, and no longer front of the text is a token.
 pub fn longest_match()
-    ensures alone { (rest : List ℕ) (kind : Kind) (n : ℕ) → Stands rest (Taken kind n) → IsToken kind (take n rest) }
-    ensures no_longer { (rest : List ℕ) (kind other : Kind) (n m : ℕ) → Stands rest (Taken kind n) → n < m → m ≤ length rest → IsToken other (take m rest) → ⊥ }
+    ensures alone { (rest : List ℕ) (kind : Kind) (n : ℕ)
+        → Stands rest (Taken kind n) → IsToken kind (take n rest) }
+    ensures no_longer { (rest : List ℕ) (kind other : Kind) (n m : ℕ)
+        → Stands rest (Taken kind n) → n < m → m ≤ length rest → IsToken other (take m rest) → ⊥ }
 {}
 
-/// Names and numbers are those of the grammar (2.1.9, 2.9.1, 2.9.2).
-pub fn names_and_numbers()
+/// Punctuators, names and numbers are those of the grammar (2.1.8, 2.1.9, 2.9.1, 2.9.2).
+pub fn grammar_of_tokens()
+    ensures punctuators { (kind : Kind) (marks text : List ℕ)
+        → mark_text kind ≡ Some marks → (IsToken kind text ↔ (text ≡ marks)) }
     ensures names { (text : List ℕ) → IsToken Name text ↔ IsName text }
     ensures integers { (text : List ℕ) → IsToken IntValue text ↔ IsInteger text }
     ensures floats { (text : List ℕ) → IsToken FloatValue text ↔ IsFloat text }
+{}
+
+/// The value of a string's token is that of what stands between its quotes, of a block string's that of its block
+/// between its quotes, and any other token is its own value (2.9.4).
+pub fn values_of_tokens()
+    ensures strings { (text : List ℕ)
+        → IsToken StringValue text → text_value text ≡ string_value (between 1 text) }
+    ensures blocks { (text : List ℕ)
+        → IsToken BlockString text → text_value text ≡ block_value (between 3 text) }
+    ensures others { (text : List ℕ) (kind : Kind)
+        → kind ≢ StringValue → kind ≢ BlockString → IsToken kind text → text_value text ≡ text }
 {}

@@ -39,7 +39,8 @@ fn digit_value(byte: u8) -> u32
 
 /// Whether these four bytes are hexadecimal digits.
 fn are_digits(a: u8, b: u8, c: u8, d: u8) -> bool
-    ensures { result ≡ (is_ascii_hexdigit a && is_ascii_hexdigit b && is_ascii_hexdigit c && is_ascii_hexdigit d) }
+    ensures { result ≡
+        (is_ascii_hexdigit a && is_ascii_hexdigit b && is_ascii_hexdigit c && is_ascii_hexdigit d) }
 {
     a.is_ascii_hexdigit() && b.is_ascii_hexdigit() && c.is_ascii_hexdigit() && d.is_ascii_hexdigit()
 }
@@ -65,13 +66,13 @@ pub fn hexadecimal(bytes: &[u8]) -> Option<u32>
 pub fn is_high_half(number: u32) -> bool
     ensures { result ≡ is_high number }
 {
-    55296 <= number && number < 56320
+    0xD800 <= number && number < 0xDC00
 }
 
 pub fn is_low_half(number: u32) -> bool
     ensures { result ≡ is_low number }
 {
-    56320 <= number && number < 57344
+    0xDC00 <= number && number < 0xE000
 }
 
 /// The number that an escape by number at the front writes, or 0.

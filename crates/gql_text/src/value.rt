@@ -31,7 +31,7 @@ fn numbered_character(number: u32, behind: &[u8]) -> u32
     ensures { result ≡ number_value number behind.now }
 {
     if is_high_half(number) {
-        65536 + (number - 55296) * 1024 + number_ahead(behind).saturating_sub(56320)
+        0x1_0000 + (number - 0xD800) * 0x400 + number_ahead(behind).saturating_sub(0xDC00)
     } else {
         number
     }
@@ -77,7 +77,8 @@ pub fn plain_len(text: &str) -> usize
 /// Writes the character of the escape at the front, and gives what follows the escape.
 fn push_escape<'a>(value: &mut String, text: &'a str) -> Result<&'a str, AllocError>
     requires { StartsEscape text.now }
-    ensures value { IfOk result (λ rest. string_bytes value.new ++ string_value rest.now ≡ string_bytes value.old ++ string_value text.now) }
+    ensures value { IfOk result (λ rest.
+        string_bytes value.new ++ string_value rest.now ≡ string_bytes value.old ++ string_value text.now) }
     ensures shorter { IfOk result (λ rest. length rest.now < length text.now) }
     ensures utf8 { IfOk result (λ rest. IsUtf8 rest.now) }
 {
