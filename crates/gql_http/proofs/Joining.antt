@@ -34,7 +34,7 @@ stays_open : (rs : List Placed) → is_closed (requests_of rs) ≡ false → Sta
 stays_open [] h = tt
 stays_open (p ∷ rs) h = stays_by (closes p.request) rs h (stays_open rs)
 
-run_append : (s u t : State) (rs qs : List Req) (ls ms : List (List ℕ)) → Run s rs ls u → Run u qs ms t → Run s (rs ++ qs) (ls ++ ms) t
+pub run_append : (s u t : State) (rs qs : List Req) (ls ms : List (List ℕ)) → Run s rs ls u → Run u qs ms t → Run s (rs ++ qs) (ls ++ ms) t
 run_append s _ t _ qs _ ms done run = run
 run_append s u t _ qs _ ms (more first rest) run = more first (run_append _ u t _ qs _ ms rest run)
 

@@ -3,3 +3,5 @@ pub mod Names
 pub mod Serving
 pub mod Joining
 pub mod Exchanging
+pub mod Determined
+pub mod Ordered

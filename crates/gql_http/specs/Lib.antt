@@ -7,3 +7,5 @@ pub mod Service
 pub mod Exchange
 pub mod Hubs
 pub mod Pipes
+pub mod Events
+pub mod Laws

@@ -3,6 +3,7 @@
 
 mod answer;
 mod hub;
+pub mod laws;
 mod piping;
 mod places;
 mod refusal_answer;
