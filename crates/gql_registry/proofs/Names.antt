@@ -6,7 +6,7 @@ use Rattle.std.proofs.lemmas.Grind.{common_steps}
 use Rattle.std.proofs.lemmas.List.{take_more}
 use Rattle.gql_ast.specs.declared.fault.Fault.{Fault}
 use Rattle.gql_registry.specs.TypeNames.{NamedType, named}
-use Rattle.gql_registry.specs.Report.{count_of, repeated_type, is_query_defined, missing_root}
+use Rattle.gql_registry.specs.Report.{count_of, repeated_type, is_query_defined}
 use Rattle.gql_registry.specs.declared.type_names.TypeName.{TypeName}
 
 pub count_named : (q : List ℕ) (xs : List TypeName) → count_of q (map named xs) ≡ sum_by (λ (n : TypeName). cond (bytes_eq q n.name.now.text) 1 0) xs
@@ -34,6 +34,3 @@ repeated_step p xs i x start old new within item before after =
 
 pub no_query : (xs : List TypeName) → list_any (λ (n : TypeName). bytes_eq n.name.now.text (codes "Query")) xs ≡ is_query_defined (map named xs)
 no_query xs = sym (any_named (λ (n : NamedType). bytes_eq n.name.text (codes "Query")) xs)
-
-pub defined_root : (fs : List Fault) (xs : List TypeName) → list_any (λ (n : TypeName). bytes_eq n.name.now.text (codes "Query")) xs ≡ true → fs ≡ fs ++ missing_root (map named xs)
-defined_root fs xs defined = let e : is_query_defined (map named xs) ≡ true = sym (no_query xs) ∙ defined in rw e (sym (append-nil fs))

@@ -6,6 +6,7 @@ use Rattle.gql_ast.specs.declared.fault.FilePlace.{FilePlace}
 use Rattle.gql_ast.specs.declared.fault.FileSide.TheVariants.{Schema}
 use Rattle.gql_ast.specs.declared.files.Files.{Files}
 use Rattle.gql_ast.specs.declared.rule.Rule.TheVariants.{S01, S23}
+use Rattle.gql_registry.specs.Roots.{trees_of, has_query_root}
 use Rattle.gql_registry.specs.TypeNames.{NamedType, type_names}
 
 -- where the name stands
@@ -23,16 +24,17 @@ repeated_type n = record { rule = S01; about = n.name.text; places = place_of n 
 abbrev pub repeated_types : List NamedType → List Fault
 repeated_types names = map repeated_type (filter (λ (n : NamedType). nat_lt 1 (count_of n.name.text names)) names)
 
--- S23: no type is the query root operation type (GraphQL specification, 3.3.1)
+-- S23: no entry is for queries, and no type is the query root operation type (GraphQL specification, 3.3.1)
 abbrev pub missing_query : Fault
 missing_query = record { rule = S23; about = codes "query"; places = []; owner = None }
 
+-- a type is named Query
 abbrev pub is_query_defined : List NamedType → Bool
 is_query_defined = list_any (λ (n : NamedType). bytes_eq n.name.text (codes "Query"))
 
-abbrev pub missing_root : List NamedType → List Fault
-missing_root names = if is_query_defined names then [] else missing_query ∷ []
+abbrev pub missing_root : Bool → List Fault
+missing_root has_root = if has_root then [] else missing_query ∷ []
 
 -- the report: a fault without a place first, then the others by file and place
 abbrev pub report_of : Files → List Fault
-report_of files = missing_root (type_names files.schema) ++ repeated_types (type_names files.schema)
+report_of files = missing_root (has_query_root (trees_of files.schema) (is_query_defined (type_names files.schema))) ++ repeated_types (type_names files.schema)

@@ -5,6 +5,7 @@ pub mod laws;
 mod refusal;
 mod registry;
 mod report;
+mod roots;
 mod type_names;
 
 pub use refusal::Refusal;

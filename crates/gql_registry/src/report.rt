@@ -4,6 +4,7 @@ ghost use Rattle.std.specs.List.{list_any};
 ghost use Rattle.gql_registry.specs.TypeNames.{named};
 ghost use Rattle.gql_registry.specs.Report.{missing_root, repeated_types, report_of, count_of, repeated_type};
 
+use crate::roots::{has_query_root, trees};
 use crate::type_names::{TypeName, type_names};
 use gql_ast::{Fault, FilePlace, FileSide, Files, Items, Rule, Text};
 use std::alloc::{AllocError, Global};
@@ -90,15 +91,14 @@ fn is_query_defined(names: &[TypeName<'_>]) -> bool
 }
 
 /// S23: there is no query root operation type.
-#[tactic(auto, using(crate::proofs::Names::no_query))]
 fn add_missing_root(
     alloc: Global,
-    names: &[TypeName<'_>],
+    has_root: bool,
     faults: &mut Vec<Fault>,
 ) -> Result<(), AllocError>
-    ensures { OnOk result (faults.new.items ≡ faults.old.items ++ missing_root (map named names.now)) }
+    ensures { OnOk result (faults.new.items ≡ faults.old.items ++ missing_root has_root) }
 {
-    if !is_query_defined(names) {
+    if !has_root {
         faults.push(Fault {
             rule: Rule::S23,
             about: Text::from_str(alloc, "query")?,
@@ -111,12 +111,15 @@ fn add_missing_root(
 
 /// The faults of the files that are present, by their first place (none first), their rule and their second
 /// place.
+#[tactic(auto, using(crate::proofs::Names::no_query))]
 pub fn report_of(alloc: Global, files: &Files) -> Result<Vec<Fault>, AllocError>
     ensures { IfOk result (λ faults. faults.items ≡ report_of files.now) }
 {
     let names = type_names(alloc, files)?;
+    let trees = trees(alloc, files)?;
+    let has_root = has_query_root(trees.as_slice(), is_query_defined(names.as_slice()));
     let mut faults = Vec::new(alloc);
-    add_missing_root(alloc, names.as_slice(), &mut faults)?;
+    add_missing_root(alloc, has_root, &mut faults)?;
     add_repeated(alloc, names.as_slice(), &mut faults)?;
     Ok(faults)
 }
