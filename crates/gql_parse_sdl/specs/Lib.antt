@@ -1,2 +1,13 @@
-pub mod Objects
+pub mod Words
+pub mod Descriptions
+pub mod InputValues
+pub mod Fields
+pub mod Unions
+pub mod Enums
+pub mod Types
+pub mod Schemas
+pub mod DirectiveDefinitions
+pub mod Extensions
+pub mod TypeSystem
 pub mod SchemaFiles
+pub mod DocumentFiles

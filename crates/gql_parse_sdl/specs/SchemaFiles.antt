@@ -7,19 +7,19 @@ use Rattle.gql_grammar.specs.Sources.{IsSourceOf, IsFaultOf}
 use Rattle.gql_grammar.specs.declared.fault.SyntaxFault.{SyntaxFault}
 use Rattle.gql_ast.specs.declared.definition.Definition.{Definition}
 use Rattle.gql_ast.specs.declared.definition.Document.{Document}
-use Rattle.gql_ast.specs.declared.definition.Tree.TheVariants as tree
-use Rattle.gql_parse_sdl.specs.Objects.{object}
+use Rattle.gql_parse_sdl.specs.TypeSystem.{type_system}
 
--- a definition of the file  (3)
+-- a definition or extension, with the file that it stands in  (3)
 unfoldable pub definition : List ℕ → Phrase Definition
 definition file = do
-  found ← object
-  pure (record { file = file; tree = tree.Type found })
+  found ← type_system
+  pure (record { file = file; tree = found })
 
 -- Definition+ up to the end of the text
 abbrev pub definitions : List ℕ → Phrase (List Definition)
 definitions file = some_while (before k.EndOfText) (definition file)
 
+-- TypeSystemExtensionDocument: TypeSystemDefinitionOrExtension+  (3)
 unfoldable pub document : List ℕ → Phrase Document
 document file = do
   found ← definitions file

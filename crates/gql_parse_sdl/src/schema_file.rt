@@ -1,4 +1,5 @@
-ghost use Rattle.std.specs.Prelude.{◌≡◌, ◌⊎◌, ℕ, List, IfOk, Ok, Err, [], map};
+//! Schema files (GraphQL specification, 3).
+ghost use Rattle.std.specs.Prelude.{◌≡◌, ◌<◌, ◌⊎◌, ℕ, List, IfOk, OnOk, Ok, Err, [], length, map};
 ghost use Rattle.gql_text.specs.Lexeme.{lexeme};
 ghost use Rattle.gql_text.specs.declared.place.Place.{Place as ThePlace};
 ghost use Rattle.gql_ast.specs.declared.definition.Document.{Document as TheDocument};
@@ -8,8 +9,8 @@ ghost use Rattle.gql_grammar.specs.declared.fault.SyntaxFault.{SyntaxFault as Th
 ghost use Rattle.gql_grammar.specs.declared.fault.SyntaxRefusal.{SyntaxRefusal as TheRefusal};
 ghost use Rattle.gql_parse_sdl.specs.SchemaFiles as spec;
 
-use crate::object::object;
-use gql_ast::{Definition, Document, FileName, Items, Shared, Tree};
+use crate::type_system::type_system;
+use gql_ast::{Definition, Document, FileName, Items, Shared};
 use gql_grammar::{Cursor, ParseError, SyntaxFault, looked_at, placed};
 use gql_text::{Kind, Place, Token, end_place, lex};
 use std::alloc::Global;
@@ -20,9 +21,10 @@ fn definition(
     file: &FileName,
     cursor: &mut Cursor<'_>,
 ) -> Result<Definition, ParseError>
-    ensures { Reads ((spec.definition file.now).read cursor.old) result cursor.new }
+    ensures value { Reads ((spec.definition file.now).read cursor.old) result cursor.new }
+    ensures shorter { OnOk result (length cursor.new < length cursor.old) }
 {
-    let tree = Tree::Type(object(alloc, cursor)?);
+    let tree = type_system(alloc, cursor)?;
     Ok(Definition {
         file: file.copy(),
         tree: Shared::new(alloc, tree)?,
@@ -35,7 +37,8 @@ fn definitions(
     file: &FileName,
     cursor: &mut Cursor<'_>,
 ) -> Result<Items<Definition>, ParseError>
-    ensures { Reads ((spec.definitions file.now).read cursor.old) result cursor.new }
+    ensures value { Reads ((spec.definitions file.now).read cursor.old) result cursor.new }
+    ensures shorter { OnOk result (length cursor.new < length cursor.old) }
 {
     let mut found = Items::new(alloc);
     found.push(definition(alloc, file, cursor)?)?;
@@ -70,8 +73,8 @@ fn from_tokens(
     }
 }
 
-/// The tree of a schema file: one or more definitions of the type system (GraphQL specification, 3). A text that is
-/// none is refused at the first place where it cannot go on: by the lexer (101 to 106), or else by the grammar (111,
+/// The tree of a schema file: one or more definitions and extensions of the type system (GraphQL specification, 3). A
+/// text that is none is refused at the first place where it cannot go on: by the lexer (101 to 106), or else by the grammar (111,
 /// and 112 for the 101st brace or bracket open at one time).
 pub fn parse_sdl(alloc: Global, file: FileName, source: &str) -> Result<Document, SyntaxFault>
     // What is parsed is what the source's tokens derive, with at most 100 levels.

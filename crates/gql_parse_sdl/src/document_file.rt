@@ -1,0 +1,129 @@
+//! Document files (GraphQL specification, 2.2).
+ghost use Rattle.std.specs.Prelude.{◌≡◌, ◌<◌, ◌⊎◌, ℕ, List, IfOk, OnOk, Ok, Err, [], length, map};
+ghost use Rattle.gql_text.specs.Lexeme.{lexeme};
+ghost use Rattle.gql_text.specs.declared.place.Place.{Place as ThePlace};
+ghost use Rattle.gql_ast.specs.declared.definition.Document.{Document as TheDocument};
+ghost use Rattle.gql_grammar.specs.Symbol.{Reads};
+ghost use Rattle.gql_grammar.specs.Files.{Parses, OrMemory};
+ghost use Rattle.gql_grammar.specs.declared.fault.SyntaxFault.{SyntaxFault as TheFault};
+ghost use Rattle.gql_grammar.specs.declared.fault.SyntaxRefusal.{SyntaxRefusal as TheRefusal};
+ghost use Rattle.gql_parse_sdl.specs.DocumentFiles as spec;
+
+use crate::type_system::type_system;
+use gql_ast::{Definition, Document, FileName, Items, Shared, Tree};
+use gql_grammar::{Cursor, ParseError, SyntaxFault, looked_at, placed};
+use gql_parse::definition as executable;
+use gql_text::{Kind, Place, Token, end_place, lex};
+use std::alloc::Global;
+
+// Whether this text is a word that an operation or a fragment begins with.
+fn is_executable_word(text: &str) -> bool
+    ensures { result ≡ spec.is_executable_word text.now }
+{
+    text == "fragment" || text == "query" || text == "mutation" || text == "subscription"
+}
+
+#[tactic(auto, unfolding(gql_grammar::specs::Symbol::sees_name))]
+fn begins_executable(cursor: &Cursor<'_>) -> bool
+    ensures { result ≡ spec.begins_executable cursor.now }
+{
+    cursor.sees(Kind::LeftBrace)
+        || cursor.sees(Kind::Name) && is_executable_word(cursor.text())
+}
+
+fn any_definition(alloc: Global, cursor: &mut Cursor<'_>) -> Result<Tree, ParseError>
+    ensures value { Reads (spec.any_definition.read cursor.old) result cursor.new }
+    ensures shorter { OnOk result (length cursor.new < length cursor.old) }
+{
+    if begins_executable(cursor) {
+        executable(alloc, cursor)
+    } else {
+        type_system(alloc, cursor)
+    }
+}
+
+#[tactic(auto, unfolding(crate::specs::DocumentFiles::definition))]
+fn definition(
+    alloc: Global,
+    file: &FileName,
+    cursor: &mut Cursor<'_>,
+) -> Result<Definition, ParseError>
+    ensures value { Reads ((spec.definition file.now).read cursor.old) result cursor.new }
+    ensures shorter { OnOk result (length cursor.new < length cursor.old) }
+{
+    let tree = any_definition(alloc, cursor)?;
+    Ok(Definition {
+        file: file.copy(),
+        tree: Shared::new(alloc, tree)?,
+    })
+}
+
+#[tactic(auto, using(gql_grammar::proofs::Loops::going_init, gql_grammar::proofs::Loops::going_on))]
+fn definitions(
+    alloc: Global,
+    file: &FileName,
+    cursor: &mut Cursor<'_>,
+) -> Result<Items<Definition>, ParseError>
+    ensures value { Reads ((spec.definitions file.now).read cursor.old) result cursor.new }
+    ensures shorter { OnOk result (length cursor.new < length cursor.old) }
+{
+    let mut found = Items::new(alloc);
+    found.push(definition(alloc, file, cursor)?)?;
+    'definitions: while cursor.before(Kind::EndOfText) {
+        found.push(definition(alloc, file, cursor)?)?;
+    }
+    Ok(found)
+}
+
+#[tactic(auto, unfolding(crate::specs::DocumentFiles::document_file, crate::specs::DocumentFiles::document))]
+fn document(alloc: Global, file: &FileName, tokens: &[Token<'_>]) -> Result<Document, ParseError>
+    ensures { Reads ((spec.document_file file.now).read (map lexeme tokens.now)) result [] }
+{
+    let mut cursor = Cursor::new(tokens);
+    let definitions = definitions(alloc, file, &mut cursor)?;
+    cursor.end()?;
+    Ok(Document { definitions })
+}
+
+fn from_tokens(
+    alloc: Global,
+    file: &FileName,
+    tokens: &[Token<'_>],
+    end: Place,
+) -> Result<Document, SyntaxFault>
+    ensures { Parses (spec.document_file file.now) end (map lexeme tokens.now) result }
+{
+    let looked = looked_at(tokens);
+    match document(alloc, file, &tokens[..looked]) {
+        Ok(document) => Ok(document),
+        Err(error) => Err(placed(error, tokens, end)),
+    }
+}
+
+/// The tree of a document file: one or more definitions of any kind, operations and fragments or those of the type
+/// system (GraphQL specification, 2.2). A text that is none is refused at the first place where it cannot go on: by the
+/// lexer (101 to 106), or else by the grammar (111, and 112 for the 101st brace or bracket open at one time).
+pub fn parse_any(alloc: Global, file: FileName, source: &str) -> Result<Document, SyntaxFault>
+    // What is parsed is what the source's tokens derive, with at most 100 levels.
+    ensures accepted { IfOk result (spec.IsDocumentFile file source.now) }
+    // What the source's tokens derive is parsed.
+    ensures complete { (d : TheDocument) → spec.IsDocumentFile file source.now d → OrMemory result (Ok d) }
+    // A fault is that of the source.
+    ensures refused { (number : TheRefusal) (place : ThePlace) → result ≡ Err (SyntaxFault.At number place)
+        → spec.IsDocumentFault file source.now (SyntaxFault.At number place) }
+    // The fault of the source is told.
+    ensures faulty { (fault : TheFault) → spec.IsDocumentFault file source.now fault → OrMemory result (Err fault) }
+{
+    match lex(alloc, source) {
+        Ok(tokens) => from_tokens(alloc, &file, tokens.as_slice(), end_place(source)),
+        Err(fault) => Err(SyntaxFault::of(fault)),
+    }
+}
+
+/// A source is one document file, or has one fault, and never both.
+pub fn one_document_answer()
+    ensures document { (file source : List ℕ) (a b : TheDocument) → spec.IsDocumentFile file source a → spec.IsDocumentFile file source b → a ≡ b }
+    ensures fault { (file source : List ℕ) (f g : TheFault) → spec.IsDocumentFault file source f → spec.IsDocumentFault file source g → f ≡ g }
+    ensures apart { (file source : List ℕ) (d : TheDocument) (f : TheFault) → spec.IsDocumentFile file source d → spec.IsDocumentFault file source f → ⊥ }
+    ensures some { (file source : List ℕ) → ((d : TheDocument) × spec.IsDocumentFile file source d) ⊎ ((f : TheFault) × spec.IsDocumentFault file source f) }
+{}

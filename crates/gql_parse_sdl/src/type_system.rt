@@ -1,0 +1,65 @@
+//! Definitions and extensions of the type system (GraphQL specification, 3).
+ghost use Rattle.std.specs.Prelude.{◌<◌, length, OnOk};
+ghost use Rattle.gql_grammar.specs.Symbol.{Reads};
+ghost use Rattle.gql_parse_sdl.specs.TypeSystem as spec;
+
+use crate::description::{Description, optional_description};
+use crate::directive_definition::directive_definition;
+use crate::extensions::extension;
+use crate::schema::schema;
+use crate::type_keyword::TypeKeyword;
+use crate::types::type_definition;
+use gql_ast::Tree;
+use gql_grammar::{Cursor, ParseError};
+use std::alloc::Global;
+
+// What a description describes.
+fn defined(
+    alloc: Global,
+    cursor: &mut Cursor<'_>,
+    description: Option<Description>,
+) -> Result<Tree, ParseError>
+    ensures value { Reads ((spec.defined description).read cursor.old) result cursor.new }
+    ensures shorter { OnOk result (length cursor.new < length cursor.old) }
+{
+    if cursor.sees_word("schema") {
+        return Ok(Tree::Schema(schema(alloc, cursor, description)?));
+    }
+    if cursor.sees_word("directive") {
+        return Ok(Tree::Directive(directive_definition(
+            alloc,
+            cursor,
+            description,
+        )?));
+    }
+    match TypeKeyword::of(cursor.text()) {
+        Some(keyword) => Ok(Tree::Type(type_definition(
+            alloc,
+            cursor,
+            description,
+            keyword,
+        )?)),
+        None => Err(cursor.refuse()),
+    }
+}
+
+#[tactic(auto, unfolding(crate::specs::TypeSystem::definition))]
+fn definition(alloc: Global, cursor: &mut Cursor<'_>) -> Result<Tree, ParseError>
+    ensures value { Reads (spec.definition.read cursor.old) result cursor.new }
+    ensures shorter { OnOk result (length cursor.new < length cursor.old) }
+{
+    let description = optional_description(alloc, cursor)?;
+    defined(alloc, cursor, description)
+}
+
+/// A definition or an extension of the type system.
+pub fn type_system(alloc: Global, cursor: &mut Cursor<'_>) -> Result<Tree, ParseError>
+    ensures value { Reads (spec.type_system.read cursor.old) result cursor.new }
+    ensures shorter { OnOk result (length cursor.new < length cursor.old) }
+{
+    if cursor.sees_word("extend") {
+        extension(alloc, cursor)
+    } else {
+        definition(alloc, cursor)
+    }
+}
