@@ -6,6 +6,8 @@ mod refusal;
 mod registry;
 mod report;
 mod roots;
+#[cfg(test)]
+mod tests;
 mod type_names;
 
 pub use refusal::Refusal;
