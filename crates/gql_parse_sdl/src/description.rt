@@ -29,10 +29,7 @@ fn string(alloc: Global, cursor: &mut Cursor<'_>) -> Result<Option<Description>,
 }
 
 #[tactic(auto, unfolding(crate::specs::Descriptions::block_string))]
-fn block_string(
-    alloc: Global,
-    cursor: &mut Cursor<'_>,
-) -> Result<Option<Description>, ParseError>
+fn block_string(alloc: Global, cursor: &mut Cursor<'_>) -> Result<Option<Description>, ParseError>
     ensures value { Reads (spec.block_string.read cursor.old) result cursor.new }
     ensures shorter { OnOk result (length cursor.new < length cursor.old) }
 {

@@ -116,10 +116,7 @@ fn location_names(
 }
 
 #[tactic(auto, unfolding(crate::specs::DirectiveDefinitions::locations))]
-fn locations(
-    alloc: Global,
-    cursor: &mut Cursor<'_>,
-) -> Result<Items<DirectiveLocation>, ParseError>
+fn locations(alloc: Global, cursor: &mut Cursor<'_>) -> Result<Items<DirectiveLocation>, ParseError>
     ensures value { Reads (spec.locations.read cursor.old) result cursor.new }
     ensures shorter { OnOk result (length cursor.new < length cursor.old) }
 {

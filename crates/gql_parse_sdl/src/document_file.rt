@@ -27,8 +27,7 @@ fn is_executable_word(text: &str) -> bool
 fn begins_executable(cursor: &Cursor<'_>) -> bool
     ensures { result ≡ spec.begins_executable cursor.now }
 {
-    cursor.sees(Kind::LeftBrace)
-        || cursor.sees(Kind::Name) && is_executable_word(cursor.text())
+    cursor.sees(Kind::LeftBrace) || cursor.sees(Kind::Name) && is_executable_word(cursor.text())
 }
 
 fn any_definition(alloc: Global, cursor: &mut Cursor<'_>) -> Result<Tree, ParseError>

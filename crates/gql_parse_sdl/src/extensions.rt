@@ -83,14 +83,10 @@ fn extended(alloc: Global, cursor: &mut Cursor<'_>, place: Place) -> Result<Tree
     ensures shorter { OnOk result (length cursor.new < length cursor.old) }
 {
     if cursor.sees_word("schema") {
-        return Ok(Tree::SchemaExtension(schema_extension(
-            alloc, cursor, place,
-        )?));
+        return Ok(Tree::SchemaExtension(schema_extension(alloc, cursor, place)?));
     }
     match TypeKeyword::of(cursor.text()) {
-        Some(keyword) => Ok(Tree::TypeExtension(type_extension(
-            alloc, cursor, place, keyword,
-        )?)),
+        Some(keyword) => Ok(Tree::TypeExtension(type_extension(alloc, cursor, place, keyword)?)),
         None => Err(cursor.refuse()),
     }
 }

@@ -84,10 +84,7 @@ fn field(alloc: Global, cursor: &mut Cursor<'_>) -> Result<FieldDefinition, Pars
 }
 
 #[tactic(auto, using(gql_grammar::proofs::Loops::going_init, gql_grammar::proofs::Loops::going_on))]
-fn field_list(
-    alloc: Global,
-    cursor: &mut Cursor<'_>,
-) -> Result<Items<FieldDefinition>, ParseError>
+fn field_list(alloc: Global, cursor: &mut Cursor<'_>) -> Result<Items<FieldDefinition>, ParseError>
     ensures value { Reads ((some_while (before k.RightBrace) spec.field).read cursor.old) result cursor.new }
     ensures shorter { OnOk result (length cursor.new < length cursor.old) }
 {

@@ -11,10 +11,7 @@ use gql_text::Kind;
 use std::alloc::Global;
 
 #[tactic(auto, unfolding(crate::specs::InputValues::input_value))]
-fn input_value(
-    alloc: Global,
-    cursor: &mut Cursor<'_>,
-) -> Result<InputValueDefinition, ParseError>
+fn input_value(alloc: Global, cursor: &mut Cursor<'_>) -> Result<InputValueDefinition, ParseError>
     ensures value { Reads (spec.input_value.read cursor.old) result cursor.new }
     ensures shorter { OnOk result (length cursor.new < length cursor.old) }
 {

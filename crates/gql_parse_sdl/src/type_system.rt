@@ -26,19 +26,10 @@ fn defined(
         return Ok(Tree::Schema(schema(alloc, cursor, description)?));
     }
     if cursor.sees_word("directive") {
-        return Ok(Tree::Directive(directive_definition(
-            alloc,
-            cursor,
-            description,
-        )?));
+        return Ok(Tree::Directive(directive_definition(alloc, cursor, description)?));
     }
     match TypeKeyword::of(cursor.text()) {
-        Some(keyword) => Ok(Tree::Type(type_definition(
-            alloc,
-            cursor,
-            description,
-            keyword,
-        )?)),
+        Some(keyword) => Ok(Tree::Type(type_definition(alloc, cursor, description, keyword)?)),
         None => Err(cursor.refuse()),
     }
 }
