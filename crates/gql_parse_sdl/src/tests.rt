@@ -351,17 +351,17 @@ const DESCRIBED: &str =
 
 #[test]
 fn every_prefix_has_its_answer(rt: HostRuntime) -> Result<(), Fail> {
-    let mut accepted = 0;
     for i in 0..DESCRIBED.len() {
-        let (number, _, _) = told(parse_sdl(rt.alloc(), file()?, &DESCRIBED[..i]));
-        if number == 0 {
-            accepted += 1;
+        let prefix = DESCRIBED.get(..i).ok_or(Missing)?;
+        let (number, _, _) = told(parse_sdl(rt.alloc(), file()?, prefix));
+        let left = DESCRIBED.len() - i;
+        // From `type Q` up to `type Query` and its space the prefix is a schema file, too.
+        if left >= 10 && left <= 15 {
+            assert_eq!(rt; number, 0, "at {i}");
         } else {
             assert!(rt; number == 103 || number == 111, "at {i}");
         }
     }
-    // From `type Q` up to `type Query` and its space.
-    assert_eq!(rt; accepted, 6);
     assert_eq!(rt; told(parse_sdl(rt.alloc(), file()?, DESCRIBED)), ACCEPTED);
     Ok(())
 }
