@@ -12,7 +12,7 @@ fn name_at(alloc: Global, text: &str, column: usize) -> Result<Name, AllocError>
     let place = Place {
         line: 1,
         column,
-        offset: column - 1,
+        offset: column,
     };
     Ok(Name {
         text: Text::from_str(alloc, text)?,
