@@ -7,7 +7,7 @@ use Rattle.gql_ast.specs.declared.definition.Tree.{Tree}
 use Rattle.gql_ast.specs.declared.definition.Tree.TheVariants as t
 use Rattle.gql_ast.specs.declared.type_system.SchemaExtension.{SchemaExtension}
 use Rattle.gql_ast.specs.declared.type_system.TypeExtension.{TypeExtension}
-use Rattle.gql_grammar.specs.Symbol.{Phrase, Part, ◌>>=◌, ◌>>◌, pure, refuse, relaxed, token, word, by_test, sees, sees_word}
+use Rattle.gql_grammar.specs.Symbol.{Phrase, Part, ◌>>=◌, ◌>>◌, pure, refuse, relaxed, word, by_test, sees, sees_word}
 use Rattle.gql_parse.specs.Names.{name}
 use Rattle.gql_parse.specs.Directives.{directives}
 use Rattle.gql_parse_sdl.specs.declared.type_keyword.TypeKeyword.{TypeKeyword}
