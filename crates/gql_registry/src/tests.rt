@@ -40,19 +40,68 @@ fn reports(
 
 #[test]
 fn every_kind_of_type_is_counted(rt: HostRuntime) -> Result<(), Fail> {
-    reports(&rt, rt.alloc(), "type Query{a:A} scalar A enum A{B}", Rule::S01, "A", &[24, 31])?;
-    reports(&rt, rt.alloc(), "type Query{a:A} union A=Query input A{b:Int}", Rule::S01, "A", &[23, 37])?;
-    reports(&rt, rt.alloc(), "type Query{a:A} interface A{b:Int} type A{b:Int}", Rule::S01, "A", &[27, 41])?;
-    reports(&rt, rt.alloc(), "type Query{a:A} type A extend type A{b:Int}", Rule::S01, "A", &[])
+    reports(
+        &rt,
+        rt.alloc(),
+        "type Query{a:A} scalar A enum A{B}",
+        Rule::S01,
+        "A",
+        &[24, 31],
+    )?;
+    reports(
+        &rt,
+        rt.alloc(),
+        "type Query{a:A} union A=Query input A{b:Int}",
+        Rule::S01,
+        "A",
+        &[23, 37],
+    )?;
+    reports(
+        &rt,
+        rt.alloc(),
+        "type Query{a:A} interface A{b:Int} type A{b:Int}",
+        Rule::S01,
+        "A",
+        &[27, 41],
+    )?;
+    reports(
+        &rt,
+        rt.alloc(),
+        "type Query{a:A} type A extend type A{b:Int}",
+        Rule::S01,
+        "A",
+        &[],
+    )
 }
 
 #[test]
 fn the_root_is_a_type_or_an_entry(rt: HostRuntime) -> Result<(), Fail> {
     reports(&rt, rt.alloc(), "scalar Query", Rule::S23, "query", &[])?;
     reports(&rt, rt.alloc(), "type A{a:Int}", Rule::S23, "query", &[0])?;
-    reports(&rt, rt.alloc(), "type A{a:Int} schema{query:A}", Rule::S23, "query", &[])?;
-    reports(&rt, rt.alloc(), "type Query{a:Int} schema{mutation:Query}", Rule::S23, "query", &[0])?;
-    reports(&rt, rt.alloc(), "type A{a:Int} schema{mutation:A} extend schema{query:A}", Rule::S23, "query", &[])
+    reports(
+        &rt,
+        rt.alloc(),
+        "type A{a:Int} schema{query:A}",
+        Rule::S23,
+        "query",
+        &[],
+    )?;
+    reports(
+        &rt,
+        rt.alloc(),
+        "type Query{a:Int} schema{mutation:Query}",
+        Rule::S23,
+        "query",
+        &[0],
+    )?;
+    reports(
+        &rt,
+        rt.alloc(),
+        "type A{a:Int} schema{mutation:A} extend schema{query:A}",
+        Rule::S23,
+        "query",
+        &[],
+    )
 }
 
 #[test]
