@@ -11,16 +11,16 @@ use gql_text::Place;
 use sqlite_items::Items;
 use std::alloc::{AllocError, Global};
 
-/// The forms of a definition (GraphQL specification, 2.2).
+/// The forms of a definition (GraphQL specification, 2.2). Each shares its tree, so that a copy costs no walk.
 #[derive(Drop)]
 pub enum Tree {
-    Operation(Operation),
-    Fragment(Fragment),
-    Schema(SchemaDefinition),
-    Type(TypeDefinition),
-    Directive(DirectiveDefinition),
-    SchemaExtension(SchemaExtension),
-    TypeExtension(TypeExtension),
+    Operation(Shared<Operation>),
+    Fragment(Shared<Fragment>),
+    Schema(Shared<SchemaDefinition>),
+    Type(Shared<TypeDefinition>),
+    Directive(Shared<DirectiveDefinition>),
+    SchemaExtension(Shared<SchemaExtension>),
+    TypeExtension(Shared<TypeExtension>),
 }
 
 impl Tree {
@@ -29,14 +29,29 @@ impl Tree {
         ensures { result ≡ place_of self.now }
     {
         match self {
-            Tree::Operation(operation) => operation.place,
-            Tree::Fragment(fragment) => fragment.place,
-            Tree::Schema(definition) => definition.place,
-            Tree::Type(definition) => definition.place,
-            Tree::Directive(definition) => definition.place,
-            Tree::SchemaExtension(extension) => extension.place,
-            Tree::TypeExtension(extension) => extension.place,
+            Tree::Operation(operation) => operation.get().place,
+            Tree::Fragment(fragment) => fragment.get().place,
+            Tree::Schema(definition) => definition.get().place,
+            Tree::Type(definition) => definition.get().place,
+            Tree::Directive(definition) => definition.get().place,
+            Tree::SchemaExtension(extension) => extension.get().place,
+            Tree::TypeExtension(extension) => extension.get().place,
         }
+    }
+
+    /// An equal tree, which shares what it holds.
+    pub fn copy(&self) -> Result<Tree, AllocError>
+        ensures { IfOk result (λ t. t ≡ self.now) }
+    {
+        Ok(match self {
+            Tree::Operation(operation) => Tree::Operation(operation.clone()?),
+            Tree::Fragment(fragment) => Tree::Fragment(fragment.clone()?),
+            Tree::Schema(definition) => Tree::Schema(definition.clone()?),
+            Tree::Type(definition) => Tree::Type(definition.clone()?),
+            Tree::Directive(definition) => Tree::Directive(definition.clone()?),
+            Tree::SchemaExtension(extension) => Tree::SchemaExtension(extension.clone()?),
+            Tree::TypeExtension(extension) => Tree::TypeExtension(extension.clone()?),
+        })
     }
 }
 
@@ -44,7 +59,7 @@ impl Tree {
 #[derive(Drop)]
 pub struct Definition {
     pub file: FileName,
-    pub tree: Shared<Tree>,
+    pub tree: Tree,
 }
 
 /// What names a definition: its file, and the offset of its first token there.
@@ -61,7 +76,7 @@ impl Definition {
     {
         Ok(Definition {
             file: self.file.copy(),
-            tree: self.tree.clone()?,
+            tree: self.tree.copy()?,
         })
     }
 
@@ -71,7 +86,7 @@ impl Definition {
     {
         DefinitionId {
             file: self.file.copy(),
-            offset: self.tree.get().place().offset,
+            offset: self.tree.place().offset,
         }
     }
 }

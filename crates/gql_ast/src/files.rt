@@ -63,6 +63,7 @@ impl<T> FileMap<T> {
         ensures files { result.now.entries ≡ self.now }
         ensures ordered { IsOrdered name_order result.now }
     {
+        // a map says that it is ordered where its length is asked
         let _count = self.entries.len();
         &self.entries
     }

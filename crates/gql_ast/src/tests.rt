@@ -1,10 +1,15 @@
 //! Calls that succeed: names of files, file maps, texts and comparison.
+use crate::definition::{Definition, Document, Tree};
+use crate::executable::{Operation, OperationKind};
+use crate::fault::{Fault, FilePlace, FileSide};
 use crate::file_name::FileName;
-use crate::files::FileMap;
-use crate::same::{Same, same_option};
+use crate::files::{FileMap, Files};
+use crate::rule::Rule;
+use crate::same::{Same, same_items, same_option};
 use crate::shared::Shared;
 use crate::text::{Name, Text};
 use gql_text::Place;
+use sqlite_items::Items;
 use std::alloc::{AllocError, Global};
 use std::test::Fail;
 
@@ -63,5 +68,66 @@ fn names_are_the_same_by_text_and_place(rt: HostRuntime) -> Result<(), Fail> {
     assert!(rt; !name.same(&other));
     assert!(rt; same_option(&Some(name), &Some(copy)));
     assert!(rt; !same_option(&Some(moved), &None));
+    Ok(())
+}
+
+fn definition(alloc: Global, kind: OperationKind) -> Result<Definition, Fail> {
+    let name = name_at(alloc, "Find", 7)?;
+    let operation = Operation {
+        place: name.place,
+        kind,
+        name: Some(name),
+        variables: Items::new(alloc),
+        directives: Items::new(alloc),
+        selections: Items::new(alloc),
+    };
+    Ok(Definition {
+        file: FileName::read("a").ok_or("a is a file name")?,
+        tree: Tree::Operation(Shared::new(alloc, operation)?),
+    })
+}
+
+#[test]
+fn copies_of_definitions_are_the_same(rt: HostRuntime) -> Result<(), Fail> {
+    let query = definition(rt.alloc(), OperationKind::Query)?;
+    let copy = query.copy()?;
+    assert!(rt; query.same(&copy));
+    assert_eq!(rt; copy.id().offset, 7);
+    assert!(rt; copy.tree.same(&query.tree.copy()?));
+    let mutation = definition(rt.alloc(), OperationKind::Mutation)?;
+    assert!(rt; !query.same(&mutation));
+    let mut definitions = Items::new(rt.alloc());
+    definitions.push(mutation)?;
+    assert!(rt; same_items(definitions.as_slice(), definitions.as_slice()));
+    let mut files = Files::new(rt.alloc());
+    let document = Document { definitions };
+    files
+        .documents
+        .put(copy.file, Shared::new(rt.alloc(), document)?)?;
+    assert_eq!(rt; files.copy()?.documents.len(), 1);
+    Ok(())
+}
+
+#[test]
+fn a_fault_is_copied_whole(rt: HostRuntime) -> Result<(), Fail> {
+    let name = name_at(rt.alloc(), "x", 3)?;
+    let place = FilePlace {
+        side: FileSide::Documents,
+        file: FileName::read("d").ok_or("d is a file name")?,
+        place: name.place,
+    };
+    let mut places = Items::new(rt.alloc());
+    places.push(place.copy())?;
+    let fault = Fault {
+        rule: Rule::V04,
+        about: name.text,
+        places,
+        owner: Some(place),
+    };
+    let copy = fault.copy(rt.alloc())?;
+    assert!(rt; copy.rule == Rule::V04);
+    assert_eq!(rt; copy.about.as_str(), "x");
+    assert_eq!(rt; copy.places.len(), 1);
+    assert!(rt; copy.owner.is_some());
     Ok(())
 }

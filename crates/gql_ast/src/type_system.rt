@@ -1,5 +1,6 @@
 use crate::executable::OperationKind;
 use crate::literal::{Directive, Literal};
+use crate::shared::Shared;
 use crate::text::{Name, Text};
 use crate::type_ref::TypeRef;
 use gql_text::Place;
@@ -21,7 +22,7 @@ pub struct InputValueDefinition {
 pub struct FieldDefinition {
     pub description: Option<Text>,
     pub name: Name,
-    pub arguments: Items<InputValueDefinition>,
+    pub arguments: Items<Shared<InputValueDefinition>>,
     pub of_type: TypeRef,
     pub directives: Items<Directive>,
 }
@@ -35,7 +36,7 @@ pub struct EnumValueDefinition {
 }
 
 /// What kind of type is defined or extended, and with which parts (GraphQL specification, 3.4). A list is empty
-/// where it isn't written.
+/// where it isn't written. Fields and values are shared, so that a schema can hold them without a copy.
 #[derive(Drop)]
 pub enum TypeParts {
     /// (3.5)
@@ -43,12 +44,12 @@ pub enum TypeParts {
     /// (3.6)
     Object {
         interfaces: Items<Name>,
-        fields: Items<FieldDefinition>,
+        fields: Items<Shared<FieldDefinition>>,
     },
     /// (3.7)
     Interface {
         interfaces: Items<Name>,
-        fields: Items<FieldDefinition>,
+        fields: Items<Shared<FieldDefinition>>,
     },
     /// (3.8)
     Union {
@@ -56,11 +57,11 @@ pub enum TypeParts {
     },
     /// (3.9)
     Enum {
-        values: Items<EnumValueDefinition>,
+        values: Items<Shared<EnumValueDefinition>>,
     },
     /// (3.10)
     InputObject {
-        fields: Items<InputValueDefinition>,
+        fields: Items<Shared<InputValueDefinition>>,
     },
 }
 
@@ -143,7 +144,7 @@ pub struct DirectiveDefinition {
     pub place: Place,
     pub description: Option<Text>,
     pub name: Name,
-    pub arguments: Items<InputValueDefinition>,
+    pub arguments: Items<Shared<InputValueDefinition>>,
     pub is_repeatable: bool,
     pub locations: Items<DirectiveLocation>,
 }

@@ -12,16 +12,19 @@ use gql_grammar::{Cursor, ParseError};
 use gql_text::{Kind, Token};
 use std::alloc::Global;
 
-/// An operation or a fragment.
+/// An operation or a fragment (GraphQL specification, 2.2). Refused at the first token that cannot stand there, or where memory
+/// is wanting.
 #[tactic(auto, unfolding(crate::specs::Documents::definition))]
 pub fn definition(alloc: Global, cursor: &mut Cursor<'_>) -> Result<Tree, ParseError>
     ensures value { Reads (spec.definition.read cursor.old) result cursor.new }
     ensures shorter { OnOk result (length cursor.new < length cursor.old) }
 {
     if cursor.sees_word("fragment") {
-        Ok(Tree::Fragment(fragment(alloc, cursor)?))
+        let fragment = fragment(alloc, cursor)?;
+        Ok(Tree::Fragment(Shared::new(alloc, fragment)?))
     } else {
-        Ok(Tree::Operation(operation(alloc, cursor)?))
+        let operation = operation(alloc, cursor)?;
+        Ok(Tree::Operation(Shared::new(alloc, operation)?))
     }
 }
 
@@ -37,7 +40,7 @@ fn definition_in(
     let tree = definition(alloc, cursor)?;
     Ok(Definition {
         file: file.copy(),
-        tree: Shared::new(alloc, tree)?,
+        tree,
     })
 }
 

@@ -114,7 +114,9 @@ fn variable_unless(
     variable(alloc, cursor)
 }
 
-/// A value. In a constant one no variable stands (2.9).
+/// A value (GraphQL specification, 2.9); in a constant one no variable stands. Refused at the first token that cannot stand
+/// there, or where memory is wanting. It goes as deep as its brackets: a whole file has at most 100 open ones, a bare
+/// cursor as many as it was given.
 #[cycle(value)]
 #[tactic(auto, using(crate::proofs::Rules::value_is))]
 pub fn value(alloc: Global, cursor: &mut Cursor<'_>, constant: bool) -> Result<Literal, ParseError>

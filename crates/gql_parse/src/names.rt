@@ -8,7 +8,7 @@ use gql_grammar::{Cursor, ParseError};
 use gql_text::Kind;
 use std::alloc::Global;
 
-/// A name.
+/// A name (GraphQL specification, 2.1.9), with its place. Refused at a token that is none, or where memory is wanting.
 #[tactic(auto, unfolding(crate::specs::Names::name))]
 pub fn name(alloc: Global, cursor: &mut Cursor<'_>) -> Result<Name, ParseError>
     ensures value { Reads (spec.name.read cursor.old) result cursor.new }

@@ -154,7 +154,7 @@ fn shorthand(alloc: Global, cursor: &mut Cursor<'_>) -> Result<Operation, ParseE
     })
 }
 
-/// An operation (2.3).
+/// An operation (GraphQL specification, 2.3).
 pub fn operation(alloc: Global, cursor: &mut Cursor<'_>) -> Result<Operation, ParseError>
     ensures value { Reads (spec.operation.read cursor.old) result cursor.new }
     ensures shorter { OnOk result (length cursor.new < length cursor.old) }
@@ -166,7 +166,7 @@ pub fn operation(alloc: Global, cursor: &mut Cursor<'_>) -> Result<Operation, Pa
     }
 }
 
-/// A fragment with a name (2.8).
+/// A fragment with a name (GraphQL specification, 2.8).
 #[tactic(auto, unfolding(crate::specs::Operations::fragment))]
 pub fn fragment(alloc: Global, cursor: &mut Cursor<'_>) -> Result<Fragment, ParseError>
     ensures value { Reads (spec.fragment.read cursor.old) result cursor.new }

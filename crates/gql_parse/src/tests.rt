@@ -287,9 +287,10 @@ fn trees_have_their_parts_and_places(rt: HostRuntime) -> Result<(), Fail> {
     assert_eq!(rt; document.definitions.len(), 2);
     let first = document.definitions.get(0).ok_or(Missing)?;
     assert_eq!(rt; first.file.as_str(), "a");
-    let Tree::Operation(operation) = first.tree.get() else {
+    let Tree::Operation(operation) = &first.tree else {
         return Ok(assert!(rt; false));
     };
+    let operation = operation.get();
     assert!(rt; operation.kind == OperationKind::Query);
     assert_eq!(rt; operation.place.column, 1);
     assert_eq!(rt; operation.variables.len(), 1);
@@ -316,8 +317,9 @@ fn trees_have_their_parts_and_places(rt: HostRuntime) -> Result<(), Fail> {
         Selection::Spread(spread) => assert_eq!(rt; spread.place.column, 51),
         _ => assert!(rt; false),
     }
-    match document.definitions.get(1).ok_or(Missing)?.tree.get() {
+    match &document.definitions.get(1).ok_or(Missing)?.tree {
         Tree::Fragment(fragment) => {
+            let fragment = fragment.get();
             assert_eq!(rt; fragment.place.line, 2);
             assert_eq!(rt; fragment.condition.as_str(), "T");
         }

@@ -17,7 +17,9 @@ fn named_type(alloc: Global, cursor: &mut Cursor<'_>) -> Result<TypeRef, ParseEr
     Ok(TypeRef::Named(name(alloc, cursor)?))
 }
 
-/// A type reference.
+/// A type as it is written (GraphQL specification, 2.11). Refused at the first token that cannot stand there, or where
+/// memory is wanting. It goes as deep as its brackets: a whole file has at most 100 open ones, a bare cursor as many as
+/// it was given.
 #[cycle(type_ref)]
 #[tactic(auto, using(crate::proofs::Rules::type_ref_is))]
 pub fn type_ref(alloc: Global, cursor: &mut Cursor<'_>) -> Result<TypeRef, ParseError>

@@ -10,7 +10,7 @@ ghost use Rattle.gql_grammar.specs.declared.fault.SyntaxRefusal.{SyntaxRefusal a
 ghost use Rattle.gql_parse_sdl.specs.DocumentFiles as spec;
 
 use crate::type_system::type_system;
-use gql_ast::{Definition, Document, FileName, Items, Shared, Tree};
+use gql_ast::{Definition, Document, FileName, Items, Tree};
 use gql_grammar::{Cursor, ParseError, SyntaxFault, looked_at, placed};
 use gql_parse::definition as executable;
 use gql_text::{Kind, Place, Token, end_place, lex};
@@ -53,7 +53,7 @@ fn definition(
     let tree = any_definition(alloc, cursor)?;
     Ok(Definition {
         file: file.copy(),
-        tree: Shared::new(alloc, tree)?,
+        tree,
     })
 }
 

@@ -6,7 +6,7 @@ ghost use Rattle.gql_grammar.specs.Repetition.{some_while};
 ghost use Rattle.gql_parse_sdl.specs.Enums as spec;
 
 use crate::description::{optional_description, text_of};
-use gql_ast::{EnumValueDefinition, Items, Name, Text};
+use gql_ast::{EnumValueDefinition, Items, Name, Shared, Text};
 use gql_grammar::{Cursor, ParseError};
 use gql_parse::directives;
 use gql_text::Kind;
@@ -33,25 +33,29 @@ fn enum_name(alloc: Global, cursor: &mut Cursor<'_>) -> Result<Name, ParseError>
 }
 
 #[tactic(auto, unfolding(crate::specs::Enums::enum_value))]
-fn enum_value(alloc: Global, cursor: &mut Cursor<'_>) -> Result<EnumValueDefinition, ParseError>
+fn enum_value(
+    alloc: Global,
+    cursor: &mut Cursor<'_>,
+) -> Result<Shared<EnumValueDefinition>, ParseError>
     ensures value { Reads (spec.enum_value.read cursor.old) result cursor.new }
     ensures shorter { OnOk result (length cursor.new < length cursor.old) }
 {
     let description = optional_description(alloc, cursor)?;
     let name = enum_name(alloc, cursor)?;
     let directives = directives(alloc, cursor, true)?;
-    Ok(EnumValueDefinition {
+    let definition = EnumValueDefinition {
         description: text_of(description),
         name,
         directives,
-    })
+    };
+    Ok(Shared::new(alloc, definition)?)
 }
 
 #[tactic(auto, using(gql_grammar::proofs::Loops::going_init, gql_grammar::proofs::Loops::going_on))]
 fn enum_value_list(
     alloc: Global,
     cursor: &mut Cursor<'_>,
-) -> Result<Items<EnumValueDefinition>, ParseError>
+) -> Result<Items<Shared<EnumValueDefinition>>, ParseError>
     ensures value { Reads ((some_while (before k.RightBrace) spec.enum_value).read cursor.old) result cursor.new }
     ensures shorter { OnOk result (length cursor.new < length cursor.old) }
 {
@@ -68,7 +72,7 @@ fn enum_value_list(
 pub fn optional_enum_values(
     alloc: Global,
     cursor: &mut Cursor<'_>,
-) -> Result<Items<EnumValueDefinition>, ParseError>
+) -> Result<Items<Shared<EnumValueDefinition>>, ParseError>
     ensures value { Reads (spec.optional_enum_values.read cursor.old) result cursor.new }
     ensures shorter { OnOk result (length cursor.new ≤ length cursor.old) }
 {

@@ -6,7 +6,7 @@ ghost use Rattle.gql_parse_sdl.specs.Extensions as spec;
 use crate::schema::optional_roots;
 use crate::type_body::body;
 use crate::type_keyword::TypeKeyword;
-use gql_ast::{SchemaExtension, Tree, TypeExtension};
+use gql_ast::{SchemaExtension, Shared, Tree, TypeExtension};
 use gql_grammar::{Cursor, ParseError};
 use gql_parse::{directives, name};
 use gql_text::{Kind, Place};
@@ -83,10 +83,14 @@ fn extended(alloc: Global, cursor: &mut Cursor<'_>, place: Place) -> Result<Tree
     ensures shorter { OnOk result (length cursor.new < length cursor.old) }
 {
     if cursor.sees_word("schema") {
-        return Ok(Tree::SchemaExtension(schema_extension(alloc, cursor, place)?));
+        let extension = schema_extension(alloc, cursor, place)?;
+        return Ok(Tree::SchemaExtension(Shared::new(alloc, extension)?));
     }
     match TypeKeyword::of(cursor.text()) {
-        Some(keyword) => Ok(Tree::TypeExtension(type_extension(alloc, cursor, place, keyword)?)),
+        Some(keyword) => {
+            let extension = type_extension(alloc, cursor, place, keyword)?;
+            Ok(Tree::TypeExtension(Shared::new(alloc, extension)?))
+        }
         None => Err(cursor.refuse()),
     }
 }

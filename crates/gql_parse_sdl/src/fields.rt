@@ -7,7 +7,7 @@ ghost use Rattle.gql_parse_sdl.specs.Fields as spec;
 
 use crate::description::{optional_description, text_of};
 use crate::input_values::optional_argument_definitions;
-use gql_ast::{FieldDefinition, Items, Name};
+use gql_ast::{FieldDefinition, Items, Name, Shared};
 use gql_grammar::{Cursor, ParseError};
 use gql_parse::{directives, name, type_ref};
 use gql_text::Kind;
@@ -64,7 +64,7 @@ pub fn optional_interfaces(
 }
 
 #[tactic(auto, unfolding(crate::specs::Fields::field))]
-fn field(alloc: Global, cursor: &mut Cursor<'_>) -> Result<FieldDefinition, ParseError>
+fn field(alloc: Global, cursor: &mut Cursor<'_>) -> Result<Shared<FieldDefinition>, ParseError>
     ensures value { Reads (spec.field.read cursor.old) result cursor.new }
     ensures shorter { OnOk result (length cursor.new < length cursor.old) }
 {
@@ -74,17 +74,21 @@ fn field(alloc: Global, cursor: &mut Cursor<'_>) -> Result<FieldDefinition, Pars
     cursor.expect(Kind::Colon)?;
     let of_type = type_ref(alloc, cursor)?;
     let directives = directives(alloc, cursor, true)?;
-    Ok(FieldDefinition {
+    let definition = FieldDefinition {
         description: text_of(description),
         name,
         arguments,
         of_type,
         directives,
-    })
+    };
+    Ok(Shared::new(alloc, definition)?)
 }
 
 #[tactic(auto, using(gql_grammar::proofs::Loops::going_init, gql_grammar::proofs::Loops::going_on))]
-fn field_list(alloc: Global, cursor: &mut Cursor<'_>) -> Result<Items<FieldDefinition>, ParseError>
+fn field_list(
+    alloc: Global,
+    cursor: &mut Cursor<'_>,
+) -> Result<Items<Shared<FieldDefinition>>, ParseError>
     ensures value { Reads ((some_while (before k.RightBrace) spec.field).read cursor.old) result cursor.new }
     ensures shorter { OnOk result (length cursor.new < length cursor.old) }
 {
@@ -101,7 +105,7 @@ fn field_list(alloc: Global, cursor: &mut Cursor<'_>) -> Result<Items<FieldDefin
 pub fn optional_fields(
     alloc: Global,
     cursor: &mut Cursor<'_>,
-) -> Result<Items<FieldDefinition>, ParseError>
+) -> Result<Items<Shared<FieldDefinition>>, ParseError>
     ensures value { Reads (spec.optional_fields.read cursor.old) result cursor.new }
     ensures shorter { OnOk result (length cursor.new ≤ length cursor.old) }
 {

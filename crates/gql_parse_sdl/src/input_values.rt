@@ -4,14 +4,17 @@ ghost use Rattle.gql_grammar.specs.Symbol.{Reads};
 ghost use Rattle.gql_parse_sdl.specs.InputValues as spec;
 
 use crate::description::{optional_description, text_of};
-use gql_ast::{InputValueDefinition, Items};
+use gql_ast::{InputValueDefinition, Items, Shared};
 use gql_grammar::{Cursor, ParseError};
 use gql_parse::{directives, name, optional_default, type_ref};
 use gql_text::Kind;
 use std::alloc::Global;
 
 #[tactic(auto, unfolding(crate::specs::InputValues::input_value))]
-fn input_value(alloc: Global, cursor: &mut Cursor<'_>) -> Result<InputValueDefinition, ParseError>
+fn input_value(
+    alloc: Global,
+    cursor: &mut Cursor<'_>,
+) -> Result<Shared<InputValueDefinition>, ParseError>
     ensures value { Reads (spec.input_value.read cursor.old) result cursor.new }
     ensures shorter { OnOk result (length cursor.new < length cursor.old) }
 {
@@ -21,13 +24,14 @@ fn input_value(alloc: Global, cursor: &mut Cursor<'_>) -> Result<InputValueDefin
     let of_type = type_ref(alloc, cursor)?;
     let default = optional_default(alloc, cursor)?;
     let directives = directives(alloc, cursor, true)?;
-    Ok(InputValueDefinition {
+    let definition = InputValueDefinition {
         description: text_of(description),
         name,
         of_type,
         default,
         directives,
-    })
+    };
+    Ok(Shared::new(alloc, definition)?)
 }
 
 // One or more input values, up to a mark that closes.
@@ -36,7 +40,7 @@ fn input_values(
     alloc: Global,
     cursor: &mut Cursor<'_>,
     close: Kind,
-) -> Result<Items<InputValueDefinition>, ParseError>
+) -> Result<Items<Shared<InputValueDefinition>>, ParseError>
     ensures value { Reads ((spec.input_values close).read cursor.old) result cursor.new }
     ensures shorter { OnOk result (length cursor.new < length cursor.old) }
 {
@@ -53,7 +57,7 @@ fn input_values(
 pub fn optional_argument_definitions(
     alloc: Global,
     cursor: &mut Cursor<'_>,
-) -> Result<Items<InputValueDefinition>, ParseError>
+) -> Result<Items<Shared<InputValueDefinition>>, ParseError>
     ensures value { Reads (spec.optional_argument_definitions.read cursor.old) result cursor.new }
     ensures shorter { OnOk result (length cursor.new ≤ length cursor.old) }
 {
@@ -71,7 +75,7 @@ pub fn optional_argument_definitions(
 pub fn optional_input_fields(
     alloc: Global,
     cursor: &mut Cursor<'_>,
-) -> Result<Items<InputValueDefinition>, ParseError>
+) -> Result<Items<Shared<InputValueDefinition>>, ParseError>
     ensures value { Reads (spec.optional_input_fields.read cursor.old) result cursor.new }
     ensures shorter { OnOk result (length cursor.new ≤ length cursor.old) }
 {

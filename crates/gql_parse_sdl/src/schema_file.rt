@@ -10,7 +10,7 @@ ghost use Rattle.gql_grammar.specs.declared.fault.SyntaxRefusal.{SyntaxRefusal a
 ghost use Rattle.gql_parse_sdl.specs.SchemaFiles as spec;
 
 use crate::type_system::type_system;
-use gql_ast::{Definition, Document, FileName, Items, Shared};
+use gql_ast::{Definition, Document, FileName, Items};
 use gql_grammar::{Cursor, ParseError, SyntaxFault, looked_at, placed};
 use gql_text::{Kind, Place, Token, end_place, lex};
 use std::alloc::Global;
@@ -27,7 +27,7 @@ fn definition(
     let tree = type_system(alloc, cursor)?;
     Ok(Definition {
         file: file.copy(),
-        tree: Shared::new(alloc, tree)?,
+        tree,
     })
 }
 

@@ -371,8 +371,8 @@ fn definition_at(document: &Document, at: usize) -> Result<&Definition, Fail> {
 }
 
 fn type_at(document: &Document, at: usize) -> Result<&TypeDefinition, Fail> {
-    match definition_at(document, at)?.tree.get() {
-        Tree::Type(definition) => Ok(definition),
+    match &definition_at(document, at)?.tree {
+        Tree::Type(definition) => Ok(definition.get()),
         _ => Err(Missing)?,
     }
 }
@@ -393,14 +393,14 @@ fn descriptions_are_kept(rt: HostRuntime) -> Result<(), Fail> {
         return Ok(assert!(rt; false));
     };
     assert!(rt; interfaces.is_empty());
-    let field = fields.get(0).ok_or(Missing)?;
+    let field = fields.get(0).ok_or(Missing)?.get();
     assert_eq!(rt; field.description.as_ref().ok_or(Missing)?.as_str(), "f");
     assert_eq!(rt; field.name.place.column, 11);
     assert_eq!(rt; field.arguments.len(), 2);
-    let first = field.arguments.get(0).ok_or(Missing)?;
+    let first = field.arguments.get(0).ok_or(Missing)?.get();
     assert_eq!(rt; first.description.as_ref().ok_or(Missing)?.as_str(), "A");
     assert!(rt; first.default.is_some());
-    let second = field.arguments.get(1).ok_or(Missing)?;
+    let second = field.arguments.get(1).ok_or(Missing)?.get();
     assert!(rt; second.description.is_none());
     assert!(rt; second.default.is_none());
     let numbers = type_at(&document, 1)?;
@@ -409,9 +409,9 @@ fn descriptions_are_kept(rt: HostRuntime) -> Result<(), Fail> {
         return Ok(assert!(rt; false));
     };
     assert_eq!(rt; values.len(), 2);
-    let value = values.get(0).ok_or(Missing)?;
+    let value = values.get(0).ok_or(Missing)?.get();
     assert_eq!(rt; value.description.as_ref().ok_or(Missing)?.as_str(), "v");
-    assert!(rt; values.get(1).ok_or(Missing)?.description.is_none());
+    assert!(rt; values.get(1).ok_or(Missing)?.get().description.is_none());
     Ok(())
 }
 
@@ -425,9 +425,10 @@ fn trees_have_their_parts_and_places(rt: HostRuntime) -> Result<(), Fail> {
     let document = parse_sdl(rt.alloc(), file()?, source)?;
     assert_eq!(rt; document.definitions.len(), 5);
     assert_eq!(rt; definition_at(&document, 0)?.file.as_str(), "a");
-    let Tree::Schema(schema) = definition_at(&document, 0)?.tree.get() else {
+    let Tree::Schema(schema) = &definition_at(&document, 0)?.tree else {
         return Ok(assert!(rt; false));
     };
+    let schema = schema.get();
     assert_eq!(rt; schema.place.column, 1);
     assert_eq!(rt; schema.keyword.column, 5);
     assert!(rt; schema.description.is_some());
@@ -437,22 +438,25 @@ fn trees_have_their_parts_and_places(rt: HostRuntime) -> Result<(), Fail> {
     assert!(rt; mutation.kind == OperationKind::Mutation);
     assert_eq!(rt; mutation.place.column, 26);
     assert_eq!(rt; mutation.name.as_str(), "M");
-    let Tree::Directive(directive) = definition_at(&document, 1)?.tree.get() else {
+    let Tree::Directive(directive) = &definition_at(&document, 1)?.tree else {
         return Ok(assert!(rt; false));
     };
+    let directive = directive.get();
     assert_eq!(rt; directive.place.line, 2);
     assert!(rt; directive.is_repeatable);
     assert_eq!(rt; directive.arguments.len(), 1);
     assert_eq!(rt; directive.locations.len(), 2);
     assert!(rt; *directive.locations.get(0).ok_or(Missing)? == DirectiveLocation::Query);
-    let Tree::SchemaExtension(extension) = definition_at(&document, 2)?.tree.get() else {
+    let Tree::SchemaExtension(extension) = &definition_at(&document, 2)?.tree else {
         return Ok(assert!(rt; false));
     };
+    let extension = extension.get();
     assert_eq!(rt; extension.place.line, 3);
     assert_eq!(rt; extension.roots.len(), 1);
-    let Tree::TypeExtension(extension) = definition_at(&document, 3)?.tree.get() else {
+    let Tree::TypeExtension(extension) = &definition_at(&document, 3)?.tree else {
         return Ok(assert!(rt; false));
     };
+    let extension = extension.get();
     assert_eq!(rt; extension.place.column, 1);
     assert_eq!(rt; extension.name.as_str(), "U");
     assert_eq!(rt; extension.directives.len(), 1);

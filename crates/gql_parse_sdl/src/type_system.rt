@@ -9,7 +9,7 @@ use crate::extensions::extension;
 use crate::schema::schema;
 use crate::type_keyword::TypeKeyword;
 use crate::types::type_definition;
-use gql_ast::Tree;
+use gql_ast::{Shared, Tree};
 use gql_grammar::{Cursor, ParseError};
 use std::alloc::Global;
 
@@ -23,13 +23,18 @@ fn defined(
     ensures shorter { OnOk result (length cursor.new < length cursor.old) }
 {
     if cursor.sees_word("schema") {
-        return Ok(Tree::Schema(schema(alloc, cursor, description)?));
+        let definition = schema(alloc, cursor, description)?;
+        return Ok(Tree::Schema(Shared::new(alloc, definition)?));
     }
     if cursor.sees_word("directive") {
-        return Ok(Tree::Directive(directive_definition(alloc, cursor, description)?));
+        let definition = directive_definition(alloc, cursor, description)?;
+        return Ok(Tree::Directive(Shared::new(alloc, definition)?));
     }
     match TypeKeyword::of(cursor.text()) {
-        Some(keyword) => Ok(Tree::Type(type_definition(alloc, cursor, description, keyword)?)),
+        Some(keyword) => {
+            let definition = type_definition(alloc, cursor, description, keyword)?;
+            Ok(Tree::Type(Shared::new(alloc, definition)?))
+        }
         None => Err(cursor.refuse()),
     }
 }

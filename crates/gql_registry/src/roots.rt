@@ -10,7 +10,7 @@ fn add_trees<'f>(document: &'f Document, trees: &mut Vec<&'f Tree>) -> Result<()
     ensures { OnOk result (map (λ t. t.now) trees.new.items ≡ map (λ t. t.now) trees.old.items ++ trees_in document.now) }
 {
     for definition in document.definitions.as_slice() {
-        trees.push(definition.tree.get())?;
+        trees.push(&definition.tree)?;
     }
     Ok(())
 }
@@ -50,7 +50,7 @@ fn extends_query(tree: &Tree) -> bool
     ensures { result ≡ extends_query tree.now }
 {
     match tree {
-        Tree::SchemaExtension(extension) => names_query(extension.roots.as_slice()),
+        Tree::SchemaExtension(extension) => names_query(extension.get().roots.as_slice()),
         _ => false,
     }
 }
@@ -59,7 +59,7 @@ fn defines_query(tree: &Tree) -> Option<bool>
     ensures { result ≡ defines_query tree.now }
 {
     match tree {
-        Tree::Schema(definition) => Some(names_query(definition.roots.as_slice())),
+        Tree::Schema(definition) => Some(names_query(definition.get().roots.as_slice())),
         _ => None,
     }
 }

@@ -19,8 +19,8 @@ fn add_names<'f>(
     ensures { OnOk result (map named names.new.items ≡ map named names.old.items ++ names_of file.now document.now) }
 {
     for definition in document.definitions.as_slice() {
-        if let Tree::Type(definition) = definition.tree.get() {
-            let name = &definition.name;
+        if let Tree::Type(definition) = &definition.tree {
+            let name = &definition.get().name;
             names.push(TypeName { file, name })?;
         }
     }
