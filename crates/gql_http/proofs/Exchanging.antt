@@ -1,13 +1,15 @@
 -- A pipe's pieces, one after another.
-use Rattle.std.proofs.Common.{◌≡◌, ◌⊎◌, inl, inr, ℕ, List, [], ◌++◌, Bool, true, false, cond, Option, Some, None, refl, sym, ap, ◌∙◌, subst, append_assoc, append-nil}
+use Rattle.std.proofs.Common.{◌≡◌, ◌⊎◌, inl, inr, ℕ, List, [], ◌++◌, Bool, true, false, cond, Option, Some, None, Ok, refl, sym, ap, ◌∙◌, subst, append_assoc, append-nil}
 use Rattle.gql_registry.specs.State.{State}
 use Rattle.gql_wire.specs.Device.{Gains, GainsPrefix}
 use Rattle.gql_wire.specs.Laws.{Feeding, NothingUnfinished}
 use Rattle.gql_http.specs.Exchange.{Serves, Breaks}
 use Rattle.gql_http.specs.Hubs.{is_unfinished, service_of, rest_of, Ends}
-use Rattle.gql_http.specs.Pipes.{Answers, AnswersUpTo, AnswersSome}
+use Rattle.gql_http.specs.Pipes.{Answers, AnswersUpTo, AnswersSome, Exchanges, Finishes}
 use Rattle.gql_http.specs.declared.hub.Hub.{Hub}
 use Rattle.gql_http.specs.declared.hub.Fed.{Fed}
+use Rattle.gql_http.specs.declared.piping.PipeEnd.{PipeEnd}
+use Rattle.gql_http.specs.declared.piping.PipeEnd.TheVariants.{Whole, Rest}
 use Rattle.gql_http.proofs.Joining.{serves_join, breaks_join, serves_nothing}
 
 -- what was read so far was answered, and the connection is open
@@ -54,6 +56,14 @@ module _ {s u : State} {source_old source_new sink_old sink_new rest : Option (L
   pub told_more : (source_last : Option (List ℕ)) (piece : List ℕ) → Gains source_new source_last piece → Gains source_old source_last (e.read ++ piece)
   told_more source_last piece more_bytes = gains_append source_old source_new source_last e.read piece e.told more_bytes
 
+-- the source is at its end
+pub finished : (s u : State) (read : List ℕ) (sink_old sink_new : Option (List ℕ)) (unfinished : Bool) (result : PipeEnd) → result ≡ cond unfinished Rest Whole
+    → Answers s read sink_old sink_new u unfinished → (ended : Bool) → ended ≡ true → Exchanges s read ended (Ok result) sink_old sink_new u
+finished s u read sink_old sink_new true result is answers ended at_end =
+    subst (λ r. Exchanges s read ended (Ok r) sink_old sink_new u) (sym is) (record { answers = answers; stops = inr at_end })
+finished s u read sink_old sink_new false result is answers ended at_end =
+    subst (λ r. Exchanges s read ended (Ok r) sink_old sink_new u) (sym is) (record { answers = answers; stops = inr at_end })
+
 -- what is known behind a piece that was fed
 module _ (feeding : Feeding) {s : State} {source_old source_new sink_old sink_new : Option (List ℕ)} (old new : Hub) (fed : Fed) (piece : List ℕ)
     (e : Exchanged s source_old source_new sink_old sink_new (service_of old) (rest_of old 0)) where
@@ -89,14 +99,17 @@ module _ (feeding : Feeding) {s : State} {source_old source_new sink_old sink_ne
 
   -- a request closed the connection
   pub fed_closed : Ends false (e.held ++ piece) 0 old fed new → fed.closed ≡ true → (sink_last : Option (List ℕ)) → Gains sink_new sink_last fed.out.items
-      → Answers s (e.read ++ piece) sink_old sink_last (service_of new) false
-  fed_closed h closing sink_last written = record {
-    out = e.out ++ fed.out.items;
-    closed = fed.closed;
-    rest = rest_of new 0;
-    serves = fed_whole h;
-    written = gains_append sink_old sink_new sink_last e.out fed.out.items e.written written;
-    ending = sym (ap is_unfinished (closed_rest fed.closed (fed_whole h).left (rest_of new 0) (fed_whole h).held closing));
+      → (ended : Bool) → Finishes s (e.read ++ piece) sink_old sink_last (service_of new) false ended
+  fed_closed h closing sink_last written ended = record {
+    answers = record {
+      out = e.out ++ fed.out.items;
+      closed = fed.closed;
+      rest = rest_of new 0;
+      serves = fed_whole h;
+      written = gains_append sink_old sink_new sink_last e.out fed.out.items e.written written;
+      ending = sym (ap is_unfinished (closed_rest fed.closed (fed_whole h).left (rest_of new 0) (fed_whole h).held closing));
+    };
+    stops = inl closing;
   }
     where
       closed_rest : (closed : Bool) (left : List ℕ) (rest : Option (List ℕ)) → rest ≡ (cond closed None (Some left)) → closed ≡ true → rest ≡ None

@@ -26,7 +26,8 @@ TwoParts = (s t u v : State) (held first second half a b all : List ℕ) (c d : 
     → (all ≡ a ++ b) × (d ≡ c) × (v ≡ u) × (q ≡ p)
 
 -- Whatever the events, what each gives out is the answers to the requests that it completes, and all requests are run one
--- after another in the order in which they are complete.
+-- after another in the order in which they are complete. Where memory was wanting in a feed, the requests of it that were
+-- made are among them, and the one in hand is not.
 abbrev pub InOrder : Type 0
-InOrder = (s t : State) (rests last : Rests) (events : List Event) (outs : List (List ℕ)) → Behaves s rests events outs t last
-    → (groups : List (List Req)) × Orders rests events groups last × Answers s groups outs t
+InOrder = (s t : State) (rests last : Rests) (events : List Event) (wanting : List Bool) (outs : List (List ℕ)) → Behaves s rests events wanting outs t last
+    → (groups : List (List Req)) × Orders rests events wanting groups last × Answers s groups outs t

@@ -34,7 +34,8 @@ pub fn two_parts()
 }
 
 /// Whatever the events on the connections, each feed gives out the answers to the requests that it completes, and all
-/// requests are made one after another, in the order in which they are complete.
+/// requests are made one after another, in the order in which they are complete. Where memory was wanting in a feed, the
+/// requests of it that were made are among them, and the one in hand is not.
 pub fn in_order()
     ensures { InOrder }
 {}

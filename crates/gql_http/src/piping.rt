@@ -2,7 +2,7 @@
 ghost use Rattle.std.specs.Prelude.{◌≡◌, ◌+◌, ◌-◌, ◌^◌, ◌<◌, ◌≤◌, ℕ, List, [], Some, None, IsErrOf, if◌then◌else◌};
 ghost use Rattle.gql_wire.specs.Device.{Gains};
 ghost use Rattle.gql_http.specs.Hubs.{service_of, rest_of, is_unfinished};
-ghost use Rattle.gql_http.specs.Pipes.{Exchanges};
+ghost use Rattle.gql_http.specs.Pipes.{Exchanges, most_reads};
 
 use crate::hub::Hub;
 use gql_wire::laws::{feeding, nothing_is_unfinished};
@@ -58,14 +58,14 @@ fn exchange<S: Source, W: Sink>(
     sink: &mut W,
 ) -> Result<PipeEnd, PipeFault>
     requires open { rest_of hub.old 0 ≡ Some [] }
-    requires countable { S.reads source.old + MAX_READS < 2 ^ 64 }
+    requires countable { S.reads source.old + most_reads < 2 ^ 64 }
     requires readable { S.failures source.old < 2 ^ 64 - 1 }
     requires writable { W.failures sink.old < 2 ^ 64 - 1 }
     ensures exchange { (read : List ℕ) × Gains (S.told source.old) (S.told source.new) read
-        × Exchanges (service_of hub.old) read result (W.told sink.old) (W.told sink.new) (service_of hub.new) }
+        × Exchanges (service_of hub.old) read (S.ended source.new) result (W.told sink.old) (W.told sink.new) (service_of hub.new) }
     ensures read_failed { IsErrOf result PipeFault.ReadFailed → S.failures source.new ≡ S.failures source.old + 1 }
     ensures write_failed { IsErrOf result PipeFault.WriteFailed → W.failures sink.new ≡ W.failures sink.old + 1 }
-    ensures too_many { IsErrOf result PipeFault.TooManyReads → S.reads source.new ≡ S.reads source.old + MAX_READS }
+    ensures too_many { IsErrOf result PipeFault.TooManyReads → S.reads source.new ≡ S.reads source.old + most_reads }
 {
     // The laws by which pieces of a stream are joined.
     nothing_is_unfinished();
@@ -93,22 +93,22 @@ fn exchange<S: Source, W: Sink>(
 }
 
 /// Reads pieces from the source, feeds them to connection 0 and writes the answers, up to the end of the input or to a
-/// request that closes the connection. Connection 0 is closed before and after, on every way out.
+/// request that closes the connection, and no less. Connection 0 is closed before and after, on every way out.
 pub fn pipe<S: Source, W: Sink>(
     hub: &mut Hub,
     source: &mut S,
     sink: &mut W,
 ) -> Result<PipeEnd, PipeFault>
     requires closed { rest_of hub.old 0 ≡ None }
-    requires countable { S.reads source.old + MAX_READS < 2 ^ 64 }
+    requires countable { S.reads source.old + most_reads < 2 ^ 64 }
     requires readable { S.failures source.old < 2 ^ 64 - 1 }
     requires writable { W.failures sink.old < 2 ^ 64 - 1 }
     ensures closed { rest_of hub.new 0 ≡ None }
     ensures exchange { (read : List ℕ) × Gains (S.told source.old) (S.told source.new) read
-        × Exchanges (service_of hub.old) read result (W.told sink.old) (W.told sink.new) (service_of hub.new) }
+        × Exchanges (service_of hub.old) read (S.ended source.new) result (W.told sink.old) (W.told sink.new) (service_of hub.new) }
     ensures read_failed { IsErrOf result PipeFault.ReadFailed → S.failures source.new ≡ S.failures source.old + 1 }
     ensures write_failed { IsErrOf result PipeFault.WriteFailed → W.failures sink.new ≡ W.failures sink.old + 1 }
-    ensures too_many { IsErrOf result PipeFault.TooManyReads → S.reads source.new ≡ S.reads source.old + MAX_READS }
+    ensures too_many { IsErrOf result PipeFault.TooManyReads → S.reads source.new ≡ S.reads source.old + most_reads }
 {
     let Ok(()) = hub.open(0) else {
         unreachable!();

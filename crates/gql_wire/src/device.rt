@@ -1,4 +1,4 @@
-ghost use Rattle.std.specs.Prelude.{◌≡◌, ◌+◌, ◌-◌, ◌^◌, ◌<◌, ◌≤◌, ◌++◌, ◌↔◌, ◌≢◌, [], List, ℕ, Option, Some, None, length, take, drop, min, IfOk, OnOk, OnErr, MatchResult, IsTrue, IsOk, IsErr};
+ghost use Rattle.std.specs.Prelude.{◌≡◌, ◌+◌, ◌-◌, ◌^◌, ◌<◌, ◌≤◌, ◌++◌, ◌↔◌, ◌≢◌, [], List, ℕ, Option, Some, None, length, take, drop, min, IfOk, OnOk, OnErr, MatchResult, IsTrue, IsOk, IsErr, Bool, true, false, not, nat_le, nat_eq, ◌||◌, ◌&&◌};
 ghost use Rattle.std.specs.Io.KnownBytes.{ReadConsumes, WriteAppends};
 ghost use Rattle.gql_wire.specs.Device.{Gains, GainsPrefix, next_failing};
 
@@ -27,8 +27,11 @@ pub trait Source {
     /// How many reads failed.
     ghost failures: { Self → ℕ };
 
-    /// Fills the front of the piece, and says how many bytes came. None where the piece is not empty
-    /// means that the input is at its end.
+    /// Whether the input is at its end.
+    ghost ended: { Self → Bool };
+
+    /// Fills the front of the piece, and says how many bytes came. Where the piece is not empty and 0 bytes
+    /// came, the input is at its end.
     fn read(&mut self, piece: &mut [u8]) -> Result<usize, ReadFailed>
         requires countable { reads self.old < 2 ^ 64 - 1 }
         requires failable { failures self.old < 2 ^ 64 - 1 }
@@ -36,7 +39,8 @@ pub trait Source {
         ensures bytes { IfOk result (λ n. Gains (told self.old) (told self.new) (take n piece.new)) }
         ensures none { OnErr result (Gains (told self.old) (told self.new) []) }
         ensures counted { reads self.new ≡ reads self.old + 1 }
-        ensures failed { MatchResult result (λ _. failures self.new ≡ failures self.old) (λ _. failures self.new ≡ failures self.old + 1) };
+        ensures failed { MatchResult result (λ _. failures self.new ≡ failures self.old) (λ _. failures self.new ≡ failures self.old + 1) }
+        ensures ends { IfOk result (λ n. n ≡ 0 → 0 < length piece.old → ended self.new ≡ true) };
 }
 
 /// Where bytes go.
@@ -124,6 +128,8 @@ impl<'a> Source for MemSource<'a> {
 
     ghost failures = { λ s. s.failures };
 
+    ghost ended = { λ s. nat_le (length s.bytes.now) s.at };
+
     fn read(&mut self, piece: &mut [u8]) -> Result<usize, ReadFailed>
         requires countable { self.old.reads < 2 ^ 64 - 1 }
         requires failable { self.old.failures < 2 ^ 64 - 1 }
@@ -134,6 +140,7 @@ impl<'a> Source for MemSource<'a> {
         ensures none { OnErr result (Gains (Some (take self.old.at self.old.bytes.now)) (Some (take self.new.at self.new.bytes.now)) []) }
         ensures counted { self.new.reads ≡ self.old.reads + 1 }
         ensures failed { MatchResult result (λ _. self.new.failures ≡ self.old.failures) (λ _. self.new.failures ≡ self.old.failures + 1) }
+        ensures ends { IfOk result (λ n. n ≡ 0 → 0 < length piece.old → nat_le (length self.new.bytes.now) self.new.at ≡ true) }
 
         // It fails at its call alone, and else moves as many bytes as it may.
         ensures fails { IsErr result ↔ (self.old.failing ≡ Some 0) }
@@ -232,6 +239,8 @@ pub struct ReadDevice<R: Read> {
     pub reads: u64,
     /// How many of them failed.
     pub failures: u64,
+    /// Whether a read found the end of the input.
+    pub ended: bool,
 }
 
 impl<R: Read> ReadDevice<R> {
@@ -240,11 +249,13 @@ impl<R: Read> ReadDevice<R> {
         ensures inner { result.inner ≡ inner }
         ensures reads { result.reads ≡ 0 }
         ensures failures { result.failures ≡ 0 }
+        ensures ended { result.ended ≡ false }
     {
         ReadDevice {
             inner,
             reads: 0,
             failures: 0,
+            ended: false,
         }
     }
 }
@@ -256,6 +267,8 @@ impl<R: Read> Source for ReadDevice<R> {
 
     ghost failures = { λ s. s.failures };
 
+    ghost ended = { λ s. s.ended };
+
     fn read(&mut self, piece: &mut [u8]) -> Result<usize, ReadFailed>
         requires countable { self.old.reads < 2 ^ 64 - 1 }
         requires failable { self.old.failures < 2 ^ 64 - 1 }
@@ -266,15 +279,23 @@ impl<R: Read> Source for ReadDevice<R> {
         ensures none { OnErr result (Gains None None []) }
         ensures counted { self.new.reads ≡ self.old.reads + 1 }
         ensures failed { MatchResult result (λ _. self.new.failures ≡ self.old.failures) (λ _. self.new.failures ≡ self.old.failures + 1) }
+        ensures ends { IfOk result (λ n. n ≡ 0 → 0 < length piece.old → self.new.ended ≡ true) }
+
+        // It is at its end where a read found it there, and no read that brings bytes finds that.
+        ensures finds { MatchResult result (λ n. self.new.ended ≡ (self.old.ended || (nat_eq n 0 && not (nat_eq (length piece.old) 0)))) (λ _. self.new.ended ≡ self.old.ended) }
 
         // Where the device's own type tells what is left of it, that is what is read.
         ensures through { ReadConsumes (R.remaining self.old.inner) (R.remaining self.new.inner) result piece.new }
     {
         self.reads += 1;
+        let is_empty = piece.is_empty();
         let Ok(count) = self.inner.read(piece) else {
             self.failures += 1;
             return Err(ReadFailed);
         };
+        if count == 0 && !is_empty {
+            self.ended = true;
+        }
         Ok(count)
     }
 }

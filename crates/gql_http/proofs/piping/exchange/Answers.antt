@@ -37,7 +37,7 @@ returns-then-fed-2-clause-exchange g c =
     let e = c.loop-turn.invariant.exchanged in (
       e.read ++ _,
       told_more e _ _ c.in-Ok.ensures.bytes,
-      fed_closed c.feeding.ensures _ _ c.feed-fed.result _ e (rw c.if-fed.false at (c.feed-fed.ensures.fed e.held e.stays)) c.if-fed-2.true _ (rw c.as_slice.ensures.value at c.in-Ok-write_all.ensures.ok),
+      fed_closed c.feeding.ensures _ _ c.feed-fed.result _ e (rw c.if-fed.false at (c.feed-fed.ensures.fed e.held e.stays)) c.if-fed-2.true _ (rw c.as_slice.ensures.value at c.in-Ok-write_all.ensures.ok) _,
     )
 
 pub loop-turn-preserved : goal.loop-turn-preserved
