@@ -1,0 +1,3 @@
+pub mod HelpFlags
+pub mod LineWords
+pub mod LineAnswers

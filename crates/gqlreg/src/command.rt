@@ -1,4 +1,9 @@
 //! The command line.
+ghost use Rattle.std.specs.Prelude.{◌≡◌, IfOk};
+ghost use Rattle.clap.specs.Walk.{texts};
+ghost use Rattle.clap.specs.Words.{app_of, kind_of};
+ghost use Rattle.gqlreg.specs.CommandLine.{Answers, Asks, FollowsGrammar, GivesOrWants, HasHelpFlag, HelpsOrWants, Tells, command_line};
+
 use clap::Command as Grammar;
 use clap::error::ErrorKind;
 use std::alloc::{AllocError, Global};
@@ -21,7 +26,9 @@ pub enum CommandFault {
     Memory,
 }
 
-fn grammar<'a>(alloc: Global) -> Result<Grammar<'a>, AllocError> {
+fn grammar<'a>(alloc: Global) -> Result<Grammar<'a>, AllocError>
+    ensures { IfOk result (λ g. app_of g ≡ command_line) }
+{
     let pipe = Grammar::new(alloc, "pipe").about(
         "Answers the HTTP/1.1 requests of standard input on standard output",
     );
@@ -31,7 +38,9 @@ fn grammar<'a>(alloc: Global) -> Result<Grammar<'a>, AllocError> {
         .subcommand(pipe)
 }
 
-fn told(alloc: Global, error: &clap::Error) -> CommandFault {
+fn told(alloc: Global, error: &clap::Error) -> CommandFault
+    ensures { Tells (kind_of error.now) result }
+{
     let Ok(text) = format!(in alloc; "{error}") else {
         return CommandFault::Memory;
     };
@@ -43,7 +52,12 @@ fn told(alloc: Global, error: &clap::Error) -> CommandFault {
 }
 
 /// What the words of a command line ask for, the program's name first.
-pub fn read_command(alloc: Global, words: &[&str]) -> Result<Command, CommandFault> {
+pub fn read_command(alloc: Global, words: &[&str]) -> Result<Command, CommandFault>
+    ensures asked { (command : Command) → Asks command (texts words.now) → GivesOrWants command result }
+    ensures help { HasHelpFlag (texts words.now) → HelpsOrWants result }
+    ensures plain { Answers (texts words.now) result }
+    ensures grammar { FollowsGrammar (texts words.now) result }
+{
     let Ok(grammar) = grammar(alloc) else {
         return Err(CommandFault::Memory);
     };

@@ -6,6 +6,10 @@ mod status;
 #[cfg(test)]
 mod tests;
 
+ghost use Rattle.std.specs.Prelude.{◌≡◌, IfOk};
+ghost use Rattle.clap.specs.Walk.{texts as texts_of};
+ghost use Rattle.gqlreg.specs.CommandLine.{Answers, Asks, FollowsGrammar, GivesOrWants, HasHelpFlag, HelpsOrWants, spelled};
+
 use crate::command::{Command, CommandFault, read_command};
 use crate::status::status_of;
 use gql_http::{Hub, pipe};
@@ -24,7 +28,9 @@ fn words(rt: &HostRuntime) -> io::Result<Vec<String>> {
     Ok(words)
 }
 
-fn texts<'w>(alloc: Global, words: &'w [String]) -> Result<Vec<&'w str>, AllocError> {
+fn texts<'w>(alloc: Global, words: &'w [String]) -> Result<Vec<&'w str>, AllocError>
+    ensures { IfOk result (λ t. texts_of t.items ≡ spelled words.now) }
+{
     let mut texts = Vec::new(alloc);
     for word in words {
         texts.push(word.as_str())?;
@@ -32,7 +38,12 @@ fn texts<'w>(alloc: Global, words: &'w [String]) -> Result<Vec<&'w str>, AllocEr
     Ok(texts)
 }
 
-fn command_of(alloc: Global, words: &[String]) -> Result<Command, CommandFault> {
+fn command_of(alloc: Global, words: &[String]) -> Result<Command, CommandFault>
+    ensures asked { (command : Command) → Asks command (spelled words.now) → GivesOrWants command result }
+    ensures help { HasHelpFlag (spelled words.now) → HelpsOrWants result }
+    ensures plain { Answers (spelled words.now) result }
+    ensures grammar { FollowsGrammar (spelled words.now) result }
+{
     let Ok(texts) = texts(alloc, words) else {
         return Err(CommandFault::Memory);
     };
@@ -62,11 +73,20 @@ fn tell(rt: &HostRuntime, fault: CommandFault) -> u8 {
     }
 }
 
+/// The status where the words can't be read: 4 for want of memory, and 2 for words that are no text.
+fn unread(error: &io::Error) -> u8 {
+    match error.kind() {
+        io::ErrorKind::OutOfMemory => 4,
+        _ => 2,
+    }
+}
+
 /// Status 0: done; 1: a read or a write failed, or there were too many reads; 2: the command line is refused; 3: the
 /// input ended within a request; 4: memory was wanting.
 fn main(rt: HostRuntime) -> ExitCode {
-    let Ok(words) = words(&rt) else {
-        return ExitCode::from(2);
+    let words = match words(&rt) {
+        Ok(words) => words,
+        Err(error) => return ExitCode::from(unread(&error)),
     };
     ExitCode::from(match command_of(rt.alloc(), words.as_slice()) {
         Ok(Command::Pipe) => run_pipe(&rt),

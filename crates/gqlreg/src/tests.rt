@@ -1,4 +1,6 @@
 use crate::command::{Command, CommandFault, read_command};
+use crate::status::status_of;
+use gql_http::{PipeEnd, PipeFault};
 use std::test::Fail;
 
 #[test]
@@ -22,5 +24,16 @@ fn reads_commands(rt: HostRuntime) -> Result<(), Fail> {
         &["gqlreg", "serve", "--port", "8080", "--connections", "2"],
     );
     assert!(rt; matches!(serve, Err(CommandFault::Refused(_))));
+    Ok(())
+}
+
+#[test]
+fn each_end_of_a_pipe_has_a_status(rt: HostRuntime) -> Result<(), Fail> {
+    assert_eq!(rt; status_of(&Ok(PipeEnd::Whole)), 0);
+    assert_eq!(rt; status_of(&Ok(PipeEnd::Rest)), 3);
+    assert_eq!(rt; status_of(&Err(PipeFault::ReadFailed)), 1);
+    assert_eq!(rt; status_of(&Err(PipeFault::WriteFailed)), 1);
+    assert_eq!(rt; status_of(&Err(PipeFault::TooManyReads)), 1);
+    assert_eq!(rt; status_of(&Err(PipeFault::Memory)), 4);
     Ok(())
 }
