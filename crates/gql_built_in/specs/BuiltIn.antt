@@ -1,0 +1,182 @@
+-- What every schema has: scalars (3.5), the types of introspection (4.2) and directives (3.13).
+use Rattle.std.specs.Prelude.{List, [], ◌∷◌, ◌++◌, map, Some, None, false, codes}
+use Rattle.gql_ast.specs.declared.type_ref.TypeRef.{TypeRef}
+use Rattle.gql_ast.specs.declared.type_system.InputValueDefinition.{InputValueDefinition}
+use Rattle.gql_ast.specs.declared.type_system.FieldDefinition.{FieldDefinition}
+use Rattle.gql_ast.specs.declared.type_system.TypeDefinition.{TypeDefinition}
+use Rattle.gql_ast.specs.declared.type_system.DirectiveLocation.{DirectiveLocation}
+use Rattle.gql_ast.specs.declared.type_system.DirectiveLocation.TheVariants as l
+use Rattle.gql_ast.specs.declared.type_system.DirectiveDefinition.{DirectiveDefinition}
+use Rattle.gql_ast.specs.declared.definition.Tree.{Tree}
+use Rattle.gql_built_in.specs.declared.sited.Sited.{Sited}
+use Rattle.gql_built_in.specs.BuiltInWords.{named, required, list_of, required_list_of, boolean_value, string_value, argument, field, field_with, scalar, object_type, enum_type, directive, a_type, a_directive}
+
+-- the types that the tables below name
+abbrev pub string : TypeRef
+string = named (codes "String")
+
+abbrev pub boolean : TypeRef
+boolean = named (codes "Boolean")
+
+abbrev pub type : TypeRef
+type = named (codes "__Type")
+
+-- the scalars of every schema (3.5), but for Float, which this registry doesn't serve
+unfoldable pub scalars : List TypeDefinition
+scalars = scalar (codes "Int")
+    ∷ scalar (codes "String")
+    ∷ scalar (codes "Boolean")
+    ∷ scalar (codes "ID")
+    ∷ []
+
+-- (4.2.1)
+unfoldable pub fields_of_schema : List FieldDefinition
+fields_of_schema = field (codes "description") string
+    ∷ field (codes "types") (required_list_of type)
+    ∷ field (codes "queryType") (required type)
+    ∷ field (codes "mutationType") type
+    ∷ field (codes "subscriptionType") type
+    ∷ field (codes "directives") (required_list_of (named (codes "__Directive")))
+    ∷ []
+
+-- (includeDeprecated: Boolean = false)
+unfoldable pub include_deprecated : List InputValueDefinition
+include_deprecated = argument (codes "includeDeprecated") boolean (Some (boolean_value false)) ∷ []
+
+-- (4.2.2)
+unfoldable pub fields_of_type : List FieldDefinition
+fields_of_type = field (codes "kind") (required (named (codes "__TypeKind")))
+    ∷ field (codes "name") string
+    ∷ field (codes "description") string
+    ∷ field_with (codes "fields") include_deprecated (list_of (named (codes "__Field")))
+    ∷ field (codes "interfaces") (list_of type)
+    ∷ field (codes "possibleTypes") (list_of type)
+    ∷ field_with (codes "enumValues") include_deprecated (list_of (named (codes "__EnumValue")))
+    ∷ field (codes "inputFields") (list_of (named (codes "__InputValue")))
+    ∷ field (codes "ofType") type
+    ∷ field (codes "specifiedByURL") string
+    ∷ []
+
+-- (4.2.3)
+unfoldable pub fields_of_field : List FieldDefinition
+fields_of_field = field (codes "name") (required string)
+    ∷ field (codes "description") string
+    ∷ field (codes "args") (required_list_of (named (codes "__InputValue")))
+    ∷ field (codes "type") (required type)
+    ∷ field (codes "isDeprecated") (required boolean)
+    ∷ field (codes "deprecationReason") string
+    ∷ []
+
+-- (4.2.4)
+unfoldable pub fields_of_input_value : List FieldDefinition
+fields_of_input_value = field (codes "name") (required string)
+    ∷ field (codes "description") string
+    ∷ field (codes "type") (required type)
+    ∷ field (codes "defaultValue") string
+    ∷ []
+
+-- (4.2.5)
+unfoldable pub fields_of_enum_value : List FieldDefinition
+fields_of_enum_value = field (codes "name") (required string)
+    ∷ field (codes "description") string
+    ∷ field (codes "isDeprecated") (required boolean)
+    ∷ field (codes "deprecationReason") string
+    ∷ []
+
+-- (4.2.6)
+unfoldable pub fields_of_directive : List FieldDefinition
+fields_of_directive = field (codes "name") (required string)
+    ∷ field (codes "description") string
+    ∷ field (codes "locations") (required_list_of (named (codes "__DirectiveLocation")))
+    ∷ field (codes "args") (required_list_of (named (codes "__InputValue")))
+    ∷ field (codes "isRepeatable") (required boolean)
+    ∷ []
+
+-- the kinds of types (4.2.2)
+unfoldable pub type_kinds : TypeDefinition
+type_kinds = enum_type (codes "__TypeKind")
+    (codes "SCALAR"
+    ∷ codes "OBJECT"
+    ∷ codes "INTERFACE"
+    ∷ codes "UNION"
+    ∷ codes "ENUM"
+    ∷ codes "INPUT_OBJECT"
+    ∷ codes "LIST"
+    ∷ codes "NON_NULL"
+    ∷ [])
+
+-- where a directive may stand (4.2.6)
+unfoldable pub directive_locations : TypeDefinition
+directive_locations = enum_type (codes "__DirectiveLocation")
+    (codes "QUERY"
+    ∷ codes "MUTATION"
+    ∷ codes "SUBSCRIPTION"
+    ∷ codes "FIELD"
+    ∷ codes "FRAGMENT_DEFINITION"
+    ∷ codes "FRAGMENT_SPREAD"
+    ∷ codes "INLINE_FRAGMENT"
+    ∷ codes "VARIABLE_DEFINITION"
+    ∷ codes "SCHEMA"
+    ∷ codes "SCALAR"
+    ∷ codes "OBJECT"
+    ∷ codes "FIELD_DEFINITION"
+    ∷ codes "ARGUMENT_DEFINITION"
+    ∷ codes "INTERFACE"
+    ∷ codes "UNION"
+    ∷ codes "ENUM"
+    ∷ codes "ENUM_VALUE"
+    ∷ codes "INPUT_OBJECT"
+    ∷ codes "INPUT_FIELD_DEFINITION"
+    ∷ [])
+
+-- the types of introspection (4.2)
+unfoldable pub introspection : List TypeDefinition
+introspection = object_type (codes "__Schema") fields_of_schema
+    ∷ object_type (codes "__Type") fields_of_type
+    ∷ object_type (codes "__Field") fields_of_field
+    ∷ object_type (codes "__InputValue") fields_of_input_value
+    ∷ object_type (codes "__EnumValue") fields_of_enum_value
+    ∷ object_type (codes "__Directive") fields_of_directive
+    ∷ type_kinds
+    ∷ directive_locations
+    ∷ []
+
+-- FIELD | FRAGMENT_SPREAD | INLINE_FRAGMENT
+abbrev pub selections : List DirectiveLocation
+selections = l.Field ∷ l.FragmentSpread ∷ l.InlineFragment ∷ []
+
+-- (if: Boolean!)
+unfoldable pub condition : List InputValueDefinition
+condition = argument (codes "if") (required boolean) None ∷ []
+
+-- directive @skip(if: Boolean!) on FIELD | FRAGMENT_SPREAD | INLINE_FRAGMENT (3.13.1)
+unfoldable pub skip : DirectiveDefinition
+skip = directive (codes "skip") condition selections
+
+-- directive @include(if: Boolean!) on FIELD | FRAGMENT_SPREAD | INLINE_FRAGMENT (3.13.2)
+unfoldable pub include : DirectiveDefinition
+include = directive (codes "include") condition selections
+
+-- (reason: String = "No longer supported")
+unfoldable pub reason : List InputValueDefinition
+reason = argument (codes "reason") string (Some (string_value (codes "No longer supported"))) ∷ []
+
+-- directive @deprecated(reason: String = "No longer supported") on FIELD_DEFINITION | ENUM_VALUE (3.13.3)
+unfoldable pub deprecated : DirectiveDefinition
+deprecated = directive (codes "deprecated") reason (l.FieldDefinition ∷ l.EnumValue ∷ [])
+
+-- (url: String!)
+unfoldable pub url : List InputValueDefinition
+url = argument (codes "url") (required string) None ∷ []
+
+-- directive @specifiedBy(url: String!) on SCALAR (3.13.4)
+unfoldable pub specified_by : DirectiveDefinition
+specified_by = directive (codes "specifiedBy") url (l.Scalar ∷ [])
+
+-- the directives of every schema (3.13)
+unfoldable pub directives : List DirectiveDefinition
+directives = skip ∷ include ∷ deprecated ∷ specified_by ∷ []
+
+-- all of them
+unfoldable pub built_in : List (Sited Tree)
+built_in = map a_type scalars ++ map a_type introspection ++ map a_directive directives

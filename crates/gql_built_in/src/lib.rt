@@ -1,0 +1,45 @@
+//! What every schema has: scalars (GraphQL specification, 3.5), the types of introspection (4.2) and directives
+//! (3.13). Their definitions stand in no file.
+#![tactic(auto)]
+
+ghost use Rattle.std.specs.Prelude.{◌≡◌, map, IfOk};
+ghost use Rattle.gql_built_in.specs.BuiltIn as spec;
+ghost use Rattle.gql_built_in.specs.BuiltInWords.{a_type as a_type_of};
+
+mod directives;
+mod introspection;
+mod sited;
+#[cfg(test)]
+mod tests;
+mod words;
+
+use crate::directives::directives;
+use crate::introspection::introspection;
+use crate::words::{a_type, scalar};
+use gql_ast::{Items, Tree};
+pub use sited::Sited;
+use std::alloc::{AllocError, Global};
+
+/// The scalars of every schema (GraphQL specification, 3.5), but for Float, which this registry doesn't serve.
+#[tactic(auto, unfolding(crate::specs::BuiltIn::scalars))]
+fn scalars(alloc: Global) -> Result<Items<Sited<Tree>>, AllocError>
+    ensures { IfOk result (λ ds. ds ≡ map a_type_of spec.scalars) }
+{
+    let mut found = Items::new(alloc);
+    a_type(alloc, &mut found, scalar(alloc, "Int")?)?;
+    a_type(alloc, &mut found, scalar(alloc, "String")?)?;
+    a_type(alloc, &mut found, scalar(alloc, "Boolean")?)?;
+    a_type(alloc, &mut found, scalar(alloc, "ID")?)?;
+    Ok(found)
+}
+
+/// The definitions that every schema has: scalars, the types of introspection and directives.
+#[tactic(auto, unfolding(crate::specs::BuiltIn::built_in))]
+pub fn built_in_definitions(alloc: Global) -> Result<Items<Sited<Tree>>, AllocError>
+    ensures { IfOk result (λ ds. ds ≡ spec.built_in) }
+{
+    let mut definitions = scalars(alloc)?;
+    definitions.append(introspection(alloc)?)?;
+    definitions.append(directives(alloc)?)?;
+    Ok(definitions)
+}

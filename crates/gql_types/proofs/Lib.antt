@@ -1,0 +1,5 @@
+pub mod Declaring
+pub mod Firsts
+pub mod Groups
+pub mod Ordering
+pub mod Places

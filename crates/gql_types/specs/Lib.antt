@@ -1,0 +1,11 @@
+pub mod Covariance
+pub mod Declarations
+pub mod Definitions
+pub mod Held
+pub mod Kinds
+pub mod Parts
+pub mod Possible
+pub mod Roots
+pub mod Schemas
+pub mod Types
+pub mod Written

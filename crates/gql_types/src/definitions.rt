@@ -1,0 +1,165 @@
+//! The definitions of a schema (GraphQL specification, 3.1), by their forms.
+ghost use Rattle.std.specs.Prelude.{◌≡◌, ◌++◌, IfOk, OnOk};
+ghost use Rattle.gql_types.specs.Definitions as spec;
+
+use gql_ast::{
+    Definition, DirectiveDefinition, FileName, Files, Items, SchemaDefinition, SchemaExtension,
+    Shared, Tree, TypeDefinition, TypeExtension,
+};
+use gql_built_in::{Sited, built_in_definitions};
+use std::alloc::{AllocError, Global};
+
+/// A copy of the name of a file, where there is one.
+pub fn copied(file: &Option<FileName>) -> Option<FileName>
+    ensures { result ≡ file.now }
+{
+    match file {
+        Some(file) => Some(file.copy()),
+        None => None,
+    }
+}
+
+fn of_file(definition: &Definition) -> Result<Sited<Tree>, AllocError>
+    ensures { IfOk result (λ d. d ≡ spec.of_file definition.now) }
+{
+    Ok(Sited {
+        file: Some(definition.file.copy()),
+        node: definition.tree.copy()?,
+    })
+}
+
+fn add_file(definitions: &[Definition], found: &mut Items<Sited<Tree>>) -> Result<(), AllocError>
+    ensures { OnOk result (found.new ≡ found.old ++ spec.in_order_of definitions.now) }
+{
+    for definition in definitions {
+        found.push(of_file(definition)?)?;
+    }
+    Ok(())
+}
+
+/// What is built in, then the definitions of the schema files.
+pub fn definitions(alloc: Global, files: &Files) -> Result<Items<Sited<Tree>>, AllocError>
+    ensures { IfOk result (λ ds. ds ≡ spec.definitions files.now) }
+{
+    let mut found = built_in_definitions(alloc)?;
+    for (_name, document) in files.schema.entries().iter() {
+        add_file(document.get().definitions.as_slice(), &mut found)?;
+    }
+    Ok(found)
+}
+
+fn names_a_type(name: &str) -> bool
+    ensures { result ≡ spec.names_a_type name.now }
+{
+    name != "Float"
+}
+
+fn add_type(
+    definition: &Sited<Tree>,
+    found: &mut Items<Sited<Shared<TypeDefinition>>>,
+) -> Result<(), AllocError>
+    ensures { OnOk result (found.new ≡ found.old ++ spec.type_in definition.now.file definition.now.node) }
+{
+    match &definition.node {
+        Tree::Type(node) => {
+            if names_a_type(node.get().name.as_str()) {
+                found.push(Sited {
+                    file: copied(&definition.file),
+                    node: node.clone()?,
+                })?;
+            }
+            Ok(())
+        }
+        _ => Ok(()),
+    }
+}
+
+/// The definitions of types, but of Float.
+pub fn type_definitions(
+    alloc: Global,
+    definitions: &[Sited<Tree>],
+) -> Result<Items<Sited<Shared<TypeDefinition>>>, AllocError>
+    ensures { IfOk result (λ found. found ≡ spec.type_definitions definitions.now) }
+{
+    let mut found = Items::new(alloc);
+    for definition in definitions {
+        add_type(definition, &mut found)?;
+    }
+    Ok(found)
+}
+
+/// The extensions of types.
+pub fn type_extensions(
+    alloc: Global,
+    definitions: &[Sited<Tree>],
+) -> Result<Items<Sited<Shared<TypeExtension>>>, AllocError>
+    ensures { IfOk result (λ found. found ≡ spec.type_extensions definitions.now) }
+{
+    let mut found = Items::new(alloc);
+    for definition in definitions {
+        if let Tree::TypeExtension(node) = &definition.node {
+            found.push(Sited {
+                file: copied(&definition.file),
+                node: node.clone()?,
+            })?;
+        }
+    }
+    Ok(found)
+}
+
+/// The definitions of directives.
+pub fn directive_definitions(
+    alloc: Global,
+    definitions: &[Sited<Tree>],
+) -> Result<Vec<Sited<Shared<DirectiveDefinition>>>, AllocError>
+    ensures { IfOk result (λ found. found.items ≡ spec.directive_definitions definitions.now) }
+{
+    let mut found = Vec::new(alloc);
+    for definition in definitions {
+        if let Tree::Directive(node) = &definition.node {
+            found.push(Sited {
+                file: copied(&definition.file),
+                node: node.clone()?,
+            })?;
+        }
+    }
+    Ok(found)
+}
+
+/// The definitions of the schema.
+pub fn schema_definitions(
+    alloc: Global,
+    definitions: &[Sited<Tree>],
+) -> Result<Items<Sited<Shared<SchemaDefinition>>>, AllocError>
+    ensures { IfOk result (λ found. found ≡ spec.schema_definitions definitions.now) }
+{
+    let mut found = Items::new(alloc);
+    for definition in definitions {
+        if let Tree::Schema(node) = &definition.node {
+            found.push(Sited {
+                file: copied(&definition.file),
+                node: node.clone()?,
+            })?;
+        }
+    }
+    Ok(found)
+}
+
+/// The extensions of the schema.
+pub fn schema_extensions(
+    alloc: Global,
+    definitions: &[Sited<Tree>],
+) -> Result<Items<Sited<Shared<SchemaExtension>>>, AllocError>
+    ensures { IfOk result (λ found. found ≡ spec.schema_extensions definitions.now) }
+{
+    let mut found = Items::new(alloc);
+    for definition in definitions {
+        if let Tree::SchemaExtension(node) = &definition.node {
+            found.push(Sited {
+                file: copied(&definition.file),
+                node: node.clone()?,
+            })?;
+        }
+    }
+    Ok(found)
+}

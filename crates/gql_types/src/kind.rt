@@ -1,0 +1,54 @@
+ghost use Rattle.std.specs.Prelude.{◌≡◌};
+ghost use Rattle.gql_types.specs.Parts.{kind_of};
+ghost use Rattle.gql_types.specs.Kinds.{same_kind, same_operation};
+
+use gql_ast::{OperationKind, TypeParts};
+
+/// The kinds of types (GraphQL specification, 3.4).
+#[derive(Clone, Copy, Debug, PartialEq, Eq)]
+pub enum TypeKind {
+    /// (3.5)
+    Scalar,
+    /// (3.6)
+    Object,
+    /// (3.7)
+    Interface,
+    /// (3.8)
+    Union,
+    /// (3.9)
+    Enum,
+    /// (3.10)
+    InputObject,
+}
+
+impl TypeKind {
+    /// The kind of a type with these parts.
+    pub fn of(parts: &TypeParts) -> TypeKind
+        ensures { result ≡ kind_of parts.now }
+    {
+        match parts {
+            TypeParts::Scalar => TypeKind::Scalar,
+            TypeParts::Object { .. } => TypeKind::Object,
+            TypeParts::Interface { .. } => TypeKind::Interface,
+            TypeParts::Union { .. } => TypeKind::Union,
+            TypeParts::Enum { .. } => TypeKind::Enum,
+            TypeParts::InputObject { .. } => TypeKind::InputObject,
+        }
+    }
+
+    /// Whether this is that kind.
+    #[tactic(auto, unfolding(crate::specs::Kinds::same_kind))]
+    pub fn is(self, other: TypeKind) -> bool
+        ensures { result ≡ same_kind self other }
+    {
+        self == other
+    }
+}
+
+/// Whether two kinds of operations are the same.
+#[tactic(auto, unfolding(crate::specs::Kinds::same_operation))]
+pub fn is_operation(kind: OperationKind, other: OperationKind) -> bool
+    ensures { result ≡ same_operation kind other }
+{
+    kind == other
+}

@@ -1,0 +1,22 @@
+//! The schema as one: the definitions of all schema files put together, with what every schema has built in.
+#![tactic(auto)]
+
+mod by_name;
+mod covariance;
+mod definitions;
+mod first_definitions;
+mod kind;
+mod named;
+mod parts;
+mod possible;
+mod roots;
+mod schema;
+mod schema_type;
+
+pub use gql_built_in::Sited;
+pub use kind::TypeKind;
+pub use named::{HasName, Named};
+pub use possible::PossibleTypes;
+pub use roots::Root;
+pub use schema::{Schema, assemble};
+pub use schema_type::SchemaType;

@@ -1,0 +1,225 @@
+//! Which objects a type may stand for (GraphQL specification, 3.7 and 3.8).
+ghost use Rattle.std.specs.Prelude.{◌≡◌, ◌++◌, ◌∷◌, [], IfOk, OnOk, map, flat_map};
+ghost use Rattle.std.specs.Option.{option_map_or};
+ghost use Rattle.std.specs.HashMap as hash;
+ghost use Rattle.gql_types.specs.Possible as spec;
+ghost use Rattle.gql_types.specs.Declarations.{declarations, declared_by, pair};
+
+use crate::by_name::{ByName, by_name};
+use crate::kind::TypeKind;
+use crate::named::HasName;
+use crate::schema_type::SchemaType;
+use gql_ast::{Items, Name, Text};
+use gql_built_in::Sited;
+use std::alloc::{AllocError, Global};
+use std::collections::BTreeMap;
+
+/// A composite type and the objects that it may stand for, each once, in the order of their names' bytes.
+#[derive(Drop)]
+pub struct PossibleTypes {
+    pub of_type: Text,
+    pub types: Items<Text>,
+}
+
+impl HasName for PossibleTypes {
+    ghost name = { λ p. p.of_type };
+
+    fn name(&self) -> &str {
+        self.of_type.as_str()
+    }
+}
+
+/// An object that declares an interface.
+#[derive(Clone, Copy)]
+pub struct Declaration<'t> {
+    pub interface: &'t str,
+    pub object: &'t str,
+}
+
+impl<'t> HasName for Declaration<'t> {
+    ghost name = { λ d. d.interface.now };
+
+    fn name(&self) -> &str {
+        self.interface
+    }
+}
+
+fn add_interfaces<'t>(
+    object: &'t str,
+    interfaces: &'t [Sited<Name>],
+    found: &mut Vec<Declaration<'t>>,
+) -> Result<(), AllocError>
+    ensures { OnOk result (map pair found.new.items ≡ map pair found.old.items ++ map (λ i. (i.node.text, object.now)) interfaces.now) }
+{
+    for interface in interfaces {
+        found.push(Declaration {
+            interface: interface.node.as_str(),
+            object,
+        })?;
+    }
+    Ok(())
+}
+
+fn add_declared<'t>(
+    of_type: &'t SchemaType,
+    found: &mut Vec<Declaration<'t>>,
+) -> Result<(), AllocError>
+    ensures { OnOk result (map pair found.new.items ≡ map pair found.old.items
+        ++ declared_by of_type.now.kind (spec.name_of of_type.now) of_type.now.interfaces) }
+{
+    match of_type.kind {
+        TypeKind::Object => add_interfaces(of_type.name(), of_type.interfaces.as_slice(), found),
+        TypeKind::Scalar
+        | TypeKind::Interface
+        | TypeKind::Union
+        | TypeKind::Enum
+        | TypeKind::InputObject => Ok(()),
+    }
+}
+
+fn declarations(alloc: Global, types: &[SchemaType]) -> Result<Vec<Declaration<'_>>, AllocError>
+    ensures { IfOk result (λ found. map pair found.items ≡ declarations types.now) }
+{
+    let mut found = Vec::new(alloc);
+    for of_type in types {
+        add_declared(of_type, &mut found)?;
+    }
+    Ok(found)
+}
+
+fn ordered(alloc: Global, names: &[&str]) -> Result<BTreeMap<Text, ()>, AllocError>
+    ensures { IfOk result (λ set. set.entries ≡ spec.entries_of (map (λ n. n.now) names.now)) }
+{
+    let mut set = BTreeMap::new(alloc);
+    for name in names {
+        set.insert(Text::from_str(alloc, name)?, ())?;
+    }
+    Ok(set)
+}
+
+fn names_in(alloc: Global, set: &BTreeMap<Text, ()>) -> Result<Items<Text>, AllocError>
+    ensures { IfOk result (λ found. found ≡ map (λ e. e.0) set.now.entries) }
+{
+    let mut found = Items::new(alloc);
+    for (name, _unit) in set.iter() {
+        found.push(name.copy(alloc)?)?;
+    }
+    Ok(found)
+}
+
+fn in_order(alloc: Global, names: &[&str]) -> Result<Items<Text>, AllocError>
+    ensures { IfOk result (λ found. found ≡ spec.in_order (map (λ n. n.now) names.now)) }
+{
+    let set = ordered(alloc, names)?;
+    let found = names_in(alloc, &set)?;
+    Ok(found)
+}
+
+fn objects_in<'t>(alloc: Global, group: &[&Declaration<'t>]) -> Result<Vec<&'t str>, AllocError>
+    ensures { IfOk result (λ names. map (λ n. n.now) names.items ≡ map (λ d. d.object.now) (map (λ x. x.now) group.now)) }
+{
+    let mut names = Vec::new(alloc);
+    for declaration in group {
+        names.push(declaration.object)?;
+    }
+    Ok(names)
+}
+
+fn of_interface(
+    alloc: Global,
+    name: &str,
+    declaring: &ByName<'_, Declaration<'_>>,
+) -> Result<Items<Text>, AllocError>
+    ensures { IfOk result (λ found. found ≡ spec.in_order
+        (map (λ d. d.object.now) (option_map_or (λ group. map (λ x. x.now) group.items) (hash.get_by_text declaring.now name.now) []))) }
+{
+    match declaring.get(name) {
+        Some(group) => {
+            let names = objects_in(alloc, group.as_slice())?;
+            in_order(alloc, names.as_slice())
+        }
+        None => Ok(Items::new(alloc)),
+    }
+}
+
+fn of_union(alloc: Global, members: &[Sited<Name>]) -> Result<Items<Text>, AllocError>
+    ensures { IfOk result (λ found. found ≡ spec.in_order (map (λ m. m.node.text) members.now)) }
+{
+    let mut names = Vec::new(alloc);
+    for member in members {
+        names.push(member.node.as_str())?;
+    }
+    in_order(alloc, names.as_slice())
+}
+
+fn itself(alloc: Global, name: &Text) -> Result<Items<Text>, AllocError>
+    ensures { IfOk result (λ found. found ≡ name.now ∷ []) }
+{
+    let mut found = Items::new(alloc);
+    found.push(name.copy(alloc)?)?;
+    Ok(found)
+}
+
+fn add(
+    alloc: Global,
+    name: &Text,
+    types: Items<Text>,
+    found: &mut Vec<PossibleTypes>,
+) -> Result<(), AllocError>
+    ensures { OnOk result (found.new.items ≡ found.old.items ++ (record { of_type = name.now; types = types }) ∷ []) }
+{
+    found.push(PossibleTypes {
+        of_type: name.copy(alloc)?,
+        types,
+    })?;
+    Ok(())
+}
+
+fn add_possible(
+    alloc: Global,
+    of_type: &SchemaType,
+    declaring: &ByName<'_, Declaration<'_>>,
+    found: &mut Vec<PossibleTypes>,
+) -> Result<(), AllocError>
+    ensures { OnOk result (found.new.items ≡ found.old.items ++ spec.possible_by of_type.now.kind
+        (λ q. map (λ d. d.object.now) (option_map_or (λ group. map (λ x. x.now) group.items) (hash.get_by_text declaring.now q) [])) of_type.now) }
+{
+    let name = &of_type.definition.node.get().name.text;
+    match of_type.kind {
+        TypeKind::Object => add(alloc, name, itself(alloc, name)?, found),
+        TypeKind::Interface => {
+            let types = of_interface(alloc, name.as_str(), declaring)?;
+            add(alloc, name, types, found)
+        }
+        TypeKind::Union => {
+            let types = of_union(alloc, of_type.members.as_slice())?;
+            add(alloc, name, types, found)
+        }
+        TypeKind::Scalar | TypeKind::Enum | TypeKind::InputObject => Ok(()),
+    }
+}
+
+fn all_by(
+    alloc: Global,
+    types: &[SchemaType],
+    declaring: &ByName<'_, Declaration<'_>>,
+) -> Result<Vec<PossibleTypes>, AllocError>
+    ensures { IfOk result (λ found. found.items ≡ flat_map (λ t. spec.possible_by t.kind
+        (λ q. map (λ d. d.object.now) (option_map_or (λ group. map (λ x. x.now) group.items) (hash.get_by_text declaring.now q) [])) t) types.now) }
+{
+    let mut found = Vec::new(alloc);
+    for of_type in types {
+        add_possible(alloc, of_type, declaring, &mut found)?;
+    }
+    Ok(found)
+}
+
+/// The composite types, each with its possible types.
+pub fn all_possible(alloc: Global, types: &[SchemaType]) -> Result<Vec<PossibleTypes>, AllocError>
+    ensures { IfOk result (λ found. found.items ≡ spec.all_possible types.now) }
+{
+    let declarations = declarations(alloc, types)?;
+    let declaring = by_name(alloc, declarations.as_slice())?;
+    let found = all_by(alloc, types, &declaring)?;
+    Ok(found)
+}

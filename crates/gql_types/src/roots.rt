@@ -1,0 +1,130 @@
+//! The root operation types of a schema (GraphQL specification, 3.3.1).
+ghost use Rattle.std.specs.Prelude.{◌≡◌, ◌++◌, OnOk, IfOk};
+ghost use Rattle.gql_types.specs.Roots as spec;
+
+use crate::definitions::copied;
+use crate::named::Named;
+use crate::schema_type::SchemaType;
+use gql_ast::{
+    FileName, Items, Name, OperationKind, RootOperation, SchemaDefinition, SchemaExtension, Shared,
+};
+use gql_built_in::Sited;
+use gql_text::Place;
+use std::alloc::{AllocError, Global};
+
+/// A root operation type: the kind of its operations, where its entry begins, and its name in the entry. Where no
+/// definition of the schema stands, a type named Query, Mutation or Subscription is one without an entry, and the
+/// name is that of the type's definition.
+#[derive(Drop)]
+pub struct Root {
+    pub kind: OperationKind,
+    pub entry: Option<Place>,
+    pub name: Sited<Name>,
+}
+
+fn add_entries(
+    alloc: Global,
+    file: &Option<FileName>,
+    entries: &[RootOperation],
+    roots: &mut Items<Root>,
+) -> Result<(), AllocError>
+    ensures { OnOk result (roots.new ≡ roots.old ++ spec.entries file.now entries.now) }
+{
+    for entry in entries {
+        roots.push(Root {
+            kind: entry.kind,
+            entry: Some(entry.place),
+            name: Sited {
+                file: copied(file),
+                node: entry.name.copy(alloc)?,
+            },
+        })?;
+    }
+    Ok(())
+}
+
+fn add_implied(
+    alloc: Global,
+    types: &Named<SchemaType>,
+    kind: OperationKind,
+    name: &str,
+    roots: &mut Items<Root>,
+) -> Result<(), AllocError>
+    ensures { OnOk result (roots.new ≡ roots.old ++ spec.implied types.now kind name.now) }
+{
+    match types.get(name) {
+        Some(of_type) => {
+            roots.push(Root {
+                kind,
+                entry: None,
+                name: Sited {
+                    file: copied(&of_type.definition.file),
+                    node: of_type.definition.node.get().name.copy(alloc)?,
+                },
+            })?;
+            Ok(())
+        }
+        None => Ok(()),
+    }
+}
+
+fn add_all_implied(
+    alloc: Global,
+    types: &Named<SchemaType>,
+    roots: &mut Items<Root>,
+) -> Result<(), AllocError>
+    ensures { OnOk result (roots.new ≡ roots.old ++ spec.all_implied types.now) }
+{
+    add_implied(alloc, types, OperationKind::Query, "Query", roots)?;
+    add_implied(alloc, types, OperationKind::Mutation, "Mutation", roots)?;
+    add_implied(
+        alloc,
+        types,
+        OperationKind::Subscription,
+        "Subscription",
+        roots,
+    )?;
+    Ok(())
+}
+
+fn add_defined(
+    alloc: Global,
+    types: &Named<SchemaType>,
+    definitions: &[Sited<Shared<SchemaDefinition>>],
+    roots: &mut Items<Root>,
+) -> Result<(), AllocError>
+    ensures { OnOk result (roots.new ≡ roots.old ++ spec.defined types.now definitions.now) }
+{
+    match definitions.first() {
+        Some(definition) => add_entries(
+            alloc,
+            &definition.file,
+            definition.node.get().roots.as_slice(),
+            roots,
+        ),
+        None => add_all_implied(alloc, types, roots),
+    }
+}
+
+/// The root operation types: those of the first definition of the schema, or else those that are implied, then those
+/// of the extensions.
+pub fn roots_of(
+    alloc: Global,
+    types: &Named<SchemaType>,
+    definitions: &[Sited<Shared<SchemaDefinition>>],
+    extensions: &[Sited<Shared<SchemaExtension>>],
+) -> Result<Items<Root>, AllocError>
+    ensures { IfOk result (λ roots. roots ≡ spec.roots_of types.now definitions.now extensions.now) }
+{
+    let mut roots = Items::new(alloc);
+    add_defined(alloc, types, definitions, &mut roots)?;
+    for extension in extensions {
+        add_entries(
+            alloc,
+            &extension.file,
+            extension.node.get().roots.as_slice(),
+            &mut roots,
+        )?;
+    }
+    Ok(roots)
+}

@@ -1,0 +1,198 @@
+//! The schema as one (GraphQL specification, 3.3).
+ghost use Rattle.std.specs.Prelude.{◌≡◌, IfOk};
+ghost use Rattle.std.specs.Option.{option_copied};
+ghost use Rattle.gql_types.specs.Schemas as spec;
+
+use crate::definitions::{
+    definitions, directive_definitions, schema_definitions, schema_extensions, type_definitions,
+    type_extensions,
+};
+use crate::kind::{TypeKind, is_operation};
+use crate::named::{HasName, Named};
+use crate::possible::{PossibleTypes, all_possible};
+use crate::roots::{Root, roots_of};
+use crate::schema_type::{SchemaType, types_of};
+use gql_ast::{
+    DirectiveDefinition, EnumValueDefinition, FieldDefinition, Files, InputValueDefinition, Items,
+    OperationKind, Shared, Text, Tree,
+};
+use gql_built_in::Sited;
+use std::alloc::{AllocError, Global};
+
+/// All schema files as one schema. Look-ups lend what `assemble` made, and take no memory.
+#[derive(Drop)]
+pub struct Schema {
+    types: Named<SchemaType>,
+    directives: Named<Sited<Shared<DirectiveDefinition>>>,
+    roots: Items<Root>,
+    possible: Named<PossibleTypes>,
+}
+
+impl HasName for Sited<Shared<DirectiveDefinition>> {
+    ghost name = { λ d. d.node.name.text };
+
+    fn name(&self) -> &str {
+        self.node.get().name.as_str()
+    }
+}
+
+fn types(alloc: Global, definitions: &[Sited<Tree>]) -> Result<Named<SchemaType>, AllocError>
+    ensures { IfOk result (λ types. types ≡ spec.types_in definitions.now) }
+{
+    let extensions = type_extensions(alloc, definitions)?;
+    let definitions = type_definitions(alloc, definitions)?;
+    Named::new(
+        alloc,
+        types_of(alloc, definitions.as_slice(), extensions.as_slice())?,
+    )
+}
+
+fn roots(
+    alloc: Global,
+    definitions: &[Sited<Tree>],
+    types: &Named<SchemaType>,
+) -> Result<Items<Root>, AllocError>
+    ensures { IfOk result (λ roots. roots ≡ spec.roots_in definitions.now types.now) }
+{
+    let schemas = schema_definitions(alloc, definitions)?;
+    let extensions = schema_extensions(alloc, definitions)?;
+    roots_of(alloc, types, schemas.as_slice(), extensions.as_slice())
+}
+
+/// The schema of all schema files, with what every schema has built in. The first definition of a name counts, with the
+/// extensions of its kind in their order; what is built in comes before the files, and these come in the order of
+/// their names.
+pub fn assemble(alloc: Global, files: &Files) -> Result<Schema, AllocError>
+    ensures { IfOk result (λ schema. schema ≡ spec.schema_of files.now) }
+{
+    let definitions = definitions(alloc, files)?;
+    let types = types(alloc, definitions.as_slice())?;
+    let roots = roots(alloc, definitions.as_slice(), &types)?;
+    let directives = Named::new(alloc, directive_definitions(alloc, definitions.as_slice())?)?;
+    let possible = Named::new(alloc, all_possible(alloc, types.as_slice())?)?;
+    Ok(Schema {
+        types,
+        directives,
+        roots,
+        possible,
+    })
+}
+
+impl Schema {
+    /// The types, in the order of their first definitions.
+    pub fn types(&self) -> &[SchemaType]
+        ensures { result.now ≡ self.now.types }
+    {
+        self.types.as_slice()
+    }
+
+    /// The directives, in their order; of those of one name the first counts.
+    pub fn directives(&self) -> &[Sited<Shared<DirectiveDefinition>>]
+        ensures { result.now ≡ self.now.directives }
+    {
+        self.directives.as_slice()
+    }
+
+    /// The root operation types, in their order; of those of one kind the first counts.
+    pub fn roots(&self) -> &[Root]
+        ensures { result.now ≡ self.now.roots }
+    {
+        self.roots.as_slice()
+    }
+
+    /// The type of that name.
+    pub fn get(&self, name: &str) -> Option<&SchemaType>
+        ensures { option_copied result ≡ spec.type_named self.now name.now }
+    {
+        self.types.get(name)
+    }
+
+    /// The kind of the type of that name (3.4).
+    pub fn kind(&self, name: &str) -> Option<TypeKind>
+        ensures { result ≡ spec.kind_named self.now name.now }
+    {
+        match self.get(name) {
+            Some(of_type) => Some(of_type.kind),
+            None => None,
+        }
+    }
+
+    /// The field of an object or an interface (3.6, 3.7).
+    pub fn field(&self, of_type: &str, name: &str) -> Option<&Sited<Shared<FieldDefinition>>>
+        ensures { option_copied result ≡ spec.field_named self.now of_type.now name.now }
+    {
+        match self.get(of_type) {
+            Some(of_type) => of_type.fields.get(name),
+            None => None,
+        }
+    }
+
+    /// The names of the objects that a composite type may stand for, each once, in the order of their bytes (3.7, 3.8).
+    pub fn possible(&self, name: &str) -> Option<&Items<Text>>
+        ensures { option_copied result ≡ spec.possible_named self.now name.now }
+    {
+        match self.possible.get(name) {
+            Some(possible) => Some(&possible.types),
+            None => None,
+        }
+    }
+
+    /// The fields of an input object (3.10).
+    pub fn input(&self, name: &str) -> Option<&Named<Sited<Shared<InputValueDefinition>>>>
+        ensures { option_copied result ≡ spec.input_named self.now name.now }
+    {
+        match self.get(name) {
+            Some(of_type) => of_type.inputs(),
+            None => None,
+        }
+    }
+
+    /// The values of an enum (3.9).
+    pub fn enum_of(&self, name: &str) -> Option<&Named<Sited<Shared<EnumValueDefinition>>>>
+        ensures { option_copied result ≡ spec.enum_named self.now name.now }
+    {
+        match self.get(name) {
+            Some(of_type) => of_type.enum_values(),
+            None => None,
+        }
+    }
+
+    /// The directive of that name (3.13).
+    pub fn directive(&self, name: &str) -> Option<&Sited<Shared<DirectiveDefinition>>>
+        ensures { option_copied result ≡ spec.directive_named self.now name.now }
+    {
+        self.directives.get(name)
+    }
+
+    /// The root operation type of a kind (3.3.1).
+    pub fn root(&self, kind: OperationKind) -> Option<&Root>
+        ensures { option_copied result ≡ spec.root_of self.now kind }
+    {
+        for root in self.roots.as_slice() {
+            if is_operation(kind, root.kind) {
+                return Some(root);
+            }
+        }
+        None
+    }
+}
+
+impl SchemaType {
+    fn inputs(&self) -> Option<&Named<Sited<Shared<InputValueDefinition>>>>
+        ensures { option_copied result ≡ spec.inputs_by self.now.kind self.now }
+    {
+        match self.kind {
+            TypeKind::InputObject => Some(&self.input_fields),
+            _ => None,
+        }
+    }
+
+    fn enum_values(&self) -> Option<&Named<Sited<Shared<EnumValueDefinition>>>>
+        ensures { option_copied result ≡ spec.values_by self.now.kind self.now }
+    {
+        match self.kind {
+            TypeKind::Enum => Some(&self.values),
+            _ => None,
+        }
+    }
+}

@@ -1,0 +1,190 @@
+//! The types of a schema, each as one (GraphQL specification, 3.4).
+ghost use Rattle.std.specs.Prelude.{◌≡◌, ◌++◌, ◌∷◌, [], ℕ, List, IfOk, OnOk, map, filter, bytes_eq};
+ghost use Rattle.std.specs.Option.{option_map_or};
+ghost use Rattle.std.specs.HashMap as hash;
+ghost use Rattle.gql_types.specs.Kinds.{same_kind};
+ghost use Rattle.gql_types.specs.Parts.{kind_of};
+ghost use Rattle.gql_types.specs.Types as spec;
+
+use crate::by_name::{ByName, by_name};
+use crate::definitions::copied;
+use crate::first_definitions::first_definitions;
+use crate::kind::TypeKind;
+use crate::named::{HasName, Named};
+use crate::parts::{all_held, interfaces, members, parts_in};
+use gql_ast::{
+    EnumValueDefinition, FieldDefinition, InputValueDefinition, Items, Name, Shared,
+    TypeDefinition, TypeExtension,
+};
+use gql_built_in::Sited;
+use std::alloc::{AllocError, Global};
+
+/// A type as one: its first definition, the extensions of its kind in their order, and what these hold together, the
+/// definition's first (GraphQL specification, 3.4).
+#[derive(Drop)]
+pub struct SchemaType {
+    pub definition: Sited<Shared<TypeDefinition>>,
+    pub extensions: Items<Sited<Shared<TypeExtension>>>,
+    pub kind: TypeKind,
+    /// The interfaces that an object or an interface implements (3.6, 3.7).
+    pub interfaces: Items<Sited<Name>>,
+    /// The fields of an object or an interface (3.6, 3.7).
+    pub fields: Named<Sited<Shared<FieldDefinition>>>,
+    /// The members of a union (3.8).
+    pub members: Items<Sited<Name>>,
+    /// The values of an enum (3.9).
+    pub values: Named<Sited<Shared<EnumValueDefinition>>>,
+    /// The fields of an input object (3.10).
+    pub input_fields: Named<Sited<Shared<InputValueDefinition>>>,
+}
+
+impl HasName for Sited<Shared<TypeExtension>> {
+    ghost name = { λ e. e.node.name.text };
+
+    fn name(&self) -> &str {
+        self.node.get().name.as_str()
+    }
+}
+
+impl HasName for Sited<Shared<FieldDefinition>> {
+    ghost name = { λ f. f.node.name.text };
+
+    fn name(&self) -> &str {
+        self.node.get().name.as_str()
+    }
+}
+
+impl HasName for Sited<Shared<EnumValueDefinition>> {
+    ghost name = { λ v. v.node.name.text };
+
+    fn name(&self) -> &str {
+        self.node.get().name.as_str()
+    }
+}
+
+impl HasName for Sited<Shared<InputValueDefinition>> {
+    ghost name = { λ f. f.node.name.text };
+
+    fn name(&self) -> &str {
+        self.node.get().name.as_str()
+    }
+}
+
+impl HasName for SchemaType {
+    ghost name = { λ t. t.definition.node.name.text };
+
+    fn name(&self) -> &str {
+        self.definition.node.get().name.as_str()
+    }
+}
+
+fn is_of_kind(kind: TypeKind, extension: &Sited<Shared<TypeExtension>>) -> bool
+    ensures { result ≡ same_kind kind (kind_of extension.now.node.parts) }
+{
+    kind.is(TypeKind::of(&extension.node.get().parts))
+}
+
+fn of_kind(
+    alloc: Global,
+    kind: TypeKind,
+    extensions: &[&Sited<Shared<TypeExtension>>],
+) -> Result<Items<Sited<Shared<TypeExtension>>>, AllocError>
+    ensures { IfOk result (λ found. found ≡ filter (λ e. same_kind kind (kind_of e.node.parts)) (map (λ e. e.now) extensions.now)) }
+{
+    let mut found = Items::new(alloc);
+    for extension in extensions {
+        if is_of_kind(kind, extension) {
+            found.push(Sited {
+                file: copied(&extension.file),
+                node: extension.node.clone()?,
+            })?;
+        }
+    }
+    Ok(found)
+}
+
+fn extensions_of(
+    alloc: Global,
+    definition: &Sited<Shared<TypeDefinition>>,
+    extensions: &ByName<'_, Sited<Shared<TypeExtension>>>,
+) -> Result<Items<Sited<Shared<TypeExtension>>>, AllocError>
+    ensures { IfOk result (λ found. found ≡ filter (λ e. same_kind (kind_of definition.now.node.parts) (kind_of e.node.parts))
+        (option_map_or (λ group. map (λ x. x.now) group.items) (hash.get_by_text extensions.now definition.now.node.name.text) [])) }
+{
+    let definition = definition.node.get();
+    match extensions.get(definition.name.as_str()) {
+        Some(group) => of_kind(alloc, TypeKind::of(&definition.parts), group.as_slice()),
+        None => Ok(Items::new(alloc)),
+    }
+}
+
+fn assembled(
+    alloc: Global,
+    definition: &Sited<Shared<TypeDefinition>>,
+    extensions: Items<Sited<Shared<TypeExtension>>>,
+) -> Result<SchemaType, AllocError>
+    ensures { IfOk result (λ t. t ≡ spec.assembled definition.now extensions) }
+{
+    let parts = parts_in(alloc, definition, extensions.as_slice())?;
+    let interfaces = interfaces(alloc, parts.as_slice())?;
+    let fields = Named::new(alloc, all_held(alloc, parts.as_slice())?)?;
+    let members = members(alloc, parts.as_slice())?;
+    let values = Named::new(alloc, all_held(alloc, parts.as_slice())?)?;
+    let input_fields = Named::new(alloc, all_held(alloc, parts.as_slice())?)?;
+    drop(parts);
+    Ok(SchemaType {
+        definition: Sited {
+            file: copied(&definition.file),
+            node: definition.node.clone()?,
+        },
+        extensions,
+        kind: TypeKind::of(&definition.node.get().parts),
+        interfaces,
+        fields,
+        members,
+        values,
+        input_fields,
+    })
+}
+
+fn with_extensions(
+    alloc: Global,
+    definition: &Sited<Shared<TypeDefinition>>,
+    extensions: &ByName<'_, Sited<Shared<TypeExtension>>>,
+) -> Result<SchemaType, AllocError>
+    ensures { IfOk result (λ t. t ≡ spec.assembled definition.now (filter (λ e. same_kind (kind_of definition.now.node.parts) (kind_of e.node.parts))
+        (option_map_or (λ group. map (λ x. x.now) group.items) (hash.get_by_text extensions.now definition.now.node.name.text) []))) }
+{
+    let found = extensions_of(alloc, definition, extensions)?;
+    let of_type = assembled(alloc, definition, found)?;
+    Ok(of_type)
+}
+
+fn all_with_extensions(
+    alloc: Global,
+    definitions: &[&Sited<Shared<TypeDefinition>>],
+    extensions: &ByName<'_, Sited<Shared<TypeExtension>>>,
+) -> Result<Vec<SchemaType>, AllocError>
+    ensures { IfOk result (λ types. types.items ≡ map (λ d. spec.assembled d (filter (λ e. same_kind (kind_of d.node.parts) (kind_of e.node.parts))
+        (option_map_or (λ group. map (λ x. x.now) group.items) (hash.get_by_text extensions.now d.node.name.text) []))) (map (λ d. d.now) definitions.now)) }
+{
+    let mut types = Vec::new(alloc);
+    for definition in definitions {
+        types.push(with_extensions(alloc, definition, extensions)?)?;
+    }
+    Ok(types)
+}
+
+/// The types of these definitions, each with the extensions of its name and kind.
+pub fn types_of(
+    alloc: Global,
+    definitions: &[Sited<Shared<TypeDefinition>>],
+    extensions: &[Sited<Shared<TypeExtension>>],
+) -> Result<Vec<SchemaType>, AllocError>
+    ensures { IfOk result (λ types. types.items ≡ spec.types_of definitions.now extensions.now) }
+{
+    let groups = by_name(alloc, extensions)?;
+    let firsts = first_definitions(alloc, definitions)?;
+    let types = all_with_extensions(alloc, firsts.as_slice(), &groups)?;
+    Ok(types)
+}
