@@ -1,0 +1,10 @@
+pub mod Closed
+pub mod Joining
+pub mod Leading
+pub mod Leaving
+pub mod Members
+pub mod Placing
+pub mod Rising
+pub mod Steps
+pub mod Trails
+pub mod Walking

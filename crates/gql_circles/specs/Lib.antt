@@ -1,0 +1,4 @@
+pub mod Circles
+pub mod Graph
+pub mod Path
+pub mod Places

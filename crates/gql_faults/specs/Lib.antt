@@ -1,0 +1,5 @@
+pub mod Directives
+pub mod Faults
+pub mod Names
+pub mod Places
+pub mod TypeNames

@@ -1,0 +1,70 @@
+ghost use Rattle.std.specs.Prelude.{◌≡◌, ◌+◌, ◌++◌, ◌∷◌, [], ℕ, List, IfOk, OnOk, map, bytes_eq, nat_lt, unwrap_or, filter, if◌then◌else◌};
+ghost use Rattle.std.specs.HashMap as hash;
+ghost use Rattle.gql_faults.specs.Names as spec;
+ghost use Rattle.gql_faults.specs.Places.{named};
+
+use crate::fault::add_faults;
+use crate::place::NamePlace;
+use gql_ast::{Fault, Rule};
+use std::alloc::{AllocError, Global};
+use std::collections::HashMap;
+
+/// How often each text stands among these.
+#[tactic(auto, using(crate::proofs::Counting::count_named))]
+pub fn counts<'t>(
+    alloc: Global,
+    names: &[NamePlace<'t>],
+) -> Result<HashMap<&'t str, usize>, AllocError>
+    ensures { IfOk result (λ counts. (q : List ℕ) →
+        unwrap_or (hash.get_by (λ k. bytes_eq q k.now) counts) 0 ≡ spec.count_of q (map named names.now)) }
+{
+    let mut counts = HashMap::new(alloc);
+    for name in names {
+        let text = name.name.as_str();
+        let seen = counts.get(text).copied().unwrap_or(0);
+        counts.insert(text, seen + 1)?;
+    }
+    Ok(counts)
+}
+
+fn add_if_repeated<'t>(
+    counts: &HashMap<&str, usize>,
+    name: &NamePlace<'t>,
+    found: &mut Vec<NamePlace<'t>>,
+) -> Result<(), AllocError>
+    ensures { OnOk result (map named found.new.items ≡ map named found.old.items
+        ++ (if nat_lt 1 (unwrap_or (hash.get_by (λ k. bytes_eq name.now.name.now.text k.now) counts.now) 0) then named name.now ∷ [] else [])) }
+{
+    if counts.get(name.name.as_str()).copied().unwrap_or(0) > 1 {
+        found.push(*name)?;
+    }
+    Ok(())
+}
+
+/// The names whose text stands more than once among these, each of them.
+pub fn repeated<'t>(
+    alloc: Global,
+    names: &[NamePlace<'t>],
+) -> Result<Vec<NamePlace<'t>>, AllocError>
+    ensures { IfOk result (λ found. map named found.items ≡ spec.repeated (map named names.now)) }
+{
+    let counts = counts(alloc, names)?;
+    let mut found = Vec::new(alloc);
+    for name in names {
+        add_if_repeated(&counts, name, &mut found)?;
+    }
+    Ok(found)
+}
+
+/// Adds a fault at each name that stands more than once, about it.
+pub fn add_repeated(
+    alloc: Global,
+    rule: Rule,
+    names: &[NamePlace<'_>],
+    faults: &mut Vec<Fault>,
+) -> Result<(), AllocError>
+    ensures { OnOk result (faults.new.items ≡ faults.old.items ++ spec.repeated_faults rule (map named names.now)) }
+{
+    let found = repeated(alloc, names)?;
+    add_faults(alloc, rule, found.as_slice(), faults)
+}

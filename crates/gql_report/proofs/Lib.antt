@@ -1,0 +1,5 @@
+pub mod Apart
+pub mod Members
+pub mod OneList
+pub mod Putting
+pub mod RuleNames

@@ -1,0 +1,9 @@
+//! Faults in the order of a report, each once.
+#![tactic(auto)]
+
+pub mod laws;
+mod order;
+mod ranked;
+mod report;
+
+pub use report::in_order;

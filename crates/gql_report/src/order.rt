@@ -1,0 +1,80 @@
+ghost use Rattle.std.specs.Prelude.{◌≡◌, take, drop};
+ghost use Rattle.std.specs.Option.{option_cmp};
+ghost use Rattle.std.specs.Cmp.Lexicographic.{slice_cmp};
+ghost use Rattle.gql_report.specs.Order as spec;
+
+use gql_ast::{Fault, FilePlace, FileSide};
+use std::cmp::Ordering;
+
+fn side_number(side: FileSide) -> u8
+    ensures { result ≡ spec.side_number side }
+{
+    match side {
+        FileSide::Schema => 0,
+        FileSide::Documents => 1,
+    }
+}
+
+fn place_cmp(place: &FilePlace, other: &FilePlace) -> Ordering
+    ensures { result ≡ spec.place_order place.now other.now }
+{
+    let sides = side_number(place.side).cmp(&side_number(other.side));
+    let files = place.file.cmp(&other.file);
+    let offsets = place.place.offset.cmp(&other.place.offset);
+    let lines = place.place.line.cmp(&other.place.line);
+    let columns = place.place.column.cmp(&other.place.column);
+    sides.then(files.then(offsets.then(lines.then(columns))))
+}
+
+fn places_cmp(places: &[FilePlace], others: &[FilePlace]) -> Ordering
+    ensures { result ≡ slice_cmp spec.place_order places.now others.now }
+{
+    match (places.split_first(), others.split_first()) {
+        (Some((place, places)), Some((other, others))) => {
+            place_cmp(place, other).then(places_cmp(places, others))
+        }
+        (Some(_), None) => Ordering::Greater,
+        (None, Some(_)) => Ordering::Less,
+        (None, None) => Ordering::Equal,
+    }
+}
+
+fn owner_cmp(owner: &Option<FilePlace>, other: &Option<FilePlace>) -> Ordering
+    ensures { result ≡ option_cmp spec.place_order owner.now other.now }
+{
+    match owner {
+        Some(owner) => match other {
+            Some(other) => place_cmp(owner, other),
+            None => Ordering::Greater,
+        },
+        None => match other {
+            Some(_) => Ordering::Less,
+            None => Ordering::Equal,
+        },
+    }
+}
+
+fn first_and_rest(places: &[FilePlace]) -> (&[FilePlace], &[FilePlace])
+    ensures first { result.0.now ≡ take 1 places.now }
+    ensures rest { result.1.now ≡ drop 1 places.now }
+{
+    if places.is_empty() {
+        (places, places)
+    } else {
+        places.split_at(1)
+    }
+}
+
+/// Where a fault stands in a report, by another.
+pub fn fault_cmp(fault: &Fault, other: &Fault) -> Ordering
+    ensures { result ≡ spec.fault_order fault.now other.now }
+{
+    let (first, rest) = first_and_rest(fault.places.as_slice());
+    let (other_first, other_rest) = first_and_rest(other.places.as_slice());
+    let firsts = places_cmp(first, other_first);
+    let rules = fault.rule.name().cmp(other.rule.name());
+    let rests = places_cmp(rest, other_rest);
+    let owners = owner_cmp(&fault.owner, &other.owner);
+    let texts = fault.about.cmp(&other.about);
+    firsts.then(rules.then(rests.then(owners.then(texts))))
+}
