@@ -1,0 +1,5 @@
+pub mod AtNames
+pub mod Members
+pub mod Names
+pub mod Steps
+pub mod Types

@@ -1,0 +1,13 @@
+pub mod Borrowed
+pub mod Implementing
+pub mod InterfaceFaults
+pub mod Leading
+pub mod S09Interfaces
+pub mod S10Itself
+pub mod S11Declared
+pub mod S12Fields
+pub mod S13Arguments
+pub mod S14Further
+pub mod S15Covariant
+pub mod S17InputCircles
+pub mod S26DirectiveCircles

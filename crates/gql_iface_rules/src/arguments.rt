@@ -1,0 +1,59 @@
+ghost use Rattle.std.specs.Prelude.{◌≡◌, ◌++◌, IfOk, OnOk};
+ghost use Rattle.std.specs.Option.{option_copied};
+ghost use Rattle.gql_iface_rules.specs.Implementing as spec;
+ghost use Rattle.gql_types.specs.Parts.{sited};
+
+use gql_ast::{FieldDefinition, FileName, InputValueDefinition, Shared};
+use gql_built_in::Sited;
+use gql_types::Named;
+use std::alloc::{AllocError, Global};
+
+/// The arguments of a field, with look-up.
+pub type Arguments = Named<Sited<Shared<InputValueDefinition>>>;
+
+fn copied(file: &Option<FileName>) -> Option<FileName>
+    ensures { result ≡ file.now }
+{
+    match file {
+        Some(file) => Some(file.copy()),
+        None => None,
+    }
+}
+
+fn sited_arguments(
+    alloc: Global,
+    file: &Option<FileName>,
+    arguments: &[Shared<InputValueDefinition>],
+) -> Result<Vec<Sited<Shared<InputValueDefinition>>>, AllocError>
+    ensures { IfOk result (λ found. found.items ≡ sited file.now arguments.now) }
+{
+    let mut found = Vec::new(alloc);
+    for argument in arguments {
+        found.push(Sited {
+            file: copied(file),
+            node: argument.clone()?,
+        })?;
+    }
+    Ok(found)
+}
+
+/// The arguments of a field (GraphQL specification, 3.6.1).
+pub fn arguments_of(
+    alloc: Global,
+    field: &Sited<Shared<FieldDefinition>>,
+) -> Result<Arguments, AllocError>
+    ensures { IfOk result (λ found. found ≡ spec.arguments_of field.now) }
+{
+    let arguments = field.node.get().arguments.as_slice();
+    Named::new(alloc, sited_arguments(alloc, &field.file, arguments)?)
+}
+
+/// The first argument of that name.
+pub fn argument_in<'a>(
+    arguments: &'a Arguments,
+    name: &str,
+) -> Option<&'a Sited<Shared<InputValueDefinition>>>
+    ensures { option_copied result ≡ spec.argument_in arguments.now name.now }
+{
+    arguments.get(name)
+}

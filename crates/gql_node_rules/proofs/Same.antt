@@ -1,0 +1,16 @@
+-- What is said by a map that the code holds, and by the list that it was made of.
+use Rattle.std.proofs.Common.{◌≡◌, ◌++◌, ◌+◌, ◌<◌, ℕ, List, [], ◌∷◌, flat_map, map, take, length, get_or, refl, arith}
+use Rattle.std.proofs.lemmas.List.{take_more}
+use Rattle.std.proofs.lemmas.Grind.{common_steps}
+
+pub flat_map_same : {X Y : Type 0} (f g : X → List Y) (xs : List X) → ((x : X) → f x ≡ g x) → flat_map f xs ≡ flat_map g xs
+flat_map_same f g [] same = refl
+flat_map_same f g (x ∷ xs) same = λ k. same x k ++ flat_map_same f g xs same k
+
+-- one more of those that the code borrows was looked at
+pub flat_map_step : {R X Y : Type 0} (f : X → List Y) (m : R → X) (xs : List R) (i : ℕ) (x : R) (base old new : List Y) → i < length xs → get_or xs i x ≡ x
+    → old ≡ base ++ flat_map f (map m (take i xs))
+    → new ≡ old ++ f (m x)
+    → new ≡ base ++ flat_map f (map m (take (i + 1) xs))
+flat_map_step f m xs i x base old new within item before after =
+    rw (take_more xs i x within, item) grind (arith, common_steps, before, after)

@@ -1,0 +1,16 @@
+pub mod Applied
+pub mod Borrowed
+pub mod DefinedNames
+pub mod NodeFaults
+pub mod Nodes
+pub mod P01Float
+pub mod References
+pub mod S03ReservedNames
+pub mod S16InputTypes
+pub mod S20KnownTypes
+pub mod S21OutputTypes
+pub mod S22UnionMembers
+pub mod S29KnownDirectives
+pub mod S30Locations
+pub mod S31UniqueDirectives
+pub mod S32Arguments

@@ -1,0 +1,18 @@
+-- P01: no reference names Float (GraphQL specification, 3.5.2), which this registry does not serve.
+use Rattle.std.specs.Prelude.{ℕ, List, [], Bool, codes, bytes_eq, flat_map, if◌then◌else◌}
+use Rattle.gql_ast.specs.declared.fault.Fault.{Fault}
+use Rattle.gql_ast.specs.declared.rule.Rule.TheVariants as rule
+use Rattle.gql_ast.specs.declared.text.Name.{Name}
+use Rattle.gql_built_in.specs.declared.sited.Sited.{Sited}
+use Rattle.gql_faults.specs.Faults.{fault_of}
+use Rattle.gql_node_rules.specs.Nodes.{AllNodes}
+use Rattle.gql_node_rules.specs.References.{references}
+
+abbrev pub is_float : List ℕ → Bool
+is_float name = bytes_eq name (codes "Float")
+
+abbrev pub fault_in : Sited Name → List Fault
+fault_in n = if is_float n.node.text then fault_of rule.P01 n else []
+
+abbrev pub faults : AllNodes → List Fault
+faults n = flat_map fault_in (references n)

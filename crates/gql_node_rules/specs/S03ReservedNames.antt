@@ -1,0 +1,20 @@
+-- S03: no name that a definition gives begins with two underscores (GraphQL specification, 3.3 to 3.13, after 4.1.1).
+use Rattle.std.specs.Prelude.{ℕ, List, [], Bool, codes, flat_map, if◌then◌else◌}
+use Rattle.std.specs.List.{starts_with}
+use Rattle.std.specs.Prelude.{eqb}
+use Rattle.gql_ast.specs.declared.fault.Fault.{Fault}
+use Rattle.gql_ast.specs.declared.rule.Rule.TheVariants as rule
+use Rattle.gql_ast.specs.declared.text.Name.{Name}
+use Rattle.gql_built_in.specs.declared.sited.Sited.{Sited}
+use Rattle.gql_faults.specs.Faults.{fault_of}
+use Rattle.gql_node_rules.specs.DefinedNames.{defined_names}
+use Rattle.gql_node_rules.specs.Nodes.{AllNodes}
+
+abbrev pub is_reserved : List ℕ → Bool
+is_reserved name = starts_with eqb name (codes "__")
+
+abbrev pub fault_in : Sited Name → List Fault
+fault_in n = if is_reserved n.node.text then fault_of rule.S03 n else []
+
+abbrev pub faults : AllNodes → List Fault
+faults n = flat_map fault_in (defined_names n)

@@ -1,0 +1,15 @@
+-- S29: an applied directive is defined (GraphQL specification, 3.13).
+use Rattle.std.specs.Prelude.{List, [], is_some, flat_map, if◌then◌else◌}
+use Rattle.gql_ast.specs.declared.fault.Fault.{Fault}
+use Rattle.gql_ast.specs.declared.rule.Rule.TheVariants as rule
+use Rattle.gql_faults.specs.Faults.{fault_at}
+use Rattle.gql_types.specs.Schemas.{directive_named}
+use Rattle.gql_types.specs.declared.schema.Schema.{Schema}
+use Rattle.gql_node_rules.specs.Applied.{Application, applied, name_of, place_of}
+use Rattle.gql_node_rules.specs.Nodes.{AllNodes}
+
+abbrev pub fault_in : Schema → Application → List Fault
+fault_in s a = if is_some (directive_named s (name_of a)) then [] else fault_at rule.S29 (name_of a) (place_of a)
+
+abbrev pub faults : AllNodes → Schema → List Fault
+faults n s = flat_map (fault_in s) (applied n)

@@ -1,0 +1,209 @@
+//! The nodes of schema files, each form in a list (GraphQL specification, 3.3 to 3.13).
+ghost use Rattle.std.specs.Prelude.{◌≡◌, ◌++◌, IfOk, OnOk, Some, map};
+ghost use Rattle.gql_types.specs.Parts as parts_spec;
+ghost use Rattle.gql_types.specs.Parts.{sited};
+ghost use Rattle.gql_node_rules.specs.Borrowed.{one, lists};
+ghost use Rattle.gql_node_rules.specs.Nodes as spec;
+
+use crate::node::{Holds, Node, add_all};
+use gql_ast::{
+    DirectiveDefinition, EnumValueDefinition, FieldDefinition, FileName, InputValueDefinition,
+    SchemaDefinition, SchemaExtension, Shared, Tree, TypeDefinition, TypeExtension, TypeParts,
+};
+use std::alloc::{AllocError, Global};
+
+/// The nodes of schema files: their definitions and extensions, the parts of types, and what these hold.
+#[derive(Drop)]
+pub struct Nodes<'t> {
+    pub types: Vec<Node<'t, TypeDefinition>>,
+    pub type_extensions: Vec<Node<'t, TypeExtension>>,
+    pub directives: Vec<Node<'t, DirectiveDefinition>>,
+    pub schemas: Vec<Node<'t, SchemaDefinition>>,
+    pub schema_extensions: Vec<Node<'t, SchemaExtension>>,
+    pub parts: Vec<Node<'t, TypeParts>>,
+    pub fields: Vec<Node<'t, FieldDefinition>>,
+    pub values: Vec<Node<'t, EnumValueDefinition>>,
+    pub input_fields: Vec<Node<'t, InputValueDefinition>>,
+    pub arguments: Vec<Node<'t, InputValueDefinition>>,
+}
+
+fn add_shared<'t, T: Drop>(
+    file: &'t FileName,
+    nodes: &'t [Shared<T>],
+    found: &mut Vec<Node<'t, T>>,
+) -> Result<(), AllocError>
+    ensures { OnOk result (map one found.new.items ≡ map one found.old.items ++ sited (Some file.now) nodes.now) }
+{
+    for node in nodes {
+        found.push(Node {
+            file,
+            node: node.get(),
+        })?;
+    }
+    Ok(())
+}
+
+impl Holds<FieldDefinition> for TypeParts {
+    ghost held = { parts_spec.fields_of };
+
+    fn add_held<'t>(
+        holder: &Node<'t, TypeParts>,
+        found: &mut Vec<Node<'t, FieldDefinition>>,
+    ) -> Result<(), AllocError> {
+        match holder.node {
+            TypeParts::Object { fields, .. } | TypeParts::Interface { fields, .. } => {
+                add_shared(holder.file, fields.as_slice(), found)
+            }
+            _ => Ok(()),
+        }
+    }
+}
+
+impl Holds<EnumValueDefinition> for TypeParts {
+    ghost held = { parts_spec.values_of };
+
+    fn add_held<'t>(
+        holder: &Node<'t, TypeParts>,
+        found: &mut Vec<Node<'t, EnumValueDefinition>>,
+    ) -> Result<(), AllocError> {
+        match holder.node {
+            TypeParts::Enum { values } => add_shared(holder.file, values.as_slice(), found),
+            _ => Ok(()),
+        }
+    }
+}
+
+impl Holds<InputValueDefinition> for TypeParts {
+    ghost held = { parts_spec.input_fields_of };
+
+    fn add_held<'t>(
+        holder: &Node<'t, TypeParts>,
+        found: &mut Vec<Node<'t, InputValueDefinition>>,
+    ) -> Result<(), AllocError> {
+        match holder.node {
+            TypeParts::InputObject { fields } => {
+                add_shared(holder.file, fields.as_slice(), found)
+            }
+            _ => Ok(()),
+        }
+    }
+}
+
+impl Holds<InputValueDefinition> for FieldDefinition {
+    ghost held = { λ f. f.arguments };
+
+    fn add_held<'t>(
+        holder: &Node<'t, FieldDefinition>,
+        found: &mut Vec<Node<'t, InputValueDefinition>>,
+    ) -> Result<(), AllocError> {
+        add_shared(holder.file, holder.node.arguments.as_slice(), found)
+    }
+}
+
+impl Holds<InputValueDefinition> for DirectiveDefinition {
+    ghost held = { λ d. d.arguments };
+
+    fn add_held<'t>(
+        holder: &Node<'t, DirectiveDefinition>,
+        found: &mut Vec<Node<'t, InputValueDefinition>>,
+    ) -> Result<(), AllocError> {
+        add_shared(holder.file, holder.node.arguments.as_slice(), found)
+    }
+}
+
+fn add_parts_of_types<'t>(
+    types: &[Node<'t, TypeDefinition>],
+    found: &mut Vec<Node<'t, TypeParts>>,
+) -> Result<(), AllocError>
+    ensures { OnOk result (map one found.new.items ≡ map one found.old.items ++ spec.each (λ d. d.parts) (map one types.now)) }
+{
+    for definition in types {
+        found.push(Node {
+            file: definition.file,
+            node: &definition.node.parts,
+        })?;
+    }
+    Ok(())
+}
+
+fn add_parts_of_extensions<'t>(
+    extensions: &[Node<'t, TypeExtension>],
+    found: &mut Vec<Node<'t, TypeParts>>,
+) -> Result<(), AllocError>
+    ensures { OnOk result (map one found.new.items ≡ map one found.old.items ++ spec.each (λ e. e.parts) (map one extensions.now)) }
+{
+    for extension in extensions {
+        found.push(Node {
+            file: extension.file,
+            node: &extension.node.parts,
+        })?;
+    }
+    Ok(())
+}
+
+fn all_in<'t, A: Holds<T>, T: Drop>(
+    alloc: Global,
+    holders: &[Node<'t, A>],
+) -> Result<Vec<Node<'t, T>>, AllocError>
+    ensures { IfOk result (λ found. map one found.items ≡ spec.within A.held (map one holders.now)) }
+{
+    let mut found = Vec::new(alloc);
+    add_all(holders, &mut found)?;
+    Ok(found)
+}
+
+fn parts<'t>(
+    alloc: Global,
+    types: &[Node<'t, TypeDefinition>],
+    extensions: &[Node<'t, TypeExtension>],
+) -> Result<Vec<Node<'t, TypeParts>>, AllocError>
+    ensures { IfOk result (λ found. map one found.items
+        ≡ spec.each (λ d. d.parts) (map one types.now) ++ spec.each (λ e. e.parts) (map one extensions.now)) }
+{
+    let mut found = Vec::new(alloc);
+    add_parts_of_types(types, &mut found)?;
+    add_parts_of_extensions(extensions, &mut found)?;
+    Ok(found)
+}
+
+fn arguments<'t>(
+    alloc: Global,
+    fields: &[Node<'t, FieldDefinition>],
+    directives: &[Node<'t, DirectiveDefinition>],
+) -> Result<Vec<Node<'t, InputValueDefinition>>, AllocError>
+    ensures { IfOk result (λ found. map one found.items
+        ≡ spec.within (λ f. f.arguments) (map one fields.now) ++ spec.within (λ d. d.arguments) (map one directives.now)) }
+{
+    let mut found = Vec::new(alloc);
+    add_all(fields, &mut found)?;
+    add_all(directives, &mut found)?;
+    Ok(found)
+}
+
+/// The nodes of these definitions.
+pub fn all_nodes<'t>(alloc: Global, trees: &[Node<'t, Tree>]) -> Result<Nodes<'t>, AllocError>
+    ensures { IfOk result (λ nodes. lists nodes ≡ spec.nodes_of (map one trees.now)) }
+{
+    let types = all_in(alloc, trees)?;
+    let type_extensions = all_in(alloc, trees)?;
+    let directives = all_in(alloc, trees)?;
+    let schemas = all_in(alloc, trees)?;
+    let schema_extensions = all_in(alloc, trees)?;
+    let parts = parts(alloc, types.as_slice(), type_extensions.as_slice())?;
+    let fields = all_in(alloc, parts.as_slice())?;
+    let values = all_in(alloc, parts.as_slice())?;
+    let input_fields = all_in(alloc, parts.as_slice())?;
+    let arguments = arguments(alloc, fields.as_slice(), directives.as_slice())?;
+    Ok(Nodes {
+        types,
+        type_extensions,
+        directives,
+        schemas,
+        schema_extensions,
+        parts,
+        fields,
+        values,
+        input_fields,
+        arguments,
+    })
+}

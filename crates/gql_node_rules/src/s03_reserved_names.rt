@@ -1,0 +1,38 @@
+//! S03: no name that a definition gives begins with two underscores.
+ghost use Rattle.std.specs.Prelude.{◌≡◌, ◌++◌, OnOk, map, flat_map};
+ghost use Rattle.gql_faults.specs.Places.{named};
+ghost use Rattle.gql_node_rules.specs.S03ReservedNames as spec;
+
+use crate::faults::add_fault_of;
+use gql_ast::{Fault, Rule};
+use gql_faults::NamePlace;
+use std::alloc::{AllocError, Global};
+
+fn is_reserved(name: &str) -> bool
+    ensures { result ≡ spec.is_reserved name.now }
+{
+    name.as_bytes().starts_with(b"__")
+}
+
+fn check(alloc: Global, name: &NamePlace<'_>, faults: &mut Vec<Fault>) -> Result<(), AllocError>
+    ensures { OnOk result (faults.new.items ≡ faults.old.items ++ spec.fault_in (named name.now)) }
+{
+    if is_reserved(name.name.as_str()) {
+        add_fault_of(alloc, Rule::S03, name, faults)?;
+    }
+    Ok(())
+}
+
+/// Adds the faults of the names that definitions give.
+pub fn check_reserved_names(
+    alloc: Global,
+    names: &[NamePlace<'_>],
+    faults: &mut Vec<Fault>,
+) -> Result<(), AllocError>
+    ensures { OnOk result (faults.new.items ≡ faults.old.items ++ flat_map spec.fault_in (map named names.now)) }
+{
+    for name in names {
+        check(alloc, name, faults)?;
+    }
+    Ok(())
+}

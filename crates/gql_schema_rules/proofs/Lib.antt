@@ -1,0 +1,5 @@
+pub mod Applying
+pub mod Behind
+pub mod Grouping
+pub mod SeenKinds
+pub mod Together

@@ -1,0 +1,10 @@
+-- The kinds of operations that the code has seen.
+use Rattle.std.specs.Prelude.{Bool}
+use Rattle.gql_ast.specs.declared.executable.OperationKind.{OperationKind}
+use Rattle.gql_ast.specs.declared.executable.OperationKind.TheVariants.{Query, Mutation, Subscription}
+use Rattle.gql_schema_rules.specs.declared.s34_schema_twice.KindsSeen.{KindsSeen}
+
+abbrev pub has : KindsSeen → OperationKind → Bool
+has s Query = s.query
+has s Mutation = s.mutation
+has s Subscription = s.subscription

@@ -1,0 +1,16 @@
+pub mod Before
+pub mod Borrowed
+pub mod DefinedNames
+pub mod DefinitionFaults
+pub mod KindsSeen
+pub mod S01DefinedTwice
+pub mod S04BuiltInDefined
+pub mod S05EmptyTypes
+pub mod S06PartsTwice
+pub mod S23Roots
+pub mod S25SharedRoots
+pub mod S27Extensions
+pub mod S31Extended
+pub mod S34SchemaTwice
+pub mod SchemaFaults
+pub mod Shared
