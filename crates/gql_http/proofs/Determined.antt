@@ -1,13 +1,13 @@
 -- A request has one answer and leaves one state, and so have many.
 use Rattle.std.proofs.Common.{◌≡◌, ℕ, List, [], ◌∷◌, ◌++◌, length, Bool, true, false, cond, Option, Some, None, Result, Ok, Err, refl, sym, ap, ap₂, ◌∙◌, subst, append_assoc}
 use Rattle.gql_registry.specs.State.{State, PutsSchema, RemovesSchema}
-use Rattle.gql_registry.specs.Laws.{OnePut, OneRemoval, WasMade}
+use Rattle.gql_registry.specs.Laws.{OnePut, OneRemoval, OneReport, WasMade}
 use Rattle.gql_registry.specs.declared.refusal.Refusal.{Refusal}
 use Rattle.gql_registry.specs.declared.refusal.Refusal.TheVariants as refusal
 use Rattle.gql_registry.specs.declared.registry.Edited.{Edited}
 use Rattle.gql_wire.specs.Stream.{Req, request, refused as refused_head, Placed}
 use Rattle.gql_wire.specs.Laws.{OneSplit, Feeding}
-use Rattle.gql_http.specs.Answers.{Said, answer_bytes, edit_said, head_said}
+use Rattle.gql_http.specs.Answers.{Said, answer_bytes, edit_said, head_said, report_said}
 use Rattle.gql_http.specs.Routes.{Call, report, put_schema, remove_schema, refused, call_of}
 use Rattle.gql_http.specs.Service.{Step, Calls, Run, done, more, is_head}
 use Rattle.gql_http.specs.Exchange.{requests_of, joined, is_closed, Serves}
@@ -19,9 +19,9 @@ said_made r a said is = let none : ◌≡◌ {A = Option Said} None (Some a) = s
 one_said : (r q : Result Edited Refusal) (a b : Said) → edit_said r ≡ Some a → edit_said q ≡ Some b → r ≡ q → a ≡ b
 one_said r q a b x y same = let some : ◌≡◌ {A = Option Said} (Some a) (Some b) = sym x ∙ ap edit_said same ∙ y in cc
 
-module _ (put : OnePut) (removal : OneRemoval) where
+module _ (put : OnePut) (removal : OneRemoval) (reports : OneReport) where
   one_call : (s t u : State) (call : Call) (body : List ℕ) (a b : Said) → Calls s call body a t → Calls s call body b u → (a ≡ b) × (t ≡ u)
-  one_call s t u report body a b h k = (h.0 ∙ sym k.0, h.1 ∙ sym k.1)
+  one_call s t u report body a b h k = (h.0.2 ∙ ap (report_said s.revision) (reports s.files h.0.0 k.0.0 h.0.1 k.0.1) ∙ sym k.0.2, h.1 ∙ sym k.1)
   one_call s t u (put_schema name) body a b h k =
       let same = put s t u name body h.0 k.0 h.2 k.2 (said_made h.0 a h.1) (said_made k.0 b k.1) in
       (one_said h.0 k.0 a b h.1 k.1 same.0, same.1)

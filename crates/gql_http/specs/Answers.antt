@@ -9,8 +9,6 @@ use Rattle.gql_ast.specs.declared.fault.Fault.{Fault}
 use Rattle.gql_registry.specs.declared.refusal.Refusal.{Refusal}
 use Rattle.gql_registry.specs.declared.refusal.Refusal.TheVariants as refusal
 use Rattle.gql_registry.specs.declared.registry.Edited.{Edited}
-use Rattle.gql_registry.specs.State.{State}
-use Rattle.gql_registry.specs.Report.{report_of}
 use Rattle.gql_wire.specs.Answer.{answer_head_of}
 use Rattle.gql_wire.specs.declared.answer.Allow.{Allow}
 use Rattle.gql_wire.specs.declared.head.HeadRefusal.{HeadRefusal}
@@ -106,6 +104,6 @@ not_allowed methods = record { status = 405; allow = Some methods; body = error_
 abbrev pub bad_query : Said
 bad_query = said 400 (error_text (codes "bad query") 308)
 
--- the answer to a call for the report
-abbrev pub report_said : State → Said
-report_said s = said 200 (report_text s.revision (report_of s.files))
+-- the answer to a call for the report, with these faults
+abbrev pub report_said : ℕ → List Fault → Said
+report_said revision faults = said 200 (report_text revision faults)

@@ -1,5 +1,7 @@
 -- The service as a machine: what each request answers, and the state that it leaves.
 use Rattle.std.specs.Prelude.{ℕ, ◌≡◌, List, [], ◌∷◌, codes, bytes_eq, Bool, true, Some, Result}
+use Rattle.gql_ast.specs.declared.fault.Fault.{Fault}
+use Rattle.gql_registry.specs.Report.{IsReport}
 use Rattle.gql_registry.specs.State.{State, PutsSchema, RemovesSchema}
 use Rattle.gql_registry.specs.declared.refusal.Refusal.{Refusal}
 use Rattle.gql_registry.specs.declared.registry.Edited.{Edited}
@@ -9,7 +11,7 @@ use Rattle.gql_http.specs.Routes.{Call, report, put_schema, remove_schema, refus
 
 -- what a call with this body answers in the state s, and the state t that it leaves
 abbrev pub Calls : State → Call → List ℕ → Said → State → Type 0
-Calls s report body a t = (a ≡ report_said s) × (t ≡ s)
+Calls s report body a t = ((faults : List Fault) × IsReport s.files faults × (a ≡ report_said s.revision faults)) × (t ≡ s)
 Calls s (put_schema name) body a t = (r : Result Edited Refusal) × (edit_said r ≡ Some a) × PutsSchema s name body r t
 Calls s (remove_schema name) body a t = (r : Result Edited Refusal) × (edit_said r ≡ Some a) × RemovesSchema s name r t
 Calls s (refused said) body a t = (a ≡ said) × (t ≡ s)

@@ -1,5 +1,7 @@
 //! One request after another, made on the registry.
 ghost use Rattle.std.specs.Prelude.{◌≡◌, ◌++◌, ◌+◌, ◌≤◌, OnOk, OnErr, IfOk, IsErr, List, [], ℕ, Some, vec_len, vec_capacity};
+ghost use Rattle.gql_ast.specs.declared.fault.Fault.{Fault};
+ghost use Rattle.gql_registry.specs.Report.{IsReport};
 ghost use Rattle.gql_registry.specs.State.{state_of};
 ghost use Rattle.gql_wire.specs.Stream.{req};
 ghost use Rattle.gql_http.specs.Answers.{Said, edit_said, report_said};
@@ -20,7 +22,7 @@ use http::StatusCode;
 use std::alloc::{AllocError, Global};
 
 fn report_answer(alloc: Global, registry: &Registry) -> Result<Answer, AllocError>
-    ensures { IfOk result (λ a. answer_said a ≡ report_said (state_of registry.now)) }
+    ensures { IfOk result (λ a. (faults : List Fault) × IsReport (state_of registry.now).files faults × (answer_said a ≡ report_said (state_of registry.now).revision faults)) }
 {
     let faults = registry.report()?;
     Ok(Answer {

@@ -1,3 +1,2 @@
-pub mod Names
 pub mod OneOutcome
-pub mod Trees
+pub mod OneReport

@@ -1,5 +1,5 @@
 -- An edit has one answer, and leaves one state.
-use Rattle.std.proofs.Common.{◌≡◌, ◌<◌, ◌≤◌, inl, inr, ℕ, List, length, Result, Ok, Err, Option, Some, None, IsSome, refl, sym, ap, ap₂, ◌∙◌, arith}
+use Rattle.std.proofs.Common.{◌≡◌, ◌<◌, ◌≤◌, inl, inr, ℕ, List, length, Result, Ok, Err, Option, Some, None, IsSome, refl, sym, ap, ap₂, subst, ◌∙◌, arith}
 use Rattle.std.specs.Prelude.{IsUtf8}
 use Rattle.gql_text.specs.declared.place.Place.{Place}
 use Rattle.gql_grammar.specs.declared.fault.SyntaxRefusal.{SyntaxRefusal}
@@ -8,8 +8,8 @@ use Rattle.gql_grammar.specs.declared.fault.SyntaxFault.TheVariants.{At}
 use Rattle.gql_ast.specs.FileMaps.{file_named}
 use Rattle.gql_ast.specs.declared.definition.Document.{Document}
 use Rattle.gql_parse_sdl.specs.SchemaFiles.{IsSchemaFile, IsSchemaFault}
-use Rattle.gql_registry.specs.State.{State, PutsSchema, RemovesSchema, HasRoom, last_revision, file_limit, most_files, next, edited, with_schema, without_schema}
-use Rattle.gql_registry.specs.Laws.{WasMade}
+use Rattle.gql_registry.specs.State.{State, PutsSchema, RemovesSchema, HasRoom, last_revision, file_limit, most_files, next, Tells, with_schema, without_schema}
+use Rattle.gql_registry.specs.Laws.{WasMade, OneReport}
 use Rattle.gql_registry.specs.declared.refusal.Refusal.{Refusal}
 use Rattle.gql_registry.specs.declared.refusal.Refusal.TheVariants as refusal
 use Rattle.gql_registry.specs.declared.registry.Edited.{Edited}
@@ -24,7 +24,7 @@ data Put (s : State) (name bytes : List ℕ) : Result Edited Refusal → State �
   full : {t : State} (document : Document) → s.revision < last_revision → length bytes ≤ file_limit → IsUtf8 bytes → IsSchemaFile name bytes document
       → file_named s.files.schema name ≡ None → most_files ≤ length s.files.schema → t ≡ s → Put s name bytes (Err refusal.FilesFull) t
   accepted : {t : State} (document : Document) (e : Edited) → s.revision < last_revision → length bytes ≤ file_limit → IsUtf8 bytes → IsSchemaFile name bytes document
-      → HasRoom s.files.schema name → t ≡ next s (with_schema s.files name document) → e ≡ edited t → Put s name bytes (Ok e) t
+      → HasRoom s.files.schema name → t ≡ next s (with_schema s.files name document) → Tells t e → Put s name bytes (Ok e) t
 
 put_by : (s t : State) (name bytes : List ℕ) (r : Result Edited Refusal) → PutsSchema s name bytes r t → WasMade r → Put s name bytes r t
 put_by s t name bytes (Ok e) h made = let file = h.3 in accepted file.0 e h.0 h.1 h.2 file.1 file.2 file.3 file.4
@@ -61,13 +61,21 @@ pub record OneReading (name bytes : List ℕ) : Type 0 where
   pub fault : (f g : SyntaxFault) → IsSchemaFault name bytes f → IsSchemaFault name bytes g → f ≡ g
   pub apart : (d : Document) (f : SyntaxFault) → IsSchemaFile name bytes d → IsSchemaFault name bytes f → ⊥
 
+-- an accepted edit tells one thing of a state
+one_edited : OneReport → (t u : State) (e g : Edited) → t ≡ u → Tells t e → Tells u g → e ≡ g
+one_edited reports t u e g same x y =
+    let z = subst (λ v. Tells v g) (sym same) y in
+    let revision : e.revision ≡ g.revision = x.0 ∙ sym z.0 in
+    let faults : e.faults ≡ g.faults = x.1.2 ∙ ap length (reports t.files x.1.0 z.1.0 x.1.1 z.1.1) ∙ sym z.1.2 in
+    λ i. record { revision = revision i; faults = faults i }
+
 same_syntax : (m n : SyntaxRefusal) (p q : Place) → At m p ≡ At n q → ◌≡◌ {A = Result Edited Refusal} (Err (refusal.Syntax m p)) (Err (refusal.Syntax n q))
 same_syntax m n p q e =
     let numbers : m ≡ n = cc in
     let places : p ≡ q = cc in
     ap₂ (λ a b. Err (refusal.Syntax a b)) numbers places
 
-module _ (s t u : State) (name bytes : List ℕ) (one : OneReading name bytes) where
+module _ (reports : OneReport) (s t u : State) (name bytes : List ℕ) (one : OneReading name bytes) where
   agree : (r q : Result Edited Refusal) → Put s name bytes r t → Put s name bytes q u → (r ≡ q) × (t ≡ u)
   agree _ _ (spent x_rev x_t) (spent y_rev y_t) = (refl, x_t ∙ sym y_t)
   agree _ _ (spent x_rev x_t) (too_long y_rev y_len y_t) = absurd (below s.revision last_revision x_rev y_rev)
@@ -106,7 +114,7 @@ module _ (s t u : State) (name bytes : List ℕ) (one : OneReading name bytes) w
   agree _ _ (accepted x_d x_e x_rev x_len x_utf x_file x_room x_t x_is) (full y_d y_rev y_len y_utf y_file y_none y_many y_t) = absurd (no_room s.files.schema name x_room y_none y_many)
   agree _ _ (accepted x_d x_e x_rev x_len x_utf x_file x_room x_t x_is) (accepted y_d y_e y_rev y_len y_utf y_file y_room y_t y_is) =
       let same : t ≡ u = x_t ∙ ap (λ d. next s (with_schema s.files name d)) (one.document x_d y_d x_file y_file) ∙ sym y_t in
-      (ap Ok (x_is ∙ ap edited same ∙ sym y_is), same)
+      (ap Ok (one_edited reports t u x_e y_e same x_is y_is), same)
 
   pub one_put : (r q : Result Edited Refusal) → PutsSchema s name bytes r t → PutsSchema s name bytes q u → WasMade r → WasMade q → (r ≡ q) × (t ≡ u)
   one_put r q h k made_h made_k = agree r q (put_by s t name bytes r h made_h) (put_by s u name bytes q k made_k)
@@ -115,7 +123,7 @@ module _ (s t u : State) (name bytes : List ℕ) (one : OneReading name bytes) w
 data Removal (s : State) (name : List ℕ) : Result Edited Refusal → State → Type 0 where
   spent_then : {t : State} → s.revision ≡ last_revision → t ≡ s → Removal s name (Err refusal.Spent) t
   no_file : {t : State} → s.revision < last_revision → file_named s.files.schema name ≡ None → t ≡ s → Removal s name (Err refusal.NoFile) t
-  removed : {t : State} (e : Edited) → s.revision < last_revision → IsSome (file_named s.files.schema name) → t ≡ next s (without_schema s.files name) → e ≡ edited t
+  removed : {t : State} (e : Edited) → s.revision < last_revision → IsSome (file_named s.files.schema name) → t ≡ next s (without_schema s.files name) → Tells t e
       → Removal s name (Ok e) t
 
 removal_by : (s t : State) (name : List ℕ) (r : Result Edited Refusal) → RemovesSchema s name r t → WasMade r → Removal s name r t
@@ -133,7 +141,7 @@ removal_by s t name (Err refusal.NoOperation) h made = absurd h
 removal_by s t name (Err (refusal.Faulty faults)) h made = absurd h
 removal_by s t name (Err refusal.TooLarge) h made = absurd h
 
-module _ (s t u : State) (name : List ℕ) where
+module _ (reports : OneReport) (s t u : State) (name : List ℕ) where
   agree_on : (r q : Result Edited Refusal) → Removal s name r t → Removal s name q u → (r ≡ q) × (t ≡ u)
   agree_on _ _ (spent_then x_rev x_t) (spent_then y_rev y_t) = (refl, x_t ∙ sym y_t)
   agree_on _ _ (spent_then x_rev x_t) (no_file y_rev y_none y_t) = absurd (below s.revision last_revision x_rev y_rev)
@@ -145,7 +153,7 @@ module _ (s t u : State) (name : List ℕ) where
   agree_on _ _ (removed x_e x_rev x_some x_t x_is) (no_file y_rev y_none y_t) = absurd (some_none (file_named s.files.schema name) x_some y_none)
   agree_on _ _ (removed x_e x_rev x_some x_t x_is) (removed y_e y_rev y_some y_t y_is) =
       let same : t ≡ u = x_t ∙ sym y_t in
-      (ap Ok (x_is ∙ ap edited same ∙ sym y_is), same)
+      (ap Ok (one_edited reports t u x_e y_e same x_is y_is), same)
 
   pub one_removal : (r q : Result Edited Refusal) → RemovesSchema s name r t → RemovesSchema s name q u → WasMade r → WasMade q → (r ≡ q) × (t ≡ u)
   one_removal r q h k made_h made_k = agree_on r q (removal_by s t name r h made_h) (removal_by s u name q k made_k)

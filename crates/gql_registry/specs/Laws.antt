@@ -1,5 +1,8 @@
--- Laws of the registry's edits.
+-- Laws of the registry's report and edits.
 use Rattle.std.specs.Prelude.{ℕ, ◌≡◌, List, Result, Err}
+use Rattle.gql_ast.specs.declared.fault.Fault.{Fault}
+use Rattle.gql_ast.specs.declared.files.Files.{Files}
+use Rattle.gql_registry.specs.Report.{IsReport}
 use Rattle.gql_registry.specs.State.{State, PutsSchema, RemovesSchema}
 use Rattle.gql_registry.specs.declared.refusal.Refusal.{Refusal}
 use Rattle.gql_registry.specs.declared.refusal.Refusal.TheVariants.{Memory}
@@ -18,3 +21,7 @@ OnePut = (s t u : State) (name bytes : List ℕ) (r q : Result Edited Refusal) �
 abbrev pub OneRemoval : Type 0
 OneRemoval = (s t u : State) (name : List ℕ) (r q : Result Edited Refusal) → RemovesSchema s name r t → RemovesSchema s name q u → WasMade r → WasMade q
     → (r ≡ q) × (t ≡ u)
+
+-- files have one report
+abbrev pub OneReport : Type 0
+OneReport = (files : Files) (a b : List Fault) → IsReport files a → IsReport files b → a ≡ b

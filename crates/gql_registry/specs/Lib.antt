@@ -1,6 +1,4 @@
 pub mod Refusals
 pub mod Report
-pub mod Roots
 pub mod State
-pub mod TypeNames
 pub mod Laws

@@ -2,10 +2,11 @@
 use Rattle.std.specs.Prelude.{ℕ, ◌≡◌, ◌<◌, ◌≤◌, ◌+◌, ◌^◌, ◌-◌, ◌⊎◌, List, [], length, Result, Ok, Err, None, IsSome, IsUtf8}
 use Rattle.gql_ast.specs.FileMaps.{file_named, with_file, without_file}
 use Rattle.gql_ast.specs.declared.definition.Document.{Document}
+use Rattle.gql_ast.specs.declared.fault.Fault.{Fault}
 use Rattle.gql_ast.specs.declared.files.Files.{Files}
 use Rattle.gql_grammar.specs.declared.fault.SyntaxFault.TheVariants.{At}
 use Rattle.gql_parse_sdl.specs.SchemaFiles.{IsSchemaFile, IsSchemaFault}
-use Rattle.gql_registry.specs.Report.{report_of}
+use Rattle.gql_registry.specs.Report.{IsReport}
 use Rattle.gql_registry.specs.declared.refusal.Refusal.{Refusal}
 use Rattle.gql_registry.specs.declared.refusal.Refusal.TheVariants as refusal
 use Rattle.gql_registry.specs.declared.registry.Edited.{Edited}
@@ -44,9 +45,9 @@ HasRoom files name = IsSome (file_named files name) ⊎ (length files < most_fil
 abbrev pub next : State → Files → State
 next s files = record { files = files; revision = s.revision + 1 }
 
--- what an accepted edit tells: the new revision, and how many faults the report has
-abbrev pub edited : State → Edited
-edited s = record { revision = s.revision; faults = length (report_of s.files) }
+-- what an accepted edit that leaves this state tells: its revision, and how many faults its report has
+abbrev pub Tells : State → Edited → Type 0
+Tells s e = (e.revision ≡ s.revision) × ((faults : List Fault) × IsReport s.files faults × (e.faults ≡ length faults))
 
 -- with this schema file put, in the place of any of its name
 abbrev pub with_schema : Files → List ℕ → Document → Files
@@ -61,7 +62,7 @@ without_schema files name = record files { schema = without_file files.schema na
 abbrev pub PutsSchema : State → List ℕ → List ℕ → Result Edited Refusal → State → Type 0
 PutsSchema s name bytes (Ok e) t =
     (s.revision < last_revision) × (length bytes ≤ file_limit) × IsUtf8 bytes × ((document : Document) × IsSchemaFile name bytes document
-    × HasRoom s.files.schema name × (t ≡ next s (with_schema s.files name document)) × (e ≡ edited t))
+    × HasRoom s.files.schema name × (t ≡ next s (with_schema s.files name document)) × Tells t e)
 PutsSchema s name bytes (Err refusal.Spent) t = (s.revision ≡ last_revision) × (t ≡ s)
 PutsSchema s name bytes (Err refusal.TooLong) t = (s.revision < last_revision) × (file_limit < length bytes) × (t ≡ s)
 PutsSchema s name bytes (Err refusal.NotText) t =
@@ -78,7 +79,7 @@ PutsSchema s name bytes (Err other) t = ⊥
 -- that name (204).
 abbrev pub RemovesSchema : State → List ℕ → Result Edited Refusal → State → Type 0
 RemovesSchema s name (Ok e) t =
-    (s.revision < last_revision) × IsSome (file_named s.files.schema name) × (t ≡ next s (without_schema s.files name)) × (e ≡ edited t)
+    (s.revision < last_revision) × IsSome (file_named s.files.schema name) × (t ≡ next s (without_schema s.files name)) × Tells t e
 RemovesSchema s name (Err refusal.Spent) t = (s.revision ≡ last_revision) × (t ≡ s)
 RemovesSchema s name (Err refusal.NoFile) t = (s.revision < last_revision) × (file_named s.files.schema name ≡ None) × (t ≡ s)
 RemovesSchema s name (Err refusal.Memory) t = t ≡ s

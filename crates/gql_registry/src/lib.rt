@@ -5,10 +5,8 @@ pub mod laws;
 mod refusal;
 mod registry;
 mod report;
-mod roots;
 #[cfg(test)]
 mod tests;
-mod type_names;
 
 pub use refusal::Refusal;
 pub use registry::{Edited, MAX_FILE_BYTES, MAX_FILES, Registry};

@@ -38,7 +38,7 @@ fn has_room(files: &FileMap<Shared<Document>>, name: &FileName) -> bool
 
 impl Registry {
     ghost use Rattle.std.specs.Prelude.{◌≡◌, ◌+◌, ◌<◌, IfOk, OnErr, MatchResult, length};
-    ghost use Rattle.gql_registry.specs.State.{state_of, empty, next, edited, last_revision, PutsSchema, RemovesSchema};
+    ghost use Rattle.gql_registry.specs.State.{state_of, empty, next, Tells, last_revision, PutsSchema, RemovesSchema};
     ghost use Rattle.gql_registry.specs.Report as spec;
     ghost use Rattle.gql_registry.specs.declared.refusal.Refusal.TheVariants as refusal;
 
@@ -60,10 +60,10 @@ impl Registry {
         self.revision
     }
 
-    /// The faults of the files that are present, none twice, by first place (none first), rule, second place, owner
-    /// and text.
+    /// The faults of the schema of the files that are present, all of them and no others, none twice, by first place (none
+    /// first), rule, second place, owner and text.
     pub fn report(&self) -> Result<Vec<Fault>, AllocError>
-        ensures { IfOk result (λ faults. faults.items ≡ spec.report_of (state_of self.now).files) }
+        ensures { IfOk result (λ faults. spec.IsReport (state_of self.now).files faults.items) }
     {
         report_of(self.alloc, &self.files)
     }
@@ -83,7 +83,7 @@ impl Registry {
     /// Makes an edit that leaves these files.
     fn accept(&mut self, files: Files, revision: u64) -> Result<Edited, AllocError>
         requires { revision ≡ (state_of self.old).revision + 1 }
-        ensures ok { IfOk result (λ e. (state_of self.new ≡ next (state_of self.old) files) × (e ≡ edited (state_of self.new))) }
+        ensures ok { IfOk result (λ e. (state_of self.new ≡ next (state_of self.old) files) × Tells (state_of self.new) e) }
         ensures err { OnErr result (state_of self.new ≡ state_of self.old) }
     {
         let faults = report_of(self.alloc, &files)?.len() as u64;

@@ -76,7 +76,7 @@ fn every_kind_of_type_is_counted(rt: HostRuntime) -> Result<(), Fail> {
 
 #[test]
 fn the_root_is_a_type_or_an_entry(rt: HostRuntime) -> Result<(), Fail> {
-    reports(&rt, rt.alloc(), "scalar Query", Rule::S23, "query", &[])?;
+    reports(&rt, rt.alloc(), "scalar Query", Rule::S24, "Query", &[8])?;
     reports(&rt, rt.alloc(), "type A{a:Int}", Rule::S23, "query", &[0])?;
     reports(
         &rt,
@@ -97,7 +97,7 @@ fn the_root_is_a_type_or_an_entry(rt: HostRuntime) -> Result<(), Fail> {
     reports(
         &rt,
         rt.alloc(),
-        "type A{a:Int} schema{mutation:A} extend schema{query:A}",
+        "type A{a:Int} type B{a:Int} schema{mutation:B} extend schema{query:A}",
         Rule::S23,
         "query",
         &[],
