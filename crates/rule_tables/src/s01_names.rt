@@ -65,7 +65,7 @@ const S01_FILES: &[Row<'static>] = &[
     (
         &[
             ("a", "scalar T type Query { a: T }"),
-            ("b", "type T2 { a: Int } type T { a: Int }"),
+            ("b", "type TT { a: Int } type T { a: Int }"),
         ],
         "S01 T at a 1:8; S01 T at b 1:25",
     ),
