@@ -13,8 +13,6 @@ mod literal;
 mod rule;
 mod same;
 mod shared;
-#[cfg(test)]
-mod tests;
 mod text;
 mod type_ref;
 mod type_system;

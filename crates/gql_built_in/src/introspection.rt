@@ -4,151 +4,100 @@ ghost use Rattle.gql_built_in.specs.BuiltIn as spec;
 ghost use Rattle.gql_built_in.specs.BuiltInWords.{a_type as a_type_of};
 
 use crate::sited::Sited;
-use crate::words::{
-    a_type, boolean_value, enum_type, field, field_with, list_of, named, object, one_argument,
-    required_list_of, required_named,
-};
-use gql_ast::{FieldDefinition, InputValueDefinition, Items, Shared, Tree, TypeDefinition};
+use crate::tables::FieldRow::{Plain, ShowsDeprecated};
+use crate::tables::TypeWord::{List, Named, Required, RequiredList};
+use crate::tables::fields_of;
+use crate::words::{a_type, enum_type, object};
+use gql_ast::{FieldDefinition, Items, Shared, Tree, TypeDefinition};
 use std::alloc::{AllocError, Global};
 
 #[tactic(auto, unfolding(crate::specs::BuiltIn::fields_of_schema))]
 fn fields_of_schema(alloc: Global) -> Result<Items<Shared<FieldDefinition>>, AllocError>
     ensures { IfOk result (λ fs. fs ≡ spec.fields_of_schema) }
 {
-    let mut fields = Items::new(alloc);
-    let all = &mut fields;
-    field(alloc, all, "description", named(alloc, "String")?)?;
-    field(alloc, all, "types", required_list_of(alloc, "__Type")?)?;
-    field(alloc, all, "queryType", required_named(alloc, "__Type")?)?;
-    field(alloc, all, "mutationType", named(alloc, "__Type")?)?;
-    field(alloc, all, "subscriptionType", named(alloc, "__Type")?)?;
-    field(
-        alloc,
-        all,
-        "directives",
-        required_list_of(alloc, "__Directive")?,
-    )?;
-    Ok(fields)
-}
-
-// (includeDeprecated: Boolean = false)
-#[tactic(auto, unfolding(crate::specs::BuiltIn::include_deprecated))]
-fn include_deprecated(alloc: Global) -> Result<Items<Shared<InputValueDefinition>>, AllocError>
-    ensures { IfOk result (λ xs. xs ≡ spec.include_deprecated) }
-{
-    let of_type = named(alloc, "Boolean")?;
-    one_argument(
-        alloc,
-        "includeDeprecated",
-        of_type,
-        Some(boolean_value(false)),
-    )
+    let rows = [
+        Plain("description", Named("String")),
+        Plain("types", RequiredList("__Type")),
+        Plain("queryType", Required("__Type")),
+        Plain("mutationType", Named("__Type")),
+        Plain("subscriptionType", Named("__Type")),
+        Plain("directives", RequiredList("__Directive")),
+    ];
+    fields_of(alloc, &rows)
 }
 
 #[tactic(auto, unfolding(crate::specs::BuiltIn::fields_of_type))]
 fn fields_of_type(alloc: Global) -> Result<Items<Shared<FieldDefinition>>, AllocError>
     ensures { IfOk result (λ fs. fs ≡ spec.fields_of_type) }
 {
-    let mut fields = Items::new(alloc);
-    let all = &mut fields;
-    field(alloc, all, "kind", required_named(alloc, "__TypeKind")?)?;
-    field(alloc, all, "name", named(alloc, "String")?)?;
-    field(alloc, all, "description", named(alloc, "String")?)?;
-    field_with(
-        alloc,
-        all,
-        "fields",
-        include_deprecated(alloc)?,
-        list_of(alloc, "__Field")?,
-    )?;
-    field(alloc, all, "interfaces", list_of(alloc, "__Type")?)?;
-    field(alloc, all, "possibleTypes", list_of(alloc, "__Type")?)?;
-    field_with(
-        alloc,
-        all,
-        "enumValues",
-        include_deprecated(alloc)?,
-        list_of(alloc, "__EnumValue")?,
-    )?;
-    field(alloc, all, "inputFields", list_of(alloc, "__InputValue")?)?;
-    field(alloc, all, "ofType", named(alloc, "__Type")?)?;
-    field(alloc, all, "specifiedByURL", named(alloc, "String")?)?;
-    Ok(fields)
+    let rows = [
+        Plain("kind", Required("__TypeKind")),
+        Plain("name", Named("String")),
+        Plain("description", Named("String")),
+        ShowsDeprecated("fields", List("__Field")),
+        Plain("interfaces", List("__Type")),
+        Plain("possibleTypes", List("__Type")),
+        ShowsDeprecated("enumValues", List("__EnumValue")),
+        Plain("inputFields", List("__InputValue")),
+        Plain("ofType", Named("__Type")),
+        Plain("specifiedByURL", Named("String")),
+    ];
+    fields_of(alloc, &rows)
 }
 
 #[tactic(auto, unfolding(crate::specs::BuiltIn::fields_of_field))]
 fn fields_of_field(alloc: Global) -> Result<Items<Shared<FieldDefinition>>, AllocError>
     ensures { IfOk result (λ fs. fs ≡ spec.fields_of_field) }
 {
-    let mut fields = Items::new(alloc);
-    let all = &mut fields;
-    field(alloc, all, "name", required_named(alloc, "String")?)?;
-    field(alloc, all, "description", named(alloc, "String")?)?;
-    field(alloc, all, "args", required_list_of(alloc, "__InputValue")?)?;
-    field(alloc, all, "type", required_named(alloc, "__Type")?)?;
-    field(
-        alloc,
-        all,
-        "isDeprecated",
-        required_named(alloc, "Boolean")?,
-    )?;
-    field(alloc, all, "deprecationReason", named(alloc, "String")?)?;
-    Ok(fields)
+    let rows = [
+        Plain("name", Required("String")),
+        Plain("description", Named("String")),
+        Plain("args", RequiredList("__InputValue")),
+        Plain("type", Required("__Type")),
+        Plain("isDeprecated", Required("Boolean")),
+        Plain("deprecationReason", Named("String")),
+    ];
+    fields_of(alloc, &rows)
 }
 
 #[tactic(auto, unfolding(crate::specs::BuiltIn::fields_of_input_value))]
 fn fields_of_input_value(alloc: Global) -> Result<Items<Shared<FieldDefinition>>, AllocError>
     ensures { IfOk result (λ fs. fs ≡ spec.fields_of_input_value) }
 {
-    let mut fields = Items::new(alloc);
-    let all = &mut fields;
-    field(alloc, all, "name", required_named(alloc, "String")?)?;
-    field(alloc, all, "description", named(alloc, "String")?)?;
-    field(alloc, all, "type", required_named(alloc, "__Type")?)?;
-    field(alloc, all, "defaultValue", named(alloc, "String")?)?;
-    Ok(fields)
+    let rows = [
+        Plain("name", Required("String")),
+        Plain("description", Named("String")),
+        Plain("type", Required("__Type")),
+        Plain("defaultValue", Named("String")),
+    ];
+    fields_of(alloc, &rows)
 }
 
 #[tactic(auto, unfolding(crate::specs::BuiltIn::fields_of_enum_value))]
 fn fields_of_enum_value(alloc: Global) -> Result<Items<Shared<FieldDefinition>>, AllocError>
     ensures { IfOk result (λ fs. fs ≡ spec.fields_of_enum_value) }
 {
-    let mut fields = Items::new(alloc);
-    let all = &mut fields;
-    field(alloc, all, "name", required_named(alloc, "String")?)?;
-    field(alloc, all, "description", named(alloc, "String")?)?;
-    field(
-        alloc,
-        all,
-        "isDeprecated",
-        required_named(alloc, "Boolean")?,
-    )?;
-    field(alloc, all, "deprecationReason", named(alloc, "String")?)?;
-    Ok(fields)
+    let rows = [
+        Plain("name", Required("String")),
+        Plain("description", Named("String")),
+        Plain("isDeprecated", Required("Boolean")),
+        Plain("deprecationReason", Named("String")),
+    ];
+    fields_of(alloc, &rows)
 }
 
 #[tactic(auto, unfolding(crate::specs::BuiltIn::fields_of_directive))]
 fn fields_of_directive(alloc: Global) -> Result<Items<Shared<FieldDefinition>>, AllocError>
     ensures { IfOk result (λ fs. fs ≡ spec.fields_of_directive) }
 {
-    let mut fields = Items::new(alloc);
-    let all = &mut fields;
-    field(alloc, all, "name", required_named(alloc, "String")?)?;
-    field(alloc, all, "description", named(alloc, "String")?)?;
-    field(
-        alloc,
-        all,
-        "locations",
-        required_list_of(alloc, "__DirectiveLocation")?,
-    )?;
-    field(alloc, all, "args", required_list_of(alloc, "__InputValue")?)?;
-    field(
-        alloc,
-        all,
-        "isRepeatable",
-        required_named(alloc, "Boolean")?,
-    )?;
-    Ok(fields)
+    let rows = [
+        Plain("name", Required("String")),
+        Plain("description", Named("String")),
+        Plain("locations", RequiredList("__DirectiveLocation")),
+        Plain("args", RequiredList("__InputValue")),
+        Plain("isRepeatable", Required("Boolean")),
+    ];
+    fields_of(alloc, &rows)
 }
 
 #[tactic(auto, unfolding(crate::specs::BuiltIn::type_kinds))]

@@ -9,8 +9,7 @@ ghost use Rattle.gql_built_in.specs.BuiltInWords.{a_type as a_type_of};
 mod directives;
 mod introspection;
 mod sited;
-#[cfg(test)]
-mod tests;
+mod tables;
 mod words;
 
 use crate::directives::directives;

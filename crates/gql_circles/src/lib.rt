@@ -5,8 +5,6 @@
 
 mod places;
 mod rows;
-#[cfg(test)]
-mod tests;
 mod walk;
 
 pub use rows::{Row, circles};

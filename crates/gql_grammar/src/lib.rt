@@ -10,6 +10,3 @@ pub use cursor::Cursor;
 pub use error::ParseError;
 pub use fault::{SyntaxFault, SyntaxRefusal};
 pub use file::{MAX_LEVELS, levels_law, looked_at, placed};
-
-#[cfg(test)]
-mod tests;

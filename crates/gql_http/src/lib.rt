@@ -12,8 +12,6 @@ mod report_body;
 mod route;
 mod serve;
 mod service;
-#[cfg(test)]
-mod tests;
 mod write;
 mod write_answer;
 

@@ -18,6 +18,3 @@ pub use names::name;
 pub use operations::optional_default;
 pub use selections::set;
 pub use types::type_ref;
-
-#[cfg(test)]
-mod tests;

@@ -19,6 +19,3 @@ mod unions;
 
 pub use document_file::{one_document_answer, parse_any};
 pub use schema_file::{one_answer, parse_sdl};
-
-#[cfg(test)]
-mod tests;

@@ -5,8 +5,6 @@ pub mod laws;
 mod refusal;
 mod registry;
 mod report;
-#[cfg(test)]
-mod tests;
 
 pub use refusal::Refusal;
 pub use registry::{Edited, MAX_FILE_BYTES, MAX_FILES, Registry};

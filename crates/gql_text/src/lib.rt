@@ -8,8 +8,6 @@ mod lexer;
 mod number;
 mod pieces;
 mod place;
-#[cfg(test)]
-mod tests;
 mod token;
 mod value;
 

@@ -8,8 +8,6 @@ mod head;
 pub mod laws;
 mod part;
 mod stream;
-#[cfg(test)]
-mod tests;
 
 pub use answer::{ANSWER_HEAD_ROOM, Allow, answer_head};
 pub use device::{

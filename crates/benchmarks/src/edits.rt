@@ -1,0 +1,74 @@
+//! How long an edit takes: one schema file of many is put again, and the report of all is made anew, with 12, 48 and 192
+//! files.
+use crate::speed::micros;
+use anyhow::Result;
+use gql_ast::FileName;
+use gql_registry::Registry;
+use std::alloc::Global;
+use std::time::Instant;
+
+/// How many types each file holds.
+const TYPES: u64 = 100;
+
+/// How often a file is put again.
+const ROUNDS: u64 = 5;
+
+/// What the types of all files stand on.
+const ROOTS: &str = "type Query { node(id: ID!): Node } interface Node { id: ID! }\n";
+
+/// A file of types that no other file has.
+fn text(alloc: Global, file: u64) -> Result<String> {
+    let mut text = String::new(alloc);
+    if file == 0 {
+        text.push_str(ROOTS)?;
+    }
+    for number in 0..TYPES {
+        let line = format!(in alloc;
+            "type T{file}_{number} implements Node {{ id: ID! next(first: I{file}_{number}): T{file}_{number}! @deprecated }} input I{file}_{number} {{ count: Int! = 10 }}\n"
+        )?;
+        text.push_str(line.as_str())?;
+    }
+    Ok(text)
+}
+
+/// Puts a file, and answers how many faults there are then.
+fn put(alloc: Global, registry: &mut Registry, file: u64, text: &str) -> Result<u64> {
+    let name = format!(in alloc; "f{file}")?;
+    if let Some(name) = FileName::read(name.as_str()) {
+        if let Ok(edited) = registry.put_schema(name, text.as_bytes()) {
+            return Ok(edited.faults);
+        }
+    }
+    Ok(u64::MAX)
+}
+
+/// A registry with this many files.
+fn filled(alloc: Global, count: u64) -> Result<Registry> {
+    let mut registry = Registry::new(alloc);
+    for file in 0..count {
+        let text = text(alloc, file)?;
+        put(alloc, &mut registry, file, text.as_str())?;
+    }
+    Ok(registry)
+}
+
+fn measure_edit(rt: &HostRuntime, count: u64) -> Result<()> {
+    let mut registry = filled(rt.alloc(), count)?;
+    let text = text(rt.alloc(), 1)?;
+    let mut faults: u64 = 0;
+    let start = Instant::now(rt)?;
+    for _round in 0..ROUNDS {
+        faults = put(rt.alloc(), &mut registry, 1, text.as_str())?;
+    }
+    let each = micros(start.elapsed(rt)?) / ROUNDS;
+    println!(rt; "edit one of {count} schema files: {each} us for each edit ({faults} faults)")?;
+    Ok(())
+}
+
+/// Prints the time for each edit.
+pub fn measure(rt: &HostRuntime) -> Result<()> {
+    for count in [12, 48, 192] {
+        measure_edit(rt, count)?;
+    }
+    Ok(())
+}
