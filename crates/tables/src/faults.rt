@@ -1,0 +1,37 @@
+//! Faults as the table writes them.
+use gql_ast::{Fault, FilePlace};
+use std::alloc::{AllocError, Global};
+
+/// A place as `file line:column`.
+fn written_place(alloc: Global, place: &FilePlace) -> Result<String, AllocError> {
+    let file = place.file.as_str();
+    let line = place.place.line;
+    let column = place.place.column;
+    format!(in alloc; "{file} {line}:{column}")
+}
+
+/// A fault as its rule, what it is about, and its places.
+fn written_fault(alloc: Global, fault: &Fault) -> Result<String, AllocError> {
+    let rule = fault.rule.name();
+    let about = fault.about.as_str();
+    let mut written = format!(in alloc; "{rule} {about}")?;
+    let mut before = " at ";
+    for place in fault.places.as_slice() {
+        written.push_str(before)?;
+        written.push_str(written_place(alloc, place)?.as_str())?;
+        before = ", ";
+    }
+    Ok(written)
+}
+
+/// The faults, joined by semicolons.
+pub fn written_faults(alloc: Global, faults: &[Fault]) -> Result<String, AllocError> {
+    let mut written = String::new(alloc);
+    let mut before = "";
+    for fault in faults {
+        written.push_str(before)?;
+        written.push_str(written_fault(alloc, fault)?.as_str())?;
+        before = "; ";
+    }
+    Ok(written)
+}

@@ -1,0 +1,26 @@
+//! Holds the crates against a table. Standard input has texts and, behind each, what is expected of it, as its first lines
+//! say. Answers that differ are printed, and then how many there were.
+#![tactic(auto)]
+
+mod answer;
+mod faults;
+mod row;
+mod table;
+
+use anyhow::Result;
+use table::Table;
+
+fn main(rt: HostRuntime) -> Result<()> {
+    let mut table = Table::new(rt.alloc());
+    for line in rt.lines(rt.alloc()) {
+        table.read(line?.as_str())?;
+    }
+    let differences = table.differences.as_str();
+    let answers = table.answers;
+    if differences.is_empty() {
+        println!(rt; "{answers} answers, all as expected")?;
+    } else {
+        println!(rt; "{differences}{answers} answers")?;
+    }
+    Ok(())
+}
