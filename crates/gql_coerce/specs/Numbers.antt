@@ -1,0 +1,13 @@
+-- Which whole numbers, as they are written, are in range (GraphQL specification, 3.5.1).
+use Rattle.std.specs.Prelude.{◌&&◌, ◌^◌, ℕ, List, Bool, nat_lt, nat_le, length, if◌then◌else◌}
+use Rattle.std.specs.Str.{all_ascii_digits}
+use Rattle.std.specs.Str.Parse.{digits_value, starts_with_minus, without_leading_sign}
+
+-- at most so many bits beside the sign: from -2^bits to 2^bits - 1
+abbrev pub is_within : ℕ → Bool → ℕ → Bool
+is_within bits negative n = if negative then nat_le n (2 ^ bits) else nat_lt n (2 ^ bits)
+
+-- a whole number of that many bits
+abbrev pub is_whole : ℕ → List ℕ → Bool
+is_whole bits text = nat_lt 0 (length (without_leading_sign text)) && (all_ascii_digits (without_leading_sign text)
+    && is_within bits (starts_with_minus text) (digits_value 10 (without_leading_sign text)))

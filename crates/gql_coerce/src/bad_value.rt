@@ -1,0 +1,13 @@
+use gql_ast::{Rule, Text};
+use gql_text::Place;
+
+/// What does not fit of a value: by which rule, where, and about what (GraphQL specification, 5.6).
+#[derive(Drop)]
+pub struct BadValue {
+    /// V18, V19, V20 or V21.
+    pub rule: Rule,
+    /// The bad value's start; of V19 and V20 the field's name, of V21 the object's `{`.
+    pub place: Place,
+    /// The type that is expected there, as it is written; of V19 to V21 the name of the field.
+    pub about: Text,
+}
