@@ -1,4 +1,4 @@
-//! Values: what a literal is worth at a type of a schema, and where it does not fit (GraphQL specification, 3.5 to 3.12 and 5.6).
+//! What of a literal does not fit a type of a schema, and where it stands (GraphQL specification, 5.6).
 #![tactic(auto)]
 
 mod bad_value;
