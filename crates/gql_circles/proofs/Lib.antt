@@ -1,4 +1,5 @@
 pub mod Closed
+pub mod Inside
 pub mod Joining
 pub mod Leading
 pub mod Leaving

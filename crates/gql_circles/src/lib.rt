@@ -3,8 +3,10 @@
 //! linear in the names and steps, but for the look-up of each name.
 #![tactic(auto)]
 
+mod numbers;
 mod places;
 mod rows;
 mod walk;
 
+pub use numbers::circles_of_places;
 pub use rows::{Row, circles};

@@ -1,8 +1,8 @@
 -- Parsing succeeds at just the whole numbers in range.
-use Rattle.std.proofs.Common.{◌≡◌, ◌≢◌, ◌^◌, ◌<◌, ◌≤◌, ◌==◌, ◌&&◌, ℕ, ℤ, List, length, drop, Bool, true, false, refl, sym, ap, ◌∙◌, arith, Ok, Err, Result, nat_lt, nat_le, slice_index, w32, w64}
+use Rattle.std.proofs.Common.{true≢false, Option, Some, None, if◌then◌else◌, ◌≡◌, ◌≢◌, ◌^◌, ◌<◌, ◌≤◌, ◌==◌, ◌&&◌, ℕ, ℤ, List, length, drop, Bool, true, false, refl, sym, ap, ◌∙◌, arith, Ok, Err, Result, nat_lt, nat_le, slice_index, w32, w64}
 use Rattle.std.specs.Int.{Width}
 use mir.Val.{hbits}
-use Rattle.std.specs.Result.{OkIff, is_ok}
+use Rattle.std.specs.Result.{OkIff, is_ok, result_ok}
 use Rattle.std.specs.Str.{all_ascii_digits}
 use Rattle.std.specs.Str.Parse.{digits_value, ParsesSigned, starts_with_minus, without_leading_sign, without_leading_plus}
 use Rattle.std.proofs.lemmas.Bool.Decides.{nat_tests}
@@ -56,3 +56,10 @@ module _ {E : Type 0} (w : Width) (bs : List ℕ) (r : Result ℤ E) (h : Parses
 
   pub whole : is_ok r ≡ is_whole (hbits w) bs
   whole = by_sign (slice_index bs 0 == 45) (slice_index bs 0 == 43) refl refl
+
+-- what is read, where it is in range
+pub read : {E : Type 0} (r : Result ℤ E) (Q : Type 0) (x : ℤ) (b : Bool) → OkIff r Q x → is_ok r ≡ b → result_ok r ≡ (if b then Some x else None)
+read (Ok z) Q x true h is = ap Some h.1
+read (Ok z) Q x false h is = absurd (true≢false is)
+read (Err e) Q x true h is = absurd (true≢false (sym is))
+read (Err e) Q x false h is = refl

@@ -1,7 +1,7 @@
 -- Which whole numbers, as they are written, are in range (GraphQL specification, 3.5.1).
-use Rattle.std.specs.Prelude.{◌&&◌, ◌^◌, ℕ, List, Bool, nat_lt, nat_le, length, if◌then◌else◌}
+use Rattle.std.specs.Prelude.{◌&&◌, ◌^◌, ℕ, ℤ, List, Bool, Option, Some, None, nat_lt, nat_le, length, if◌then◌else◌}
 use Rattle.std.specs.Str.{all_ascii_digits}
-use Rattle.std.specs.Str.Parse.{digits_value, starts_with_minus, without_leading_sign}
+use Rattle.std.specs.Str.Parse.{digits_value, signed_digits_value, starts_with_minus, without_leading_sign}
 
 -- at most so many bits beside the sign: from -2^bits to 2^bits - 1
 abbrev pub is_within : ℕ → Bool → ℕ → Bool
@@ -11,3 +11,7 @@ is_within bits negative n = if negative then nat_le n (2 ^ bits) else nat_lt n (
 abbrev pub is_whole : ℕ → List ℕ → Bool
 is_whole bits text = nat_lt 0 (length (without_leading_sign text)) && (all_ascii_digits (without_leading_sign text)
     && is_within bits (starts_with_minus text) (digits_value 10 (without_leading_sign text)))
+
+-- the whole number of 64 bits that is written
+abbrev pub whole_number : List ℕ → Option ℤ
+whole_number text = if is_whole 63 text then Some (signed_digits_value 10 text) else None

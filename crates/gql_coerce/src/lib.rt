@@ -16,3 +16,8 @@ mod within;
 
 pub use bad_value::BadValue;
 pub use fitting::{bad_values, fits};
+pub use forms::may_be_list;
+pub use numbers::whole_number;
+pub use scalar::{Scalar, scalar_named};
+pub use singles::is_custom_scalar;
+pub use types::{input_type, is_list, is_non_null, item_of, name_in};

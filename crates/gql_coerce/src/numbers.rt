@@ -15,3 +15,10 @@ pub fn is_long(text: &str) -> bool
 {
     text.parse::<i64>().is_ok()
 }
+
+/// The whole number that is written, if it has at most 64 bits.
+pub fn whole_number(text: &str) -> Option<i64>
+    ensures { result ≡ spec.whole_number text.now }
+{
+    text.parse::<i64>().ok()
+}

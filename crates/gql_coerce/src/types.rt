@@ -7,8 +7,9 @@ ghost use Rattle.gql_coerce.specs.InputTypes as spec;
 use gql_ast::TypeRef;
 use gql_types::{Schema, SchemaType, TypeKind};
 
+/// The name within lists and Non-Nulls.
 #[tactic(auto, using(gql_types::specs::Written::written_named, gql_types::specs::Written::written_list, gql_types::specs::Written::written_non_null))]
-fn name_in(of_type: &TypeRef) -> &str
+pub fn name_in(of_type: &TypeRef) -> &str
     ensures { result.now ≡ spec.name_in (written of_type.now) }
 {
     match of_type {

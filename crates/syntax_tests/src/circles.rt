@@ -1,5 +1,5 @@
 //! Worked circles.
-use gql_circles::{Row, circles};
+use gql_circles::{Row, circles, circles_of_places};
 use std::alloc::{AllocError, Global};
 use std::process::Abort;
 use std::test::Fail;
@@ -102,4 +102,36 @@ fn a_name_without_a_row_leads_nowhere(rt: HostRuntime) -> Result<(), Fail> {
 #[test]
 fn no_rows_have_no_circle(rt: HostRuntime) -> Result<(), Fail> {
     assert_circles(&rt, rt.alloc(), &[], &[])
+}
+
+fn places(alloc: Global, leads: &[usize]) -> Result<Vec<usize>, AllocError> {
+    let mut all = Vec::new(alloc);
+    for lead in leads {
+        all.push(*lead)?;
+    }
+    Ok(all)
+}
+
+#[test]
+fn places_on_circles_in_their_order(rt: HostRuntime) -> Result<(), Fail> {
+    let alloc = rt.alloc();
+    let edges = [
+        places(alloc, &[3])?,
+        places(alloc, &[1, 0])?,
+        places(alloc, &[0])?,
+        places(alloc, &[4, 5])?,
+        places(alloc, &[0])?,
+        places(alloc, &[])?,
+    ];
+    let found = circles_of_places(alloc, &edges)?;
+    assert_eq!(rt; found, places(alloc, &[0, 1, 3, 4])?);
+    Ok(())
+}
+
+#[test]
+fn what_is_no_place_leads_nowhere(rt: HostRuntime) -> Result<(), Fail> {
+    let alloc = rt.alloc();
+    let edges = [places(alloc, &[2, 1])?, places(alloc, &[7])?];
+    assert_eq!(rt; circles_of_places(alloc, &edges)?.len(), 0);
+    Ok(())
 }
