@@ -50,3 +50,10 @@ told_by_all a b c told is x h = subst (λ ys. Contains ys x) (sym is) (elim h [
   | inl l ↦ Contains-append_left (a ++ b) c x (Contains-append_left a b x l)
   | inr r ↦ elim r [ inl m ↦ Contains-append_left (a ++ b) c x (Contains-append_right a b x m) | inr m ↦ Contains-append_right (a ++ b) c x m ]
 ])
+
+-- what two walks told
+pub told_by_either : {A : Type 0} (a b told : List A) → told ≡ a ++ b → (x : A) → Contains told x → Contains a x ⊎ Contains b x
+told_by_either a b told is x h = Contains-append_cases a b x (subst (λ ys. Contains ys x) is h)
+
+pub told_by_both : {A : Type 0} (a b told : List A) → told ≡ a ++ b → (x : A) → Contains a x ⊎ Contains b x → Contains told x
+told_by_both a b told is x h = subst (λ ys. Contains ys x) (sym is) (elim h [ inl l ↦ Contains-append_left a b x l | inr r ↦ Contains-append_right a b x r ])

@@ -10,4 +10,7 @@ pub mod S13Arguments
 pub mod S14Further
 pub mod S15Covariant
 pub mod S17InputCircles
+pub mod S19DefaultCircles
+pub mod S19Inputs
+pub mod S19Needs
 pub mod S26DirectiveCircles

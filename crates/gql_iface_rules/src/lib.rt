@@ -1,5 +1,5 @@
-//! The rules on what types and the interfaces that they implement have (GraphQL specification, 3.6 and 3.7), and the two
-//! rules on circles: of input objects (3.10) and of directives (3.13).
+//! The rules on what types and the interfaces that they implement have (GraphQL specification, 3.6 and 3.7), and the three
+//! rules on circles: of input objects (3.10), of the defaults of input fields (3.10) and of directives (3.13).
 #![tactic(auto)]
 
 mod arguments;
@@ -14,6 +14,9 @@ mod s13_arguments;
 mod s14_further;
 mod s15_covariant;
 mod s17_input_circles;
+mod s19_default_circles;
+mod s19_inputs;
+mod s19_needs;
 mod s26_directive_circles;
 mod s26_parts;
 mod s26_rows;

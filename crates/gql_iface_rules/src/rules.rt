@@ -11,6 +11,7 @@ use crate::s13_arguments::add_s13;
 use crate::s14_further::add_s14;
 use crate::s15_covariant::add_s15;
 use crate::s17_input_circles::s17_faults;
+use crate::s19_default_circles::s19_faults;
 use crate::s26_directive_circles::s26_faults;
 use gql_ast::Fault;
 use gql_types::Schema;
@@ -32,15 +33,25 @@ fn implementing_faults(alloc: Global, schema: &Schema) -> Result<Vec<Fault>, All
     Ok(faults)
 }
 
-/// The faults of a schema by the rules on interfaces, S09 to S15, and the rules on circles, S17 and S26.
+fn circle_faults(alloc: Global, schema: &Schema) -> Result<Vec<Fault>, AllocError>
+    ensures sound { IfOk result (λ found. (f : TheFault) → Contains found.items f → spec.IsCircle schema.now f) }
+    ensures complete { IfOk result (λ found. (f : TheFault) → spec.IsCircle schema.now f → Contains found.items f) }
+{
+    let mut found = s17_faults(alloc, schema)?;
+    let mut defaults = s19_faults(alloc, schema)?;
+    found.append(&mut defaults)?;
+    let mut directives = s26_faults(alloc, schema)?;
+    found.append(&mut directives)?;
+    Ok(found)
+}
+
+/// The faults of a schema by the rules on interfaces, S09 to S15, and the rules on circles, S17, S19 and S26.
 pub fn iface_faults(alloc: Global, schema: &Schema) -> Result<Vec<Fault>, AllocError>
     ensures sound { IfOk result (λ found. (f : TheFault) → Contains found.items f → spec.IsInterfaceFault schema.now f) }
     ensures complete { IfOk result (λ found. (f : TheFault) → spec.IsInterfaceFault schema.now f → Contains found.items f) }
 {
     let mut found = implementing_faults(alloc, schema)?;
-    let mut inputs = s17_faults(alloc, schema)?;
-    found.append(&mut inputs)?;
-    let mut directives = s26_faults(alloc, schema)?;
-    found.append(&mut directives)?;
+    let mut circles = circle_faults(alloc, schema)?;
+    found.append(&mut circles)?;
     Ok(found)
 }
