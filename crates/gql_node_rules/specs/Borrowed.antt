@@ -1,5 +1,7 @@
 -- Nodes where the code borrows them.
+use Rattle.std.specs.Option.{option_copied}
 use Rattle.std.specs.Prelude.{Some, map}
+use Rattle.gql_ast.specs.declared.literal.Literal.{Literal}
 use Rattle.gql_built_in.specs.declared.sited.Sited.{Sited}
 use Rattle.gql_node_rules.specs.Applied.{Annotations, Application}
 use Rattle.gql_node_rules.specs.Nodes.{AllNodes}
@@ -7,6 +9,7 @@ use Rattle.gql_node_rules.specs.declared.applied.Annotated.{Annotated}
 use Rattle.gql_node_rules.specs.declared.applied.Applied.{Applied}
 use Rattle.gql_node_rules.specs.declared.node.Node.{Node}
 use Rattle.gql_node_rules.specs.declared.nodes.Nodes.{Nodes}
+use Rattle.gql_node_rules.specs.declared.value_faults.ValuePlace.{ValuePlace}
 
 -- a borrowed node, where it stands
 abbrev pub one : {A : Type 0} → Node A → Sited A
@@ -34,3 +37,7 @@ annotations a = record { location = a.location; file = Some a.file.now; directiv
 -- one borrowed directive
 abbrev pub application : Applied → Application
 application a = record { location = a.location; file = Some a.file.now; directive = a.directive.now }
+
+-- a borrowed value, where it stands
+abbrev pub value : ValuePlace → Sited Literal
+value v = record { file = option_copied v.file; node = v.value.now }

@@ -14,3 +14,5 @@ pub mod S29KnownDirectives
 pub mod S30Locations
 pub mod S31UniqueDirectives
 pub mod S32Arguments
+pub mod S33ArgumentValues
+pub mod ValueFaults

@@ -15,6 +15,7 @@ use Rattle.gql_node_rules.specs.S29KnownDirectives as s29
 use Rattle.gql_node_rules.specs.S30Locations as s30
 use Rattle.gql_node_rules.specs.S31UniqueDirectives as s31
 use Rattle.gql_node_rules.specs.S32Arguments as s32
+use Rattle.gql_node_rules.specs.S33ArgumentValues as s33
 
 -- of the names that definitions give
 abbrev pub name_faults : AllNodes → List Fault
@@ -30,7 +31,7 @@ reference_faults n s = s20.faults n s ++ p01.faults n
 
 -- of applied directives
 abbrev pub directive_faults : AllNodes → Schema → List Fault
-directive_faults n s = s29.faults n s ++ (s30.faults n s ++ (s31.faults n s ++ s32.faults n s))
+directive_faults n s = s29.faults n s ++ (s30.faults n s ++ (s31.faults n s ++ (s32.faults n s ++ s33.faults n s)))
 
 abbrev pub all_faults : AllNodes → Schema → List Fault
 all_faults n s = name_faults n ++ (role_faults n s ++ (reference_faults n s ++ directive_faults n s))

@@ -1,5 +1,5 @@
 //! The faults of the nodes of schema files, by the rules that look at each node alone: what its names, its types and its
-//! directives may be (GraphQL specification, 3.3 to 3.13).
+//! directives may be (GraphQL specification, 3.3 to 3.13). And the fault of a value that does not fit its type.
 #![tactic(auto)]
 
 mod applied;
@@ -20,7 +20,10 @@ mod s29_known_directives;
 mod s30_locations;
 mod s31_unique_directives;
 mod s32_arguments;
+mod s33_argument_values;
 mod signature;
 mod trees;
+mod value_faults;
 
 pub use rules::node_faults;
+pub use value_faults::{ValuePlace, add_unless_fits};

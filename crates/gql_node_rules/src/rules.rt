@@ -17,6 +17,7 @@ use crate::s29_known_directives::check_known_directives;
 use crate::s30_locations::check_locations;
 use crate::s31_unique_directives::check_unique_directives;
 use crate::s32_arguments::check_arguments;
+use crate::s33_argument_values::check_argument_values;
 use crate::signature::signatures;
 use crate::trees::trees;
 use gql_ast::{Fault, Files};
@@ -77,10 +78,11 @@ fn check_directives(
     check_locations(alloc, &signatures, applied.as_slice(), faults)?;
     check_unique_directives(alloc, schema, annotated.as_slice(), faults)?;
     check_arguments(alloc, &signatures, applied.as_slice(), faults)?;
+    check_argument_values(alloc, schema, &signatures, applied.as_slice(), faults)?;
     Ok(())
 }
 
-/// The faults of the nodes of schema files by S03, S16, S20 to S22, S29 to S32 and P01.
+/// The faults of the nodes of schema files by S03, S16, S20 to S22, S29 to S33 and P01.
 pub fn node_faults(alloc: Global, files: &Files, schema: &Schema) -> Result<Vec<Fault>, AllocError>
     ensures { IfOk result (λ found. found.items ≡ spec.node_faults files.now schema.now) }
 {

@@ -1,9 +1,11 @@
 //! The definitions of directives (GraphQL specification, 3.13), with look-up of their arguments and locations.
 ghost use Rattle.std.specs.Prelude.{◌≡◌, ◌++◌, ◌∷◌, [], IfOk, OnOk, map, filter, find, bytes_eq, option_map, if◌then◌else◌};
+ghost use Rattle.std.specs.Option.{option_copied};
 ghost use Rattle.gql_ast.specs.declared.type_system.DirectiveLocation.{DirectiveLocation as TheLocation};
 ghost use Rattle.gql_faults.specs.TypeNames.{is_required};
 ghost use Rattle.gql_node_rules.specs.Applied.{is_listed};
 ghost use Rattle.gql_node_rules.specs.S32Arguments as spec;
+ghost use Rattle.gql_node_rules.specs.S33ArgumentValues.{argument_named};
 
 use crate::locations::{distinct, is_listed};
 use gql_ast::{DirectiveDefinition, DirectiveLocation, InputValueDefinition, Shared};
@@ -137,6 +139,16 @@ pub fn signature_named<'a, 's>(
 }
 
 impl<'s> Signature<'s> {
+    /// The first argument of that name.
+    pub fn argument(&self, name: &str) -> Option<&'s InputValueDefinition>
+        ensures { option_copied result ≡ argument_named self.now.definition.now.node.arguments name.now }
+    {
+        match self.arguments.get(name) {
+            Some(argument) => Some(argument.definition),
+            None => None,
+        }
+    }
+
     /// Whether an argument of that name is defined.
     pub fn defines(&self, name: &str) -> bool
         ensures { result ≡ spec.is_defined self.now.definition.now.node.arguments name.now }

@@ -11,6 +11,7 @@ use Rattle.gql_schema_rules.specs.S01DefinedTwice.{defined_twice}
 use Rattle.gql_schema_rules.specs.S04BuiltInDefined.{built_in_defined}
 use Rattle.gql_schema_rules.specs.S05EmptyTypes.{empty_types}
 use Rattle.gql_schema_rules.specs.S06PartsTwice.{parts_twice, arguments_twice}
+use Rattle.gql_schema_rules.specs.S18DefaultValues.{default_values}
 use Rattle.gql_schema_rules.specs.S23Roots.{missing_query, of_each_root}
 use Rattle.gql_schema_rules.specs.S25SharedRoots.{shared_roots}
 use Rattle.gql_schema_rules.specs.S27Extensions.{extension_faults}
@@ -21,9 +22,9 @@ use Rattle.gql_schema_rules.specs.S34SchemaTwice.{schemas_twice, kinds_again}
 abbrev pub name_faults : List (Sited Tree) → List Fault
 name_faults ds = defined_twice ds ++ built_in_defined ds
 
--- S05 to S08
+-- S05 to S08, S18
 abbrev pub part_faults : Schema → List Fault
-part_faults s = empty_types s.types ++ (parts_twice s.types ++ arguments_twice s.directives)
+part_faults s = empty_types s.types ++ (parts_twice s.types ++ (arguments_twice s.directives ++ default_values s))
 
 -- S23, S24, S25, P02, S34
 abbrev pub root_faults : Schema → List (Sited Tree) → List Fault

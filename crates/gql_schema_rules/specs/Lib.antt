@@ -7,6 +7,7 @@ pub mod S01DefinedTwice
 pub mod S04BuiltInDefined
 pub mod S05EmptyTypes
 pub mod S06PartsTwice
+pub mod S18DefaultValues
 pub mod S23Roots
 pub mod S25SharedRoots
 pub mod S27Extensions

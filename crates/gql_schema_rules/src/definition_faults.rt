@@ -8,6 +8,7 @@ use crate::s01_defined_twice::add_defined_twice;
 use crate::s04_built_in_defined::{add_directives_defined, add_scalars_defined};
 use crate::s05_empty_types::add_empty_types;
 use crate::s06_parts_twice::{add_arguments_of_directives, add_parts_twice};
+use crate::s18_default_values::add_default_values;
 use crate::s23_roots::{add_faults_of_roots, add_missing_query};
 use crate::s25_shared_roots::add_shared_roots;
 use crate::s27_extensions::add_extension_faults;
@@ -34,7 +35,7 @@ fn add_name_faults(
     Ok(())
 }
 
-/// S05 to S08.
+/// S05 to S08, S18.
 fn add_part_faults(
     alloc: Global,
     schema: &Schema,
@@ -45,6 +46,7 @@ fn add_part_faults(
     add_empty_types(alloc, schema.types(), faults)?;
     add_parts_twice(alloc, schema.types(), faults)?;
     add_arguments_of_directives(alloc, schema.directives(), faults)?;
+    add_default_values(alloc, schema, faults)?;
     Ok(())
 }
 

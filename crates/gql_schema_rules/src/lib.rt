@@ -8,6 +8,7 @@ mod s01_defined_twice;
 mod s04_built_in_defined;
 mod s05_empty_types;
 mod s06_parts_twice;
+mod s18_default_values;
 mod s23_roots;
 mod s25_shared_roots;
 mod s27_extensions;

@@ -1,0 +1,68 @@
+//! A value that does not fit the type of the argument or the input field that it is for (GraphQL specification, 5.6).
+ghost use Rattle.std.specs.Prelude.{◌≡◌, ◌++◌, OnOk};
+ghost use Rattle.gql_coerce.specs.BadValues.{looked};
+ghost use Rattle.gql_faults.specs.Places.{spot};
+ghost use Rattle.gql_node_rules.specs.Borrowed.{value};
+ghost use Rattle.gql_node_rules.specs.ValueFaults as spec;
+
+use gql_ast::{Fault, FileName, InputValueDefinition, Literal, Rule};
+use gql_coerce::fits;
+use gql_faults::{Spot, add_fault};
+use gql_text::Place;
+use gql_types::Schema;
+use std::alloc::{AllocError, Global};
+
+/// A value where it stands; what is built in stands in no file.
+#[derive(Clone, Copy)]
+pub struct ValuePlace<'t> {
+    pub file: Option<&'t FileName>,
+    pub value: &'t Literal,
+}
+
+// Where a value starts.
+#[tactic(auto, using(gql_coerce::specs::Looking::looked_variable, gql_coerce::specs::Looking::looked_int, gql_coerce::specs::Looking::looked_float, gql_coerce::specs::Looking::looked_string, gql_coerce::specs::Looking::looked_boolean, gql_coerce::specs::Looking::looked_null, gql_coerce::specs::Looking::looked_enum, gql_coerce::specs::Looking::looked_list, gql_coerce::specs::Looking::looked_object))]
+fn place_of(value: &Literal) -> Place
+    ensures { result ≡ (looked value.now).place }
+{
+    match value {
+        Literal::Variable { place, .. }
+        | Literal::Int { place, .. }
+        | Literal::Float { place, .. }
+        | Literal::String { place, .. }
+        | Literal::Boolean { place, .. }
+        | Literal::Null { place }
+        | Literal::Enum { place, .. }
+        | Literal::List { place, .. }
+        | Literal::Object { place, .. } => *place,
+    }
+}
+
+impl<'t> ValuePlace<'t> {
+    fn spot(&self) -> Spot<'t>
+        ensures { spot result ≡ spec.start_of (value self.now) }
+    {
+        Spot {
+            file: self.file,
+            place: place_of(self.value),
+        }
+    }
+}
+
+/// Adds a fault at the start of a value, about the argument or the input field that it is for, unless it fits the type of that.
+pub fn add_unless_fits(
+    alloc: Global,
+    rule: Rule,
+    schema: &Schema,
+    definition: &InputValueDefinition,
+    given: &ValuePlace<'_>,
+    faults: &mut Vec<Fault>,
+) -> Result<(), AllocError>
+    ensures { OnOk result (faults.new.items ≡ faults.old.items
+        ++ spec.fault_unless_fit rule schema.now definition.now (value given.now)) }
+{
+    if !fits(alloc, schema, given.value, &definition.of_type)? {
+        let name = definition.name.as_str();
+        add_fault(alloc, rule, name, &given.spot(), faults)?;
+    }
+    Ok(())
+}
