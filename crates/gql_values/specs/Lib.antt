@@ -1,0 +1,13 @@
+pub mod Outcomes
+pub mod Refusals
+pub mod Inputs
+pub mod Scalars
+pub mod Singles
+pub mod Coercion
+pub mod Reading
+pub mod LiteralEntries
+pub mod Scopes
+pub mod JsonEntries
+pub mod Requests
+pub mod Paths
+pub mod Examples
