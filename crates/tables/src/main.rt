@@ -4,8 +4,11 @@
 
 mod answer;
 mod faults;
+mod inputs;
 mod row;
 mod table;
+mod values;
+mod written;
 
 use anyhow::Result;
 use table::Table;

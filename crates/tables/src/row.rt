@@ -1,9 +1,12 @@
 use crate::answer::written_answer;
 use crate::faults::written_faults;
+use crate::inputs::schema_of;
+use crate::values::value_answer;
 use gql_ast::FileName;
 use gql_parse::parse;
 use gql_parse_sdl::{parse_any, parse_sdl};
 use gql_registry::Registry;
+use gql_types::Schema;
 use std::alloc::{AllocError, Global};
 
 /// A row that is being read: a registry with its files so far, and the file at hand.
@@ -15,6 +18,8 @@ pub struct Row {
     text: String,
     /// Whether the registry refused a file.
     is_refused: bool,
+    /// The schema of the file at hand, once a question about values is asked.
+    schema: Option<Schema>,
 }
 
 impl Row {
@@ -25,6 +30,7 @@ impl Row {
             name: String::new(alloc),
             text: String::new(alloc),
             is_refused: false,
+            schema: None,
         }
     }
 
@@ -85,10 +91,26 @@ impl Row {
         }
     }
 
+    /// The answer to a question about values of the schema that the file at hand is.
+    fn value_answer(&mut self, question: &str) -> Result<String, AllocError> {
+        if self.schema.is_none() {
+            self.schema = schema_of(self.alloc, self.text.as_str());
+        }
+        let Some(schema) = &self.schema else {
+            return String::from_str(self.alloc, "no schema");
+        };
+        match value_answer(self.alloc, schema, question) {
+            Some(answer) => Ok(answer),
+            None => String::from_str(self.alloc, "no such question"),
+        }
+    }
+
     /// The answer to a question of the table.
     pub fn answer(&mut self, question: &str) -> Result<String, AllocError> {
         if question == "report" {
             self.report()
+        } else if question.contains(" ") {
+            self.value_answer(question)
         } else {
             self.parsed(question)
         }

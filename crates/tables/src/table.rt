@@ -57,6 +57,9 @@ impl Table {
         if let Some((name, text)) = line.split_once("|") {
             return self.add(name, text);
         }
+        if let Some((question, expected)) = line.split_once(" => ") {
+            return self.ask(question, expected);
+        }
         match line.split_once(":") {
             Some((question, expected)) => self.ask(question, expected.trim_start()),
             None => Ok(()),

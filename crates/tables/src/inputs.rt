@@ -1,0 +1,73 @@
+//! The parts of questions about values: types, literals, values of JSON, operations and schemas.
+use gql_ast::{
+    Document, Field, FileName, Files, Literal, Operation, Selection, Shared, Tree, TypeRef,
+};
+use gql_grammar::Cursor;
+use gql_parse::{parse, type_ref, value};
+use gql_parse_sdl::parse_sdl;
+use gql_text::{Kind, lex};
+use gql_types::{Schema, assemble};
+use serde_json::Value;
+use std::alloc::Global;
+
+/// The type that a text is.
+pub fn type_in(alloc: Global, text: &str) -> Option<TypeRef> {
+    let tokens = lex(alloc, text).ok()?;
+    let mut cursor = Cursor::new(tokens.as_slice());
+    let found = type_ref(alloc, &mut cursor).ok()?;
+    if cursor.sees(Kind::EndOfText) {
+        Some(found)
+    } else {
+        None
+    }
+}
+
+/// The literal that a text is.
+pub fn literal_in(alloc: Global, text: &str) -> Option<Literal> {
+    let tokens = lex(alloc, text).ok()?;
+    let mut cursor = Cursor::new(tokens.as_slice());
+    let found = value(alloc, &mut cursor, false).ok()?;
+    if cursor.sees(Kind::EndOfText) {
+        Some(found)
+    } else {
+        None
+    }
+}
+
+/// The value of JSON that a text is.
+pub fn json_in(alloc: Global, text: &str) -> Option<Value> {
+    Value::from_str(alloc, text).ok()
+}
+
+/// The executable document that a text is.
+pub fn document_in(alloc: Global, text: &str) -> Option<Document> {
+    parse(alloc, FileName::read("q")?, text).ok()
+}
+
+/// The first definition of a document, if it is an operation.
+pub fn operation_of(document: &Document) -> Option<&Operation> {
+    match &document.definitions.as_slice().first()?.tree {
+        Tree::Operation(operation) => Some(operation.get()),
+        _ => None,
+    }
+}
+
+/// The first selection of an operation, if it is a field.
+pub fn field_of(operation: &Operation) -> Option<&Field> {
+    match operation.selections.as_slice().first()? {
+        Selection::Field(field) => Some(field),
+        _ => None,
+    }
+}
+
+/// The schema of one schema file.
+pub fn schema_of(alloc: Global, text: &str) -> Option<Schema> {
+    let file = FileName::read("s")?;
+    let document = parse_sdl(alloc, file.copy(), text).ok()?;
+    let mut files = Files::new(alloc);
+    files
+        .schema
+        .put(file, Shared::new(alloc, document).ok()?)
+        .ok()?;
+    assemble(alloc, &files).ok()
+}

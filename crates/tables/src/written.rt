@@ -1,0 +1,66 @@
+//! What the coercion of values comes to, as the table writes it.
+use gql_coerce::BadValue;
+use gql_values::{CoerceFault, Refusal, path_text};
+use serde_json::Value;
+use std::alloc::{AllocError, Global};
+
+/// A refusal as its number, and its path where it does not stand at the whole input.
+fn written_refusal(alloc: Global, refusal: &Refusal) -> Result<String, AllocError> {
+    let number = refusal.reason.number();
+    let path = refusal.path.as_slice();
+    if path.is_empty() {
+        format!(in alloc; "{number}")
+    } else {
+        let path = path_text(alloc, path)?;
+        let path = path.as_str();
+        format!(in alloc; "{number} at {path}")
+    }
+}
+
+fn written_fault(alloc: Global, fault: &CoerceFault) -> Result<String, AllocError> {
+    match fault {
+        CoerceFault::Refused(refusal) => written_refusal(alloc, refusal),
+        CoerceFault::Memory => String::from_str(alloc, "memory"),
+    }
+}
+
+/// A value as JSON, or its refusal.
+pub fn written_value(
+    alloc: Global,
+    coerced: &Result<Value, CoerceFault>,
+) -> Result<String, AllocError> {
+    match coerced {
+        Ok(value) => value.to_string(alloc),
+        Err(fault) => written_fault(alloc, fault),
+    }
+}
+
+/// A value as JSON, or `absent` where there is none, or its refusal.
+pub fn written_option(
+    alloc: Global,
+    coerced: &Result<Option<Value>, CoerceFault>,
+) -> Result<String, AllocError> {
+    match coerced {
+        Ok(Some(value)) => value.to_string(alloc),
+        Ok(None) => String::from_str(alloc, "absent"),
+        Err(fault) => written_fault(alloc, fault),
+    }
+}
+
+/// What of a value does not fit, each as its rule, what it is about, and its column; or `fits`.
+pub fn written_misfits(alloc: Global, misfits: &[BadValue]) -> Result<String, AllocError> {
+    if misfits.is_empty() {
+        return String::from_str(alloc, "fits");
+    }
+    let mut written = String::new(alloc);
+    let mut before = "";
+    for bad in misfits {
+        let rule = bad.rule.name();
+        let about = bad.about.as_str();
+        let column = bad.place.column;
+        let one = format!(in alloc; "{before}{rule} {about} {column}")?;
+        written.push_str(one.as_str())?;
+        before = "; ";
+    }
+    Ok(written)
+}
