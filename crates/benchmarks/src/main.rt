@@ -10,6 +10,7 @@ mod edits;
 mod lexer;
 mod schemas;
 mod speed;
+mod values;
 
 fn is_wanted(rt: &HostRuntime) -> Result<bool> {
     let mut is_wanted = false;
@@ -27,6 +28,7 @@ fn main(rt: HostRuntime) -> Result<()> {
         documents::measure(&rt)?;
         schemas::measure(&rt)?;
         edits::measure(&rt)?;
+        values::measure(&rt)?;
     }
     Ok(())
 }

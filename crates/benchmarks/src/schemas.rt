@@ -1,6 +1,6 @@
 //! How fast a schema file of 64 KiB is parsed and split into tokens, and how long schemas of more and more types take to be
 //! put together: the time for each type of schemas of up to 10,000 types.
-use crate::speed::{micros, speed, token_count};
+use crate::speed::{nanos_each, speed, token_count};
 use anyhow::Result;
 use gql_ast::{FileName, Files, Shared};
 use gql_parse_sdl::parse_sdl;
@@ -87,8 +87,7 @@ fn measure_types(rt: &HostRuntime, count: usize) -> Result<()> {
     for _round in 0..10 {
         found = found.wrapping_add(type_count(rt.alloc(), &files));
     }
-    let taken = micros(start.elapsed(rt)?).wrapping_mul(1_000);
-    let each = if found == 0 { 0 } else { taken / found };
+    let each = nanos_each(start.elapsed(rt)?, found);
     let types = found / 10;
     println!(rt; "put together: {types} types, {each} ns for each type")?;
     Ok(())
