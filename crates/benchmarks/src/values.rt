@@ -6,7 +6,7 @@ use gql_ast::{Document, FileName, Files, Shared, Tree, VariableDefinition};
 use gql_parse::parse;
 use gql_parse_sdl::parse_sdl;
 use gql_types::{Schema, assemble};
-use gql_values::{coerce_literal, coerce_variables};
+use gql_coerce::{coerce_literal, coerce_variables};
 use serde_json::Value;
 use std::alloc::{AllocError, Global};
 use std::time::Instant;

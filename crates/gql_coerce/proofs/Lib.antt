@@ -1,4 +1,8 @@
-pub mod Empties
-pub mod Finding
-pub mod Lacks
-pub mod Wholes
+pub mod Firsts
+pub mod Found
+pub mod LiteralFields
+pub mod Lists
+pub mod Inserted
+pub mod JsonFields
+pub mod JsonForms
+pub mod Arguments

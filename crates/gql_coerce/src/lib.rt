@@ -1,23 +1,25 @@
-//! What of a literal does not fit a type of a schema, and where it stands (GraphQL specification, 5.6).
+//! The values of inputs: literals, values of JSON, variables and arguments are coerced to their types (GraphQL specification,
+//! 3.5 to 3.12, 6.1.2, 6.4.1), or refused, and it is told where in them.
 #![tactic(auto)]
 
-mod bad_value;
-mod fitting;
-mod forms;
-mod lacking;
-mod misfits;
-mod numbers;
-mod repeats;
-mod scalar;
-mod singles;
-mod texts;
-mod types;
-mod within;
+mod calls;
+mod coerced;
+mod expected;
+mod fault;
+mod json;
+mod json_entries;
+mod literal_entries;
+mod literals;
+mod members;
+mod ones;
+mod path;
+mod refusal;
+mod requests;
+mod single;
 
-pub use bad_value::BadValue;
-pub use fitting::{bad_values, fits};
-pub use forms::may_be_list;
-pub use numbers::whole_number;
-pub use scalar::{Scalar, scalar_named};
-pub use singles::is_custom_scalar;
-pub use types::{input_type, is_list, is_non_null, item_of, name_in};
+pub use calls::{coerce_json, coerce_literal};
+pub use fault::CoerceFault;
+pub use gql_inputs::fits;
+pub use path::path_text;
+pub use refusal::{Reason, Refusal, Segment};
+pub use requests::{coerce_arguments, coerce_variables};

@@ -12,7 +12,7 @@ use Rattle.gql_ast.specs.declared.text.Name.{Name}
 use Rattle.gql_ast.specs.declared.type_system.InputValueDefinition.{InputValueDefinition}
 use Rattle.gql_built_in.specs.declared.sited.Sited.{Sited}
 use Rattle.gql_circles.specs.Graph.{Trail}
-use Rattle.gql_coerce.specs.InputTypes.{item_of, is_list, name_in}
+use Rattle.gql_inputs.specs.InputTypes.{item_of, is_list, name_in}
 use Rattle.gql_faults.specs.Faults.{fault_of, where_known}
 use Rattle.gql_types.specs.Kinds.{same_kind}
 use Rattle.gql_types.specs.Possible.{name_of}

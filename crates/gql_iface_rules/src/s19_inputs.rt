@@ -1,14 +1,14 @@
 //! The input fields of a schema, each with a number.
 ghost use Rattle.std.specs.Prelude.{◌≡◌, ◌++◌, ◌∷◌, [], map, length, option_map, IfOk, OnOk};
 ghost use Rattle.std.specs.Option.{option_copied};
-ghost use Rattle.gql_coerce.specs.InputTypes.{name_in as name_within};
+ghost use Rattle.gql_inputs.specs.InputTypes.{name_in as name_within};
 ghost use Rattle.gql_iface_rules.specs.S19DefaultCircles as spec;
 ghost use Rattle.gql_iface_rules.specs.S19Inputs.{numbered, object};
 ghost use Rattle.gql_types.specs.Written.{written};
 
 use gql_ast::{InputValueDefinition, Shared, TypeRef};
 use gql_built_in::Sited;
-use gql_coerce::name_in;
+use gql_inputs::name_in;
 use gql_types::{HasName, Named, Schema, SchemaType, TypeKind};
 use std::alloc::{AllocError, Global};
 

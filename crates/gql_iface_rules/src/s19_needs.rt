@@ -7,7 +7,7 @@ ghost use Rattle.gql_types.specs.Written.{written};
 
 use crate::s19_inputs::{InputObject, NumberedInput, object_of};
 use gql_ast::{Literal, ObjectField, TypeRef};
-use gql_coerce::{is_list, item_of};
+use gql_inputs::{is_list, item_of};
 use gql_types::{Named, SchemaType};
 use std::alloc::{AllocError, Global};
 use std::collections::HashMap;

@@ -7,7 +7,7 @@ use Rattle.gql_ast.specs.declared.literal.Literal.{Literal}
 use Rattle.gql_ast.specs.declared.rule.Rule.{Rule}
 use Rattle.gql_ast.specs.declared.type_system.InputValueDefinition.{InputValueDefinition}
 use Rattle.gql_built_in.specs.declared.sited.Sited.{Sited}
-use Rattle.gql_coerce.specs.BadValues.{fits, looked}
+use Rattle.gql_inputs.specs.BadValues.{fits, looked}
 use Rattle.gql_faults.specs.Faults.{fault_at}
 use Rattle.gql_types.specs.Written.{written}
 use Rattle.gql_types.specs.declared.schema.Schema.{Schema}

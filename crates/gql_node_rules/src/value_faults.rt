@@ -1,12 +1,12 @@
 //! A value that does not fit the type of the argument or the input field that it is for (GraphQL specification, 5.6).
 ghost use Rattle.std.specs.Prelude.{◌≡◌, ◌++◌, OnOk};
-ghost use Rattle.gql_coerce.specs.BadValues.{looked};
+ghost use Rattle.gql_inputs.specs.BadValues.{looked};
 ghost use Rattle.gql_faults.specs.Places.{spot};
 ghost use Rattle.gql_node_rules.specs.Borrowed.{value};
 ghost use Rattle.gql_node_rules.specs.ValueFaults as spec;
 
 use gql_ast::{Fault, FileName, InputValueDefinition, Literal, Rule};
-use gql_coerce::fits;
+use gql_inputs::fits;
 use gql_faults::{Spot, add_fault};
 use gql_text::Place;
 use gql_types::Schema;
@@ -20,7 +20,7 @@ pub struct ValuePlace<'t> {
 }
 
 // Where a value starts.
-#[tactic(auto, using(gql_coerce::specs::Looking::looked_variable, gql_coerce::specs::Looking::looked_int, gql_coerce::specs::Looking::looked_float, gql_coerce::specs::Looking::looked_string, gql_coerce::specs::Looking::looked_boolean, gql_coerce::specs::Looking::looked_null, gql_coerce::specs::Looking::looked_enum, gql_coerce::specs::Looking::looked_list, gql_coerce::specs::Looking::looked_object))]
+#[tactic(auto, using(gql_inputs::specs::Looking::looked_variable, gql_inputs::specs::Looking::looked_int, gql_inputs::specs::Looking::looked_float, gql_inputs::specs::Looking::looked_string, gql_inputs::specs::Looking::looked_boolean, gql_inputs::specs::Looking::looked_null, gql_inputs::specs::Looking::looked_enum, gql_inputs::specs::Looking::looked_list, gql_inputs::specs::Looking::looked_object))]
 fn place_of(value: &Literal) -> Place
     ensures { result ≡ (looked value.now).place }
 {

@@ -1,0 +1,207 @@
+-- The coercion of an input to a type (GraphQL specification, 3.5 to 3.12): a value, or the first refusal and its path. Items of a list are
+-- looked at by their order; of an object first the fields that are not known, then those that the type defines, in their order.
+-- No type is expected within a custom scalar.
+use Rattle.std.specs.Prelude.{◌&&◌, ℕ, zero, suc, List, [], ◌∷◌, Bool, false, not, map, find, bytes_eq, is_some, Option, Some, None, option_map, if◌then◌else◌}
+use Rattle.gql_ast.specs.declared.literal.Literal.{Literal}
+use Rattle.gql_ast.specs.declared.type_system.InputValueDefinition.{InputValueDefinition}
+use Rattle.gql_built_in.specs.declared.sited.Sited.{Sited}
+use Rattle.gql_inputs.specs.BadValues.{is_custom_scalar}
+use Rattle.gql_inputs.specs.InputTypes.{item_of, is_list, is_non_null, input_type}
+use Rattle.gql_types.specs.Written.{Written, named, listed, required, written}
+use Rattle.gql_types.specs.declared.kind.TypeKind.{TypeKind}
+use Rattle.gql_types.specs.declared.kind.TypeKind.TheVariants as kind
+use Rattle.gql_types.specs.declared.schema.Schema.{Schema}
+use Rattle.gql_types.specs.declared.schema_type.SchemaType.{SchemaType}
+use Rattle.serde_json.specs.Data as json
+use Rattle.serde_json.specs.Data.{Data, Members, put}
+use Rattle.serde_json.specs.Find.{as_null}
+use Rattle.serde_json.specs.View.{items_of}
+use Rattle.gql_coerce.specs.declared.refusal.Reason.TheVariants as reason
+use Rattle.gql_coerce.specs.declared.refusal.Segment.TheVariants as segment
+use Rattle.gql_coerce.specs.Inputs.{Single, Input, Field, absent, given, null, single, list, object, all_inputs, all_fields, literal, may_be_list}
+use Rattle.gql_coerce.specs.Outcomes.{Outcome, value, refused, too_deep, after, within, all, some}
+use Rattle.gql_coerce.specs.Scalars.{as_kind, as_custom, wrong_kind}
+
+-- ---- null, and the values of variables, which were coerced before
+
+abbrev pub null_at : Option Written → Outcome Data
+null_at None = value json.null
+null_at (Some t) = if is_non_null t then refused reason.NullForNonNull [] else value json.null
+
+abbrev pub given_at : Option Written → Data → Outcome Data
+given_at e d = if is_some (as_null d) then null_at e else value d
+
+-- ---- lists of one (3.11)
+
+abbrev pub one_in : Written → Data → Data
+one_in (named n) d = d
+one_in (listed t) d = json.array (json.item (one_in t d) json.no_items)
+one_in (required t) d = one_in t d
+
+abbrev pub once : Option Written → Outcome (Option Data) → Outcome (Option Data)
+once None o = o
+once (Some t) o = after o (λ v. value (option_map (one_in t) v))
+
+-- ---- values without parts (3.5, 3.9)
+
+abbrev pub as_type : Option SchemaType → Single → Outcome Data
+as_type None x = wrong_kind
+as_type (Some t) x = as_kind t t.kind x
+
+abbrev pub single_at : Schema → Option Written → Single → Outcome Data
+single_at s None x = as_custom x
+single_at s (Some t) x = as_type (input_type s t) x
+
+-- ---- lists (3.11)
+
+abbrev pub takes_all : Option SchemaType → Bool
+takes_all None = false
+takes_all (Some t) = is_custom_scalar t
+
+-- what is expected of each item of a list: of a list type its item type, and nothing within a custom scalar
+abbrev pub item_expected : Option SchemaType → Option Written → Option (Option Written)
+item_expected u (Some t) = Some (Some t)
+item_expected u None = if takes_all u then Some None else None
+
+abbrev pub items_expected : Schema → Option Written → Option (Option Written)
+items_expected s None = Some None
+items_expected s (Some t) = item_expected (input_type s t) (item_of t)
+
+-- an item that is not given is null
+abbrev pub or_null : Option Written → Option Data → Outcome Data
+or_null e None = null_at e
+or_null e (Some d) = value d
+
+abbrev pub is_list_expected : Option Written → Bool
+is_list_expected None = false
+is_list_expected (Some t) = is_list t
+
+-- an item of a list that is given is not made a list of one
+abbrev pub item_at : (Input → Option Written → Outcome (Option Data)) → Option Written → Input → Outcome Data
+item_at inner e x = if is_list_expected e && not (may_be_list x) then wrong_kind else after (inner x e) (or_null e)
+
+abbrev pub items_from : (Input → Outcome Data) → ℕ → List Input → List (Outcome Data)
+items_from f n [] = []
+items_from f n (x ∷ xs) = within (segment.Index n) (f x) ∷ items_from f (suc n) xs
+
+abbrev pub array_of : (Input → Outcome Data) → List Input → Outcome Data
+array_of f xs = after (all (items_from f 0 xs)) (λ ds. value (json.array (items_of ds)))
+
+abbrev pub list_by : (Input → Option Written → Outcome (Option Data)) → List Input → Option (Option Written) → Outcome Data
+list_by inner xs None = wrong_kind
+list_by inner xs (Some e) = array_of (item_at inner e) xs
+
+-- ---- objects (3.10)
+
+-- a member of an object to be: its name, the definition of the field unless it stands within a custom scalar, and the input if one is given
+pub record Entry : Type 0 where
+  pub name : List ℕ
+  pub definition : Option InputValueDefinition
+  pub given : Option Input
+
+-- what an object is made of; or the first field that is not known; or no object is expected
+pub data Entries : Type 0 where
+  are : List Entry → Entries
+  unknown : List ℕ → Entries
+  no_object : Entries
+
+abbrev pub any_entry : Field → Entry
+any_entry f = record { name = f.name; definition = None; given = Some f.value }
+
+-- an object within a custom scalar
+abbrev pub any_entries : List Field → Entries
+any_entries fs = are (map any_entry fs)
+
+abbrev pub given_as : List ℕ → List Field → Option Input
+given_as n fs = option_map (λ (f : Field). f.value) (find (λ (f : Field). bytes_eq n f.name) fs)
+
+abbrev pub defined_entry : List Field → Sited InputValueDefinition → Entry
+defined_entry fs d = record { name = d.node.name.text; definition = Some d.node; given = given_as d.node.name.text fs }
+
+abbrev pub is_defined : List (Sited InputValueDefinition) → Field → Bool
+is_defined ds f = is_some (find (λ (d : Sited InputValueDefinition). bytes_eq f.name d.node.name.text) ds)
+
+abbrev pub unless_unknown : Option Field → Entries → Entries
+unless_unknown (Some f) es = unknown f.name
+unless_unknown None es = es
+
+-- an object at an input object type
+abbrev pub defined_entries : List Field → List (Sited InputValueDefinition) → Entries
+defined_entries fs ds = unless_unknown (find (λ (f : Field). not (is_defined ds f)) fs) (are (map (defined_entry fs) ds))
+
+abbrev pub entries_at_kind : List Field → SchemaType → TypeKind → Entries
+entries_at_kind fs t kind.InputObject = defined_entries fs t.input_fields
+entries_at_kind fs t kind.Scalar = if is_custom_scalar t then any_entries fs else no_object
+entries_at_kind fs t kind.Enum = no_object
+entries_at_kind fs t kind.Object = no_object
+entries_at_kind fs t kind.Interface = no_object
+entries_at_kind fs t kind.Union = no_object
+
+abbrev pub entries_by : List Field → Option SchemaType → Entries
+entries_by fs None = no_object
+entries_by fs (Some t) = entries_at_kind fs t t.kind
+
+abbrev pub entries_for : Schema → List Field → Option Written → Entries
+entries_for s fs None = any_entries fs
+entries_for s fs (Some t) = entries_by fs (input_type s t)
+
+-- a field that is not given takes its default, in which no variable stands; without one it is left out, where it may
+abbrev pub default_of : (Input → Option Written → Outcome (Option Data)) → List ℕ → Written → Option Literal → Outcome (Option Data)
+default_of inner n t None = if is_non_null t then refused reason.MissingField (segment.Key n ∷ []) else value None
+default_of inner n t (Some x) = within (segment.Key n) (inner (literal json.null x) (Some t))
+
+abbrev pub or_default : (Input → Option Written → Outcome (Option Data)) → List ℕ → Option InputValueDefinition → Option Data → Outcome (Option Data)
+or_default inner n None v = value v
+or_default inner n (Some d) (Some v) = value (Some v)
+or_default inner n (Some d) None = default_of inner n (written d.of_type) d.default
+
+abbrev pub if_given : (Input → Option Written → Outcome (Option Data)) → List ℕ → Option InputValueDefinition → Option Input → Outcome (Option Data)
+if_given inner n d None = value None
+if_given inner n d (Some x) = within (segment.Key n) (inner x (option_map (λ (v : InputValueDefinition). written v.of_type) d))
+
+abbrev pub entry_at : (Input → Option Written → Outcome (Option Data)) → Entry → Outcome (Option Data)
+entry_at inner e = after (if_given inner e.name e.definition e.given) (or_default inner e.name e.definition)
+
+-- a value under its name
+abbrev pub under : List ℕ → Option Data → Option (List ℕ × Data)
+under n v = option_map (λ d. (n, d)) v
+
+abbrev pub member_at : (Input → Option Written → Outcome (Option Data)) → Entry → Outcome (Option (List ℕ × Data))
+member_at inner e = after (entry_at inner e) (λ v. value (under e.name v))
+
+-- the members of an object, one after the other; what has no value is left out
+abbrev pub put_if : Option (List ℕ × Data) → Members → Members
+put_if None ms = ms
+put_if (Some m) ms = put m.0 m.1 ms
+
+abbrev pub put_all : List (Option (List ℕ × Data)) → Members → Members
+put_all [] ms = ms
+put_all (m ∷ more) ms = put_all more (put_if m ms)
+
+abbrev pub object_of : List (Outcome (Option (List ℕ × Data))) → Members → Outcome Data
+object_of os ms = after (all os) (λ more. value (json.object (put_all more ms)))
+
+abbrev pub object_at : (Input → Option Written → Outcome (Option Data)) → Entries → Outcome Data
+object_at inner (are es) = object_of (map (member_at inner) es) json.no_members
+object_at inner (unknown n) = refused reason.UnknownField (segment.Key n ∷ [])
+object_at inner no_object = wrong_kind
+
+-- ---- all inputs
+
+-- the value of a variable, which may have none
+abbrev pub variable_at : Option Written → Option Data → Outcome (Option Data)
+variable_at e None = value None
+variable_at e (Some d) = some (given_at e d)
+
+abbrev pub at_level : (Input → Option Written → Outcome (Option Data)) → Schema → Input → Option Written → Outcome (Option Data)
+at_level inner s absent e = variable_at e None
+at_level inner s (given d) e = variable_at e (Some d)
+at_level inner s null e = some (null_at e)
+at_level inner s (single x) e = once e (some (single_at s e x))
+at_level inner s (list xs) e = some (list_by inner (all_inputs xs) (items_expected s e))
+at_level inner s (object fs) e = once e (some (object_at inner (entries_for s (all_fields fs) e)))
+
+-- with so many levels of lists, objects and defaults
+unfoldable pub coerced : ℕ → Schema → Input → Option Written → Outcome (Option Data)
+coerced zero s x e = too_deep
+coerced (suc n) s x e = at_level (coerced n s) s x e

@@ -1,0 +1,135 @@
+-- Inputs, as coercion sees them: the literals of a document (GraphQL specification, 2.9) and the values of JSON, side by side.
+use Rattle.std.specs.Prelude.{ℕ, ℤ, List, [], ◌∷◌, Bool, true, false, not, filter, bytes_eq, Option, Some, None}
+use Rattle.gql_ast.specs.declared.literal.Literal.{Literal, fold-Literal}
+use Rattle.gql_ast.specs.declared.literal.ObjectField.{ObjectField}
+use Rattle.gql_ast.specs.declared.literal.Literal.TheOpen.{Literal-F, ObjectField-F}
+use Rattle.gql_inputs.specs.Numbers.{whole_number}
+use Rattle.serde_json.specs.Data as json
+use Rattle.serde_json.specs.Data.{Num, Data, Items, Members}
+use Rattle.serde_json.specs.Find.{as_i64, get}
+
+-- a value without parts
+pub data Single : Type 0 where
+  -- an integer of 64 signed bits
+  whole : ℤ → Single
+  -- a literal integer past them
+  out_of_range : Single
+  -- another number
+  fraction : Single
+  -- a string of a document, and one of JSON
+  text : List ℕ → Single
+  json_text : List ℕ → Single
+  truth : Bool → Single
+  -- an enum literal
+  name : List ℕ → Single
+
+mutual
+  pub data Input : Type 0 where
+    -- a variable without a value, and one with it
+    absent : Input
+    given : Data → Input
+    null : Input
+    single : Single → Input
+    list : Inputs → Input
+    object : Fields → Input
+
+  pub data Inputs : Type 0 where
+    no_inputs : Inputs
+    input : Input → Inputs → Inputs
+
+  pub data Fields : Type 0 where
+    no_fields : Fields
+    field : List ℕ → Input → Fields → Fields
+
+-- a field that an object gives
+pub record Field : Type 0 where
+  pub name : List ℕ
+  pub value : Input
+
+abbrev pub all_inputs : Inputs → List Input
+all_inputs no_inputs = []
+all_inputs (input x xs) = x ∷ all_inputs xs
+
+abbrev pub all_fields : Fields → List Field
+all_fields no_fields = []
+all_fields (field n x fs) = record { name = n; value = x } ∷ all_fields fs
+
+abbrev pub inputs_of : List Input → Inputs
+inputs_of [] = no_inputs
+inputs_of (x ∷ xs) = input x (inputs_of xs)
+
+abbrev pub fields_of : List Field → Fields
+fields_of [] = no_fields
+fields_of (f ∷ fs) = field f.name f.value (fields_of fs)
+
+-- ---- the literals of a document
+
+-- the first of each name
+abbrev pub firsts_by : {A : Type 0} → (A → List ℕ) → List A → List A
+firsts_by called [] = []
+firsts_by called (x ∷ xs) = x ∷ filter (λ y. not (bytes_eq (called x) (called y))) (firsts_by called xs)
+
+-- of fields of one name the first counts
+abbrev pub firsts : List Field → List Field
+firsts fs = firsts_by (λ (f : Field). f.name) fs
+
+abbrev pub of_variable : Option Data → Input
+of_variable None = absent
+of_variable (Some d) = given d
+
+abbrev pub of_whole : Option ℤ → Single
+of_whole None = out_of_range
+of_whole (Some z) = whole z
+
+abbrev pub literal_at : Data → Literal-F Input Field → Input
+literal_at vs (Literal-F.Variable place n) = of_variable (get n vs)
+literal_at vs (Literal-F.Null place) = null
+literal_at vs (Literal-F.Int place t) = single (of_whole (whole_number t))
+literal_at vs (Literal-F.Float place t) = single fraction
+literal_at vs (Literal-F.String place t) = single (text t)
+literal_at vs (Literal-F.Boolean place b) = single (truth b)
+literal_at vs (Literal-F.Enum place n) = single (name n)
+literal_at vs (Literal-F.List place xs) = list (inputs_of xs)
+literal_at vs (Literal-F.Object place fs) = object (fields_of (firsts fs))
+
+abbrev pub field_in : ObjectField-F Input Field → Field
+field_in f = record { name = f.name.text; value = f.value }
+
+-- a literal, where this object has the values of the variables
+unfoldable pub literal : Data → Literal → Input
+literal vs = fold-Literal Input Field (literal_at vs) field_in
+
+abbrev pub literal_field : Data → ObjectField → Field
+literal_field vs f = record { name = f.name.text; value = literal vs f.value }
+
+-- ---- the values of JSON
+
+abbrev pub of_number : Option ℤ → Single
+of_number None = fraction
+of_number (Some z) = whole z
+
+abbrev mutual
+  pub json_input : Data → Input
+  json_input json.null = null
+  json_input (json.boolean b) = single (truth b)
+  json_input (json.number n) = single (of_number (as_i64 n))
+  json_input (json.string t) = single (json_text t)
+  json_input (json.array ds) = list (json_inputs ds)
+  json_input (json.object ms) = object (json_fields ms)
+
+  pub json_inputs : Items → Inputs
+  json_inputs json.no_items = no_inputs
+  json_inputs (json.item d ds) = input (json_input d) (json_inputs ds)
+
+  pub json_fields : Members → Fields
+  json_fields json.no_members = no_fields
+  json_fields (json.member k d ms) = field k (json_input d) (json_fields ms)
+
+-- a list, null or a variable, which may stand for a list within a list
+abbrev pub may_be_list : Input → Bool
+may_be_list absent = true
+may_be_list (given d) = true
+may_be_list null = true
+may_be_list (single x) = false
+may_be_list (list xs) = true
+may_be_list (object fs) = false

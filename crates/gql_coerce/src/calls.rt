@@ -1,0 +1,57 @@
+//! The calls of this crate, for one input.
+ghost use Rattle.std.specs.Prelude.{◌≡◌, Some, option_map, IfOk, IfErr};
+ghost use Rattle.gql_types.specs.Written.{written};
+ghost use Rattle.serde_json.specs.View.{view};
+ghost use Rattle.gql_coerce.specs.Inputs.{literal, json_input};
+ghost use Rattle.gql_coerce.specs.Outcomes.{value as comes_to};
+ghost use Rattle.gql_coerce.specs.Requests.{coercion, Tells};
+
+use crate::fault::{CoerceFault, result_of};
+use crate::json;
+use crate::literals::{self, Scope};
+use gql_ast::{Literal, TypeRef};
+use gql_types::Schema;
+use serde_json::Value;
+use std::alloc::Global;
+
+/// So many lists, objects and defaults may stand within one another.
+pub const LEVELS: usize = 1000;
+
+/// The value of a literal at a type (GraphQL specification, 3.5 to 3.12), or the first refusal: of items by their order, of the
+/// fields of an object first those that are not known, then those that the type defines, in their order. `variables` is an object
+/// with the values that the variables have; a variable without a value comes to none.
+pub fn coerce_literal(
+    alloc: Global,
+    schema: &Schema,
+    value: &Literal,
+    of_type: &TypeRef,
+    variables: &Value,
+) -> Result<Option<Value>, CoerceFault>
+    ensures ok { IfOk result (λ v. coercion schema.now (literal (view variables.now) value.now) (written of_type.now) ≡ comes_to (option_map view v)) }
+    ensures err { IfErr result (λ e. Tells e (coercion schema.now (literal (view variables.now) value.now) (written of_type.now))) }
+{
+    let scope = Scope {
+        schema,
+        variables: Some(variables),
+    };
+    let coerced = literals::coerce(alloc, value, &scope, Some(of_type), LEVELS)?;
+    result_of(coerced)
+}
+
+/// The value of a value of JSON at a type (GraphQL specification, 3.5 to 3.12), or the first refusal: of items by their order, of the
+/// members of an object first those that are not known, by the bytes of their keys, then those that the type defines, in its order.
+pub fn coerce_json(
+    alloc: Global,
+    schema: &Schema,
+    value: &Value,
+    of_type: &TypeRef,
+) -> Result<Value, CoerceFault>
+    ensures ok { IfOk result (λ v. coercion schema.now (json_input (view value.now)) (written of_type.now) ≡ comes_to (Some (view v))) }
+    ensures err { IfErr result (λ e. Tells e (coercion schema.now (json_input (view value.now)) (written of_type.now))) }
+{
+    let coerced = json::coerce(alloc, value, schema, Some(of_type), LEVELS)?;
+    match result_of(coerced)? {
+        Some(value) => Ok(value),
+        None => Ok(Value::Null),
+    }
+}

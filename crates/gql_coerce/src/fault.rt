@@ -1,0 +1,43 @@
+ghost use Rattle.std.specs.Prelude.{◌≡◌, Some, option_map, IfOk, IfErr};
+ghost use Rattle.serde_json.specs.View.{view};
+ghost use Rattle.gql_coerce.specs.Outcomes.{said, value};
+ghost use Rattle.gql_coerce.specs.Requests.{Tells};
+ghost use Rattle.gql_coerce.specs.declared.fault.CoerceFault.TheVariants.{Memory};
+
+use crate::coerced::Coerced;
+use crate::refusal::Refusal;
+use serde_json::Value;
+use std::alloc::AllocError;
+use thiserror::Error;
+
+/// Why there is no value.
+#[derive(Debug, Drop, Error)]
+pub enum CoerceFault {
+    /// The input is refused.
+    #[error("the input is refused")]
+    Refused(Refusal),
+    /// Memory was wanting; so it is where more than a thousand lists, objects and defaults stand within one another.
+    #[error("out of memory")]
+    Memory,
+}
+
+impl From<AllocError> for CoerceFault {
+    ghost from_gives = { λ _ e. e ≡ Memory };
+
+    fn from(_: AllocError) -> CoerceFault {
+        CoerceFault::Memory
+    }
+}
+
+/// What an input comes to, as a result.
+pub fn result_of(coerced: Coerced) -> Result<Option<Value>, CoerceFault>
+    ensures ok { IfOk result (λ v. said coerced ≡ value (option_map view v)) }
+    ensures err { IfErr result (λ e. Tells e (said coerced)) }
+{
+    match coerced {
+        Coerced::Given(value) => Ok(Some(value)),
+        Coerced::Absent => Ok(None),
+        Coerced::Refused(refusal) => Err(CoerceFault::Refused(refusal)),
+        Coerced::TooDeep => Err(CoerceFault::Memory),
+    }
+}

@@ -1,0 +1,260 @@
+//! The values of variables (GraphQL specification, 6.1.2) and of arguments (6.4.1).
+ghost use Rattle.std.specs.Prelude.{◌≡◌, IfOk, IfErr, map, find, bytes_eq, option_map};
+ghost use Rattle.std.specs.Option.{option_copied};
+ghost use Rattle.gql_types.specs.Written.{written};
+ghost use Rattle.serde_json.specs.Data.{Data};
+ghost use Rattle.serde_json.specs.View.{view};
+ghost use Rattle.gql_coerce.specs.Inputs.{literal};
+ghost use Rattle.gql_coerce.specs.Outcomes.{Outcome as AnOutcome, said, some, value, after};
+ghost use Rattle.gql_coerce.specs.Scopes.{variables_of};
+ghost use Rattle.gql_coerce.specs.Requests as spec;
+ghost use Rattle.gql_coerce.specs.Requests.{Tells};
+
+use crate::calls::LEVELS;
+use crate::coerced::{Coerced, at_key, refused};
+use crate::fault::CoerceFault;
+use crate::json;
+use crate::literals::{self, Scope};
+use crate::members::add_member;
+use crate::refusal::Reason;
+use gql_ast::{Argument, InputValueDefinition, Literal, Shared, TypeRef, VariableDefinition};
+use gql_inputs::is_non_null;
+use gql_types::{HasName, Named, Schema};
+use serde_json::{Map, Value};
+use std::alloc::{AllocError, Global};
+
+fn default_at(
+    alloc: Global,
+    schema: &Schema,
+    of_type: &TypeRef,
+    default: Option<&Literal>,
+) -> Result<Coerced, AllocError>
+    ensures { IfOk result (λ c. said c ≡ spec.default_at schema.now (written of_type.now) (option_copied default.entry)) }
+{
+    match default {
+        Some(value) => {
+            let scope = Scope {
+                schema,
+                variables: None,
+            };
+            literals::coerce(alloc, value, &scope, Some(of_type), LEVELS)
+        }
+        None => {
+            if is_non_null(of_type) {
+                Ok(refused(alloc, Reason::NullForNonNull))
+            } else {
+                Ok(Coerced::Absent)
+            }
+        }
+    }
+}
+
+fn or_default_at(
+    alloc: Global,
+    schema: &Schema,
+    of_type: &TypeRef,
+    default: Option<&Literal>,
+    given: Coerced,
+) -> Result<Coerced, AllocError>
+    ensures { IfOk result (λ c. said c ≡ after (said given) (spec.or_default_at schema.now (written of_type.now) (option_copied default.entry))) }
+{
+    match given {
+        Coerced::Absent => default_at(alloc, schema, of_type, default),
+        Coerced::Given(_) | Coerced::Refused(_) | Coerced::TooDeep => Ok(given),
+    }
+}
+
+fn coerce_variable(
+    alloc: Global,
+    schema: &Schema,
+    definition: &VariableDefinition,
+    values: &Value,
+) -> Result<Coerced, AllocError>
+    ensures { IfOk result (λ c. said c ≡ spec.variable_value schema.now (view values.now) definition.now) }
+{
+    let of_type = &definition.of_type;
+    let name = definition.name.as_str();
+    let given = match values.get(name) {
+        Some(value) => json::coerce(alloc, value, schema, Some(of_type), LEVELS)?,
+        None => Coerced::Absent,
+    };
+    let coerced = or_default_at(alloc, schema, of_type, definition.default.as_ref(), given)?;
+    at_key(alloc, name, coerced)
+}
+
+fn variables(
+    alloc: Global,
+    schema: &Schema,
+    definitions: &[VariableDefinition],
+    values: &Value,
+) -> Result<Coerced, AllocError>
+    ensures { IfOk result (λ c. said c ≡ some (spec.variables schema.now definitions.now (view values.now))) }
+{
+    let mut members = Map::new(alloc);
+    for definition in definitions {
+        match coerce_variable(alloc, schema, definition, values)? {
+            Coerced::Given(value) => {
+                add_member(alloc, definition.name.as_str(), value, &mut members)?;
+            }
+            Coerced::Absent => {}
+            Coerced::Refused(refusal) => return Ok(Coerced::Refused(refusal)),
+            Coerced::TooDeep => return Ok(Coerced::TooDeep),
+        }
+    }
+    Ok(Coerced::Given(Value::from(members)))
+}
+
+fn of_object(coerced: Coerced) -> Result<Value, CoerceFault>
+    ensures ok { IfOk result (λ v. (o : AnOutcome Data) → said coerced ≡ some o → o ≡ value (view v)) }
+    ensures err { IfErr result (λ e. (o : AnOutcome Data) → said coerced ≡ some o → Tells e o) }
+{
+    match coerced {
+        Coerced::Given(value) => Ok(value),
+        Coerced::Absent => Ok(Value::Null),
+        Coerced::Refused(refusal) => Err(CoerceFault::Refused(refusal)),
+        Coerced::TooDeep => Err(CoerceFault::Memory),
+    }
+}
+
+/// The values of the variables that these definitions have, as an object (GraphQL specification, 6.1.2), where `values` is the
+/// object of those that a request gives: absent ones take their defaults, and those that are not defined are ignored. Or the first
+/// refusal, in the order of the definitions; its path begins with the variable's name. An absent variable of Non-Null type without
+/// default is 121.
+pub fn coerce_variables(
+    alloc: Global,
+    schema: &Schema,
+    definitions: &[VariableDefinition],
+    values: &Value,
+) -> Result<Value, CoerceFault>
+    ensures ok { IfOk result (λ v. spec.variables schema.now definitions.now (view values.now) ≡ value (view v)) }
+    ensures err { IfErr result (λ e. Tells e (spec.variables schema.now definitions.now (view values.now))) }
+{
+    let coerced = variables(alloc, schema, definitions, values)?;
+    of_object(coerced)
+}
+
+/// An argument, to be looked up by its name.
+#[derive(Drop)]
+struct GivenArgument<'v> {
+    argument: &'v Argument,
+}
+
+impl HasName for GivenArgument<'_> {
+    ghost name = { λ g. g.argument.now.name.text };
+
+    fn name(&self) -> &str {
+        self.argument.name.as_str()
+    }
+}
+
+fn given_arguments<'v>(
+    alloc: Global,
+    arguments: &'v [Argument],
+) -> Result<Vec<GivenArgument<'v>>, AllocError>
+    ensures { IfOk result (λ found. map (λ g. g.argument.now) found.items ≡ arguments.now) }
+{
+    let mut found = Vec::new(alloc);
+    for argument in arguments {
+        found.push(GivenArgument { argument })?;
+    }
+    Ok(found)
+}
+
+fn argument_named<'v>(given: &Named<GivenArgument<'v>>, name: &str) -> Option<&'v Argument>
+    ensures { option_copied result ≡ find (λ a. bytes_eq name.now a.name.text) (map (λ g. g.argument.now) given.now) }
+{
+    match given.get(name) {
+        Some(found) => Some(found.argument),
+        None => None,
+    }
+}
+
+fn coerce_given(
+    alloc: Global,
+    scope: &Scope<'_>,
+    of_type: &TypeRef,
+    given: Option<&Argument>,
+) -> Result<Coerced, AllocError>
+    ensures { IfOk result (λ c. said c ≡ spec.given_at scope.now.schema.now (written of_type.now)
+        (option_map (λ a. literal (variables_of scope.now) a.value) (option_copied given.entry))) }
+{
+    match given {
+        Some(argument) => literals::coerce(alloc, &argument.value, scope, Some(of_type), LEVELS),
+        None => Ok(Coerced::Absent),
+    }
+}
+
+fn coerce_argument(
+    alloc: Global,
+    scope: &Scope<'_>,
+    definition: &InputValueDefinition,
+    given: &Named<GivenArgument<'_>>,
+) -> Result<Coerced, AllocError>
+    ensures { IfOk result (λ c. said c ≡ spec.argument_value scope.now.schema.now (variables_of scope.now) (map (λ g. g.argument.now) given.now) definition.now) }
+{
+    let of_type = &definition.of_type;
+    let name = definition.name.as_str();
+    let found = coerce_given(alloc, scope, of_type, argument_named(given, name))?;
+    let default = definition.default.as_ref();
+    let coerced = or_default_at(alloc, scope.schema, of_type, default, found)?;
+    let placed = at_key(alloc, name, coerced)?;
+    Ok(placed)
+}
+
+fn arguments(
+    alloc: Global,
+    scope: &Scope<'_>,
+    definitions: &[Shared<InputValueDefinition>],
+    given: &Named<GivenArgument<'_>>,
+) -> Result<Coerced, AllocError>
+    ensures { IfOk result (λ c. said c ≡ some (spec.arguments scope.now.schema.now definitions.now (map (λ g. g.argument.now) given.now) (variables_of scope.now))) }
+{
+    let mut members = Map::new(alloc);
+    for definition in definitions {
+        let definition = definition.get();
+        match coerce_argument(alloc, scope, definition, given)? {
+            Coerced::Given(value) => {
+                add_member(alloc, definition.name.as_str(), value, &mut members)?;
+            }
+            Coerced::Absent => {}
+            Coerced::Refused(refusal) => return Ok(Coerced::Refused(refusal)),
+            Coerced::TooDeep => return Ok(Coerced::TooDeep),
+        }
+    }
+    Ok(Coerced::Given(Value::from(members)))
+}
+
+fn all_arguments(
+    alloc: Global,
+    scope: &Scope<'_>,
+    definitions: &[Shared<InputValueDefinition>],
+    given: &[Argument],
+) -> Result<Coerced, AllocError>
+    ensures { IfOk result (λ c. said c ≡ some (spec.arguments scope.now.schema.now definitions.now given.now (variables_of scope.now))) }
+{
+    let found = Named::new(alloc, given_arguments(alloc, given)?)?;
+    let coerced = arguments(alloc, scope, definitions, &found)?;
+    Ok(coerced)
+}
+
+/// The values of the arguments that these definitions have, as an object (GraphQL specification, 6.4.1), where these are given and
+/// `variables` is the object of the variables' values: of arguments of one name the first counts, and those that are not defined are
+/// ignored. Or the first refusal, in the order of the definitions; its path begins with the argument's name. A missing argument of
+/// Non-Null type without default is 121.
+pub fn coerce_arguments(
+    alloc: Global,
+    schema: &Schema,
+    definitions: &[Shared<InputValueDefinition>],
+    given: &[Argument],
+    values: &Value,
+) -> Result<Value, CoerceFault>
+    ensures ok { IfOk result (λ v. spec.arguments schema.now definitions.now given.now (view values.now) ≡ value (view v)) }
+    ensures err { IfErr result (λ e. Tells e (spec.arguments schema.now definitions.now given.now (view values.now))) }
+{
+    let scope = Scope {
+        schema,
+        variables: Some(values),
+    };
+    let coerced = all_arguments(alloc, &scope, definitions, given)?;
+    of_object(coerced)
+}

@@ -1,0 +1,4 @@
+pub mod Empties
+pub mod Finding
+pub mod Lacks
+pub mod Wholes

@@ -1,0 +1,80 @@
+-- What a type asks of an input (GraphQL specification, 3.5, 3.9 to 3.12).
+use Rattle.std.specs.Prelude.{ℕ, List, [], ◌∷◌, ◌++◌, Bool, true, false, codes, bytes_eq, Option, Some, None, option_and_then, if◌then◌else◌}
+use Rattle.gql_types.specs.Schemas.{type_named}
+use Rattle.gql_types.specs.Written.{Written, named, listed, required}
+use Rattle.gql_types.specs.declared.kind.TypeKind.{TypeKind}
+use Rattle.gql_types.specs.declared.kind.TypeKind.TheVariants as kind
+use Rattle.gql_types.specs.declared.schema.Schema.{Schema}
+use Rattle.gql_types.specs.declared.schema_type.SchemaType.{SchemaType}
+use Rattle.gql_inputs.specs.declared.scalar.Scalar.{Scalar}
+use Rattle.gql_inputs.specs.declared.scalar.Scalar.TheVariants as scalar
+
+-- which scalar a name names: one that is built in, or a custom one
+abbrev pub scalar_named : List ℕ → Scalar
+scalar_named name = if bytes_eq name (codes "Int") then scalar.Int
+    else if bytes_eq name (codes "String") then scalar.String
+    else if bytes_eq name (codes "Boolean") then scalar.Boolean
+    else if bytes_eq name (codes "ID") then scalar.Id
+    else scalar.Custom
+
+-- the name within lists and Non-Nulls
+abbrev pub name_in : Written → List ℕ
+name_in (named n) = n
+name_in (listed t) = name_in t
+name_in (required t) = name_in t
+
+-- the type of each item of a list that is given for a type
+abbrev pub item_of : Written → Option Written
+item_of (named n) = None
+item_of (listed t) = Some t
+item_of (required t) = item_of t
+
+-- a list, Non-Null or not
+abbrev pub is_list : Written → Bool
+is_list (named n) = false
+is_list (listed t) = true
+is_list (required t) = is_list t
+
+abbrev pub is_non_null : Written → Bool
+is_non_null (required t) = true
+is_non_null (listed t) = false
+is_non_null (named n) = false
+
+-- the type that is expected of a value that is no list: of a list of one, and of a list of one in it, that of the item
+abbrev pub one_of_from : Bool → Written → Written
+one_of_from marked (named n) = if marked then required (named n) else named n
+one_of_from marked (listed t) = one_of_from false t
+one_of_from marked (required t) = one_of_from true t
+
+abbrev pub one_of : Written → Written
+one_of = one_of_from false
+
+-- a type as it is written, without anything ignored between its tokens
+abbrev pub text_of : Written → List ℕ
+text_of (named n) = n
+text_of (listed t) = codes "[" ++ (text_of t ++ codes "]")
+text_of (required t) = text_of t ++ codes "!"
+
+-- scalars, enums and input objects are input types (3.4.2)
+abbrev pub is_input : TypeKind → Bool
+is_input kind.Scalar = true
+is_input kind.Enum = true
+is_input kind.InputObject = true
+is_input kind.Object = false
+is_input kind.Interface = false
+is_input kind.Union = false
+
+abbrev pub if_input : SchemaType → Option SchemaType
+if_input t = if is_input t.kind then Some t else None
+
+-- the input type of the name within a type, if it is known
+abbrev pub input_type : Schema → Written → Option SchemaType
+input_type s of_type = option_and_then if_input (type_named s (name_in of_type))
+
+-- what is told of a type that is known, and nothing of others
+abbrev pub of_known : {A : Type 0} → (SchemaType → List A) → Option SchemaType → List A
+of_known f None = []
+of_known f (Some t) = f t
+
+abbrev pub where_input : {A : Type 0} → Schema → Written → (SchemaType → List A) → List A
+where_input s of_type f = of_known f (input_type s of_type)

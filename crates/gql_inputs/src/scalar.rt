@@ -1,0 +1,30 @@
+ghost use Rattle.std.specs.Prelude.{◌≡◌};
+ghost use Rattle.gql_inputs.specs.InputTypes as spec;
+
+/// The scalars by what they take (GraphQL specification, 3.5).
+#[derive(Clone, Copy)]
+pub enum Scalar {
+    Int,
+    String,
+    Boolean,
+    Id,
+    /// A scalar of a schema file.
+    Custom,
+}
+
+/// Which scalar a name names.
+pub fn scalar_named(name: &str) -> Scalar
+    ensures { result ≡ spec.scalar_named name.now }
+{
+    if name == "Int" {
+        Scalar::Int
+    } else if name == "String" {
+        Scalar::String
+    } else if name == "Boolean" {
+        Scalar::Boolean
+    } else if name == "ID" {
+        Scalar::Id
+    } else {
+        Scalar::Custom
+    }
+}

@@ -1,7 +1,0 @@
-use Rattle.std.proofs.Common.{◌≡◌, ◌++◌, map}
-use Rattle.gql_values.specs.Coercion.{any_entry}
-use Rattle.gql_values.specs.JsonEntries.{entry_of, fields_in}
-use Rattle.gql_values.proofs.json_entries.entries_in.Given as goal
-
-abbrev pub invariant-loop-name : goal.invariant-loop-name
-invariant-loop-name l = map any_entry (fields_in l.members.entries) ≡ map entry_of l.found.items ++ map any_entry (fields_in l.name-iterator)
