@@ -1,21 +1,13 @@
 //! `gqlreg pipe` answers the requests of standard input on standard output.
 #![tactic(auto)]
 
-mod command;
 mod status;
-#[cfg(test)]
-mod tests;
 
-ghost use Rattle.std.specs.Prelude.{◌≡◌, IfOk};
-ghost use Rattle.clap.specs.Walk.{texts as texts_of};
-ghost use Rattle.gqlreg.specs.CommandLine.{Answers, Asks, FollowsGrammar, GivesOrWants, HasHelpFlag, HelpsOrWants, spelled};
-
-use crate::command::{Command, CommandFault, read_command};
 use crate::status::status_of;
+use gql_command::{Command, CommandFault, read_command};
 use gql_http::{Hub, pipe};
 use gql_registry::Registry;
 use gql_wire::{ReadDevice, WriteDevice};
-use std::alloc::{AllocError, Global};
 use std::process::ExitCode;
 use std::{env, io};
 
@@ -26,28 +18,6 @@ fn words(rt: &HostRuntime) -> io::Result<Vec<String>> {
         words.push(word)?;
     }
     Ok(words)
-}
-
-fn texts<'w>(alloc: Global, words: &'w [String]) -> Result<Vec<&'w str>, AllocError>
-    ensures { IfOk result (λ t. texts_of t.items ≡ spelled words.now) }
-{
-    let mut texts = Vec::new(alloc);
-    for word in words {
-        texts.push(word.as_str())?;
-    }
-    Ok(texts)
-}
-
-fn command_of(alloc: Global, words: &[String]) -> Result<Command, CommandFault>
-    ensures asked { (command : Command) → Asks command (spelled words.now) → GivesOrWants command result }
-    ensures help { HasHelpFlag (spelled words.now) → HelpsOrWants result }
-    ensures plain { Answers (spelled words.now) result }
-    ensures grammar { FollowsGrammar (spelled words.now) result }
-{
-    let Ok(texts) = texts(alloc, words) else {
-        return Err(CommandFault::Memory);
-    };
-    read_command(alloc, texts.as_slice())
 }
 
 /// Standard input to standard output.
@@ -88,7 +58,7 @@ fn main(rt: HostRuntime) -> ExitCode {
         Ok(words) => words,
         Err(error) => return ExitCode::from(unread(&error)),
     };
-    ExitCode::from(match command_of(rt.alloc(), words.as_slice()) {
+    ExitCode::from(match read_command(rt.alloc(), words.as_slice()) {
         Ok(Command::Pipe) => run_pipe(&rt),
         Err(fault) => tell(&rt, fault),
     })

@@ -11,8 +11,8 @@ use Rattle.clap.specs.declared.error.kind.ErrorKind.TheVariants.{DisplayHelp, In
 use Rattle.clap.proofs.FaultLemmas.{past, stopped_fault}
 use Rattle.clap.proofs.WalkLemmas.{walk_stopped}
 use Rattle.clap.proofs.OnLiterals.{clap_on_literals}
-use Rattle.gqlreg.specs.CommandLine.{IsHelpFlag, command_line}
-use Rattle.gqlreg.proofs.HelpFlags.{IsRefusal, begins_with_hyphen, no_unknown, refused_first, stray, turned, turned_help}
+use Rattle.gql_command.specs.CommandLine.{IsHelpFlag, command_line}
+use Rattle.gql_command.proofs.HelpFlags.{IsRefusal, begins_with_hyphen, no_unknown, refused_first, stray, turned, turned_help}
 
 -- ---- the level of `pipe`
 

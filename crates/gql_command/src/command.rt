@@ -1,8 +1,8 @@
 //! The command line.
 ghost use Rattle.std.specs.Prelude.{◌≡◌, IfOk};
-ghost use Rattle.clap.specs.Walk.{texts};
+ghost use Rattle.clap.specs.Walk.{texts as texts_of};
 ghost use Rattle.clap.specs.Words.{app_of, kind_of};
-ghost use Rattle.gqlreg.specs.CommandLine.{Answers, Asks, FollowsGrammar, GivesOrWants, HasHelpFlag, HelpsOrWants, Tells, command_line};
+ghost use Rattle.gql_command.specs.CommandLine.{Answers, Asks, FollowsGrammar, GivesOrWants, HasHelpFlag, HelpsOrWants, Tells, command_line, spelled};
 
 use clap::Command as Grammar;
 use clap::error::ErrorKind;
@@ -51,12 +51,11 @@ fn told(alloc: Global, error: &clap::Error) -> CommandFault
     }
 }
 
-/// What the words of a command line ask for, the program's name first.
-pub fn read_command(alloc: Global, words: &[&str]) -> Result<Command, CommandFault>
-    ensures asked { (command : Command) → Asks command (texts words.now) → GivesOrWants command result }
-    ensures help { HasHelpFlag (texts words.now) → HelpsOrWants result }
-    ensures plain { Answers (texts words.now) result }
-    ensures grammar { FollowsGrammar (texts words.now) result }
+fn read_texts(alloc: Global, words: &[&str]) -> Result<Command, CommandFault>
+    ensures asked { (command : Command) → Asks command (texts_of words.now) → GivesOrWants command result }
+    ensures help { HasHelpFlag (texts_of words.now) → HelpsOrWants result }
+    ensures plain { Answers (texts_of words.now) result }
+    ensures grammar { FollowsGrammar (texts_of words.now) result }
 {
     let Ok(grammar) = grammar(alloc) else {
         return Err(CommandFault::Memory);
@@ -65,4 +64,27 @@ pub fn read_command(alloc: Global, words: &[&str]) -> Result<Command, CommandFau
         Ok(_) => Ok(Command::Pipe),
         Err(error) => Err(told(alloc, &error)),
     }
+}
+
+fn texts<'w>(alloc: Global, words: &'w [String]) -> Result<Vec<&'w str>, AllocError>
+    ensures { IfOk result (λ t. texts_of t.items ≡ spelled words.now) }
+{
+    let mut texts = Vec::new(alloc);
+    for word in words {
+        texts.push(word.as_str())?;
+    }
+    Ok(texts)
+}
+
+/// What the words of a command line ask for, the program's name first.
+pub fn read_command(alloc: Global, words: &[String]) -> Result<Command, CommandFault>
+    ensures asked { (command : Command) → Asks command (spelled words.now) → GivesOrWants command result }
+    ensures help { HasHelpFlag (spelled words.now) → HelpsOrWants result }
+    ensures plain { Answers (spelled words.now) result }
+    ensures grammar { FollowsGrammar (spelled words.now) result }
+{
+    let Ok(texts) = texts(alloc, words) else {
+        return Err(CommandFault::Memory);
+    };
+    read_texts(alloc, texts.as_slice())
 }

@@ -1,7 +1,7 @@
 use Rattle.std.specs.Prelude.{◌≡◌, take}
 use Rattle.clap.specs.Walk.{texts as texts_of}
-use Rattle.gqlreg.specs.CommandLine.{spelled}
-use Rattle.gqlreg.proofs.texts.Given as goal
+use Rattle.gql_command.specs.CommandLine.{spelled}
+use Rattle.gql_command.proofs.command.texts.Given as goal
 
 abbrev pub invariant-loop-word : goal.invariant-loop-word
 invariant-loop-word l = texts_of l.texts.items ≡ spelled (take l.word-index l.words)

@@ -9,13 +9,13 @@ use Rattle.clap.specs.declared.error.kind.ErrorKind.TheVariants.{DisplayHelp, Ou
 use Rattle.clap.proofs.OnLiterals.{clap_on_literals}
 use Rattle.clap.specs.Values.{kind_of}
 use Rattle.clap.specs.declared.error.Error.{Error}
-use Rattle.gqlreg.specs.CommandLine.{Answers, Asks, FollowsGrammar, GivesOrWants, HasHelpFlag, HelpsOrWants, Tells, command_line, faults}
-use Rattle.gqlreg.specs.declared.command.Command.{Command}
-use Rattle.gqlreg.specs.declared.command.Command.TheVariants.{Pipe}
-use Rattle.gqlreg.specs.declared.command.CommandFault.{CommandFault}
-use Rattle.gqlreg.specs.declared.command.CommandFault.TheVariants.{Help, Refused, Memory}
-use Rattle.gqlreg.proofs.HelpFlags.{IsRefusal}
-use Rattle.gqlreg.proofs.LineWords.{in_line, helped, taken}
+use Rattle.gql_command.specs.CommandLine.{Answers, Asks, FollowsGrammar, GivesOrWants, HasHelpFlag, HelpsOrWants, Tells, command_line, faults}
+use Rattle.gql_command.specs.declared.command.Command.{Command}
+use Rattle.gql_command.specs.declared.command.Command.TheVariants.{Pipe}
+use Rattle.gql_command.specs.declared.command.CommandFault.{CommandFault}
+use Rattle.gql_command.specs.declared.command.CommandFault.TheVariants.{Help, Refused, Memory}
+use Rattle.gql_command.proofs.HelpFlags.{IsRefusal}
+use Rattle.gql_command.proofs.LineWords.{in_line, helped, taken}
 
 -- a refusal is no call for help
 not_refused : (ks : Kinds) → IsRefusal ks → IsAmong DisplayHelp ks → ⊥

@@ -1,6 +1,6 @@
 use Rattle.clap.specs.Walk.{texts}
-use Rattle.gqlreg.proofs.command.read_command.Goals as goal
-use Rattle.gqlreg.proofs.LineAnswers.{answers_err, asked_err, asks_pipe, at_command_line, follows_err, help_err, help_ok, no_fault}
+use Rattle.gql_command.proofs.command.read_texts.Goals as goal
+use Rattle.gql_command.proofs.LineAnswers.{answers_err, asked_err, asks_pipe, at_command_line, follows_err, help_err, help_ok, no_fault}
 
 pub returns-in-Ok-try_get_matches_from-clause-help :
     goal.returns-in-Ok-try_get_matches_from-clause-help

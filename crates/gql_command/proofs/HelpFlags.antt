@@ -11,7 +11,7 @@ use Rattle.clap.specs.Simple.{Shape, filled, help_rule}
 use Rattle.clap.specs.Kinds.{IsAmong, Kinds, or_else}
 use Rattle.clap.specs.Faults.{flag_word_fault, long_fault, short_fault, flags_fault, step_fault, turn_fault}
 use Rattle.clap.specs.declared.error.kind.ErrorKind.TheVariants.{DisplayHelp, InvalidSubcommand, TooManyValues, UnknownArgument}
-use Rattle.gqlreg.specs.CommandLine.{IsHelpFlag}
+use Rattle.gql_command.specs.CommandLine.{IsHelpFlag}
 
 -- some fault is there, and no call for help is among them
 abbrev pub IsRefusal : Kinds → Type 0

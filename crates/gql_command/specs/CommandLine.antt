@@ -9,10 +9,10 @@ use Rattle.clap.specs.Kinds.{IsAmong, Kinds}
 use Rattle.clap.specs.Faults.{fault_of}
 use Rattle.clap.specs.declared.error.kind.ErrorKind.{ErrorKind}
 use Rattle.clap.specs.declared.error.kind.ErrorKind.TheVariants.{DisplayHelp, OutOfMemory}
-use Rattle.gqlreg.specs.declared.command.Command.{Command}
-use Rattle.gqlreg.specs.declared.command.Command.TheVariants.{Pipe}
-use Rattle.gqlreg.specs.declared.command.CommandFault.{CommandFault}
-use Rattle.gqlreg.specs.declared.command.CommandFault.TheVariants.{Help, Refused, Memory}
+use Rattle.gql_command.specs.declared.command.Command.{Command}
+use Rattle.gql_command.specs.declared.command.Command.TheVariants.{Pipe}
+use Rattle.gql_command.specs.declared.command.CommandFault.{CommandFault}
+use Rattle.gql_command.specs.declared.command.CommandFault.TheVariants.{Help, Refused, Memory}
 
 -- the texts of the words
 abbrev pub spelled : List (String Global) → List Text
