@@ -1,5 +1,5 @@
 -- Applied directives as the code walks them.
-use Rattle.std.proofs.Common.{◌≡◌, ◌<◌, ◌+◌, ℕ, List, [], ◌∷◌, ◌++◌, Some, length, get_or, take, drop, arith, refl, sym, ap, ap₂, ◌∙◌, append_assoc, append-nil, map, flat_map, take-append-drop}
+use Rattle.std.proofs.Common.{◌≡◌, ◌<◌, ◌+◌, ℕ, List, [], ◌∷◌, ◌++◌, Some, length, get_or, take, drop, refl, sym, ap, ap₂, ◌∙◌, append_assoc, append-nil, map, flat_map, take-append-drop}
 use Rattle.std.proofs.lemmas.List.{take_more, drop_more, map-append}
 use Rattle.gql_ast.specs.declared.definition.Tree.{Tree}
 use Rattle.gql_ast.specs.declared.definition.Tree.TheVariants as tree

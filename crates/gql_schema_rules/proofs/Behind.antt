@@ -1,6 +1,5 @@
 -- Root operation types, with one more at the end.
-use Rattle.std.proofs.Common.{◌≡◌, ◌<◌, ◌+◌, ◌||◌, ℕ, List, [], ◌∷◌, ◌++◌, Bool, length, get_or, take, arith, refl, sym, ap, ap₂, ◌∙◌, append_assoc, append-nil, cond, if◌then◌else◌}
-use Rattle.std.specs.List.{list_any}
+use Rattle.std.proofs.Common.{◌≡◌, ◌<◌, ◌+◌, ◌||◌, ℕ, List, [], ◌∷◌, ◌++◌, Bool, length, get_or, take, arith, sym, ap, ap₂, ◌∙◌, append_assoc, append-nil}
 use Rattle.std.proofs.lemmas.List.{take_more}
 use Rattle.std.proofs.lemmas.List.Folds.{list_any-append}
 use Rattle.std.proofs.lemmas.Grind.{common_steps}
@@ -9,7 +8,7 @@ use Rattle.gql_ast.specs.declared.fault.Fault.{Fault}
 use Rattle.gql_types.specs.declared.roots.Root.{Root}
 use Rattle.gql_types.specs.Kinds.{same_operation}
 use Rattle.gql_schema_rules.specs.Before.{of_each}
-use Rattle.gql_schema_rules.specs.S34SchemaTwice.{has_kind, at_entry, kinds_again, given_again}
+use Rattle.gql_schema_rules.specs.S34SchemaTwice.{has_kind}
 
 more : (f : List Root → Root → List Fault) (before xs : List Root) (x : Root) → of_each f before (xs ++ x ∷ []) ≡ of_each f before xs ++ f (before ++ xs) x
 more f before [] x = append-nil (f before x) ∙ ap (λ b. f b x) (sym (append-nil before))

@@ -1,10 +1,9 @@
 -- Root operation types in groups by kind and name, and those of a kind and a name among all.
-use Rattle.std.proofs.Common.{◌≡◌, ◌<◌, ◌+◌, ◌&&◌, ℕ, List, [], ◌∷◌, ◌++◌, Bool, true, false, Option, Some, None, length, get_or, take, arith, refl, sym, ap, ap₂, ◌∙◌, filter, flat_map, bytes_eq, cond}
+use Rattle.std.proofs.Common.{◌≡◌, ◌<◌, ◌+◌, ◌&&◌, ℕ, List, [], ◌∷◌, ◌++◌, Bool, Option, Some, None, length, get_or, take, arith, refl, ap, ap₂, ◌∙◌, filter, flat_map, bytes_eq, cond}
 use Rattle.std.proofs.lemmas.List.{take_more}
 use Rattle.std.proofs.lemmas.Grind.{common_steps}
 use Rattle.gql_ast.specs.declared.executable.OperationKind.{OperationKind}
 use Rattle.gql_ast.specs.declared.executable.OperationKind.TheVariants.{Query, Mutation, Subscription}
-use Rattle.gql_ast.specs.declared.fault.Fault.{Fault}
 use Rattle.gql_types.specs.declared.roots.Root.{Root}
 use Rattle.gql_types.specs.declared.schema.Schema.{Schema}
 use Rattle.gql_types.specs.declared.schema_type.SchemaType.{SchemaType}

@@ -9,7 +9,6 @@ use Rattle.gql_ast.specs.declared.rule.Rule.TheVariants.{S31}
 use Rattle.gql_ast.specs.declared.text.Name.{Name}
 use Rattle.gql_ast.specs.declared.type_system.DirectiveDefinition.{DirectiveDefinition}
 use Rattle.gql_ast.specs.declared.type_system.SchemaDefinition.{SchemaDefinition}
-use Rattle.gql_ast.specs.declared.type_system.SchemaExtension.{SchemaExtension}
 use Rattle.gql_ast.specs.declared.type_system.TypeExtension.{TypeExtension}
 use Rattle.gql_built_in.specs.declared.sited.Sited.{Sited}
 use Rattle.gql_types.specs.Definitions.{schema_definitions}

@@ -1,4 +1,4 @@
-use Rattle.std.proofs.Common.{rules, ◌∙◌, ap, ◌++◌}
+use Rattle.std.proofs.Common.{rules}
 use Rattle.gql_iface_rules.specs.InterfaceFaults.{IsInterfaceFault}
 use Rattle.gql_node_rules.specs.NodeFaults.{node_faults}
 use Rattle.gql_schema_rules.specs.DefinitionFaults.{definition_faults}

@@ -1,4 +1,4 @@
-use Rattle.std.proofs.Common.{rules, ◌∙◌, sym, ap, [], map, take}
+use Rattle.std.proofs.Common.{rules, [], map, take}
 use Rattle.std.specs.Option.{option_map_or}
 use Rattle.std.specs.HashMap as hash
 use Rattle.gql_schema_rules.specs.S25SharedRoots.{shared_with}

@@ -1,4 +1,4 @@
-use Rattle.std.proofs.Common.{◌≡◌, ◌++◌, [], take}
+use Rattle.std.proofs.Common.{◌≡◌, ◌++◌, take}
 use Rattle.gql_ast.specs.declared.executable.OperationKind.{OperationKind}
 use Rattle.gql_schema_rules.specs.KindsSeen.{has}
 use Rattle.gql_schema_rules.specs.S34SchemaTwice.{has_kind, kinds_again}
