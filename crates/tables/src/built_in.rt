@@ -1,3 +1,4 @@
+use crate::joined::join;
 use gql_ast::Tree;
 use gql_built_in::{Sited, built_in_definitions};
 use std::alloc::Global;
@@ -20,13 +21,9 @@ fn written_name(alloc: Global, definition: &Sited<Tree>) -> Option<String> {
 /// The names of the definitions that every schema has.
 pub fn built_in_answer(alloc: Global) -> Option<String> {
     let mut names = String::new(alloc);
-    let mut before = "";
     for definition in built_in_definitions(alloc).ok()?.as_slice() {
-        names.push_str(before).ok()?;
-        names
-            .push_str(written_name(alloc, definition)?.as_str())
-            .ok()?;
-        before = " ";
+        let name = written_name(alloc, definition)?;
+        join(&mut names, " ", name.as_str()).ok()?;
     }
     Some(names)
 }

@@ -1,5 +1,6 @@
 //! Names and places that lead to one another, and which lead back to themselves.
 use crate::inputs::json_in;
+use crate::joined::join;
 use gql_circles::{Row, circles, circles_of_places};
 use serde_json::Value;
 use std::alloc::{AllocError, Global};
@@ -30,11 +31,8 @@ fn rows_in(alloc: Global, text: &str) -> Option<Vec<Row<'_>>> {
 
 fn joined(alloc: Global, names: &[&str]) -> Result<String, AllocError> {
     let mut joined = String::new(alloc);
-    let mut before = "";
     for name in names {
-        joined.push_str(before)?;
-        joined.push_str(name)?;
-        before = " ";
+        join(&mut joined, " ", name)?;
     }
     Ok(joined)
 }

@@ -1,5 +1,6 @@
 //! Whole documents: their copies, their comparison, and their beginnings.
 use crate::answer::parsed;
+use crate::joined::join;
 use gql_ast::{Definition, Document, Same};
 use gql_grammar::SyntaxFault;
 use std::alloc::Global;
@@ -33,13 +34,9 @@ fn written_copy(alloc: Global, definition: &Definition) -> Option<String> {
 pub fn copies_answer(alloc: Global, text: &str, parser: &str) -> Option<String> {
     let document = document_of(alloc, parser, text)?;
     let mut written = String::new(alloc);
-    let mut before = "";
     for definition in document.definitions.as_slice() {
-        written.push_str(before).ok()?;
-        written
-            .push_str(written_copy(alloc, definition)?.as_str())
-            .ok()?;
-        before = ", ";
+        let copy = written_copy(alloc, definition)?;
+        join(&mut written, ", ", copy.as_str()).ok()?;
     }
     Some(written)
 }
@@ -61,13 +58,13 @@ pub fn cuts_answer(alloc: Global, text: &str, parser: &str) -> Option<String> {
     for (offset, _) in text.char_indices() {
         let number = number_of(&parsed(alloc, parser, text.get(..offset)?)?);
         if last != Some(number) {
-            let one = format!(in alloc; "{offset} {number}, ").ok()?;
-            written.push_str(one.as_str()).ok()?;
+            let one = format!(in alloc; "{offset} {number}").ok()?;
+            join(&mut written, ", ", one.as_str()).ok()?;
             last = Some(number);
         }
     }
     let number = number_of(&parsed(alloc, parser, text)?);
     let whole = format!(in alloc; "whole {number}").ok()?;
-    written.push_str(whole.as_str()).ok()?;
+    join(&mut written, ", ", whole.as_str()).ok()?;
     Some(written)
 }

@@ -1,10 +1,11 @@
 use crate::faults::written_faults;
-use crate::inputs::schema_of;
+use crate::inputs::put_file;
+use crate::look_ups::look_up_answer;
 use crate::texts::text_answer;
 use crate::values::value_answer;
-use gql_ast::FileName;
+use gql_ast::{FileName, Files};
 use gql_registry::Registry;
-use gql_types::Schema;
+use gql_types::{Schema, assemble};
 use std::alloc::{AllocError, Global};
 
 /// A row that is being read: a registry with its files so far, and the file at hand.
@@ -14,9 +15,11 @@ pub struct Row {
     registry: Registry,
     name: String,
     text: String,
+    /// The files before that one.
+    files: Files,
     /// Whether the registry refused a file.
     is_refused: bool,
-    /// The schema of the file at hand, once a question about values is asked.
+    /// The schema of the files, once a question about it is asked.
     schema: Option<Schema>,
 }
 
@@ -27,6 +30,7 @@ impl Row {
             registry: Registry::new(alloc),
             name: String::new(alloc),
             text: String::new(alloc),
+            files: Files::new(alloc),
             is_refused: false,
             schema: None,
         }
@@ -39,10 +43,11 @@ impl Row {
         }
         match FileName::read(self.name.as_str()) {
             Some(name) => {
-                if self
-                    .registry
-                    .put_schema(name, self.text.as_str().as_bytes())
-                    .is_err()
+                if put_file(self.alloc, &mut self.files, &name, self.text.as_str()).is_none()
+                    || self
+                        .registry
+                        .put_schema(name, self.text.as_str().as_bytes())
+                        .is_err()
                 {
                     self.is_refused = true;
                 }
@@ -92,15 +97,22 @@ impl Row {
         }
     }
 
-    /// The answer to a question about values of the schema that the file at hand is.
-    fn value_answer(&mut self, question: &str) -> Result<String, AllocError> {
+    /// The answer to a question about the schema of the files so far.
+    fn schema_answer(&mut self, question: &str) -> Result<String, AllocError> {
         if self.schema.is_none() {
-            self.schema = schema_of(self.alloc, self.text.as_str());
+            self.put();
+            self.schema = assemble(self.alloc, &self.files).ok();
+        }
+        if self.is_refused {
+            return String::from_str(self.alloc, "refused");
         }
         let Some(schema) = &self.schema else {
-            return String::from_str(self.alloc, "no such question, or no schema");
+            return String::from_str(self.alloc, "no schema");
         };
-        match value_answer(self.alloc, schema, question) {
+        if let Some(answer) = value_answer(self.alloc, schema, question) {
+            return Ok(answer);
+        }
+        match look_up_answer(self.alloc, schema, question) {
             Some(answer) => Ok(answer),
             None => String::from_str(self.alloc, "no such question"),
         }
@@ -113,7 +125,7 @@ impl Row {
         }
         match text_answer(self.alloc, self.text.as_str(), question) {
             Some(answer) => Ok(answer),
-            None => self.value_answer(question),
+            None => self.schema_answer(question),
         }
     }
 }

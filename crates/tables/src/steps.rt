@@ -1,3 +1,4 @@
+use crate::joined::join;
 use std::alloc::Global;
 
 /// What is asked step after step.
@@ -9,12 +10,9 @@ pub trait Stepped {
 /// The answers to steps that commas separate.
 pub fn steps_answer<S: Stepped>(alloc: Global, stepped: &mut S, steps: &str) -> Option<String> {
     let mut answers = String::new(alloc);
-    let mut before = "";
     for step in steps.split(", ") {
-        answers.push_str(before).ok()?;
         let answer = stepped.step(alloc, step)?;
-        answers.push_str(answer.as_str()).ok()?;
-        before = ", ";
+        join(&mut answers, ", ", answer.as_str()).ok()?;
     }
     Some(answers)
 }

@@ -1,4 +1,5 @@
 //! Tokens as the table writes them (GraphQL specification, 2.1).
+use crate::joined::join;
 use crate::quoted::quoted;
 use gql_text::{LexFault, Place, Token, end_place, lex, text_value};
 use std::alloc::{AllocError, Global};
@@ -35,11 +36,8 @@ pub fn written_token(alloc: Global, token: &Token<'_>) -> Result<String, AllocEr
 
 fn written_tokens(alloc: Global, tokens: &[Token<'_>]) -> Result<String, AllocError> {
     let mut written = String::new(alloc);
-    let mut before = "";
     for token in tokens {
-        written.push_str(before)?;
-        written.push_str(written_token(alloc, token)?.as_str())?;
-        before = ", ";
+        join(&mut written, ", ", written_token(alloc, token)?.as_str())?;
     }
     Ok(written)
 }

@@ -6,6 +6,7 @@ mod type_refs;
 mod type_systems;
 
 use crate::answer::parsed;
+use crate::joined::join;
 use gql_ast::{Name, Text, Tree};
 use gql_text::Place;
 use std::alloc::{AllocError, Global};
@@ -19,11 +20,8 @@ pub trait Written {
 /// The items, each but the first behind a blank.
 pub fn written_items<T: Written>(alloc: Global, items: &[T]) -> Result<String, AllocError> {
     let mut written = String::new(alloc);
-    let mut before = "";
     for item in items {
-        written.push_str(before)?;
-        written.push_str(item.written(alloc)?.as_str())?;
-        before = " ";
+        join(&mut written, " ", item.written(alloc)?.as_str())?;
     }
     Ok(written)
 }
@@ -106,12 +104,9 @@ impl Written for Tree {
 pub fn trees_answer(alloc: Global, text: &str, parser: &str) -> Option<String> {
     let document = parsed(alloc, parser, text)?.ok()?;
     let mut written = String::new(alloc);
-    let mut before = "";
     for definition in document.definitions.as_slice() {
-        written.push_str(before).ok()?;
         let tree = definition.tree.written(alloc).ok()?;
-        written.push_str(tree.as_str()).ok()?;
-        before = "; ";
+        join(&mut written, "; ", tree.as_str()).ok()?;
     }
     Some(written)
 }

@@ -1,3 +1,4 @@
+use crate::joined::join;
 use crate::trees::{Written, between, enclosed, optional};
 use gql_ast::{
     Field, Fragment, InlineFragment, Operation, OperationKind, Selection, Spread,
@@ -20,11 +21,8 @@ impl Written for Selection {
 #[cycle(selections)]
 fn written_set(alloc: Global, selections: &[Selection]) -> Result<String, AllocError> {
     let mut written = String::new(alloc);
-    let mut before = "";
     for selection in selections {
-        written.push_str(before)?;
-        written.push_str(selection.written(alloc)?.as_str())?;
-        before = " ";
+        join(&mut written, " ", selection.written(alloc)?.as_str())?;
     }
     between(alloc, " {", written.as_str(), "}")
 }

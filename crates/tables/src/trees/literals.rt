@@ -1,3 +1,4 @@
+use crate::joined::join;
 use crate::quoted::quoted;
 use crate::trees::{Written, enclosed};
 use gql_ast::{Argument, Directive, Literal, ObjectField};
@@ -46,11 +47,8 @@ impl Written for Literal {
 #[cycle(written)]
 fn written_literals(alloc: Global, items: &[Literal]) -> Result<String, AllocError> {
     let mut written = String::new(alloc);
-    let mut before = "";
     for item in items {
-        written.push_str(before)?;
-        written.push_str(item.written(alloc)?.as_str())?;
-        before = " ";
+        join(&mut written, " ", item.written(alloc)?.as_str())?;
     }
     Ok(written)
 }
@@ -67,11 +65,8 @@ impl Written for ObjectField {
 #[cycle(written)]
 fn written_fields(alloc: Global, fields: &[ObjectField]) -> Result<String, AllocError> {
     let mut written = String::new(alloc);
-    let mut before = "";
     for field in fields {
-        written.push_str(before)?;
-        written.push_str(field.written(alloc)?.as_str())?;
-        before = " ";
+        join(&mut written, " ", field.written(alloc)?.as_str())?;
     }
     Ok(written)
 }
