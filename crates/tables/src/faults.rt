@@ -24,13 +24,14 @@ fn written_fault(alloc: Global, fault: &Fault) -> Result<String, AllocError> {
     Ok(written)
 }
 
-/// The faults, joined by semicolons.
+/// The faults, joined by semicolons: of each its copy, which has to say the same.
 pub fn written_faults(alloc: Global, faults: &[Fault]) -> Result<String, AllocError> {
     let mut written = String::new(alloc);
     let mut before = "";
     for fault in faults {
         written.push_str(before)?;
-        written.push_str(written_fault(alloc, fault)?.as_str())?;
+        let copy = fault.copy(alloc)?;
+        written.push_str(written_fault(alloc, &copy)?.as_str())?;
         before = "; ";
     }
     Ok(written)

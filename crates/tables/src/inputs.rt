@@ -1,4 +1,4 @@
-//! The parts of questions about values: types, literals, values of JSON, operations and schemas.
+//! The parts of questions: types, literals, values of JSON, operations and schema files.
 use gql_ast::{
     Document, Field, FileName, Files, Literal, Operation, Selection, Shared, Tree, TypeRef,
 };
@@ -6,7 +6,6 @@ use gql_grammar::Cursor;
 use gql_parse::{parse, type_ref, value};
 use gql_parse_sdl::parse_sdl;
 use gql_text::{Kind, lex};
-use gql_types::{Schema, assemble};
 use serde_json::Value;
 use std::alloc::Global;
 
@@ -60,14 +59,9 @@ pub fn field_of(operation: &Operation) -> Option<&Field> {
     }
 }
 
-/// The schema of one schema file.
-pub fn schema_of(alloc: Global, text: &str) -> Option<Schema> {
-    let file = FileName::read("s")?;
-    let document = parse_sdl(alloc, file.copy(), text).ok()?;
-    let mut files = Files::new(alloc);
-    files
-        .schema
-        .put(file, Shared::new(alloc, document).ok()?)
-        .ok()?;
-    assemble(alloc, &files).ok()
+/// Puts a schema file; none where its text is none.
+pub fn put_file(alloc: Global, files: &mut Files, name: &FileName, text: &str) -> Option<()> {
+    let document = parse_sdl(alloc, name.copy(), text).ok()?;
+    let document = Shared::new(alloc, document).ok()?;
+    files.schema.put(name.copy(), document).ok()
 }

@@ -3,10 +3,23 @@
 #![tactic(auto)]
 
 mod answer;
+mod built_in;
+mod circles;
+mod cursors;
+mod documents;
 mod faults;
+mod file_maps;
 mod inputs;
+mod joined;
+mod levels;
+mod look_ups;
+mod quoted;
 mod row;
+mod steps;
 mod table;
+mod texts;
+mod tokens;
+mod trees;
 mod values;
 mod written;
 

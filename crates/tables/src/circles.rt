@@ -1,0 +1,69 @@
+//! Names and places that lead to one another, and which lead back to themselves.
+use crate::inputs::json_in;
+use crate::joined::join;
+use gql_circles::{Row, circles, circles_of_places};
+use serde_json::Value;
+use std::alloc::{AllocError, Global};
+
+/// The row that a text is: `NAME -> NAME NAME`.
+fn row_in(alloc: Global, text: &str) -> Option<Row<'_>> {
+    let (name, leads) = text.split_once(" ->")?;
+    let mut row = Row {
+        name,
+        leads: Vec::new(alloc),
+    };
+    for lead in leads.split_whitespace() {
+        row.leads.push(lead).ok()?;
+    }
+    Some(row)
+}
+
+fn rows_in(alloc: Global, text: &str) -> Option<Vec<Row<'_>>> {
+    let mut rows = Vec::new(alloc);
+    if text.is_empty() {
+        return Some(rows);
+    }
+    for row in text.split(", ") {
+        rows.push(row_in(alloc, row)?).ok()?;
+    }
+    Some(rows)
+}
+
+fn joined(alloc: Global, names: &[&str]) -> Result<String, AllocError> {
+    let mut joined = String::new(alloc);
+    for name in names {
+        join(&mut joined, " ", name)?;
+    }
+    Ok(joined)
+}
+
+/// The names that lead back to themselves, in the order of their bytes: `NAME -> NAME NAME, NAME -> NAME`.
+pub fn circles_answer(alloc: Global, question: &str) -> Option<String> {
+    let rows = rows_in(alloc, question)?;
+    let mut names = circles(alloc, rows.as_slice()).ok()?;
+    names.sort().ok()?;
+    joined(alloc, names.as_slice()).ok()
+}
+
+fn places_in(alloc: Global, value: &Value) -> Option<Vec<usize>> {
+    let mut places = Vec::new(alloc);
+    for place in value.as_array()? {
+        places.push(usize::try_from(place.as_u64()?).ok()?).ok()?;
+    }
+    Some(places)
+}
+
+fn edges_in(alloc: Global, value: &Value) -> Option<Vec<Vec<usize>>> {
+    let mut edges = Vec::new(alloc);
+    for places in value.as_array()? {
+        edges.push(places_in(alloc, places)?).ok()?;
+    }
+    Some(edges)
+}
+
+/// The places that lead back to themselves, in their order, of a list of JSON with the list of the places to which each leads.
+pub fn places_answer(alloc: Global, question: &str) -> Option<String> {
+    let edges = edges_in(alloc, &json_in(alloc, question)?)?;
+    let places = circles_of_places(alloc, edges.as_slice()).ok()?;
+    format!(in alloc; "{places:?}").ok()
+}

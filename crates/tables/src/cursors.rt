@@ -1,0 +1,119 @@
+//! A cursor over the tokens of a text that is read step after step.
+use crate::quoted::quoted;
+use crate::steps::{Stepped, parts_of, steps_answer, yes_or_no};
+use crate::tokens::written_token;
+use crate::trees::{Written, optional, written_items};
+use gql_grammar::{Cursor, ParseError};
+use gql_parse::{definition, directives, name, optional_default, set, type_ref, value};
+use gql_text::{Kind, lex};
+use std::alloc::{AllocError, Global};
+
+/// The kind of a token's text, and that of the end where the text is empty.
+fn kind_of(alloc: Global, text: &str) -> Option<Kind> {
+    match lex(alloc, text).ok()?.first() {
+        Some(token) => Some(token.kind),
+        None => Some(Kind::EndOfText),
+    }
+}
+
+/// Why nothing was read: so many tokens are left.
+fn written_error(alloc: Global, error: ParseError) -> Result<String, AllocError> {
+    match error {
+        ParseError::Unexpected(left) => format!(in alloc; "refused {left}"),
+        ParseError::Memory => String::from_str(alloc, "memory"),
+    }
+}
+
+fn written_read(
+    alloc: Global,
+    read: Result<Result<String, AllocError>, ParseError>,
+) -> Result<String, AllocError> {
+    match read {
+        Ok(written) => written,
+        Err(error) => written_error(alloc, error),
+    }
+}
+
+/// What a step that only looks answers.
+fn looked(alloc: Global, cursor: &Cursor<'_>, word: &str, rest: &str) -> Option<String> {
+    match word {
+        "left" => {
+            let left = cursor.left();
+            format!(in alloc; "{left}").ok()
+        }
+        "kind" => {
+            let kind = cursor.kind();
+            format!(in alloc; "{kind:?}").ok()
+        }
+        "text" => quoted(alloc, cursor.text()).ok(),
+        "sees" => yes_or_no(alloc, cursor.sees(kind_of(alloc, rest)?)),
+        "before" => yes_or_no(alloc, cursor.before(kind_of(alloc, rest)?)),
+        "sees-word" => yes_or_no(alloc, cursor.sees_word(rest)),
+        "refuse" => written_error(alloc, cursor.refuse()).ok(),
+        "end" => match cursor.end() {
+            Ok(()) => String::from_str(alloc, "end").ok(),
+            Err(error) => written_error(alloc, error).ok(),
+        },
+        _ => None,
+    }
+}
+
+/// What a step that takes a token answers.
+fn taken(alloc: Global, cursor: &mut Cursor<'_>, word: &str, rest: &str) -> Option<String> {
+    let read = match word {
+        "take" => cursor.take_if(true),
+        "leave" => cursor.take_if(false),
+        "expect" => cursor.expect(kind_of(alloc, rest)?),
+        "expect-word" => cursor.expect_word(rest),
+        _ => return None,
+    };
+    written_read(alloc, read.map(|token| written_token(alloc, &token))).ok()
+}
+
+/// What a step that reads a part of a document answers.
+fn part(alloc: Global, cursor: &mut Cursor<'_>, word: &str) -> Option<String> {
+    let read = match word {
+        "name" => name(alloc, cursor).map(|name| name.written(alloc)),
+        "type" => type_ref(alloc, cursor).map(|of_type| of_type.written(alloc)),
+        "default" => {
+            optional_default(alloc, cursor).map(|default| optional(alloc, "", &default, ""))
+        }
+        "directives" => directives(alloc, cursor, true).map(|directives| written_items(
+            alloc,
+            directives.as_slice(),
+        )),
+        "set" => set(alloc, cursor).map(|set| written_items(alloc, set.as_slice())),
+        "value" => value(alloc, cursor, false).map(|value| value.written(alloc)),
+        "constant" => value(alloc, cursor, true).map(|value| value.written(alloc)),
+        "definition" => definition(alloc, cursor).map(|tree| tree.written(alloc)),
+        _ => return None,
+    };
+    written_read(alloc, read).ok()
+}
+
+#[derive(Drop)]
+struct Reader<'a> {
+    cursor: Cursor<'a>,
+}
+
+impl Stepped for Reader<'_> {
+    fn step(&mut self, alloc: Global, step: &str) -> Option<String> {
+        let (word, rest) = parts_of(step);
+        if let Some(answer) = looked(alloc, &self.cursor, word, rest) {
+            return Some(answer);
+        }
+        if let Some(answer) = taken(alloc, &mut self.cursor, word, rest) {
+            return Some(answer);
+        }
+        part(alloc, &mut self.cursor, word)
+    }
+}
+
+/// What the steps of a cursor over the tokens of a text answer.
+pub fn cursor_answer(alloc: Global, text: &str, steps: &str) -> Option<String> {
+    let tokens = lex(alloc, text).ok()?;
+    let mut reader = Reader {
+        cursor: Cursor::new(tokens.as_slice()),
+    };
+    steps_answer(alloc, &mut reader, steps)
+}
