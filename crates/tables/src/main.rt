@@ -3,11 +3,20 @@
 #![tactic(auto)]
 
 mod answer;
+mod answer_heads;
+mod bytes;
+mod commands;
+mod devices;
 mod faults;
+mod hubs;
 mod inputs;
+mod pipes;
+mod quoted;
 mod row;
+mod streams;
 mod table;
 mod values;
+mod wire;
 mod written;
 
 use anyhow::Result;

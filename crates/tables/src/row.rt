@@ -2,6 +2,7 @@ use crate::answer::written_answer;
 use crate::faults::written_faults;
 use crate::inputs::schema_of;
 use crate::values::value_answer;
+use crate::wire::wire_answer;
 use gql_ast::FileName;
 use gql_parse::parse;
 use gql_parse_sdl::{parse_any, parse_sdl};
@@ -53,16 +54,33 @@ impl Row {
         }
     }
 
+    /// Begins a file of that name.
+    fn begin(&mut self, name: &str) -> Result<(), AllocError> {
+        self.put();
+        self.name = String::from_str(self.alloc, name)?;
+        self.text = String::new(self.alloc);
+        Ok(())
+    }
+
     /// Adds a line to the file of that name: to the one at hand, or to a new one.
     pub fn add(&mut self, name: &str, line: &str) -> Result<(), AllocError> {
         if self.name.as_str() == name {
             self.text.push_str("\n")?;
         } else {
-            self.put();
-            self.name = String::from_str(self.alloc, name)?;
-            self.text = String::new(self.alloc);
+            self.begin(name)?;
         }
         self.text.push_str(line)
+    }
+
+    /// Adds a text so many times to the file at hand, with no line break, or else to a new one.
+    pub fn add_text(&mut self, text: &str, times: u32) -> Result<(), AllocError> {
+        if self.name.is_empty() {
+            self.begin("s")?;
+        }
+        for _ in 0..times {
+            self.text.push_str(text)?;
+        }
+        Ok(())
     }
 
     /// The faults of the report on the row's files, or `refused`.
@@ -109,6 +127,8 @@ impl Row {
     pub fn answer(&mut self, question: &str) -> Result<String, AllocError> {
         if question == "report" {
             self.report()
+        } else if let Some(answer) = wire_answer(self.alloc, self.text.as_str(), question) {
+            Ok(answer)
         } else if question.contains(" ") {
             self.value_answer(question)
         } else {

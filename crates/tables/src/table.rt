@@ -1,3 +1,4 @@
+use crate::quoted::unquoted;
 use crate::row::Row;
 use std::alloc::{AllocError, Global};
 
@@ -40,13 +41,28 @@ impl Table {
         Ok(())
     }
 
-    /// Adds a line of a file.
-    fn add(&mut self, name: &str, text: &str) -> Result<(), AllocError> {
+    /// Begins another row where a question was asked of the one at hand.
+    fn begin(&mut self) {
         if self.is_asked {
             self.row = Row::new(self.alloc);
             self.is_asked = false;
         }
+    }
+
+    /// Adds a line of a file.
+    fn add(&mut self, name: &str, text: &str) -> Result<(), AllocError> {
+        self.begin();
         self.row.add(name, text.strip_prefix(" ").unwrap_or(text))
+    }
+
+    /// Adds what a line `text STRING` or `text STRING times COUNT` says, whose string is one of JSON.
+    fn add_text(&mut self, line: &str) -> Result<(), AllocError> {
+        self.begin();
+        let (text, times) = line.rsplit_once(" times ").unwrap_or((line, "1"));
+        match (unquoted(self.alloc, text), times.parse::<u32>()) {
+            (Some(text), Ok(times)) => self.row.add_text(text.as_str(), times),
+            _ => self.ask("no such question", line),
+        }
     }
 
     /// Reads a line.
@@ -54,11 +70,19 @@ impl Table {
         if line.starts_with("#") {
             return Ok(());
         }
-        if let Some((name, text)) = line.split_once("|") {
+        if let Some(text) = line.strip_prefix("text ") {
+            return self.add_text(text);
+        }
+        if let Some((name, text)) = line.split_once("|")
+            && !name.contains(" ")
+        {
             return self.add(name, text);
         }
         if let Some((question, expected)) = line.split_once(" => ") {
             return self.ask(question, expected);
+        }
+        if let Some(question) = line.strip_suffix(" =>") {
+            return self.ask(question, "");
         }
         match line.split_once(":") {
             Some((question, expected)) => self.ask(question, expected.trim_start()),

@@ -2,9 +2,9 @@
 //! well written.
 use crate::inputs::{document_in, field_of, json_in, literal_in, operation_of, type_in};
 use crate::written::{written_misfits, written_option, written_value};
+use gql_coerce::{coerce_arguments, coerce_json, coerce_literal, coerce_variables};
 use gql_inputs::{bad_values, fits};
 use gql_types::Schema;
-use gql_coerce::{coerce_arguments, coerce_json, coerce_literal, coerce_variables};
 use std::alloc::Global;
 
 /// A question, and the object of the variables' values behind its word `with`.

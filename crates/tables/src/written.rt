@@ -1,6 +1,6 @@
 //! What the coercion of values comes to, as the table writes it.
-use gql_inputs::BadValue;
 use gql_coerce::{CoerceFault, Refusal, path_text};
+use gql_inputs::BadValue;
 use serde_json::Value;
 use std::alloc::{AllocError, Global};
 
