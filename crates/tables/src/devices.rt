@@ -1,10 +1,14 @@
 //! Devices, which move some bytes a call.
 use crate::bytes::{bytes_in, quoted_bytes};
+use crate::joined::join;
 use gql_wire::{MemSink, MemSource, ReadDevice, Source, WriteDevice, write_all};
 use std::alloc::Global;
 
 /// How many bytes a read asks for.
 const PIECE_BYTES: usize = 4;
+
+/// How many reads are made at most.
+const MOST_READS: u64 = 1_000;
 
 /// The most bytes that a call moves, and how many calls go well before one fails, if one does.
 #[derive(Clone, Copy)]
@@ -29,16 +33,16 @@ impl Moves {
     }
 }
 
-/// What a read brings: bytes, the end, or a failure.
-fn read_once(alloc: Global, source: &mut MemSource<'_>) -> Option<String> {
-    if source.reads > 1_000 || source.failures > 1_000 {
+/// What a read brings, and whether more may come behind it; none where too many were made.
+fn read_once(alloc: Global, source: &mut MemSource<'_>) -> Option<(String, bool)> {
+    if source.reads > MOST_READS || source.failures > MOST_READS {
         return None;
     }
     let mut piece = [0; PIECE_BYTES];
     match source.read(&mut piece) {
-        Ok(0) => String::from_str(alloc, "end").ok(),
-        Ok(count) => quoted_bytes(alloc, &piece[..count]).ok(),
-        Err(_) => String::from_str(alloc, "failed").ok(),
+        Ok(0) => Some((String::from_str(alloc, "end").ok()?, false)),
+        Ok(count) => Some((quoted_bytes(alloc, &piece[..count]).ok()?, true)),
+        Err(_) => Some((String::from_str(alloc, "failed").ok()?, false)),
     }
 }
 
@@ -51,18 +55,17 @@ pub fn source_answer(alloc: Global, text: &str, moves: &str) -> Option<String> {
     }
     let mut source = MemSource::new(bytes.as_slice(), moves.most, moves.failing);
     let mut written = String::new(alloc);
-    for _ in 0..1_000 {
-        let brought = read_once(alloc, &mut source)?;
-        written.push_str(brought.as_str()).ok()?;
-        if brought.as_str() == "end" || brought.as_str() == "failed" {
+    for _ in 0..MOST_READS {
+        let (brought, goes_on) = read_once(alloc, &mut source)?;
+        join(&mut written, ", ", brought.as_str()).ok()?;
+        if !goes_on {
             break;
         }
-        written.push_str(", ").ok()?;
     }
     let written = written.as_str();
     let reads = source.reads;
     let failures = source.failures;
-    format!(in alloc; "{written}; {reads} reads, {failures} failed").ok()
+    format!(in alloc; "{written}; reads: {reads}, failures: {failures}").ok()
 }
 
 /// What a sink in memory holds once a text is written to it, or a part where a write fails: `MOVES`.
@@ -80,7 +83,7 @@ pub fn sink_answer(alloc: Global, text: &str, moves: &str) -> Option<String> {
     let held = quoted_bytes(alloc, sink.bytes.as_slice()).ok()?;
     let held = held.as_str();
     let failures = sink.failures;
-    format!(in alloc; "{held} {end}; {failures} failed").ok()
+    format!(in alloc; "{held} {end}; failures: {failures}").ok()
 }
 
 /// What a read brings from a reader of the operating system's kind, and how many were made.
@@ -92,7 +95,7 @@ pub fn reader_answer(alloc: Global, text: &str) -> Option<String> {
     let brought = quoted_bytes(alloc, &piece[..count]).ok()?;
     let brought = brought.as_str();
     let reads = reader.reads;
-    format!(in alloc; "{brought}; {reads} reads").ok()
+    format!(in alloc; "{brought}; reads: {reads}").ok()
 }
 
 /// What a writer of the operating system's kind holds once a text is written to it.

@@ -1,5 +1,6 @@
 //! The service: its answers to a stream of requests, and its connections.
 use crate::bytes::{bytes_in, quoted_bytes};
+use crate::joined::join;
 use gql_http::{Hub, OpenRefusal};
 use gql_registry::Registry;
 use std::alloc::Global;
@@ -58,11 +59,8 @@ fn step_answer(hub: &mut Hub, step: &str) -> Option<&'static str> {
 pub fn connections_answer(alloc: Global, steps: &str) -> Option<String> {
     let mut hub = Hub::new(alloc, Registry::new(alloc));
     let mut written = String::new(alloc);
-    let mut before = "";
     for step in steps.split(", ") {
-        written.push_str(before).ok()?;
-        written.push_str(step_answer(&mut hub, step)?).ok()?;
-        before = ", ";
+        join(&mut written, ", ", step_answer(&mut hub, step)?).ok()?;
     }
     Some(written)
 }

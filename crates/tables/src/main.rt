@@ -10,6 +10,7 @@ mod devices;
 mod faults;
 mod hubs;
 mod inputs;
+mod joined;
 mod pipes;
 mod quoted;
 mod row;

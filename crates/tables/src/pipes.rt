@@ -7,7 +7,7 @@ use gql_registry::Registry;
 use gql_wire::{MemSink, MemSource};
 use std::alloc::Global;
 
-/// How a pipe of a service on an empty registry ends.
+/// How a pipe of a service on an empty registry ends, whose devices are new; none where they are not.
 fn piped(
     alloc: Global,
     source: &mut MemSource<'_>,

@@ -1,5 +1,6 @@
 //! The requests of a stream of bytes (RFC 9112, 2 and 3), which comes in pieces.
 use crate::bytes::{bytes_in, characters, quoted_bytes};
+use crate::joined::join;
 use gql_wire::{Framed, Framer};
 use std::alloc::{AllocError, Global};
 
@@ -92,15 +93,12 @@ impl Stream {
     /// Its requests, and `rest` where an unfinished one is held.
     fn written(&self) -> Result<String, AllocError> {
         let mut written = String::new(self.alloc);
-        let mut before = "";
         for framed in self.found.as_slice() {
-            written.push_str(before)?;
-            written.push_str(written_request(self.alloc, framed)?.as_str())?;
-            before = "; ";
+            let request = written_request(self.alloc, framed)?;
+            join(&mut written, "; ", request.as_str())?;
         }
         if self.framer.has_rest() {
-            written.push_str(before)?;
-            written.push_str("rest")?;
+            join(&mut written, "; ", "rest")?;
         }
         if written.is_empty() {
             written.push_str("nothing")?;
