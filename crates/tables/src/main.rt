@@ -3,24 +3,32 @@
 #![tactic(auto)]
 
 mod answer;
+mod answer_heads;
 mod built_in;
+mod bytes;
 mod circles;
+mod commands;
 mod cursors;
+mod devices;
 mod documents;
 mod faults;
 mod file_maps;
+mod hubs;
 mod inputs;
 mod joined;
 mod levels;
 mod look_ups;
+mod pipes;
 mod quoted;
 mod row;
 mod steps;
+mod streams;
 mod table;
 mod texts;
 mod tokens;
 mod trees;
 mod values;
+mod wire;
 mod written;
 
 use anyhow::Result;

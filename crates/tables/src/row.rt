@@ -3,6 +3,7 @@ use crate::inputs::put_file;
 use crate::look_ups::look_up_answer;
 use crate::texts::text_answer;
 use crate::values::value_answer;
+use crate::wire::wire_answer;
 use gql_ast::{FileName, Files};
 use gql_registry::Registry;
 use gql_types::{Schema, assemble};
@@ -123,7 +124,11 @@ impl Row {
         if question == "report" {
             return self.report();
         }
-        match text_answer(self.alloc, self.text.as_str(), question) {
+        let text = self.text.as_str();
+        if let Some(answer) = text_answer(self.alloc, text, question) {
+            return Ok(answer);
+        }
+        match wire_answer(self.alloc, text, question) {
             Some(answer) => Ok(answer),
             None => self.schema_answer(question),
         }

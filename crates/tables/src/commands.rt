@@ -1,0 +1,22 @@
+use gql_command::{Command, CommandFault, read_command};
+use std::alloc::{AllocError, Global};
+
+fn words_in(alloc: Global, line: &str) -> Result<Vec<String>, AllocError> {
+    let mut words = Vec::new(alloc);
+    for word in line.split_whitespace() {
+        words.push(String::from_str(alloc, word)?)?;
+    }
+    Ok(words)
+}
+
+/// What the words of a command line ask for, the program's name first.
+pub fn command_answer(alloc: Global, line: &str) -> Option<String> {
+    let words = words_in(alloc, line).ok()?;
+    let answer = match read_command(alloc, words.as_slice()) {
+        Ok(Command::Pipe) => "pipe",
+        Err(CommandFault::Help(_)) => "help",
+        Err(CommandFault::Refused(_)) => "refused",
+        Err(CommandFault::Memory) => "memory",
+    };
+    String::from_str(alloc, answer).ok()
+}
