@@ -2,10 +2,10 @@
 use crate::quoted::quoted;
 use crate::steps::{Stepped, parts_of, steps_answer, yes_or_no};
 use crate::tokens::written_token;
-use crate::trees::{Written, optional, written_items};
+use crate::trees::Written;
 use gql_grammar::{Cursor, ParseError};
 use gql_parse::{definition, directives, name, optional_default, set, type_ref, value};
-use gql_text::{Kind, lex};
+use gql_text::{Kind, Token, lex};
 use std::alloc::{AllocError, Global};
 
 /// The kind of a token's text, and that of the end where the text is empty.
@@ -24,13 +24,17 @@ fn written_error(alloc: Global, error: ParseError) -> Result<String, AllocError>
     }
 }
 
-fn written_read(
-    alloc: Global,
-    read: Result<Result<String, AllocError>, ParseError>,
-) -> Result<String, AllocError> {
+impl Written for Token<'_> {
+    fn written(&self, alloc: Global) -> Result<String, AllocError> {
+        written_token(alloc, self)
+    }
+}
+
+/// What was read, or why nothing was.
+fn written_read<T: Written>(alloc: Global, read: &Result<T, ParseError>) -> Option<String> {
     match read {
-        Ok(written) => written,
-        Err(error) => written_error(alloc, error),
+        Ok(read) => read.written(alloc).ok(),
+        Err(error) => written_error(alloc, *error).ok(),
     }
 }
 
@@ -67,28 +71,22 @@ fn taken(alloc: Global, cursor: &mut Cursor<'_>, word: &str, rest: &str) -> Opti
         "expect-word" => cursor.expect_word(rest),
         _ => return None,
     };
-    written_read(alloc, read.map(|token| written_token(alloc, &token))).ok()
+    written_read(alloc, &read)
 }
 
 /// What a step that reads a part of a document answers.
 fn part(alloc: Global, cursor: &mut Cursor<'_>, word: &str) -> Option<String> {
-    let read = match word {
-        "name" => name(alloc, cursor).map(|name| name.written(alloc)),
-        "type" => type_ref(alloc, cursor).map(|of_type| of_type.written(alloc)),
-        "default" => {
-            optional_default(alloc, cursor).map(|default| optional(alloc, "", &default, ""))
-        }
-        "directives" => directives(alloc, cursor, true).map(|directives| written_items(
-            alloc,
-            directives.as_slice(),
-        )),
-        "set" => set(alloc, cursor).map(|set| written_items(alloc, set.as_slice())),
-        "value" => value(alloc, cursor, false).map(|value| value.written(alloc)),
-        "constant" => value(alloc, cursor, true).map(|value| value.written(alloc)),
-        "definition" => definition(alloc, cursor).map(|tree| tree.written(alloc)),
-        _ => return None,
-    };
-    written_read(alloc, read).ok()
+    match word {
+        "name" => written_read(alloc, &name(alloc, cursor)),
+        "type" => written_read(alloc, &type_ref(alloc, cursor)),
+        "default" => written_read(alloc, &optional_default(alloc, cursor)),
+        "directives" => written_read(alloc, &directives(alloc, cursor, true)),
+        "set" => written_read(alloc, &set(alloc, cursor)),
+        "value" => written_read(alloc, &value(alloc, cursor, false)),
+        "constant" => written_read(alloc, &value(alloc, cursor, true)),
+        "definition" => written_read(alloc, &definition(alloc, cursor)),
+        _ => None,
+    }
 }
 
 #[derive(Drop)]

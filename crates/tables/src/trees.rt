@@ -7,7 +7,7 @@ mod type_systems;
 
 use crate::answer::parsed;
 use crate::joined::join;
-use gql_ast::{Name, Text, Tree};
+use gql_ast::{Items, Name, Text, Tree};
 use gql_text::Place;
 use std::alloc::{AllocError, Global};
 
@@ -18,7 +18,7 @@ pub trait Written {
 }
 
 /// The items, each but the first behind a blank.
-pub fn written_items<T: Written>(alloc: Global, items: &[T]) -> Result<String, AllocError> {
+fn written_items<T: Written>(alloc: Global, items: &[T]) -> Result<String, AllocError> {
     let mut written = String::new(alloc);
     for item in items {
         join(&mut written, " ", item.written(alloc)?.as_str())?;
@@ -57,9 +57,21 @@ pub fn optional<T: Written>(
     item: &Option<T>,
     behind: &str,
 ) -> Result<String, AllocError> {
-    match item {
-        Some(item) => between(alloc, before, item.written(alloc)?.as_str(), behind),
-        None => Ok(String::new(alloc)),
+    between(alloc, before, item.written(alloc)?.as_str(), behind)
+}
+
+impl<T: Written> Written for Items<T> {
+    fn written(&self, alloc: Global) -> Result<String, AllocError> {
+        written_items(alloc, self.as_slice())
+    }
+}
+
+impl<T: Written> Written for Option<T> {
+    fn written(&self, alloc: Global) -> Result<String, AllocError> {
+        match self {
+            Some(item) => item.written(alloc),
+            None => Ok(String::new(alloc)),
+        }
     }
 }
 
