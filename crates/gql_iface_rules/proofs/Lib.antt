@@ -1,6 +1,11 @@
 pub mod AtNames
 pub mod Members
 pub mod Names
+pub mod S19Firsts
+pub mod S19Gaps
+pub mod S19Joins
+pub mod S19Lacking
+pub mod S19Literals
 pub mod S19Steps
 pub mod S19Told
 pub mod Steps

@@ -7,29 +7,27 @@ use Rattle.gql_ast.specs.declared.literal.Literal.{Literal}
 use Rattle.gql_ast.specs.declared.literal.ObjectField.{ObjectField}
 use Rattle.gql_ast.specs.declared.type_system.InputValueDefinition.{InputValueDefinition}
 use Rattle.gql_built_in.specs.declared.sited.Sited.{Sited}
-use Rattle.gql_iface_rules.specs.S19DefaultCircles.{Numbered, NumberedObject, Given, needs, given, needed_by, lacked, object_needs, input_objects, fields_of, numbered_from, objects_from}
+use Rattle.gql_iface_rules.specs.S19DefaultCircles.{Numbered, NumberedObject, Standing, Given, standings, given, standing_in, object_standings, input_objects, fields_of, numbered_from, objects_from}
 use Rattle.gql_types.specs.Kinds.{same_kind}
 use Rattle.gql_types.specs.Written.{Written}
 use Rattle.gql_types.specs.declared.kind.TypeKind.TheVariants.{InputObject}
 use Rattle.gql_types.specs.declared.schema_type.SchemaType.{SchemaType}
 
-pub no_needs : (xs : List ℕ) (all : List NumberedObject) (is_item : Bool) (t : Written) (x : Literal) → needs all x is_item t ≡ [] → xs ≡ xs ++ needs all x is_item t
-no_needs xs all is_item t x is = rw is (sym (append-nil xs))
+pub no_standings : (xs : List Standing) (all : List NumberedObject) (is_item : Bool) (t : Written) (x : Literal) → standings all x is_item t ≡ [] → xs ≡ xs ++ standings all x is_item t
+no_standings xs all is_item t x is = rw is (sym (append-nil xs))
 
 -- what was given has its names
 pub given_names : (all : List NumberedObject) (fields : List ObjectField) → map (λ (f : Given). f.name) (map (given all) fields) ≡ map (λ (f : ObjectField). f.name.text) fields
 given_names all [] = refl
 given_names all (f ∷ fields) = ap (λ (ns : List (List ℕ)). f.name.text ∷ ns) (given_names all fields)
 
--- what an object needs is what its fields need and what it lacks
-pub both_needs : (all : List NumberedObject) (fields : List ObjectField) (o : NumberedObject) (inputs : List Numbered) (start middle after : List ℕ) → inputs ≡ o.inputs →
-    middle ≡ start ++ flat_map (needed_by o.of_type) (map (given all) fields) → after ≡ middle ++ flat_map (lacked (map (λ (f : ObjectField). f.name.text) fields)) inputs →
-    after ≡ start ++ object_needs (map (given all) fields) o
-both_needs all fields o inputs start middle after same first second =
-    second ∙ ap (λ (xs : List ℕ). xs ++ flat_map (lacked (map (λ (f : ObjectField). f.name.text) fields)) inputs) first
-    ∙ append_assoc start (flat_map (needed_by o.of_type) (map (given all) fields)) (flat_map (lacked (map (λ (f : ObjectField). f.name.text) fields)) inputs)
-    ∙ ap (λ (is : List Numbered). start ++ (flat_map (needed_by o.of_type) (map (given all) fields) ++ flat_map (lacked (map (λ (f : ObjectField). f.name.text) fields)) is)) same
-    ∙ ap (λ (ns : List (List ℕ)). start ++ (flat_map (needed_by o.of_type) (map (given all) fields) ++ flat_map (lacked ns) o.inputs)) (sym (given_names all fields))
+-- the objects of an object are those within its fields, and the object itself
+pub with_itself : (all : List NumberedObject) (fields : List ObjectField) (o : NumberedObject) (start middle after : List Standing) → middle ≡ start ++ flat_map (standing_in o.of_type) (map (given all) fields) →
+    after ≡ middle ++ record { input_object = o; names = map (λ (f : ObjectField). f.name.text) fields } ∷ [] → after ≡ start ++ object_standings (map (given all) fields) o
+with_itself all fields o start middle after first second =
+    second ∙ ap (λ (xs : List Standing). xs ++ record { input_object = o; names = map (λ (f : ObjectField). f.name.text) fields } ∷ []) first
+    ∙ append_assoc start (flat_map (standing_in o.of_type) (map (given all) fields)) (record { input_object = o; names = map (λ (f : ObjectField). f.name.text) fields } ∷ [])
+    ∙ ap (λ (ns : List (List ℕ)). start ++ (flat_map (standing_in o.of_type) (map (given all) fields) ++ record { input_object = o; names = ns } ∷ [])) (sym (given_names all fields))
 
 -- one field more
 pub numbered_push : (n : ℕ) (fields : List (Sited InputValueDefinition)) (f : Sited InputValueDefinition) → numbered_from n (fields ++ f ∷ []) ≡ numbered_from n fields ++ record { number = n + length fields; field = f } ∷ []
@@ -40,7 +38,7 @@ numbered_push n (x ∷ fields) f = ap (λ (r : List Numbered). record { number =
 -- more types
 pub objects_append : (n : ℕ) (xs ys : List SchemaType) → objects_from n (xs ++ ys) ≡ objects_from n xs ++ objects_from (n + length (fields_of xs)) ys
 objects_append n [] ys = ap (λ (k : ℕ). objects_from k ys) (omega arith)
-objects_append n (t ∷ xs) ys = ap (λ (r : List NumberedObject). record { of_type = t; inputs = numbered_from n t.input_fields } ∷ r)
+objects_append n (t ∷ xs) ys = ap (λ (r : List NumberedObject). record { of_type = t; numbers = record { start = n; end = n + length t.input_fields }; inputs = numbered_from n t.input_fields } ∷ r)
     (objects_append (n + length t.input_fields) xs ys ∙ ap (λ (k : ℕ). objects_from (n + length t.input_fields) xs ++ objects_from k ys) (omega (arith, length-append t.input_fields (fields_of xs))))
 
 pub numbered_step : (n : ℕ) (fields : List (Sited InputValueDefinition)) (i k : ℕ) (f : Sited InputValueDefinition) (before after : List Numbered) → i < length fields → get_or fields i f ≡ f →
@@ -58,6 +56,13 @@ an_object t is = rw is refl
 
 pub no_object : (t : SchemaType) → same_kind t.kind InputObject ≡ false → input_objects (t ∷ []) ≡ []
 no_object t is = rw is refl
+
+pub object_added : (t : SchemaType) (n start end : ℕ) (inputs : List Numbered) (before after : List NumberedObject) → same_kind t.kind InputObject ≡ true → inputs ≡ numbered_from n t.input_fields → start ≡ n → end ≡ n + length t.input_fields →
+    after ≡ before ++ record { of_type = t; numbers = record { start = start; end = end }; inputs = inputs } ∷ [] → after ≡ before ++ objects_from n (input_objects (t ∷ []))
+object_added t n start end inputs before after is fields first last added = rw (an_object t is)
+    (added ∙ ap (λ (is : List Numbered). before ++ record { of_type = t; numbers = record { start = start; end = end }; inputs = is } ∷ []) fields
+    ∙ ap (λ (k : ℕ). before ++ record { of_type = t; numbers = record { start = k; end = end }; inputs = numbered_from n t.input_fields } ∷ []) first
+    ∙ ap (λ (k : ℕ). before ++ record { of_type = t; numbers = record { start = n; end = k }; inputs = numbered_from n t.input_fields } ∷ []) last)
 
 -- one type more
 module _ {A : Type 0} (g : A → Sited InputValueDefinition) (types : List SchemaType) (i : ℕ) (t : SchemaType) (within : i < length types) (item : get_or types i t ≡ t) where

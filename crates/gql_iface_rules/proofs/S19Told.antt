@@ -1,5 +1,5 @@
 -- What is told at the input fields whose defaults lead back to themselves.
-use Rattle.std.proofs.Common.{◌≡◌, ◌≤◌, ◌++◌, ℕ, List, false, length, map, flat_map, nat_lt, sym, ◌∙◌, ap, subst, append-nil, arith}
+use Rattle.std.proofs.Common.{◌≡◌, ◌≤◌, ◌++◌, ℕ, List, false, length, map, flat_map, nat_lt, sym, ◌∙◌, ap, append-nil, arith}
 use Rattle.std.specs.Prelude.{Contains}
 use Rattle.std.proofs.lemmas.Bool.Decides.{nat_tests}
 use Rattle.std.proofs.lemmas.List.{length-map}
@@ -19,16 +19,13 @@ nothing_told g fields number faults past =
     let none = slice_get_past (map g fields) number (omega (arith, le, length-map fields g)) in
     rw none (sym (append-nil faults))
 
-module _ (s : Schema) (fields : List (Sited InputValueDefinition)) (graph : List (List ℕ)) (numbers numbers' : List ℕ) (found : List Fault) (all : fields ≡ all_inputs s) (edges : graph ≡ default_graph s)
+module _ (s : Schema) (fields : List (Sited InputValueDefinition)) (numbers numbers' : List ℕ) (found : List Fault) (all : fields ≡ all_inputs s)
     (is : found ≡ flat_map (at_number fields) numbers') (same : numbers' ≡ numbers) where
   told : found ≡ flat_map (at_number (all_inputs s)) numbers
   told = is ∙ ap (flat_map (at_number fields)) same ∙ ap (λ (fs : List (Sited InputValueDefinition)). flat_map (at_number fs) numbers) all
 
-  pub told_sound : ((i : ℕ) → Contains numbers i → Trail graph i i) → (f : Fault) → Contains found f → IsDefaultCircle s f
-  told_sound sound f h =
-      let m = told_from (at_number (all_inputs s)) numbers found told f h in
-      (m.0, subst (λ (g : List (List ℕ)). Trail g m.0 m.0) edges (sound m.0 m.1), m.2)
+  pub told_sound : ((i : ℕ) → Contains numbers i → Trail (default_graph s) i i) → (f : Fault) → Contains found f → IsDefaultCircle s f
+  told_sound sound f h = let m = told_from (at_number (all_inputs s)) numbers found told f h in (m.0, sound m.0 m.1, m.2)
 
-  pub told_complete : ((i : ℕ) → Trail graph i i → Contains numbers i) → (f : Fault) → IsDefaultCircle s f → Contains found f
-  told_complete complete f h = told_at (at_number (all_inputs s)) numbers found told h.0 f
-      (complete h.0 (subst (λ (g : List (List ℕ)). Trail g h.0 h.0) (sym edges) h.1)) h.2
+  pub told_complete : ((i : ℕ) → Trail (default_graph s) i i → Contains numbers i) → (f : Fault) → IsDefaultCircle s f → Contains found f
+  told_complete complete f h = told_at (at_number (all_inputs s)) numbers found told h.0 f (complete h.0 h.1) h.2

@@ -11,6 +11,8 @@ pub mod S14Further
 pub mod S15Covariant
 pub mod S17InputCircles
 pub mod S19DefaultCircles
+pub mod S19Ends
 pub mod S19Inputs
-pub mod S19Needs
+pub mod S19Ranges
+pub mod S19Standings
 pub mod S26DirectiveCircles

@@ -14,6 +14,7 @@ use Rattle.gql_built_in.specs.declared.sited.Sited.{Sited}
 use Rattle.gql_circles.specs.Graph.{Trail}
 use Rattle.gql_inputs.specs.InputTypes.{item_of, is_list, name_in}
 use Rattle.gql_faults.specs.Faults.{fault_of, where_known}
+use Rattle.gql_ranges.specs.declared.cover.Range.{Range}
 use Rattle.gql_types.specs.Kinds.{same_kind}
 use Rattle.gql_types.specs.Possible.{name_of}
 use Rattle.gql_types.specs.Written.{Written, written}
@@ -46,11 +47,13 @@ numbered_from n (f ∷ fields) = record { number = n; field = f } ∷ numbered_f
 -- an input object, and the numbers of its fields
 pub record NumberedObject : Type 0 where
   pub of_type : SchemaType
+  pub numbers : Range
   pub inputs : List Numbered
 
 abbrev pub objects_from : ℕ → List SchemaType → List NumberedObject
 objects_from n [] = []
-objects_from n (t ∷ types) = record { of_type = t; inputs = numbered_from n t.input_fields } ∷ objects_from (n + length t.input_fields) types
+objects_from n (t ∷ types) =
+    record { of_type = t; numbers = record { start = n; end = n + length t.input_fields }; inputs = numbered_from n t.input_fields } ∷ objects_from (n + length t.input_fields) types
 
 abbrev pub objects : Schema → List NumberedObject
 objects s = objects_from 0 (input_objects s.types)
@@ -61,66 +64,76 @@ object_named all name = find (λ (o : NumberedObject). bytes_eq name (name_of o.
 
 -- ---- which defaults a value needs
 
--- the numbers of the fields whose defaults a value needs at a type, which may be that of the items of a list
-abbrev pub Needs : Type 0
-Needs = Bool → Written → List ℕ
+-- an object within a value: the input object at which it stands, and the names of the fields that it gives
+pub record Standing : Type 0 where
+  pub input_object : NumberedObject
+  pub names : List (List ℕ)
+
+-- the objects within a value at a type, which may be that of the items of a list
+abbrev pub Standings : Type 0
+Standings = Bool → Written → List Standing
 
 -- a field that an object gives
 pub record Given : Type 0 where
   pub name : List ℕ
-  pub value : Needs
+  pub value : Standings
+
+-- a given value stands at the type of the field of its name
+abbrev pub standing_in : SchemaType → Given → List Standing
+standing_in t f = option_map_or (λ (d : Sited InputValueDefinition). f.value false (written d.node.of_type)) (find (λ (d : Sited InputValueDefinition). bytes_eq f.name d.node.name.text) t.input_fields) []
+
+abbrev pub object_standings : List Given → NumberedObject → List Standing
+object_standings fields o = flat_map (standing_in o.of_type) fields ++ record { input_object = o; names = map (λ (f : Given). f.name) fields } ∷ []
+
+-- an object stands at the input object within lists and Non-Nulls, as a list of one; but an item is not made a list of one
+abbrev pub object_at : List NumberedObject → List Given → Standings
+object_at all fields is_item t = if is_item && is_list t then [] else option_map_or (object_standings fields) (object_named all (name_in t)) []
+
+-- the items of a list stand at the type of its items
+abbrev pub list_at : List Standings → Written → List Standing
+list_at items t = option_map_or (λ item. flat_map (λ (x : Standings). x true item) items) (item_of t) []
+
+-- other values have no objects
+abbrev pub standings_at : List NumberedObject → Literal-F Standings Given → Standings
+standings_at all (Literal-F.Object place fields) is_item t = object_at all fields is_item t
+standings_at all (Literal-F.List place items) is_item t = list_at items t
+standings_at all (Literal-F.Variable place name) is_item t = []
+standings_at all (Literal-F.Int place text) is_item t = []
+standings_at all (Literal-F.Float place text) is_item t = []
+standings_at all (Literal-F.String place value) is_item t = []
+standings_at all (Literal-F.Boolean place value) is_item t = []
+standings_at all (Literal-F.Null place) is_item t = []
+standings_at all (Literal-F.Enum place name) is_item t = []
+
+abbrev pub given_in : ObjectField-F Standings Given → Given
+given_in f = record { name = f.name.text; value = f.value }
+
+unfoldable pub standings : List NumberedObject → Literal → Standings
+standings all = fold-Literal Standings Given (standings_at all) given_in
+
+abbrev pub given : List NumberedObject → ObjectField → Given
+given all f = record { name = f.name.text; value = standings all f.value }
 
 abbrev pub is_among : List (List ℕ) → List ℕ → Bool
 is_among names name = list_any (λ n. bytes_eq name n) names
 
 -- a field that has a default and is not given
-abbrev pub lacked_if : Bool → Numbered → List ℕ
-lacked_if is_there i = if is_some i.field.node.default && not is_there then i.number ∷ [] else []
-
 abbrev pub lacked : List (List ℕ) → Numbered → List ℕ
-lacked names i = lacked_if (is_among names i.field.node.name.text) i
+lacked names i = if is_some i.field.node.default && not (is_among names i.field.node.name.text) then i.number ∷ [] else []
 
--- a given value stands at the type of the field of its name
-abbrev pub needed_by : SchemaType → Given → List ℕ
-needed_by t f = option_map_or (λ (d : Sited InputValueDefinition). f.value false (written d.node.of_type)) (find (λ (d : Sited InputValueDefinition). bytes_eq f.name d.node.name.text) t.input_fields) []
-
-abbrev pub object_needs : List Given → NumberedObject → List ℕ
-object_needs fields o = flat_map (needed_by o.of_type) fields ++ flat_map (lacked (map (λ (f : Given). f.name) fields)) o.inputs
-
--- an object stands at the input object within lists and Non-Nulls, as a list of one; but an item is not made a list of one
-abbrev pub object_at : List NumberedObject → List Given → Needs
-object_at all fields is_item t = if is_item && is_list t then [] else option_map_or (object_needs fields) (object_named all (name_in t)) []
-
--- the items of a list stand at the type of its items
-abbrev pub list_at : List Needs → Written → List ℕ
-list_at items t = option_map_or (λ item. flat_map (λ (x : Needs). x true item) items) (item_of t) []
-
--- other values need nothing
-abbrev pub needs_at : List NumberedObject → Literal-F Needs Given → Needs
-needs_at all (Literal-F.Object place fields) is_item t = object_at all fields is_item t
-needs_at all (Literal-F.List place items) is_item t = list_at items t
-needs_at all (Literal-F.Variable place name) is_item t = []
-needs_at all (Literal-F.Int place text) is_item t = []
-needs_at all (Literal-F.Float place text) is_item t = []
-needs_at all (Literal-F.String place value) is_item t = []
-needs_at all (Literal-F.Boolean place value) is_item t = []
-needs_at all (Literal-F.Null place) is_item t = []
-needs_at all (Literal-F.Enum place name) is_item t = []
-
-abbrev pub given_in : ObjectField-F Needs Given → Given
-given_in f = record { name = f.name.text; value = f.value }
-
-unfoldable pub needs : List NumberedObject → Literal → Needs
-needs all = fold-Literal Needs Given (needs_at all) given_in
-
-abbrev pub given : List NumberedObject → ObjectField → Given
-given all f = record { name = f.name.text; value = needs all f.value }
+-- the numbers of the fields whose defaults an object needs
+abbrev pub lacked_at : Standing → List ℕ
+lacked_at x = flat_map (lacked x.names) x.input_object.inputs
 
 -- ---- the rule
 
--- what the default of an input field needs at the type of the field
+-- the objects within the default of an input field, at the type of the field
+abbrev pub default_standings : List NumberedObject → Sited InputValueDefinition → List Standing
+default_standings all d = option_map_or (λ (x : Literal). standings all x false (written d.node.of_type)) d.node.default []
+
+-- what the default of an input field needs
 abbrev pub default_needs : List NumberedObject → Sited InputValueDefinition → List ℕ
-default_needs all d = option_map_or (λ (x : Literal). needs all x false (written d.node.of_type)) d.node.default []
+default_needs all d = flat_map lacked_at (default_standings all d)
 
 -- at the number of each input field the numbers of those whose defaults its own needs
 abbrev pub default_graph : Schema → List (List ℕ)

@@ -1,56 +1,18 @@
 //! S19: the default of no input field needs itself (GraphQL specification, 3.10).
 ghost use Rattle.std.specs.Prelude.{◌≡◌, ◌++◌, ℕ, IfOk, OnOk, Contains, map, flat_map, slice_get};
 ghost use Rattle.gql_ast.specs.declared.fault.Fault.{Fault as TheFault};
-ghost use Rattle.gql_circles.specs.Graph.{Trail};
 ghost use Rattle.gql_faults.specs.Faults.{fault_of, where_known};
 ghost use Rattle.gql_faults.specs.Places.{named};
 ghost use Rattle.gql_iface_rules.specs.S19DefaultCircles as spec;
-ghost use Rattle.gql_iface_rules.specs.S19Inputs.{object};
 
-use crate::s19_inputs::{Input, InputObject, all_inputs};
-use crate::s19_needs::add_needs;
+use crate::s19_ends::{all_ends, end_rows};
+use crate::s19_inputs::{Input, all_inputs};
+use crate::s19_ranges::all_ranges;
 use gql_ast::{Fault, Rule};
-use gql_circles::circles_of_places;
 use gql_faults::{NamePlace, add_fault};
-use gql_types::{HasName, Named, Schema};
+use gql_ranges::circles_over_ranges;
+use gql_types::{HasName, Schema};
 use std::alloc::{AllocError, Global};
-
-/// The numbers of the fields whose defaults the default of a field needs.
-fn default_needs(
-    alloc: Global,
-    field: &Input,
-    objects: &Named<InputObject<'_>>,
-) -> Result<Vec<usize>, AllocError>
-    ensures { IfOk result (λ numbers. numbers.items ≡ spec.default_needs (map object objects.now) field.now) }
-{
-    let mut numbers = Vec::new(alloc);
-    let definition = field.node.get();
-    if let Some(default) = &definition.default {
-        add_needs(
-            alloc,
-            default,
-            false,
-            &definition.of_type,
-            objects,
-            &mut numbers,
-        )?;
-    }
-    Ok(numbers)
-}
-
-fn all_default_needs(
-    alloc: Global,
-    fields: &[&Input],
-    objects: &Named<InputObject<'_>>,
-) -> Result<Vec<Vec<usize>>, AllocError>
-    ensures { IfOk result (λ graph. map (λ v. v.items) graph.items ≡ map (spec.default_needs (map object objects.now)) (map (λ f. f.now) fields.now)) }
-{
-    let mut graph = Vec::new(alloc);
-    for field in fields {
-        graph.push(default_needs(alloc, field, objects)?)?;
-    }
-    Ok(graph)
-}
 
 fn input_name(field: &Input) -> NamePlace<'_>
     ensures { named result ≡ spec.input_name field.now }
@@ -95,8 +57,10 @@ pub fn s19_faults(alloc: Global, schema: &Schema) -> Result<Vec<Fault>, AllocErr
 {
     let inputs = all_inputs(alloc, schema)?;
     let fields = inputs.fields.as_slice();
-    let graph = all_default_needs(alloc, fields, &inputs.objects)?;
-    let numbers = circles_of_places(alloc, graph.as_slice())?;
+    let ranges = all_ranges(alloc, fields, &inputs.objects)?;
+    let needed = all_ends(alloc, &inputs.objects)?;
+    let ends = end_rows(alloc, fields.len(), needed.as_slice())?;
+    let numbers = circles_over_ranges(alloc, ranges.as_slice(), ends.as_slice())?;
     let found = at_inputs(alloc, fields, numbers.as_slice())?;
     Ok(found)
 }

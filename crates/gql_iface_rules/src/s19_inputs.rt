@@ -9,6 +9,7 @@ ghost use Rattle.gql_types.specs.Written.{written};
 use gql_ast::{InputValueDefinition, Shared, TypeRef};
 use gql_built_in::Sited;
 use gql_inputs::name_in;
+use gql_ranges::Range;
 use gql_types::{HasName, Named, Schema, SchemaType, TypeKind};
 use std::alloc::{AllocError, Global};
 
@@ -22,11 +23,20 @@ pub struct NumberedInput<'s> {
     pub field: &'s Input,
 }
 
+impl HasName for NumberedInput<'_> {
+    ghost name = { λ i. i.field.now.node.name.text };
+
+    fn name(&self) -> &str {
+        self.field.name()
+    }
+}
+
 /// An input object, and its fields with their numbers.
 #[derive(Drop)]
 pub struct InputObject<'s> {
     pub of_type: &'s SchemaType,
-    pub inputs: Vec<NumberedInput<'s>>,
+    pub numbers: Range,
+    pub inputs: Named<NumberedInput<'s>>,
 }
 
 impl HasName for InputObject<'_> {
@@ -75,8 +85,18 @@ fn add_object<'s>(
         ≡ map object objects.old.items ++ spec.objects_from (length all.old.items) (spec.input_objects (of_type.now ∷ []))) }
 {
     if of_type.kind.is(TypeKind::InputObject) {
-        let inputs = numbered_inputs(alloc, of_type, all)?;
-        objects.push(InputObject { of_type, inputs })?;
+        let start = all.len();
+        let fields = numbered_inputs(alloc, of_type, all)?;
+        let inputs = Named::new(alloc, fields)?;
+        let numbers = Range {
+            start,
+            end: all.len(),
+        };
+        objects.push(InputObject {
+            of_type,
+            numbers,
+            inputs,
+        })?;
     }
     Ok(())
 }

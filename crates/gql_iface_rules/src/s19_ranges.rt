@@ -1,0 +1,142 @@
+//! What the objects within a default lack, as ranges of numbers: a field is lacking where the number of the first field of its
+//! name is in a range.
+ghost use Rattle.std.specs.Prelude.{◌≡◌, ◌<◌, ◌++◌, ◌↔◌, ◌⊎◌, ℕ, [], map, flat_map, length, slice_index_or, IfOk, OnOk};
+ghost use Rattle.std.specs.List.Sorted.{IsNonDecreasing, IsPermutation};
+ghost use Rattle.gql_ast.specs.declared.type_system.InputValueDefinition.{InputValueDefinition};
+ghost use Rattle.gql_built_in.specs.declared.sited.Sited.{Sited};
+ghost use Rattle.gql_iface_rules.specs.S19DefaultCircles.{default_standings};
+ghost use Rattle.gql_iface_rules.specs.S19Inputs.{object, standing};
+ghost use Rattle.gql_iface_rules.specs.S19Ranges as spec;
+ghost use Rattle.gql_ranges.specs.Cover.{IsWithinAny};
+
+use crate::s19_inputs::{Input, InputObject};
+use crate::s19_standings::{Standing, default_standings};
+use gql_ranges::Range;
+use gql_types::Named;
+use std::alloc::{AllocError, Global};
+
+/// Adds the number of the first field of a name.
+fn add_first(
+    input_object: &InputObject<'_>,
+    name: &str,
+    numbers: &mut Vec<usize>,
+) -> Result<(), AllocError>
+    ensures { OnOk result (numbers.new.items ≡ numbers.old.items ++ spec.first_number (object input_object.now).inputs name.now) }
+{
+    match input_object.inputs.get(name) {
+        Some(input) => {
+            numbers.push(input.number)?;
+            Ok(())
+        }
+        None => Ok(()),
+    }
+}
+
+/// The numbers of the first fields of the names that an object gives.
+fn given_numbers(alloc: Global, at: &Standing<'_, '_>) -> Result<Vec<usize>, AllocError>
+    ensures { IfOk result (λ numbers. numbers.items ≡ spec.given_numbers (standing at.now)) }
+{
+    let mut numbers = Vec::new(alloc);
+    for field in at.fields {
+        add_first(at.input_object, field.name.as_str(), &mut numbers)?;
+    }
+    Ok(numbers)
+}
+
+/// The same, from the least to the greatest.
+fn sorted_numbers(alloc: Global, at: &Standing<'_, '_>) -> Result<Vec<usize>, AllocError>
+    ensures rises { IfOk result (λ numbers. IsNonDecreasing numbers.items) }
+    ensures moved { IfOk result (λ numbers. IsPermutation (spec.given_numbers (standing at.now)) numbers.items) }
+{
+    let mut numbers = given_numbers(alloc, at)?;
+    numbers.sort()?;
+    Ok(numbers)
+}
+
+/// Adds what is left before a number, and answers where the rest starts.
+fn add_gap(
+    start: usize,
+    number: usize,
+    end: usize,
+    gaps: &mut Vec<Range>,
+) -> Result<usize, AllocError>
+    ensures gaps { OnOk result (gaps.new.items ≡ gaps.old.items ++ spec.gap_before start number end) }
+    ensures start { IfOk result (λ rest. rest ≡ spec.start_after start number end) }
+{
+    if start <= number && number < end {
+        gaps.push(Range { start, end: number })?;
+        Ok(number + 1)
+    } else {
+        Ok(start)
+    }
+}
+
+/// Adds what these numbers leave of a range.
+fn add_gaps(numbers: &Range, given: &[usize], gaps: &mut Vec<Range>) -> Result<(), AllocError>
+    requires { IsNonDecreasing given.now }
+    ensures { OnOk result ((p : ℕ) → IsWithinAny gaps.new.items p ↔ (IsWithinAny gaps.old.items p ⊎ spec.IsLeft numbers.now given.now p)) }
+{
+    let mut start = numbers.start;
+    for number in given {
+        start = add_gap(start, *number, numbers.end, gaps)?;
+    }
+    gaps.push(Range {
+        start,
+        end: numbers.end,
+    })?;
+    Ok(())
+}
+
+/// Adds what an object lacks.
+fn add_lacking(
+    alloc: Global,
+    at: &Standing<'_, '_>,
+    ranges: &mut Vec<Range>,
+) -> Result<(), AllocError>
+    ensures { OnOk result ((p : ℕ) → IsWithinAny ranges.new.items p ↔ (IsWithinAny ranges.old.items p ⊎ spec.IsLacking (standing at.now) p)) }
+{
+    let given = sorted_numbers(alloc, at)?;
+    add_gaps(&at.input_object.numbers, given.as_slice(), ranges)?;
+    Ok(())
+}
+
+/// What these objects lack.
+fn lacking(alloc: Global, all: &[Standing<'_, '_>]) -> Result<Vec<Range>, AllocError>
+    ensures { IfOk result (λ ranges. spec.Lack (map standing all.now) ranges.items) }
+{
+    let mut ranges = Vec::new(alloc);
+    for at in all {
+        add_lacking(alloc, at, &mut ranges)?;
+    }
+    Ok(ranges)
+}
+
+/// What the objects within the default of a field lack.
+fn default_ranges(
+    alloc: Global,
+    field: &Input,
+    objects: &Named<InputObject<'_>>,
+) -> Result<Vec<Range>, AllocError>
+    ensures { IfOk result (λ ranges. spec.Lack (default_standings (map object objects.now) field.now) ranges.items) }
+{
+    let all = default_standings(alloc, field, objects)?;
+    let ranges = lacking(alloc, all.as_slice())?;
+    Ok(ranges)
+}
+
+/// What the objects within the default of each field lack.
+pub fn all_ranges(
+    alloc: Global,
+    fields: &[&Input],
+    objects: &Named<InputObject<'_>>,
+) -> Result<Vec<Vec<Range>>, AllocError>
+    ensures length { IfOk result (λ ranges. length ranges.items ≡ length fields.now) }
+    ensures ranges { IfOk result (λ ranges. (i : ℕ) (d : Sited InputValueDefinition) → i < length fields.now
+        → spec.Lack (default_standings (map object objects.now) (slice_index_or (map (λ f. f.now) fields.now) i d)) (slice_index_or (map (λ v. v.items) ranges.items) i [])) }
+{
+    let mut ranges = Vec::new(alloc);
+    for field in fields {
+        ranges.push(default_ranges(alloc, field, objects)?)?;
+    }
+    Ok(ranges)
+}
