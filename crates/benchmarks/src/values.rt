@@ -3,10 +3,10 @@
 use crate::speed::nanos_each;
 use anyhow::Result;
 use gql_ast::{Document, FileName, Files, Shared, Tree, VariableDefinition};
+use gql_coerce::{coerce_literal, coerce_variables};
 use gql_parse::parse;
 use gql_parse_sdl::parse_sdl;
 use gql_types::{Schema, assemble};
-use gql_coerce::{coerce_literal, coerce_variables};
 use serde_json::Value;
 use std::alloc::{AllocError, Global};
 use std::time::Instant;

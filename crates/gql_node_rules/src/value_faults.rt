@@ -6,8 +6,8 @@ ghost use Rattle.gql_node_rules.specs.Borrowed.{value};
 ghost use Rattle.gql_node_rules.specs.ValueFaults as spec;
 
 use gql_ast::{Fault, FileName, InputValueDefinition, Literal, Rule};
-use gql_inputs::fits;
 use gql_faults::{Spot, add_fault};
+use gql_inputs::fits;
 use gql_text::Place;
 use gql_types::Schema;
 use std::alloc::{AllocError, Global};
