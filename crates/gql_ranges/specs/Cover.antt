@@ -19,5 +19,6 @@ IsWithin r p = (r.start ≤ p) × (p < r.end)
 abbrev pub IsWithinAny : List Range → ℕ → Type 0
 IsWithinAny rs p = (r : Range) × Contains rs r × IsWithin r p
 
+-- a node, if the number is odd
 abbrev pub if_odd : ℕ → ℕ → List ℕ
 if_odd number node = if number % 2 == 1 then node ∷ [] else []
