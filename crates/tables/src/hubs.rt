@@ -39,20 +39,13 @@ fn byte_by_byte(alloc: Global, bytes: &[u8]) -> Option<Vec<u8>> {
     Some(out)
 }
 
-/// Whether a stream of this length is cut there: at each place where it is short, else at each seventh.
-fn is_cut(length: usize, place: usize) -> bool {
-    length <= 100 || place % 7 == 0
-}
-
-/// The answers to a stream, which are the same whole, byte by byte and cut at places.
+/// The answers to a stream, which are the same whole, byte by byte and cut at each place.
 pub fn answers_answer(alloc: Global, text: &str) -> Option<String> {
     let bytes = bytes_in(alloc, text)?;
     let bytes = bytes.as_slice();
     let whole = answered(alloc, bytes, 0)?;
     for place in 1..bytes.len() {
-        if is_cut(bytes.len(), place)
-            && answered(alloc, bytes, place)?.as_slice() != whole.as_slice()
-        {
+        if answered(alloc, bytes, place)?.as_slice() != whole.as_slice() {
             return format!(in alloc; "another where it is cut at {place}").ok();
         }
     }
