@@ -1,12 +1,13 @@
--- Requests made one after another, while the bytes of a connection are taken.
+-- Requests made one after the other, while the bytes of a connection are taken.
 use Rattle.std.proofs.Common.{◌≡◌, ℕ, ◌+◌, ◌≤◌, List, [], ◌∷◌, ◌++◌, length, take, drop, Bool, true, false, cond, Some, None, refl, sym, ap, ◌∙◌, subst, arith, append_assoc, append-nil, length-drop, Result, Ok, Err}
 use Rattle.std.specs.Prelude.{OnErr}
 use Rattle.std.proofs.lemmas.List.{take-append-drop, drop-drop}
 use Rattle.std.proofs.lemmas.Grind.{common_steps}
 use Rattle.gql_registry.specs.State.{State}
 use Rattle.gql_wire.specs.Stream.{Req, IsRequest, IsUnfinished, Placed, Splits, unfinished, last, next, closes, skip_blank}
+use Rattle.gql_wire.specs.Laws.{SomeSplit}
 use Rattle.gql_http.specs.Service.{Step, Run, done, more}
-use Rattle.gql_http.specs.Exchange.{requests_of, joined, is_closed, Serves, Begins, here, behind, Breaks}
+use Rattle.gql_http.specs.Connections.{requests_of, joined, is_closed, held_after, Serves, Breaks}
 
 -- the requests so far were made, and these bytes are left
 pub record Served (s : State) (whole rest : List ℕ) (u : State) (out : List ℕ) : Type 0 where
@@ -14,7 +15,6 @@ pub record Served (s : State) (whole rest : List ℕ) (u : State) (out : List �
   pub answers : List (List ℕ)
   pub offset : ℕ
   pub splits : (rs : List Placed) (left : List ℕ) → Splits offset rest rs left → Splits 0 whole (made ++ rs) left
-  pub begins : (rs : List Req) → Begins rest rs → Begins whole (requests_of made ++ rs)
   pub run : Run s (requests_of made) answers u
   pub written : out ≡ joined answers
   pub stays : is_closed (requests_of made) ≡ false
@@ -25,7 +25,6 @@ served_init s whole rest out same empty = record {
   answers = [];
   offset = 0;
   splits = λ rs left h. subst (λ bytes. Splits 0 bytes rs left) same h;
-  begins = λ rs h. subst (λ bytes. Begins bytes rs) same h;
   run = done;
   written = empty;
   stays = refl;
@@ -75,46 +74,67 @@ served_next {s} {u} {v} {whole} {rest} {out} {more_out} h front middle r bytes r
       made = h.made ++ p ∷ [];
       answers = h.answers ++ bytes ∷ [];
       offset = h.offset + length front;
-      splits = λ rs left behind_it. subst (λ ps. Splits 0 whole ps left) (sym (append_assoc h.made (p ∷ []) rs)) (h.splits (p ∷ rs) left (next request stays cut behind_it));
-      begins = λ rs behind_it. subst (λ qs. Begins whole qs) (sym (ap (λ qs. qs ++ rs) (requests_snoc h.made p) ∙ append_assoc (requests_of h.made) (r ∷ []) rs)) (h.begins (r ∷ rs) (behind request stays cut behind_it));
+      splits = λ rs left after_it. subst (λ ps. Splits 0 whole ps left) (sym (append_assoc h.made (p ∷ []) rs)) (h.splits (p ∷ rs) left (next request stays cut after_it));
       run = run_made s u v h.made p h.answers bytes h.run step;
       written = written_made out more_out bytes h.answers h.written written;
       stays = closed_made h.made p h.stays ∙ stays;
     }
 
+held_open : (closed : Bool) (bytes : List ℕ) → closed ≡ false → Some bytes ≡ cond closed None (Some bytes)
+held_open true bytes h = absurd (let e : true ≡ false = h in cc)
+held_open false bytes h = refl
+
+held_closed : (closed : Bool) (bytes : List ℕ) → closed ≡ true → None ≡ cond closed None (Some bytes)
+held_closed true bytes h = refl
+held_closed false bytes h = absurd (let e : false ≡ true = h in cc)
+
 -- no request is left: the rest is held
-pub serves_open : {s u : State} {whole rest out : List ℕ} → Served s whole rest u out → IsUnfinished rest → (left : List ℕ) → left ≡ skip_blank rest → Serves s whole out false u (Some left)
+pub serves_open : {s u : State} {whole rest out : List ℕ} → Served s whole rest u out → IsUnfinished rest → (left : List ℕ) → left ≡ skip_blank rest → Serves s whole out u (Some left)
 serves_open {s} {u} {whole} {rest} {out} h unended left is = record {
   requests = h.made;
+  rest = left;
   answers = h.answers;
-  left = left;
   splits = subst (λ ps. Splits 0 whole ps left) (append-nil h.made) (h.splits [] left (unfinished unended is));
   run = h.run;
   written = h.written;
-  closing = sym h.stays;
-  held = refl;
+  left = held_open (is_closed (requests_of h.made)) left h.stays;
 }
 
 -- a request closes the connection
 pub serves_closed : {s u v : State} {whole rest out more_out : List ℕ} → Served s whole rest u out → (front middle : List ℕ) (r : Req) (bytes : List ℕ) → IsRequest front r → closes r ≡ true
-    → front ++ middle ≡ rest → Step u r bytes v → more_out ≡ out ++ bytes → Serves s whole more_out true v None
+    → front ++ middle ≡ rest → Step u r bytes v → more_out ≡ out ++ bytes → Serves s whole more_out v None
 serves_closed {s} {u} {v} {whole} {rest} {out} {more_out} h front middle r bytes request closing cut step written =
     let p = at_end_of h.offset front r in record {
       requests = h.made ++ p ∷ [];
+      rest = [];
       answers = h.answers ++ bytes ∷ [];
-      left = [];
       splits = h.splits (p ∷ []) [] (last middle request closing cut);
       run = run_made s u v h.made p h.answers bytes h.run step;
       written = written_made out more_out bytes h.answers h.written written;
-      closing = sym (closed_made h.made p h.stays ∙ closing);
-      held = refl;
+      left = held_closed (is_closed (requests_of (h.made ++ p ∷ []))) [] (closed_made h.made p h.stays ∙ closing);
     }
 
--- memory was wanting
-pub served_breaks : {s u : State} {whole rest out : List ℕ} → Served s whole rest u out → Breaks s whole out u
-served_breaks {s} {u} {whole} {rest} {out} h = record { requests = requests_of h.made; answers = h.answers; begins = subst (λ rs. Begins whole rs) (append-nil (requests_of h.made)) (h.begins [] here); run = h.run; written = h.written }
+-- the requests that were made are the first of all
+front_made : (made rs : List Placed) → take (length made) (requests_of (made ++ rs)) ≡ requests_of made
+front_made [] rs = refl
+front_made (p ∷ made) rs = ap (λ qs. p.request ∷ qs) (front_made made rs)
 
--- the bytes up to the end of a request, and those behind it
+-- an allocation failed
+pub served_breaks : SomeSplit → {s u : State} {whole rest out : List ℕ} → Served s whole rest u out → (made : ℕ) × Breaks s whole out u made
+served_breaks some {s} {u} {whole} {rest} {out} h =
+    let others = some h.offset rest in (
+      length h.made,
+      record {
+        requests = h.made ++ others.0;
+        rest = others.1;
+        answers = h.answers;
+        splits = h.splits others.0 others.1 others.2;
+        run = subst (λ rs. Run s rs h.answers u) (sym (front_made h.made others.0)) h.run;
+        written = h.written;
+      },
+    )
+
+-- the bytes up to the end of a request, and those after it
 pub cut_at : (held piece : List ℕ) (at count : ℕ) → (held ++ take count (drop at piece)) ++ drop (at + count) piece ≡ held ++ drop at piece
 cut_at held piece at count =
     append_assoc held (take count (drop at piece)) (drop (at + count) piece)
@@ -128,7 +148,7 @@ pub on_error : {A E : Type 0} (r : Result A E) (P : Type 0) → P → OnErr r P
 on_error (Ok a) P p = tt
 on_error (Err e) P p = p
 
--- memory was wanting at a step that then changed nothing
-pub kept_breaks : {s u v : State} {whole rest out more_out : List ℕ} → Served s whole rest u out → v ≡ u → more_out ≡ out → Breaks s whole more_out v
-kept_breaks {s} {u} {v} {whole} {rest} {out} {more_out} h same_state same_out =
-    subst (λ w. Breaks s whole more_out w) (sym same_state) (subst (λ xs. Breaks s whole xs u) (sym same_out) (served_breaks h))
+-- an allocation failed at a step, which then changed nothing
+pub kept_breaks : SomeSplit → {s u v : State} {whole rest out more_out : List ℕ} → Served s whole rest u out → v ≡ u → more_out ≡ out → (made : ℕ) × Breaks s whole more_out v made
+kept_breaks some {s} {u} {v} {whole} {rest} {out} {more_out} h same_state same_out =
+    subst (λ w. (made : ℕ) × Breaks s whole more_out w made) (sym same_state) (subst (λ xs. (made : ℕ) × Breaks s whole xs u made) (sym same_out) (served_breaks some h))

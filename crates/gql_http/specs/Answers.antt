@@ -10,6 +10,7 @@ use Rattle.gql_registry.specs.declared.refusal.Refusal.{Refusal}
 use Rattle.gql_registry.specs.declared.refusal.Refusal.TheVariants as refusal
 use Rattle.gql_registry.specs.declared.registry.Edited.{Edited}
 use Rattle.gql_wire.specs.Answer.{answer_head_of}
+use Rattle.gql_wire.specs.Head.{number_of as head_number}
 use Rattle.gql_wire.specs.declared.answer.Allow.{Allow}
 use Rattle.gql_wire.specs.declared.head.HeadRefusal.{HeadRefusal}
 use Rattle.gql_wire.specs.declared.head.HeadRefusal.TheVariants as head
@@ -84,13 +85,25 @@ abbrev pub edit_said : Result Edited Refusal → Option Said
 edit_said (Ok e) = Some (said 200 (edited_text e.revision e.faults))
 edit_said (Err r) = refusal_said r
 
--- the answer to a head that is refused
+-- the status of the answer to a refused head
+abbrev pub head_status : HeadRefusal → ℕ
+head_status head.BadHead = 400
+head_status head.LongHead = 431
+head_status head.LongBody = 413
+head_status head.TransferCoding = 501
+head_status head.BadLength = 400
+
+-- its message
+abbrev pub head_message : HeadRefusal → List ℕ
+head_message head.BadHead = codes "bad head"
+head_message head.LongHead = codes "head is too long"
+head_message head.LongBody = codes "body is too long"
+head_message head.TransferCoding = codes "transfer coding is not served"
+head_message head.BadLength = codes "bad content length"
+
+-- the answer to a refused head, with the refusal's number
 abbrev pub head_said : HeadRefusal → Said
-head_said head.BadHead = said 400 (error_text (codes "bad head") 301)
-head_said head.LongHead = said 431 (error_text (codes "head is too long") 302)
-head_said head.LongBody = said 413 (error_text (codes "body is too long") 303)
-head_said head.TransferCoding = said 501 (error_text (codes "transfer coding is not served") 304)
-head_said head.BadLength = said 400 (error_text (codes "bad content length") 307)
+head_said refusal = said (head_status refusal) (error_text (head_message refusal) (head_number refusal))
 
 -- no resource has the target
 abbrev pub no_route : Said

@@ -1,4 +1,4 @@
--- What the code's calls say.
+-- Helper definitions for private contracts: what the code's calls, resources and refusals mean.
 use Rattle.gql_http.specs.Answers.{Said, no_route, not_allowed, bad_query}
 use Rattle.gql_http.specs.Routes as spec
 use Rattle.gql_http.specs.declared.route.Call.{Call}
@@ -16,8 +16,8 @@ route_said refusal.BadQuery = bad_query
 
 abbrev pub call_said : Call → spec.Call
 call_said call.Report = spec.report
-call_said (call.PutSchema name) = spec.put_schema name
-call_said (call.RemoveSchema name) = spec.remove_schema name
+call_said (call.PutSchema name expected) = spec.put_schema name expected
+call_said (call.RemoveSchema name expected) = spec.remove_schema name expected
 call_said (call.Refused r) = spec.refused (route_said r)
 
 abbrev pub resource_said : Resource → spec.Resource

@@ -1,87 +1,62 @@
--- Connections as lists of events, and the requests of all connections in the order in which they are complete.
-use Rattle.std.specs.Prelude.{ℕ, ◌≡◌, ◌<◌, List, [], ◌∷◌, ◌++◌, length, map, Bool, true, false, Option, Some, None, ◌==◌, if◌then◌else◌}
-use Rattle.std.specs.List.{flat_map}
+-- What happens to connections, and what the hub does at each event.
+use Rattle.std.specs.Prelude.{ℕ, ◌≡◌, ◌<◌, List, [], ◌∷◌, ◌++◌, Option, Some, None, IsSome, ◌==◌, if◌then◌else◌}
 use Rattle.gql_registry.specs.State.{State}
-use Rattle.gql_wire.specs.Stream.{Req, Placed, Splits}
-use Rattle.gql_http.specs.Service.{Run}
-use Rattle.gql_http.specs.Exchange.{requests_of, joined, is_closed, Begins, Breaks, Serves}
+use Rattle.gql_http.specs.Connections.{Serves, Breaks}
+use Rattle.gql_http.specs.declared.TheConstants.{CONNECTIONS}
 
--- what happens to a connection
+-- an event on the connection of a number
 pub data Event : Type 0 where
+  -- it is opened
   opens : ℕ → Event
+  -- it is fed a piece of bytes
   feeds : ℕ → List ℕ → Event
+  -- it is fed a piece of bytes, and an allocation fails after so many of the requests that the piece completes
+  breaks : ℕ → List ℕ → ℕ → Event
+  -- it is closed
   closes : ℕ → Event
 
--- the unfinished bytes of each connection, none where it is closed
-abbrev pub Rests : Type 0
-Rests = ℕ → Option (List ℕ)
+-- the number of the event's connection
+abbrev pub connection_of : Event → ℕ
+connection_of (opens c) = c
+connection_of (feeds c piece) = c
+connection_of (breaks c piece made) = c
+connection_of (closes c) = c
 
--- with this connection changed
-abbrev pub with_rest : Rests → ℕ → Option (List ℕ) → Rests
-with_rest rests connection rest = λ c. if c == connection then rest else rests c
+-- bytes of each open connection, none of a closed one
+abbrev pub Connections : Type 0
+Connections = ℕ → Option (List ℕ)
 
--- what is held behind requests and a rest
-abbrev pub held_behind : List Req → List ℕ → Option (List ℕ)
-held_behind rs left = if is_closed rs then None else Some left
+-- every connection is closed
+abbrev pub all_closed : Connections
+all_closed c = None
 
--- how many connections there are
-abbrev pub connections : ℕ
-connections = 1
+-- the connections, of which one is changed
+abbrev pub with_connection : Connections → ℕ → Option (List ℕ) → Connections
+with_connection all c bytes = λ other. if other == c then bytes else all other
 
--- The requests that each event completes, in the order of the events: those that the bytes of a feed complete behind what
--- its connection held. Each opening begins a connection's bytes anew. An event that is not allowed does nothing: opening
--- what is open or has no such number, feeding or closing what is not open. Where memory is wanting in a feed, some requests that
--- its bytes begin with are made and no other, and the connection is closed; `wanting` says of each event whether it is so.
-pub data Orders : Rests → List Event → List Bool → List (List Req) → Rests → Type 0 where
-  no_events : {rests : Rests} → Orders rests [] [] [] rests
-  opened : {rests last : Rests} {c : ℕ} {events : List Event} {wanting : List Bool} {groups : List (List Req)} → c < connections → rests c ≡ None
-      → Orders (with_rest rests c (Some [])) events wanting groups last → Orders rests (opens c ∷ events) (false ∷ wanting) ([] ∷ groups) last
-  not_opened : {rests last : Rests} {c : ℕ} {events : List Event} {wanting : List Bool} {groups : List (List Req)} → (c < connections → rests c ≡ None → ⊥)
-      → Orders rests events wanting groups last → Orders rests (opens c ∷ events) (false ∷ wanting) ([] ∷ groups) last
-  fed : {rests last : Rests} {c : ℕ} {piece held left : List ℕ} {placed : List Placed} {events : List Event} {wanting : List Bool} {groups : List (List Req)} → rests c ≡ Some held
-      → Splits 0 (held ++ piece) placed left → Orders (with_rest rests c (held_behind (requests_of placed) left)) events wanting groups last
-      → Orders rests (feeds c piece ∷ events) (false ∷ wanting) (requests_of placed ∷ groups) last
-  fed_in_part : {rests last : Rests} {c : ℕ} {piece held : List ℕ} {made : List Req} {events : List Event} {wanting : List Bool} {groups : List (List Req)} → rests c ≡ Some held
-      → Begins (held ++ piece) made → Orders (with_rest rests c None) events wanting groups last
-      → Orders rests (feeds c piece ∷ events) (true ∷ wanting) (made ∷ groups) last
-  not_fed : {rests last : Rests} {c : ℕ} {piece : List ℕ} {events : List Event} {wanting : List Bool} {groups : List (List Req)} → rests c ≡ None
-      → Orders rests events wanting groups last → Orders rests (feeds c piece ∷ events) (false ∷ wanting) ([] ∷ groups) last
-  closed : {rests last : Rests} {c : ℕ} {events : List Event} {wanting : List Bool} {groups : List (List Req)}
-      → Orders (with_rest rests c None) events wanting groups last → Orders rests (closes c ∷ events) (false ∷ wanting) ([] ∷ groups) last
+-- The event is allowed: a closed connection of a number below 16 may be opened, and an open one fed and closed. Every
+-- other event does nothing.
+abbrev pub IsAllowed : Connections → Event → Type 0
+IsAllowed all (opens c) = (c < CONNECTIONS) × (all c ≡ None)
+IsAllowed all (feeds c piece) = IsSome (all c)
+IsAllowed all (breaks c piece made) = IsSome (all c)
+IsAllowed all (closes c) = IsSome (all c)
 
--- What the hub does, event by event: what each event gives out, by the clauses of `open`, `feed` and `close`, and whether memory was
--- wanting in it.
-pub data Behaves : State → Rests → List Event → List Bool → List (List ℕ) → State → Rests → Type 0 where
-  nothing : {s : State} {rests : Rests} → Behaves s rests [] [] [] s rests
-  does_open : {s t : State} {rests last : Rests} {c : ℕ} {events : List Event} {wanting : List Bool} {outs : List (List ℕ)} → c < connections → rests c ≡ None
-      → Behaves s (with_rest rests c (Some [])) events wanting outs t last → Behaves s rests (opens c ∷ events) (false ∷ wanting) ([] ∷ outs) t last
-  refuses_open : {s t : State} {rests last : Rests} {c : ℕ} {events : List Event} {wanting : List Bool} {outs : List (List ℕ)} → (c < connections → rests c ≡ None → ⊥)
-      → Behaves s rests events wanting outs t last → Behaves s rests (opens c ∷ events) (false ∷ wanting) ([] ∷ outs) t last
-  does_feed : {s t u : State} {rests last : Rests} {c : ℕ} {piece held out : List ℕ} {is_over : Bool} {rest : Option (List ℕ)} {events : List Event} {wanting : List Bool} {outs : List (List ℕ)}
-      → rests c ≡ Some held → Serves s (held ++ piece) out is_over t rest → Behaves t (with_rest rests c rest) events wanting outs u last
-      → Behaves s rests (feeds c piece ∷ events) (false ∷ wanting) (out ∷ outs) u last
-  feeds_in_part : {s t u : State} {rests last : Rests} {c : ℕ} {piece held out : List ℕ} {events : List Event} {wanting : List Bool} {outs : List (List ℕ)}
-      → rests c ≡ Some held → Breaks s (held ++ piece) out t → Behaves t (with_rest rests c None) events wanting outs u last
-      → Behaves s rests (feeds c piece ∷ events) (true ∷ wanting) (out ∷ outs) u last
-  refuses_feed : {s t : State} {rests last : Rests} {c : ℕ} {piece : List ℕ} {events : List Event} {wanting : List Bool} {outs : List (List ℕ)} → rests c ≡ None
-      → Behaves s rests events wanting outs t last → Behaves s rests (feeds c piece ∷ events) (false ∷ wanting) ([] ∷ outs) t last
-  does_close : {s t : State} {rests last : Rests} {c : ℕ} {events : List Event} {wanting : List Bool} {outs : List (List ℕ)}
-      → Behaves s (with_rest rests c None) events wanting outs t last → Behaves s rests (closes c ∷ events) (false ∷ wanting) ([] ∷ outs) t last
+-- What the hub does at one event in the state s, where the connections hold these unfinished bytes: the bytes that it
+-- answers on the event's connection, and the state and the unfinished bytes after it. All other connections are as they were.
+pub data Does : State → Connections → Event → List ℕ → State → Connections → Type 0 where
+  does_open : {s : State} {rests : Connections} {c : ℕ} → IsAllowed rests (opens c)
+      → Does s rests (opens c) [] s (with_connection rests c (Some []))
+  does_feed : {s t : State} {rests : Connections} {c : ℕ} {piece held out : List ℕ} {rest : Option (List ℕ)} → rests c ≡ Some held
+      → Serves s (held ++ piece) out t rest → Does s rests (feeds c piece) out t (with_connection rests c rest)
+  does_break : {s t : State} {rests : Connections} {c made : ℕ} {piece held out : List ℕ} → rests c ≡ Some held
+      → Breaks s (held ++ piece) out t made → Does s rests (breaks c piece made) out t (with_connection rests c None)
+  does_close : {s : State} {rests : Connections} {c : ℕ} → IsAllowed rests (closes c)
+      → Does s rests (closes c) [] s (with_connection rests c None)
+  ignores : {s : State} {rests : Connections} {e : Event} → (IsAllowed rests e → ⊥) → Does s rests e [] s rests
 
--- all requests, or all answers, one group behind another
-abbrev pub in_turn : {A : Type 0} → List (List A) → List A
-in_turn = flat_map (λ xs. xs)
-
--- each group of requests has as many answers
-abbrev pub SameLengths : List (List Req) → List (List (List ℕ)) → Type 0
-SameLengths [] [] = Unit {0}
-SameLengths [] (a ∷ answers) = ⊥
-SameLengths (g ∷ groups) [] = ⊥
-SameLengths (g ∷ groups) (a ∷ answers) = (length g ≡ length a) × SameLengths groups answers
-
--- the answers to groups of requests, group by group, where all requests are run one after another
-pub record Answers (s : State) (groups : List (List Req)) (outs : List (List ℕ)) (t : State) : Type 0 where
-  pub answers : List (List (List ℕ))
-  pub run : Run s (in_turn groups) (in_turn answers) t
-  pub shares : SameLengths groups answers
-  pub written : outs ≡ map joined answers
+-- what the hub does at events one after the other: the bytes that it answers at each
+pub data Behaves : State → Connections → List Event → List (List ℕ) → State → Connections → Type 0 where
+  does_nothing : {s : State} {rests : Connections} → Behaves s rests [] [] s rests
+  does_first : {s t u : State} {rests between last : Connections} {e : Event} {out : List ℕ} {events : List Event} {outs : List (List ℕ)}
+      → Does s rests e out t between → Behaves t between events outs u last → Behaves s rests (e ∷ events) (out ∷ outs) u last

@@ -1,33 +1,90 @@
 -- Laws of the service and its hub.
-use Rattle.std.specs.Prelude.{ℕ, ◌≡◌, List, ◌++◌, Bool, true, false, Option, Some}
-use Rattle.gql_registry.specs.State.{State}
-use Rattle.gql_wire.specs.Stream.{Req}
+use Rattle.std.specs.Prelude.{ℕ, ◌≡◌, ◌<◌, List, [], ◌∷◌, ◌++◌, Bool, Option, Some, None, ◌⊎◌}
+use Rattle.gql_ast.specs.FileMaps.{file_named}
+use Rattle.gql_ast.specs.declared.fault.Fault.{Fault}
+use Rattle.gql_registry.specs.Report.{IsReport}
+use Rattle.gql_registry.specs.State.{State, empty}
+use Rattle.gql_wire.specs.Head.{is_head}
+use Rattle.gql_wire.specs.Stream.{Req, request, Placed, Requests}
+use Rattle.gql_http.specs.Answers.{answer_bytes, report_said}
+use Rattle.gql_http.specs.Connections.{requests_of, joined}
+use Rattle.gql_http.specs.Events.{Event, opens, feeds, breaks, closes, connection_of, Connections, all_closed, Does, Behaves}
+use Rattle.gql_http.specs.History.{Holds}
+use Rattle.gql_http.specs.Order.{Order, Answers, on}
+use Rattle.gql_http.specs.Routes.{report, call_of}
 use Rattle.gql_http.specs.Service.{Step, Run}
-use Rattle.gql_http.specs.Exchange.{Serves}
-use Rattle.gql_http.specs.Events.{Event, Rests, Orders, Behaves, Answers}
 
 -- a request has one answer, and leaves one state
 abbrev pub OneStep : Type 0
 OneStep = (s t u : State) (r : Req) (a b : List ℕ) → Step s r a t → Step s r b u → (a ≡ b) × (t ≡ u)
 
--- so have requests one after another
+-- requests one after the other have one list of answers, and leave one state
 abbrev pub OneRun : Type 0
 OneRun = (s t u : State) (rs : List Req) (ls ms : List (List ℕ)) → Run s rs ls t → Run s rs ms u → (ls ≡ ms) × (t ≡ u)
 
--- bytes are answered in one way
-abbrev pub OneService : Type 0
-OneService = (s t u : State) (bytes a b : List ℕ) (c d : Bool) (p q : Option (List ℕ)) → Serves s bytes a c t p → Serves s bytes b d u q
-    → (a ≡ b) × (c ≡ d) × (t ≡ u) × (p ≡ q)
+-- an event has one answer, and leaves one state and the same unfinished bytes
+abbrev pub OneDeed : Type 0
+OneDeed = (s t u : State) (rests p q : Connections) (e : Event) (a b : List ℕ) → Does s rests e a t p → Does s rests e b u q
+    → (a ≡ b) × (t ≡ u) × (p ≡ q)
 
--- a piece fed in two parts, of which the first leaves the connection open, gives the same bytes and the same state
-abbrev pub TwoParts : Type 0
-TwoParts = (s t u v : State) (held first second half a b all : List ℕ) (c d : Bool) (p q : Option (List ℕ))
-    → Serves s (held ++ first) a false t (Some half) → Serves t (half ++ second) b c u p → Serves s (held ++ (first ++ second)) all d v q
-    → (all ≡ a ++ b) × (d ≡ c) × (v ≡ u) × (q ≡ p)
+-- Every list of events has an order of requests, and one only.
+abbrev pub SomeOrder : Type 0
+SomeOrder = (fed : Connections) (events : List Event) → (groups : List (List Req)) × (last : Connections) × Order fed events groups last
 
--- Whatever the events, what each gives out is the answers to the requests that it completes, and all requests are run one
--- after another in the order in which they are complete. Where memory was wanting in a feed, the requests of it that were
--- made are among them, and the one in hand is not.
+abbrev pub OneOrder : Type 0
+OneOrder = (fed p q : Connections) (events : List Event) (groups others : List (List Req)) → Order fed events groups p
+    → Order fed events others q → (groups ≡ others) × (p ≡ q)
+
+-- Whatever the events on connections that are all closed at first, the hub answers each event with the answers to the requests that it
+-- completes, and all requests are run one after the other, in the order in which they are complete.
 abbrev pub InOrder : Type 0
-InOrder = (s t : State) (rests last : Rests) (events : List Event) (wanting : List Bool) (outs : List (List ℕ)) → Behaves s rests events wanting outs t last
-    → (groups : List (List Req)) × Orders rests events wanting groups last × Answers s groups outs t
+InOrder = (s t : State) (events : List Event) (outs : List (List ℕ)) (rests : Connections) → Behaves s all_closed events outs t rests
+    → (groups : List (List Req)) × (fed : Connections) × Order all_closed events groups fed × Answers s events groups outs t
+
+-- the event is a feed of this connection, or one on another connection
+abbrev pub FeedsOnly : ℕ → Event → Type 0
+FeedsOnly c (feeds other piece) = Unit {0}
+FeedsOnly c (opens other) = other ≡ c → ⊥
+FeedsOnly c (breaks other piece made) = other ≡ c → ⊥
+FeedsOnly c (closes other) = other ≡ c → ⊥
+
+-- after an opening, this connection is fed and nothing else happens to it
+abbrev pub AllFeed : ℕ → List Event → Type 0
+AllFeed c [] = Unit {0}
+AllFeed c (e ∷ events) = FeedsOnly c e × AllFeed c events
+
+-- the piece of a feed
+abbrev pub piece_of : Event → List ℕ
+piece_of (feeds c piece) = piece
+piece_of (breaks c piece made) = piece
+piece_of (opens c) = []
+piece_of (closes c) = []
+
+-- the pieces of events
+abbrev pub pieces_of : List Event → List (List ℕ)
+pieces_of [] = []
+pieces_of (e ∷ events) = piece_of e ∷ pieces_of events
+
+-- In any pieces: the requests that the feeds after an opening complete are those of all bytes that they feed, however these are cut.
+abbrev pub AnyPieces : Type 0
+AnyPieces = (fed last : Connections) (c : ℕ) (events : List Event) (groups : List (List Req)) (requests : List Placed) (rest : List ℕ)
+    → fed c ≡ Some [] → AllFeed c events → Order fed events groups last → Requests (joined (on c events (pieces_of events))) requests rest
+    → joined (on c events groups) ≡ requests_of requests
+
+-- A piece that is fed in two parts, of which the first leaves the connection open, does what the whole does.
+abbrev pub TwoParts : Type 0
+TwoParts = (s t u : State) (rests between last : Connections) (c : ℕ) (first second half a b : List ℕ) → Does s rests (feeds c first) a t between
+    → between c ≡ Some half → Does t between (feeds c second) b u last → Does s rests (feeds c (first ++ second)) (a ++ b) u last
+
+-- Files then present: after requests that began with no files, a name holds the document of its last accepted edit, and no other name
+-- holds one.
+abbrev pub FilesPresent : Type 0
+FilesPresent = (t : State) (rs : List Req) (answers : List (List ℕ)) (name : List ℕ) → Run empty rs answers t
+    → Holds name empty None rs (file_named t.files.schema name)
+
+-- A request for the report among others is answered with the report of the files that are present after those before it.
+abbrev pub ReportThen : Type 0
+ReportThen = (s u : State) (front rest : List Req) (method target body : List ℕ) (closing : Bool) (answers : List (List ℕ))
+    → call_of method target ≡ report → Run s (front ++ (request method target body closing ∷ rest)) answers u
+    → (before after : List (List ℕ)) × (t : State) × (faults : List Fault) × Run s front before t × IsReport t.files faults
+      × (answers ≡ before ++ (answer_bytes closing (is_head method) (report_said t.revision faults) ∷ after)) × Run t rest after u

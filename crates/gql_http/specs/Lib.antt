@@ -4,8 +4,10 @@ pub mod Routes
 pub mod Called
 pub mod Said
 pub mod Service
-pub mod Exchange
+pub mod Connections
+pub mod Events
+pub mod Order
+pub mod History
 pub mod Hubs
 pub mod Pipes
-pub mod Events
 pub mod Laws

@@ -1,15 +1,18 @@
 -- Which call a request is.
-use Rattle.std.specs.Prelude.{ℕ, List, not, take, drop, codes, bytes_eq, nat_eq, ◌==◌, Bool, if◌then◌else◌}
+use Rattle.std.specs.Prelude.{ℕ, ◌+◌, List, length, not, take, drop, codes, bytes_eq, nat_eq, ◌==◌, Bool, Option, Some, None, if◌then◌else◌}
 use Rattle.std.specs.List.{prefix_len, list_any, starts_with}
 use Rattle.gql_ast.specs.FileNames.{is_file_name}
+use Rattle.gql_wire.specs.Head.{number_in}
 use Rattle.gql_wire.specs.declared.answer.Allow.TheVariants.{PutDelete, Get}
 use Rattle.gql_http.specs.Answers.{Said, no_route, not_allowed, bad_query}
+use Rattle.gql_http.specs.declared.query.Query.{Query}
+use Rattle.gql_http.specs.declared.query.Query.TheVariants.{Absent, Revision, Other}
 
--- a call, or a request that is refused with this answer
+-- a call, of which an edit may expect a revision; or a request that is refused with this answer
 pub data Call : Type 0 where
   report : Call
-  put_schema : List ℕ → Call
-  remove_schema : List ℕ → Call
+  put_schema : List ℕ → Option ℕ → Call
+  remove_schema : List ℕ → Option ℕ → Call
   refused : Said → Call
 
 -- what a path names
@@ -29,6 +32,19 @@ path_of target = take (prefix_len (λ b. not (is_question_mark b)) target) targe
 abbrev pub has_query : List ℕ → Bool
 has_query target = list_any is_question_mark target
 
+-- a number of a query: the present revision that an edit expects
+abbrev pub numbered : Option ℕ → Query
+numbered None = Other
+numbered (Some n) = Revision n
+
+-- what the bytes of a query ask for: `revision=N`, where N is 1 to 18 digits, or something else
+abbrev pub query_in : List ℕ → Query
+query_in bytes = if starts_with nat_eq bytes (codes "revision=") then numbered (number_in (drop 9 bytes)) else Other
+
+-- the query after the first `?` of a target, if there is one
+abbrev pub query_of : List ℕ → Query
+query_of target = if has_query target then query_in (drop (length (path_of target) + 1) target) else Absent
+
 abbrev pub schema_prefix : List ℕ
 schema_prefix = codes "/schema/"
 
@@ -41,20 +57,33 @@ resource_of path =
     else if starts_with nat_eq path schema_prefix then file_resource (drop 8 path)
     else nothing
 
--- no query is served yet
-abbrev pub without_query : Bool → Call → Call
-without_query has call = if has then refused bad_query else call
+-- a call that takes no query
+abbrev pub without_query : Query → Call → Call
+without_query Absent call = call
+without_query (Revision n) call = refused bad_query
+without_query Other call = refused bad_query
+
+-- a schema file that is put, or removed, by an edit that may expect a revision
+abbrev pub putting : Query → List ℕ → Call
+putting Absent name = put_schema name None
+putting (Revision n) name = put_schema name (Some n)
+putting Other name = refused bad_query
+
+abbrev pub removing : Query → List ℕ → Call
+removing Absent name = remove_schema name None
+removing (Revision n) name = remove_schema name (Some n)
+removing Other name = refused bad_query
 
 -- the call on a resource by a method
-abbrev pub call_on : Resource → List ℕ → Bool → Call
+abbrev pub call_on : Resource → List ℕ → Query → Call
 call_on nothing method query = refused no_route
 call_on the_report method query = if bytes_eq method (codes "GET") then without_query query report else refused (not_allowed Get)
 call_on (schema_file name) method query =
-    if bytes_eq method (codes "PUT") then without_query query (put_schema name)
-    else if bytes_eq method (codes "DELETE") then without_query query (remove_schema name)
+    if bytes_eq method (codes "PUT") then putting query name
+    else if bytes_eq method (codes "DELETE") then removing query name
     else refused (not_allowed PutDelete)
 
--- The call that a request's method and target are. The checks stand in their order: the path (305), the method (306), the
+-- The call that a request's method and target are. The checks are made in this order: the path (305), the method (306), the
 -- query (308).
 abbrev pub call_of : List ℕ → List ℕ → Call
-call_of method target = call_on (resource_of (path_of target)) method (has_query target)
+call_of method target = call_on (resource_of (path_of target)) method (query_of target)

@@ -1,4 +1,4 @@
--- What the code's answers say.
+-- Helper definitions for private contracts: what the code's answers mean.
 use Rattle.std.specs.Prelude.{ℕ, List}
 use Rattle.gql_http.specs.Answers.{Said, answer_bytes}
 use Rattle.gql_http.specs.declared.answer.Answer.{Answer}

@@ -6,7 +6,7 @@ use std::alloc::Global;
 use thiserror::Error;
 
 /// Connections have the numbers below this one.
-pub const CONNECTIONS: u8 = 1;
+pub const CONNECTIONS: u8 = 16;
 
 /// Why a connection is not opened.
 #[derive(Clone, Copy, Debug, PartialEq, Eq, Error)]
@@ -24,9 +24,9 @@ pub enum OpenRefusal {
 pub struct Fed {
     /// The answers to the requests that the piece completed, in their order.
     pub out: Vec<u8>,
-    /// Whether the connection was closed, by a request or for want of memory.
+    /// Whether the connection was closed, by a request or because an allocation failed.
     pub closed: bool,
-    /// Whether memory was wanting. The request in hand isn't made then.
+    /// Whether an allocation failed. The request that was being made then is not made.
     pub memory: bool,
 }
 
@@ -35,87 +35,95 @@ pub struct Fed {
 pub struct Hub {
     alloc: Global,
     registry: Registry,
-    connection: Option<Framer>,
+    framers: [Option<Framer>; 16],
 }
 
 impl Hub {
-    ghost use Rattle.std.specs.Prelude.{◌≡◌, ◌≢◌, ◌≤◌, ◌↔◌, ◌++◌, ℕ, List, [], Some, None, IsTrue, IsSome, IsNone, IsErrOf, OnOk, OnErr};
+    ghost use Rattle.std.specs.Prelude.{◌≡◌, ◌≤◌, ◌<◌, ◌↔◌, [], Some, None, slice_set, get_or, is_none, IsTrue, IsSome, IsErrOf, OnErr};
     ghost use Rattle.gql_registry.specs.State.{state_of};
-    ghost use Rattle.gql_http.specs.Hubs.{service_of, rest_of, is_unfinished, SameBut, Feeds};
+    ghost use Rattle.gql_http.specs.Events.{Event, opens, closes, all_closed, Does};
+    ghost use Rattle.gql_http.specs.Hubs.{service_of, rests_of, is_unfinished, IsFeedOf};
     ghost use Rattle.gql_http.specs.declared.hub.OpenRefusal.TheVariants.{NoSuch, AlreadyOpen};
 
     /// The service on a registry, with every connection closed.
     pub fn new(alloc: Global, registry: Registry) -> Hub
         ensures service { service_of result ≡ state_of registry }
-        ensures closed { (c : ℕ) → rest_of result c ≡ None }
+        ensures closed { rests_of result ≡ all_closed }
     {
         Hub {
             alloc,
             registry,
-            connection: None,
+            framers: [
+                None, None, None, None, None, None, None, None, None, None, None, None, None, None,
+                None, None,
+            ],
         }
     }
 
     /// Whether a connection is open.
     pub fn is_open(&self, connection: u8) -> bool
-        ensures { IsTrue result ↔ IsSome (rest_of self.now connection) }
+        ensures { IsTrue result ↔ IsSome (rests_of self.now connection) }
     {
-        connection == 0 && self.connection.is_some()
-    }
-
-    /// Whether an unfinished request stands on a connection.
-    pub fn has_rest(&self, connection: u8) -> bool
-        ensures { result ≡ is_unfinished (rest_of self.now connection) }
-    {
-        match &self.connection {
-            Some(framer) => connection == 0 && framer.has_rest(),
+        match self.framers.get(usize::from(connection)) {
+            Some(framer) => framer.is_some(),
             None => false,
         }
     }
 
-    /// Opens a connection: its bytes begin anew.
+    /// Whether a connection holds an unfinished request.
+    pub fn has_rest(&self, connection: u8) -> bool
+        ensures { result ≡ is_unfinished (rests_of self.now connection) }
+    {
+        match self.framers.get(usize::from(connection)) {
+            Some(Some(framer)) => framer.has_rest(),
+            _ => false,
+        }
+    }
+
+    /// Opens a connection: its bytes begin anew. Every other connection is as it was.
     pub fn open(&mut self, connection: u8) -> Result<(), OpenRefusal>
-        ensures ok { OnOk result (rest_of self.new connection ≡ Some []) }
-        ensures others { SameBut connection self.old self.new }
+        ensures does { Does (service_of self.old) (rests_of self.old) (opens connection) [] (service_of self.new) (rests_of self.new) }
         ensures no_such { IsErrOf result NoSuch ↔ (CONNECTIONS ≤ connection) }
-        ensures already { IsErrOf result AlreadyOpen ↔ IsSome (rest_of self.old connection) }
+        ensures already { IsErrOf result AlreadyOpen ↔ IsSome (rests_of self.old connection) }
         ensures err { OnErr result (self.new ≡ self.old) }
     {
         if connection >= CONNECTIONS {
             return Err(OpenRefusal::NoSuch);
         }
-        if self.connection.is_some() {
+        if self.is_open(connection) {
             return Err(OpenRefusal::AlreadyOpen);
         }
-        self.connection = Some(Framer::new(self.alloc));
+        self.framers[usize::from(connection)] = Some(Framer::new(self.alloc));
         Ok(())
     }
 
-    /// Closes a connection and drops its unfinished bytes. One that isn't open stays so.
+    /// Closes a connection and drops its unfinished bytes. One that is not open stays so. Every other connection is as it
+    /// was.
     pub fn close(&mut self, connection: u8)
-        ensures closed { rest_of self.new connection ≡ None }
-        ensures others { SameBut connection self.old self.new }
+        ensures { Does (service_of self.old) (rests_of self.old) (closes connection) [] (service_of self.new) (rests_of self.new) }
     {
-        if connection == 0 {
-            self.connection = None;
+        if self.is_open(connection) {
+            self.framers[usize::from(connection)] = None;
         }
     }
 
     /// Takes the next bytes of an open connection. Each request that they complete is made before the call returns, and
-    /// its answer stands in `out`.
+    /// its answer is in `out`. Every other connection is as it was.
     pub fn feed(&mut self, connection: u8, piece: &[u8]) -> Fed
-        requires open { IsSome (rest_of self.old connection) }
-        ensures fed { (held : List ℕ) → rest_of self.old connection ≡ Some held → Feeds held piece.now connection self.old result self.new }
-        ensures others { (c : ℕ) → c ≢ connection → rest_of self.new c ≡ rest_of self.old c }
+        requires open { IsSome (rests_of self.old connection) }
+        ensures does { (e : Event) × IsFeedOf connection piece.now result.memory e
+            × Does (service_of self.old) (rests_of self.old) e result.out.items (service_of self.new) (rests_of self.new) }
+        ensures closed { result.closed ≡ is_none (rests_of self.new connection) }
     {
         let mut out = Vec::new(self.alloc);
-        let Some(mut framer) = self.connection.take() else {
+        let index = usize::from(connection);
+        let Some(mut framer) = self.take_framer(connection) else {
             unreachable!();
         };
         match serve(self.alloc, &mut self.registry, &mut framer, piece, &mut out) {
             Ok(closed) => {
                 if !closed {
-                    self.connection = Some(framer);
+                    self.framers[index] = Some(framer);
                 }
                 Fed {
                     out,
@@ -129,5 +137,15 @@ impl Hub {
                 memory: true,
             },
         }
+    }
+
+    /// Takes the framer of an open connection, which is closed then.
+    fn take_framer(&mut self, connection: u8) -> Option<Framer>
+        requires { connection < CONNECTIONS }
+        ensures value { result ≡ rests_of self.old connection }
+        ensures closed { self.new.framers ≡ slice_set self.old.framers connection None }
+        ensures same { service_of self.new ≡ service_of self.old }
+    {
+        self.framers[usize::from(connection)].take()
     }
 }

@@ -6,6 +6,7 @@ mod hub;
 pub mod laws;
 mod piping;
 mod places;
+mod query;
 mod refusal_answer;
 mod refusal_body;
 mod report_body;

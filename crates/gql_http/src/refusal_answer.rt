@@ -1,7 +1,7 @@
 //! The answers to refusals.
 ghost use Rattle.std.specs.Prelude.{◌≡◌, IfOk, Some, IsTrue};
 ghost use Rattle.gql_wire.specs.Answer.{is_answered};
-ghost use Rattle.gql_http.specs.Answers.{refusal_said, head_said, said, error_text};
+ghost use Rattle.gql_http.specs.Answers.{refusal_said, head_said, head_status, head_message, said, error_text};
 ghost use Rattle.gql_http.specs.Called.{route_said};
 ghost use Rattle.gql_http.specs.Said.{answer_said};
 
@@ -13,36 +13,36 @@ use gql_wire::HeadRefusal;
 use http::StatusCode;
 use std::alloc::{AllocError, Global};
 
-/// The answer to a head that is refused.
+fn head_status(refusal: HeadRefusal) -> StatusCode
+    ensures value { result ≡ head_status refusal }
+    ensures answered { IsTrue (is_answered result) }
+{
+    match refusal {
+        HeadRefusal::BadHead | HeadRefusal::BadLength => StatusCode::BAD_REQUEST,
+        HeadRefusal::LongHead => StatusCode::REQUEST_HEADER_FIELDS_TOO_LARGE,
+        HeadRefusal::LongBody => StatusCode::PAYLOAD_TOO_LARGE,
+        HeadRefusal::TransferCoding => StatusCode::NOT_IMPLEMENTED,
+    }
+}
+
+fn head_message(refusal: HeadRefusal) -> &'static str
+    ensures { result.now ≡ head_message refusal }
+{
+    match refusal {
+        HeadRefusal::BadHead => "bad head",
+        HeadRefusal::LongHead => "head is too long",
+        HeadRefusal::LongBody => "body is too long",
+        HeadRefusal::TransferCoding => "transfer coding is not served",
+        HeadRefusal::BadLength => "bad content length",
+    }
+}
+
+/// The answer to a refused head.
 pub fn head_answer(alloc: Global, refusal: HeadRefusal) -> Result<Answer, AllocError>
     ensures { IfOk result (λ a. answer_said a ≡ head_said refusal) }
 {
-    match refusal {
-        HeadRefusal::BadHead => simple(alloc, StatusCode::BAD_REQUEST, "bad head", 301),
-        HeadRefusal::LongHead => simple(
-            alloc,
-            StatusCode::REQUEST_HEADER_FIELDS_TOO_LARGE,
-            "head is too long",
-            302,
-        ),
-        HeadRefusal::LongBody => {
-            simple(
-                alloc,
-                StatusCode::PAYLOAD_TOO_LARGE,
-                "body is too long",
-                303,
-            )
-        }
-        HeadRefusal::TransferCoding => simple(
-            alloc,
-            StatusCode::NOT_IMPLEMENTED,
-            "transfer coding is not served",
-            304,
-        ),
-        HeadRefusal::BadLength => {
-            simple(alloc, StatusCode::BAD_REQUEST, "bad content length", 307)
-        }
-    }
+    let number = u64::from(refusal.number());
+    simple(alloc, head_status(refusal), head_message(refusal), number)
 }
 
 /// The answer to a request that is no call.

@@ -1,10 +1,11 @@
 //! Which call a request is.
-ghost use Rattle.std.specs.Prelude.{◌≡◌, ◌≤◌, not, Some, None, drop, length, bytes_eq, codes, if◌then◌else◌, nat_eq};
-ghost use Rattle.std.specs.List.{list_any, prefix_len, starts_with};
+ghost use Rattle.std.specs.Prelude.{◌≡◌, Some, None, drop, bytes_eq, codes, if◌then◌else◌, nat_eq};
+ghost use Rattle.std.specs.List.{starts_with};
 ghost use Rattle.gql_ast.specs.FileNames.{is_file_name};
-ghost use Rattle.gql_http.specs.Routes.{call_of, call_on, resource_of, path_of, has_query, file_resource, is_question_mark, without_query};
+ghost use Rattle.gql_http.specs.Routes.{call_of, call_on, resource_of, file_resource, without_query, putting, removing};
 ghost use Rattle.gql_http.specs.Called.{call_said, resource_said};
 
+use crate::query::{Query, path_of, query_of};
 use gql_ast::FileName;
 use gql_wire::Allow;
 use std::str;
@@ -20,12 +21,12 @@ pub enum RouteRefusal {
     BadQuery,
 }
 
-/// A call, or why the request is none.
+/// A call, or why the request is none. An edit may expect a revision.
 #[derive(Drop)]
 pub enum Call {
     Report,
-    PutSchema(FileName),
-    RemoveSchema(FileName),
+    PutSchema(FileName, Option<u64>),
+    RemoveSchema(FileName, Option<u64>),
     Refused(RouteRefusal),
 }
 
@@ -67,36 +68,39 @@ fn resource_of(path: &[u8]) -> Resource
     }
 }
 
-fn path_len(target: &[u8]) -> usize
-    ensures value { result ≡ prefix_len (λ b. not (is_question_mark b)) target.now }
-    ensures within { result ≤ length target.now }
+/// A call that takes no query.
+fn without_query(query: Query, served: Call) -> Call
+    ensures { call_said result ≡ without_query query (call_said served) }
 {
-    target.iter().take_while(|byte| **byte != b'?').count()
-}
-
-fn path_of(target: &[u8]) -> &[u8]
-    ensures { result.now ≡ path_of target.now }
-{
-    &target[..path_len(target)]
-}
-
-fn has_query(target: &[u8]) -> bool
-    ensures { result ≡ has_query target.now }
-{
-    target.iter().any(|byte| *byte == b'?')
-}
-
-fn without_query(has: bool, served: Call) -> Call
-    ensures { call_said result ≡ without_query has (call_said served) }
-{
-    if has {
-        Call::Refused(RouteRefusal::BadQuery)
-    } else {
-        served
+    match query {
+        Query::Absent => served,
+        Query::Revision(_) | Query::Other => Call::Refused(RouteRefusal::BadQuery),
     }
 }
 
-fn call_on(resource: Resource, method: &[u8], query: bool) -> Call
+/// A schema file that is put.
+fn putting(query: Query, name: FileName) -> Call
+    ensures { call_said result ≡ putting query name }
+{
+    match query {
+        Query::Absent => Call::PutSchema(name, None),
+        Query::Revision(revision) => Call::PutSchema(name, Some(revision)),
+        Query::Other => Call::Refused(RouteRefusal::BadQuery),
+    }
+}
+
+/// A schema file that is removed.
+fn removing(query: Query, name: FileName) -> Call
+    ensures { call_said result ≡ removing query name }
+{
+    match query {
+        Query::Absent => Call::RemoveSchema(name, None),
+        Query::Revision(revision) => Call::RemoveSchema(name, Some(revision)),
+        Query::Other => Call::Refused(RouteRefusal::BadQuery),
+    }
+}
+
+fn call_on(resource: Resource, method: &[u8], query: Query) -> Call
     ensures { call_said result ≡ call_on (resource_said resource) method.now query }
 {
     match resource {
@@ -104,10 +108,10 @@ fn call_on(resource: Resource, method: &[u8], query: bool) -> Call
         Resource::Report if method == b"GET".as_slice() => without_query(query, Call::Report),
         Resource::Report => Call::Refused(RouteRefusal::NotAllowed(Allow::Get)),
         Resource::SchemaFile(name) if method == b"PUT".as_slice() => {
-            without_query(query, Call::PutSchema(name))
+            putting(query, name)
         }
         Resource::SchemaFile(name) if method == b"DELETE".as_slice() => {
-            without_query(query, Call::RemoveSchema(name))
+            removing(query, name)
         }
         Resource::SchemaFile(_) => Call::Refused(RouteRefusal::NotAllowed(Allow::PutDelete)),
     }
@@ -117,5 +121,5 @@ fn call_on(resource: Resource, method: &[u8], query: bool) -> Call
 pub fn call_of(method: &[u8], target: &[u8]) -> Call
     ensures { call_said result ≡ call_of method.now target.now }
 {
-    call_on(resource_of(path_of(target)), method, has_query(target))
+    call_on(resource_of(path_of(target)), method, query_of(target))
 }

@@ -1,14 +1,16 @@
 //! The requests that a piece of bytes completes, answered in their order.
-ghost use Rattle.std.specs.Prelude.{◌≡◌, ◌++◌, ◌≤◌, length, drop, IfOk, OnErr, [], if◌then◌else◌, Some, None};
+ghost use Rattle.std.specs.Prelude.{◌≡◌, ◌++◌, ◌≤◌, ℕ, length, drop, IfOk, OnErr, [], if◌then◌else◌, Some, None};
 ghost use Rattle.gql_registry.specs.State.{state_of};
 ghost use Rattle.gql_wire.specs.Stream.{closes, req};
-ghost use Rattle.gql_http.specs.Exchange.{Serves, Breaks};
+ghost use Rattle.gql_http.specs.Connections.{Serves, Breaks};
 
 use crate::service::step;
 use gql_registry::Registry;
+use gql_wire::laws::some_split;
 use gql_wire::{Framed, Framer};
 use std::alloc::{AllocError, Global};
 
+/// Whether the connection closes after the request.
 fn closes(framed: &Framed) -> bool
     ensures { result ≡ closes (req framed.now) }
 {
@@ -25,9 +27,9 @@ fn rest_from(piece: &[u8], at: usize) -> &[u8]
     &piece[at..]
 }
 
-/// Takes a piece of a connection's bytes, makes the requests that it completes and writes their answers. Answers
-/// whether a request closes the connection; later bytes are then dropped. Where memory is wanting, the requests before
-/// are made and answered.
+/// Takes a piece of a connection's bytes, makes the requests that it completes and writes their answers. Returns whether a
+/// request closes the connection; later bytes are then dropped. If an allocation fails, the requests before have been made
+/// and answered, and the current one changes nothing.
 pub fn serve(
     alloc: Global,
     registry: &mut Registry,
@@ -36,10 +38,12 @@ pub fn serve(
     out: &mut Vec<u8>,
 ) -> Result<bool, AllocError>
     requires { out.old.items ≡ [] }
-    ensures ok { IfOk result (λ closed. Serves (state_of registry.old) (framer.old ++ piece.now) out.new.items closed (state_of registry.new)
+    ensures ok { IfOk result (λ closed. Serves (state_of registry.old) (framer.old ++ piece.now) out.new.items (state_of registry.new)
         (if closed then None else Some framer.new)) }
-    ensures err { OnErr result (Breaks (state_of registry.old) (framer.old ++ piece.now) out.new.items (state_of registry.new)) }
+    ensures err { OnErr result ((made : ℕ) × Breaks (state_of registry.old) (framer.old ++ piece.now) out.new.items (state_of registry.new) made) }
 {
+    // The law that the bytes after the current request are requests, too.
+    some_split();
     let mut at = 0;
     'requests: loop {
         let (count, framed) = framer.take(rest_from(piece, at))?;

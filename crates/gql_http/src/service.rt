@@ -1,4 +1,4 @@
-//! One request after another, made on the registry.
+//! One request after the other, made on the registry.
 ghost use Rattle.std.specs.Prelude.{◌≡◌, ◌++◌, ◌+◌, ◌≤◌, OnOk, OnErr, IfOk, IsErr, List, [], ℕ, Some, vec_len, vec_capacity};
 ghost use Rattle.gql_ast.specs.declared.fault.Fault.{Fault};
 ghost use Rattle.gql_registry.specs.Report.{IsReport};
@@ -8,7 +8,8 @@ ghost use Rattle.gql_http.specs.Answers.{Said, edit_said, report_said};
 ghost use Rattle.gql_http.specs.Called.{call_said};
 ghost use Rattle.gql_http.specs.Said.{answer_said, ended_bytes};
 ghost use Rattle.gql_http.specs.Routes as routes;
-ghost use Rattle.gql_http.specs.Service.{Step, Calls, is_head};
+ghost use Rattle.gql_wire.specs.Head.{is_head};
+ghost use Rattle.gql_http.specs.Service.{Step, Calls};
 
 use crate::answer::{Answer, Ending};
 use crate::refusal_answer::{head_answer, refusal_answer, route_answer};
@@ -57,15 +58,16 @@ fn put_schema(
     registry: &mut Registry,
     out: &mut Vec<u8>,
     name: FileName,
+    expected: Option<u64>,
     body: &[u8],
     ending: Ending,
 ) -> Result<(), AllocError>
-    ensures ok { OnOk result ((a : Said) × Calls (state_of registry.old) (routes.put_schema name) body.now a (state_of registry.new)
+    ensures ok { OnOk result ((a : Said) × Calls (state_of registry.old) (routes.put_schema name expected) body.now a (state_of registry.new)
         × (out.new.items ≡ out.old.items ++ ended_bytes ending a)) }
     ensures err { OnErr result ((state_of registry.new ≡ state_of registry.old) × (out.new.items ≡ out.old.items)) }
 {
     out.reserve(EDIT_ROOM)?;
-    let edited = registry.put_schema(name, body);
+    let edited = registry.put_schema(name, body, expected);
     write_edit(alloc, out, edited, ending)
 }
 
@@ -74,14 +76,15 @@ fn remove_schema(
     registry: &mut Registry,
     out: &mut Vec<u8>,
     name: FileName,
+    expected: Option<u64>,
     ending: Ending,
 ) -> Result<(), AllocError>
-    ensures ok { OnOk result ((a : Said) × Calls (state_of registry.old) (routes.remove_schema name) [] a (state_of registry.new)
+    ensures ok { OnOk result ((a : Said) × Calls (state_of registry.old) (routes.remove_schema name expected) [] a (state_of registry.new)
         × (out.new.items ≡ out.old.items ++ ended_bytes ending a)) }
     ensures err { OnErr result ((state_of registry.new ≡ state_of registry.old) × (out.new.items ≡ out.old.items)) }
 {
     out.reserve(EDIT_ROOM)?;
-    let edited = registry.remove_schema(name);
+    let edited = registry.remove_schema(name, expected);
     write_edit(alloc, out, edited, ending)
 }
 
@@ -99,8 +102,12 @@ fn make_call(
 {
     match call {
         Call::Report => write_answer(out, &report_answer(alloc, registry)?, ending),
-        Call::PutSchema(name) => put_schema(alloc, registry, out, name, body, ending),
-        Call::RemoveSchema(name) => remove_schema(alloc, registry, out, name, ending),
+        Call::PutSchema(name, expected) => {
+            put_schema(alloc, registry, out, name, expected, body, ending)
+        }
+        Call::RemoveSchema(name, expected) => {
+            remove_schema(alloc, registry, out, name, expected, ending)
+        }
         Call::Refused(refusal) => write_answer(out, &route_answer(alloc, refusal)?, ending),
     }
 }

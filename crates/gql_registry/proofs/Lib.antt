@@ -1,2 +1,5 @@
-pub mod OneOutcome
+pub mod FilesByName
+pub mod FirstRefusals
+pub mod HoldsAfter
+pub mod OneEdit
 pub mod OneReport

@@ -1,12 +1,17 @@
-//! Laws of the registry's report and edits. The functions do nothing but cite the laws below them: what they ensure is the law.
-ghost use Rattle.gql_registry.specs.Laws.{OnePut, OneRemoval, OneReport};
+//! Laws of the registry's report and edits. The functions do nothing: what they ensure is the law.
+ghost use Rattle.gql_registry.specs.Laws.{HoldsAfter, OneEdit, OneReport};
 
-/// Files have one report, and an edit has one answer and leaves one state, where memory is not wanting.
+/// Files have one report, and an edit has one answer and leaves one state, unless an allocation fails.
 pub fn one_outcome()
-    ensures put { OnePut }
-    ensures removal { OneRemoval }
+    ensures edit { OneEdit }
     ensures report { OneReport }
 {
     gql_parse_sdl::one_answer();
     gql_report::laws::one_order();
 }
+
+/// After an accepted edit a name holds the document that was put under it, nothing after a removal, and what it held where
+/// the edit names another.
+pub fn holds_after()
+    ensures { HoldsAfter }
+{}

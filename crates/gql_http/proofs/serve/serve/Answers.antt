@@ -28,7 +28,7 @@ requests-preserved-else-closes c =
     record { within = within_more c.args.piece.now c.requests.at c.in_ok-count.count c.requests.invariant.within (rw c.rest_from.ensures at c.in_ok-count.ensures.within); served = rw found.0 next }
 
 pub returns-in_err-count-clause-err : goal.returns-in_err-count-clause-err
-returns-in_err-count-clause-err c = on_error c.from_residual.result _ (served_breaks c.requests.invariant.served)
+returns-in_err-count-clause-err c = on_error c.from_residual.result _ (served_breaks c.some_split.ensures c.requests.invariant.served)
 
 pub returns-in_err-step-clause-err : goal.returns-in_err-step-clause-err
-returns-in_err-step-clause-err c = on_error c.from_residual-in_err-step.result _ (kept_breaks c.requests.invariant.served c.in_err-step.ensures.err.0 c.in_err-step.ensures.err.1)
+returns-in_err-step-clause-err c = on_error c.from_residual-in_err-step.result _ (kept_breaks c.some_split.ensures c.requests.invariant.served c.in_err-step.ensures.err.0 c.in_err-step.ensures.err.1)
