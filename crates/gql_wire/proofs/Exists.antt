@@ -106,7 +106,7 @@ begun (a ∷ b ∷ bytes) = elim (tells (a == 13 && b == 10)) [
   | inr f ↦ begun_at (a ∷ b ∷ bytes) f
 ]
 
-request_some : (front : List ℕ) (r : Req) → IsRequest front r → 0 < length front
+pub request_some : (front : List ℕ) (r : Req) → IsRequest front r → 0 < length front
 request_some _ r (behind_blank {bytes = a} g) = omega arith
 request_some front r (long o n) = omega arith
 request_some front r (stops h s) = omega (arith, head_full front h)

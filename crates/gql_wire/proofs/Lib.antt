@@ -7,3 +7,4 @@ pub mod Phrases
 pub mod Splitting
 pub mod Decided
 pub mod Exists
+pub mod Ends

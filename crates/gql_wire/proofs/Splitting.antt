@@ -86,7 +86,7 @@ skipped_before at (x ∷ y ∷ a) b rs r s = elim (tells (x == 13 && y == 10)) [
 ]
 
 -- the rest is no longer than the bytes
-rest_short : (at : ℕ) (bytes : List ℕ) (rs : List Placed) (r : List ℕ) → Splits at bytes rs r → length r ≤ length bytes
+pub rest_short : (at : ℕ) (bytes : List ℕ) (rs : List Placed) (r : List ℕ) → Splits at bytes rs r → length r ≤ length bytes
 rest_short at bytes _ r (unfinished u e) = omega (arith, skip_short bytes, ap length e)
 rest_short at bytes _ _ (last m g c e) = omega arith
 rest_short at bytes _ r (next {front = a} {more = m} {rs = xs} g c e s) = omega (arith, rest_short (at + length a) m xs r s, ap length e, length-append a m)

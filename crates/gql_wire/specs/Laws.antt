@@ -1,5 +1,5 @@
 -- Laws over streams.
-use Rattle.std.specs.Prelude.{ℕ, ◌≡◌, ◌+◌, ◌-◌, List, [], ◌∷◌, ◌++◌, length, take, drop, true, false}
+use Rattle.std.specs.Prelude.{ℕ, ◌≡◌, ◌+◌, ◌-◌, ◌<◌, ◌≤◌, List, [], ◌∷◌, ◌++◌, length, take, drop, true, false, All}
 use Rattle.std.specs.List.{flat_map}
 use Rattle.gql_wire.specs.Stream.{Req, IsRequest, closes, Placed, Splits, Requests, StaysOpen, IsUnfinished, skip_blank}
 
@@ -55,3 +55,25 @@ RestUnfinished = (at : ℕ) (bytes : List ℕ) (rs : List Placed) (r : List ℕ)
 -- no bytes are an unfinished request
 abbrev pub NothingUnfinished : Type 0
 NothingUnfinished = IsUnfinished []
+
+-- the request is complete within the first n bytes of the stream
+abbrev pub EndsWithinFirst : ℕ → Placed → Type 0
+EndsWithinFirst n p = p.end ≤ n
+
+-- the request is complete only after the first n bytes of the stream
+abbrev pub EndsAfterFirst : ℕ → Placed → Type 0
+EndsAfterFirst n p = n < p.end
+
+-- More bytes of an open stream keep the requests that were complete, and each further request is
+-- complete in the further bytes.
+abbrev pub MoreBytes : Type 0
+MoreBytes = (at : ℕ) (a b : List ℕ) (rs ps : List Placed) (r q : List ℕ)
+    → Splits at a rs r → StaysOpen rs → Splits at (a ++ b) ps q
+    → (qs : List Placed) × (ps ≡ rs ++ qs)
+      × Splits (at + (length a - length r)) (r ++ b) qs q
+      × All (EndsWithinFirst (at + length a)) rs × All (EndsAfterFirst (at + length a)) qs
+
+-- Every request of a stream is complete within its bytes.
+abbrev pub EndsWithin : Type 0
+EndsWithin = (at : ℕ) (bytes : List ℕ) (rs : List Placed) (r : List ℕ)
+    → Splits at bytes rs r → All (EndsWithinFirst (at + length bytes)) rs

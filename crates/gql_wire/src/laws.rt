@@ -1,5 +1,5 @@
 //! Laws over the requests of a stream. The functions do nothing: what they ensure is the law.
-ghost use Rattle.gql_wire.specs.Laws.{OneReading, OneSplit, SomeSplit, TakenNext, TakenLast, Feeding, Closed, AnyPieces, RestUnfinished, NothingUnfinished};
+ghost use Rattle.gql_wire.specs.Laws.{OneReading, OneSplit, SomeSplit, TakenNext, TakenLast, Feeding, Closed, AnyPieces, RestUnfinished, NothingUnfinished, MoreBytes, EndsWithin};
 
 /// Bytes begin with one request at most, so it doesn't matter how a stream is cut into pieces.
 pub fn one_reading()
@@ -49,4 +49,15 @@ pub fn rest_is_unfinished()
 /// No bytes are an unfinished request.
 pub fn nothing_is_unfinished()
     ensures { NothingUnfinished }
+{}
+
+/// More bytes of an open stream keep the requests that were complete, and each further request is
+/// complete in the further bytes.
+pub fn more_bytes()
+    ensures { MoreBytes }
+{}
+
+/// Every request of a stream is complete within its bytes.
+pub fn ends_within()
+    ensures { EndsWithin }
 {}
