@@ -66,15 +66,14 @@ after_held at n held more _ r u h (next {front = f} {more = m} {r = x} {rs = xs}
 pub more_bytes_lem : (at : ℕ) (a b : List ℕ) (rs ps : List Placed) (r q : List ℕ)
     → Splits at a rs r → StaysOpen rs → Splits at (a ++ b) ps q
     → (qs : List Placed) × (ps ≡ rs ++ qs)
-      × Splits (at + (length a - length r)) (r ++ b) qs q
-      × All (EndsWithinFirst (at + length a)) rs × All (EndsAfterFirst (at + length a)) qs
+    × Splits (at + (length a - length r)) (r ++ b) qs q
+    × All (EndsWithinFirst (at + length a)) rs × All (EndsAfterFirst (at + length a)) qs
 more_bytes_lem at a b rs ps r q s stays t =
     let from : ℕ = at + (length a - length r) in
     let (qs, q2, split) = split_some from (r ++ b) in
     let whole : Splits at (a ++ b) (rs ++ qs) q2 = feeding_lem at a b rs qs r q2 s stays split in
     let one = one_split_lem at (a ++ b) ps (rs ++ qs) q q2 t whole in
-    let place : at + length a ≡ from + length r = omega (arith, rest_short at a rs r s) in
-    (
+    let place : at + length a ≡ from + length r = omega (arith, rest_short at a rs r s) in (
       qs,
       one.0,
       subst (λ (z : List ℕ). Splits from (r ++ b) qs z) (sym one.1) split,

@@ -7,7 +7,8 @@ use Rattle.httparse.specs.declared.spans.HeaderSpan.{HeaderSpan}
 use Rattle.std.specs.Prelude.{if◌then◌else◌, ◌||◌, ◌&&◌, ◌==◌}
 use Rattle.std.specs.List.{list_any, prefix_len}
 use Rattle.gql_wire.specs.Held.{next_said}
-use Rattle.gql_wire.specs.Head.{values_of, is_length, number_from, length_said, all_say, is_item_byte, items_of, is_close, names_close}
+use Rattle.gql_wire.specs.Number.{is_number, number_from}
+use Rattle.gql_wire.specs.Head.{values_of, length_said, all_say, is_item_byte, items_of, is_close, names_close}
 
 -- the length that these values say behind others, which said this
 abbrev pub said_behind : Option ℕ → List (List ℕ) → Option ℕ
@@ -20,22 +21,22 @@ tells false = inr refl
 
 -- a further value that says nothing, or another length, leaves nothing said
 pub said_stops : (said : Option ℕ) (v : List ℕ) (vs : List (List ℕ)) → next_said said v ≡ None → said_behind said (v ∷ vs) ≡ None
-said_stops None v vs e = elim (tells (is_length v)) [
+said_stops None v vs e = elim (tells (is_number v)) [
   | inl t ↦ let k = rw t at e in absurd (cc)
   | inr f ↦ rw f refl
 ]
-said_stops (Some n) v vs e = elim (tells (is_length v && number_from 0 v == n)) [
+said_stops (Some n) v vs e = elim (tells (is_number v && number_from 0 v == n)) [
   | inl t ↦ let k = rw t at e in absurd (cc)
   | inr f ↦ rw f refl
 ]
 
 -- and else the values behind it are to say the same
 pub said_goes : (said : Option ℕ) (v : List ℕ) (vs : List (List ℕ)) (n : ℕ) → next_said said v ≡ Some n → said_behind said (v ∷ vs) ≡ said_behind (Some n) vs
-said_goes None v vs n e = elim (tells (is_length v)) [
+said_goes None v vs n e = elim (tells (is_number v)) [
   | inl t ↦ let k : number_from 0 v ≡ n = (let j = rw t at e in cc) in rw (t, k) refl
   | inr f ↦ let k = rw f at e in absurd (cc)
 ]
-said_goes (Some m) v vs n e = elim (tells (is_length v && number_from 0 v == m)) [
+said_goes (Some m) v vs n e = elim (tells (is_number v && number_from 0 v == m)) [
   | inl t ↦ let k : m ≡ n = (let j = rw t at e in cc) in rw t (ap (λ (z : ℕ). if all_say z vs then Some z else None) k)
   | inr f ↦ let k = rw f at e in absurd (cc)
 ]

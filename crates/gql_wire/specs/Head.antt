@@ -1,11 +1,11 @@
 -- What the head of a request says (RFC 9112, sections 2 to 7): it is accepted or refused, and how
 -- long its body is. Which bytes are a head is the grammar of httparse.
-use Rattle.std.specs.Prelude.{ℕ, ◌+◌, ◌*◌, ◌-◌, ◌≤◌, List, [], ◌∷◌, length, take, drop, map, Bool, false, not, ◌&&◌, ◌||◌, nat_le, ◌==◌, if◌then◌else◌, codes, Option, Some, None}
+use Rattle.std.specs.Prelude.{ℕ, ◌≤◌, List, [], ◌∷◌, length, take, drop, map, Bool, false, not, ◌&&◌, ◌||◌, nat_le, ◌==◌, if◌then◌else◌, codes, Option, Some, None}
 use Rattle.std.specs.List.{list_all, list_any}
 use Rattle.std.specs.Str.{str_eq_ignore_ascii_case, bytes_eq}
-use Rattle.std.specs.Char.{is_ascii_digit}
 use Rattle.httparse.specs.Grammar.{RequestHead, ReadsRequest, is_ows, skip_ows}
 use Rattle.httparse.specs.Spans.{name_and_value}
+use Rattle.gql_wire.specs.Number.{is_number, number_from}
 use Rattle.gql_wire.specs.declared.head.HeadRefusal.{HeadRefusal}
 use Rattle.gql_wire.specs.declared.head.HeadRefusal.TheVariants.{BadHead, LongHead, LongBody, TransferCoding, BadLength}
 
@@ -47,28 +47,15 @@ abbrev pub values_of : List ℕ → List NameAndValue → List (List ℕ)
 values_of name [] = []
 values_of name (f ∷ fs) = if is_named name f then f.1 ∷ values_of name fs else values_of name fs
 
--- the number that digits write, behind the number n of the digits before
-abbrev pub number_from : ℕ → List ℕ → ℕ
-number_from n [] = n
-number_from n (b ∷ bs) = number_from (10 * n + (b - 48)) bs
-
--- 1 to 18 digits
-abbrev pub is_length : List ℕ → Bool
-is_length bs = nat_le 1 (length bs) && nat_le (length bs) 18 && list_all is_ascii_digit bs
-
--- the length that a value says, if it is one
-abbrev pub length_in : List ℕ → Option ℕ
-length_in bs = if is_length bs then Some (number_from 0 bs) else None
-
--- each of the values is a length, and writes this number
+-- each of the values writes this number
 abbrev pub all_say : ℕ → List (List ℕ) → Bool
-all_say n values = list_all (λ v. is_length v && number_from 0 v == n) values
+all_say n values = list_all (λ v. is_number v && number_from 0 v == n) values
 
--- the length that the values of the fields Content-Length say: 0 where there is none, and nothing
--- where one is no length or two differ in value
+-- the length that the values of the fields Content-Length write: 0 where there is none, and `None`
+-- where one is not 1 to 18 digits or two differ in value
 abbrev pub length_said : List (List ℕ) → Option ℕ
 length_said [] = Some 0
-length_said (v ∷ vs) = if is_length v && all_say (number_from 0 v) vs then Some (number_from 0 v) else None
+length_said (v ∷ vs) = if is_number v && all_say (number_from 0 v) vs then Some (number_from 0 v) else None
 
 -- a byte that is no comma
 abbrev pub is_item_byte : ℕ → Bool

@@ -4,7 +4,8 @@ use Rattle.httparse.specs.Spans.{span_bytes, header_bytes, IsWithin, IsRequestAt
 use Rattle.httparse.specs.Grammar.{RequestHead}
 use Rattle.httparse.specs.declared.spans.HeaderSpan.{HeaderSpan}
 use Rattle.httparse.specs.declared.spans.RequestSpans.{RequestSpans}
-use Rattle.gql_wire.specs.Head.{body_limit, is_length, number_from, length_in, Parts, Said, refuse, expects, Says}
+use Rattle.gql_wire.specs.Number.{is_number, number_from, number_in}
+use Rattle.gql_wire.specs.Head.{body_limit, Parts, Said, refuse, expects, Says}
 use Rattle.gql_wire.specs.Stream.{IsHead, IsOpen, IsRequest, refused, skip_blank, head_limit}
 use Rattle.gql_wire.specs.declared.head.HeadSays.{HeadSays}
 use Rattle.gql_wire.specs.declared.head.HeadSays.TheVariants as code
@@ -14,8 +15,8 @@ use Rattle.gql_wire.specs.declared.stream.Advance.TheVariants as advance
 
 -- the length that a further value says, behind those that said this
 abbrev pub next_said : Option ℕ → List ℕ → Option ℕ
-next_said None v = length_in v
-next_said (Some n) v = if is_length v && number_from 0 v == n then Some n else None
+next_said None v = number_in v
+next_said (Some n) v = if is_number v && number_from 0 v == n then Some n else None
 
 -- the spans are those of a head that these bytes are as a whole
 abbrev pub IsWholeHead : List ℕ → List HeaderSpan → RequestSpans → Type 0

@@ -70,8 +70,8 @@ abbrev pub MoreBytes : Type 0
 MoreBytes = (at : ℕ) (a b : List ℕ) (rs ps : List Placed) (r q : List ℕ)
     → Splits at a rs r → StaysOpen rs → Splits at (a ++ b) ps q
     → (qs : List Placed) × (ps ≡ rs ++ qs)
-      × Splits (at + (length a - length r)) (r ++ b) qs q
-      × All (EndsWithinFirst (at + length a)) rs × All (EndsAfterFirst (at + length a)) qs
+    × Splits (at + (length a - length r)) (r ++ b) qs q
+    × All (EndsWithinFirst (at + length a)) rs × All (EndsAfterFirst (at + length a)) qs
 
 -- Every request of a stream is complete within its bytes.
 abbrev pub EndsWithin : Type 0

@@ -1,3 +1,4 @@
+pub mod Number
 pub mod Head
 pub mod Stream
 pub mod Held

@@ -1,12 +1,12 @@
 ghost use Rattle.std.specs.Prelude.{◌≡◌, ◌+◌, ◌<◌, ◌≤◌, ℕ, length, map, All, IsTrue, IfSome, IfNone, codes, take, drop, slice_range};
 ghost use Rattle.std.specs.Str.{str_eq_ignore_ascii_case, bytes_eq};
 ghost use Rattle.std.specs.List.{list_all, list_any, prefix_len};
-ghost use Rattle.std.specs.Char.{is_ascii_digit};
 ghost use Rattle.httparse.specs.Grammar.{is_ows, skip_ows};
 ghost use Rattle.httparse.specs.Spans.{IsRequestWithin, header_bytes, span_bytes, IsWithin, IsHeaderWithin};
-ghost use Rattle.gql_wire.specs.Head.{IsNoHead, Says, number_of, is_named, values_of, number_from, length_in, length_said, is_item_byte, items_of, is_close, names_close, is_head, judged};
+ghost use Rattle.gql_wire.specs.Head.{IsNoHead, Says, number_of, is_named, values_of, length_said, is_item_byte, items_of, is_close, names_close, is_head, judged};
 ghost use Rattle.gql_wire.specs.Held.{next_said, IsWholeHead, parts_at, said_by, AreSpansWithin};
 
+use crate::number::number_in;
 use crate::part::{front, rest_from};
 use httparse::Status;
 use httparse::spans::{EMPTY_HEADER_SPAN, HeaderSpan, RequestSpans, Span, parse_request};
@@ -64,37 +64,17 @@ fn is_same_word(name: &[u8], word: &[u8]) -> bool
     name.eq_ignore_ascii_case(word)
 }
 
-fn are_digits(value: &[u8]) -> bool
-    ensures { result ≡ list_all is_ascii_digit value.now }
-{
-    value.iter().all(|byte| byte.is_ascii_digit())
-}
-
 fn are_blanks(bytes: &[u8]) -> bool
     ensures { result ≡ list_all is_ows bytes.now }
 {
     bytes.iter().all(|byte| *byte == b' ' || *byte == b'\t')
 }
 
-/// The length that a field's value says.
-fn value_length(value: &[u8]) -> Option<usize>
-    ensures { result ≡ length_in value.now }
-{
-    if value.is_empty() || value.len() > 18 || !are_digits(value) {
-        return None;
-    }
-    let mut number = 0;
-    for byte in value {
-        number = 10 * number + usize::from(byte.wrapping_sub(b'0'));
-    }
-    Some(number)
-}
-
 /// The length that a further value says, behind those that said this.
 fn said_after(said: Option<usize>, value: &[u8]) -> Option<usize>
     ensures { result ≡ next_said said value.now }
 {
-    let length = value_length(value)?;
+    let length = number_in(value)?;
     match said {
         Some(earlier) if earlier != length => None,
         _ => Some(length),

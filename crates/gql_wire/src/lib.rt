@@ -6,6 +6,7 @@ mod answer;
 mod device;
 mod head;
 pub mod laws;
+mod number;
 mod part;
 mod stream;
 
@@ -14,4 +15,5 @@ pub use device::{
     MemSink, MemSource, ReadDevice, ReadFailed, Sink, Source, WriteDevice, WriteFailed, write_all,
 };
 pub use head::HeadRefusal;
+pub use number::number_in;
 pub use stream::{Framed, Framer};

@@ -1,6 +1,6 @@
 use Rattle.std.proofs.Common.{arith, ◌≤◌, ◌^◌}
 use Rattle.std.proofs.Math.Nat.{pow-le-pow_right}
-use Rattle.gql_wire.proofs.head.value_length.Goals as goal
+use Rattle.gql_wire.proofs.number.number_in.Goals as goal
 
 pub overflow_mul-number : goal.overflow_mul-number
 overflow_mul-number c =

@@ -1,8 +1,8 @@
 use Rattle.std.proofs.Common.{◌≡◌, ◌<◌, ◌≤◌, ◌^◌, length, drop, true}
 use Rattle.std.specs.List.{list_all}
 use Rattle.std.specs.Char.{is_ascii_digit}
-use Rattle.gql_wire.specs.Head.{number_from}
-use Rattle.gql_wire.proofs.head.value_length.Given as goal
+use Rattle.gql_wire.specs.Number.{number_from}
+use Rattle.gql_wire.proofs.number.number_in.Given as goal
 
 abbrev pub invariant-loop-byte : goal.invariant-loop-byte
 invariant-loop-byte l = record {
