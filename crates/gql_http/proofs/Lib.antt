@@ -1,7 +1,6 @@
 pub mod Appended
+pub mod Deeds
+pub mod Framers
 pub mod Names
+pub mod Queries
 pub mod Serving
-pub mod Joining
-pub mod Exchanging
-pub mod Determined
-pub mod Ordered

@@ -2,7 +2,7 @@
 use Rattle.std.specs.Prelude.{ℕ, ◌≡◌, ◌<◌, List, [], ◌∷◌, ◌++◌, Option, Some, None, IsSome, ◌==◌, if◌then◌else◌}
 use Rattle.gql_registry.specs.State.{State}
 use Rattle.gql_http.specs.Connections.{Serves, Breaks}
-use Rattle.gql_http.specs.declared.TheConstants.{CONNECTIONS}
+use Rattle.gql_http.specs.declared.hub.TheConstants.{CONNECTIONS}
 
 -- an event on the connection of a number
 pub data Event : Type 0 where

@@ -26,7 +26,7 @@ pub record IsAcceptedEdit (s : State) (r : Req) (e : Edit) : Type 0 where
 -- that removed it, and what it held before where there is none.
 pub data Holds (name : List ℕ) : State → Option Document → List Req → Option Document → Type 0 where
   no_requests : {s : State} {held : Option Document} → Holds name s held [] held
-  by_edit : {s t : State} {before after last : Option Document} {e : Edit} {r : Req} {bytes : List ℕ} {rs : List Req} → IsAcceptedEdit s r e
+  by_edit : {s t : State} {before after last : Option Document} {e : Edit} {r : Req} {rs : List Req} (bytes : List ℕ) → IsAcceptedEdit s r e
       → LeavesUnder name before e after → Step s r bytes t → Holds name t after rs last → Holds name s before (r ∷ rs) last
-  by_other : {s t : State} {before last : Option Document} {r : Req} {bytes : List ℕ} {rs : List Req} → ((e : Edit) → IsAcceptedEdit s r e → ⊥)
+  by_other : {s t : State} {before last : Option Document} {r : Req} {rs : List Req} (bytes : List ℕ) → ((e : Edit) → IsAcceptedEdit s r e → ⊥)
       → Step s r bytes t → Holds name t before rs last → Holds name s before (r ∷ rs) last

@@ -9,5 +9,4 @@ pub mod Events
 pub mod Order
 pub mod History
 pub mod Hubs
-pub mod Pipes
 pub mod Laws

@@ -2,7 +2,7 @@
 use Rattle.std.specs.Prelude.{ℕ, ◌+◌, List, length, not, take, drop, codes, bytes_eq, nat_eq, ◌==◌, Bool, Option, Some, None, if◌then◌else◌}
 use Rattle.std.specs.List.{prefix_len, list_any, starts_with}
 use Rattle.gql_ast.specs.FileNames.{is_file_name}
-use Rattle.gql_wire.specs.Head.{number_in}
+use Rattle.gql_wire.specs.Number.{number_in}
 use Rattle.gql_wire.specs.declared.answer.Allow.TheVariants.{PutDelete, Get}
 use Rattle.gql_http.specs.Answers.{Said, no_route, not_allowed, bad_query}
 use Rattle.gql_http.specs.declared.query.Query.{Query}

@@ -122,12 +122,17 @@ impl Hub {
         };
         match serve(self.alloc, &mut self.registry, &mut framer, piece, &mut out) {
             Ok(closed) => {
-                if !closed {
-                    self.framers[index] = Some(framer);
+                if closed {
+                    return Fed {
+                        out,
+                        closed: true,
+                        memory: false,
+                    };
                 }
+                self.framers[index] = Some(framer);
                 Fed {
                     out,
-                    closed,
+                    closed: false,
                     memory: false,
                 }
             }

@@ -3,8 +3,6 @@
 
 mod answer;
 mod hub;
-pub mod laws;
-mod piping;
 mod places;
 mod query;
 mod refusal_answer;
@@ -17,4 +15,3 @@ mod write;
 mod write_answer;
 
 pub use hub::{CONNECTIONS, Fed, Hub, OpenRefusal};
-pub use piping::{MAX_READS, PipeEnd, PipeFault, pipe};

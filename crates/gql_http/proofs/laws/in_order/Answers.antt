@@ -1,5 +1,0 @@
-use Rattle.gql_http.proofs.Ordered.{in_order_lem}
-use Rattle.gql_http.proofs.laws.in_order.Goals as goal
-
-pub returns : goal.returns
-returns c = in_order_lem

@@ -1,5 +1,0 @@
-use Rattle.gql_http.proofs.Determined.{one_run_lem}
-use Rattle.gql_http.proofs.laws.one_run.Goals as goal
-
-pub returns : goal.returns
-returns c = one_run_lem c.one_outcome.ensures.put c.one_outcome.ensures.removal c.one_outcome.ensures.report
