@@ -1,7 +1,7 @@
 pub mod Heads
 pub mod Streams
 pub mod Unique
-pub mod Gained
+pub mod Passages
 pub mod Fields
 pub mod Phrases
 pub mod Splitting

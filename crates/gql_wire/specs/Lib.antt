@@ -3,5 +3,6 @@ pub mod Head
 pub mod Stream
 pub mod Held
 pub mod Answer
-pub mod Device
+pub mod Peer
+pub mod MemPeer
 pub mod Laws
