@@ -56,3 +56,10 @@ broke s t framers taken c held piece out held_is taken_is (made, stops) =
     let some : IsSome (get_or framers c None) = rw (← held_is) refl in
     let emptied : held_by taken ≡ with_connection (held_by framers) c None = ap held_by taken_is ∙ framer_set framers c None (open_within framers c some) in
     (breaks c piece made, (made, refl), subst (λ all. Does s (held_by framers) (breaks c piece made) out t all) (sym emptied) (does_break {rests = held_by framers} (sym held_is) stops))
+
+-- what is served from a state is served from an equal one
+pub from_state : (s u : State) {t : State} {bytes out : List ℕ} {rest : Option (List ℕ)} → u ≡ s → Serves u bytes out t rest → Serves s bytes out t rest
+from_state s u {t} {bytes} {out} {rest} same h = subst (λ v. Serves v bytes out t rest) same h
+
+pub breaks_from : (s u : State) {t : State} {bytes out : List ℕ} → u ≡ s → (made : ℕ) × Breaks u bytes out t made → (made : ℕ) × Breaks s bytes out t made
+breaks_from s u {t} {bytes} {out} same (made, h) = (made, subst (λ v. Breaks v bytes out t made) same h)

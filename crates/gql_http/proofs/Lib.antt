@@ -1,6 +1,12 @@
 pub mod Appended
 pub mod Deeds
+pub mod Determined
 pub mod Framers
+pub mod Joining
 pub mod Names
+pub mod Ordered
+pub mod Pieces
+pub mod Presence
 pub mod Queries
 pub mod Serving
+pub mod TwoParts

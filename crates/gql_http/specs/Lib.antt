@@ -9,4 +9,6 @@ pub mod Events
 pub mod Order
 pub mod History
 pub mod Hubs
+pub mod Pipes
+pub mod Statuses
 pub mod Laws

@@ -3,6 +3,8 @@
 
 mod answer;
 mod hub;
+pub mod laws;
+mod piping;
 mod places;
 mod query;
 mod refusal_answer;
@@ -15,3 +17,4 @@ mod write;
 mod write_answer;
 
 pub use hub::{CONNECTIONS, Fed, Hub, OpenRefusal};
+pub use piping::{MAX_READS, PipeEnd, PipeFault, pipe, status_of};

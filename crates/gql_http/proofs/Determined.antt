@@ -1,0 +1,86 @@
+-- A request has one answer and leaves one state, and so have many, and events.
+use Rattle.std.proofs.Common.{◌≡◌, ℕ, List, [], ◌∷◌, ◌++◌, take, Option, Some, None, IsSome, Result, Ok, Err, refl, sym, ap, ap₂, ◌∙◌, subst}
+use Rattle.gql_registry.specs.Edits as edit
+use Rattle.gql_registry.specs.Laws.{OneEdit, OneReport, WasMade}
+use Rattle.gql_registry.specs.State.{State}
+use Rattle.gql_registry.specs.declared.refusal.Refusal.{Refusal}
+use Rattle.gql_registry.specs.declared.registry.Edited.{Edited}
+use Rattle.gql_wire.specs.Head.{is_head}
+use Rattle.gql_wire.specs.Stream.{Req, request, refused as refused_head, Placed}
+use Rattle.gql_wire.specs.Laws.{OneSplit}
+use Rattle.gql_http.specs.Answers.{Said, answer_bytes, edit_said, report_said}
+use Rattle.gql_http.specs.Connections.{requests_of, joined, held_after, Serves, Breaks}
+use Rattle.gql_http.specs.Events.{Event, feeds, breaks, Connections, with_connection, Does, does_open, does_feed, does_break, does_close, ignores}
+use Rattle.gql_http.specs.Laws.{OneStep, OneRun, OneDeed}
+use Rattle.gql_http.specs.Routes.{Call, report, put_schema, remove_schema, refused, call_of}
+use Rattle.gql_http.specs.Service.{Step, Calls, Edits, Run, done, more}
+use Rattle.gql_http.proofs.Joining.{some_same}
+
+pub said_made : (r : Result Edited Refusal) (a : Said) → edit_said r ≡ Some a → WasMade r
+said_made r a said is = let none : ◌≡◌ {A = Option Said} None (Some a) = subst (λ q. edit_said q ≡ Some a) is said in cc
+
+one_said : (r q : Result Edited Refusal) (a b : Said) → edit_said r ≡ Some a → edit_said q ≡ Some b → r ≡ q → a ≡ b
+one_said r q a b x y same = let some : ◌≡◌ {A = Option Said} (Some a) (Some b) = sym x ∙ ap edit_said same ∙ y in cc
+
+module _ (edits : OneEdit) (reports : OneReport) where
+  one_answer : (s t u : State) (expected : Option ℕ) (e : edit.Edit) (a b : Said) → Edits s expected e a t → Edits s expected e b u → (a ≡ b) × (t ≡ u)
+  one_answer s t u expected e a b h k =
+      let same = edits s t u expected e h.0 k.0 h.2 k.2 (said_made h.0 a h.1) (said_made k.0 b k.1) in
+      (one_said h.0 k.0 a b h.1 k.1 same.0, same.1)
+
+  one_call : (s t u : State) (call : Call) (body : List ℕ) (a b : Said) → Calls s call body a t → Calls s call body b u → (a ≡ b) × (t ≡ u)
+  one_call s t u report body a b h k = (h.0.2 ∙ ap (report_said s.revision) (reports s.files h.0.0 k.0.0 h.0.1 k.0.1) ∙ sym k.0.2, h.1 ∙ sym k.1)
+  one_call s t u (put_schema name expected) body a b h k = one_answer s t u expected (edit.put_schema name body) a b h k
+  one_call s t u (remove_schema name expected) body a b h k = one_answer s t u expected (edit.remove_schema name) a b h k
+  one_call s t u (refused said) body a b h k = (h.0 ∙ sym k.0, h.1 ∙ sym k.1)
+
+  pub one_step_lem : OneStep
+  one_step_lem s t u (request method target body closing) a b h k =
+      let same = one_call s t u (call_of method target) body h.0 k.0 h.1 k.1 in
+      (h.2 ∙ ap (answer_bytes closing (is_head method)) same.0 ∙ sym k.2, same.1)
+  one_step_lem s t u (refused_head refusal bodiless) a b h k = (h.0 ∙ sym k.0, h.1 ∙ sym k.1)
+
+  pub one_run_lem : OneRun
+  one_run_lem s _ _ _ _ _ done done = (refl, refl)
+  one_run_lem s t u _ _ _ (more {t = v} {r = r} {rs = rs} {bytes = a} {answers = ls} x h) (more {t = w} {bytes = b} {answers = ms} y k) =
+      let first = one_step_lem s v w r a b x y in
+      let rest = one_run_lem v t u rs ls ms h (subst (λ z. Run z rs ms u) (sym first.1) k) in
+      (ap₂ (λ p q. p ∷ q) first.0 rest.0, rest.1)
+
+  module _ (split : OneSplit) where
+    one_service : (s t u : State) (bytes a b : List ℕ) (p q : Option (List ℕ)) → Serves s bytes a t p → Serves s bytes b u q → (a ≡ b) × (t ≡ u) × (p ≡ q)
+    one_service s t u bytes a b p q h k =
+        let same = split 0 bytes h.requests k.requests h.rest k.rest h.splits k.splits in
+        let runs = one_run_lem s t u (requests_of h.requests) h.answers k.answers h.run (subst (λ ps. Run s (requests_of ps) k.answers u) (sym same.0) k.run) in
+        (h.written ∙ ap joined runs.0 ∙ sym k.written, runs.1, h.left ∙ ap₂ (λ ps r. held_after (requests_of ps) r) same.0 same.1 ∙ sym k.left)
+
+    one_break : (s t u : State) (bytes a b : List ℕ) (made : ℕ) → Breaks s bytes a t made → Breaks s bytes b u made → (a ≡ b) × (t ≡ u)
+    one_break s t u bytes a b made h k =
+        let same = split 0 bytes h.requests k.requests h.rest k.rest h.splits k.splits in
+        let runs = one_run_lem s t u (take made (requests_of h.requests)) h.answers k.answers h.run (subst (λ ps. Run s (take made (requests_of ps)) k.answers u) (sym same.0) k.run) in
+        (h.written ∙ ap joined runs.0 ∙ sym k.written, runs.1)
+
+    held_same : (o : Option (List ℕ)) (a b : List ℕ) → o ≡ Some a → o ≡ Some b → b ≡ a
+    held_same o a b x y = some_same b a (sym y ∙ x)
+
+    is_open : (o : Option (List ℕ)) (a : List ℕ) → o ≡ Some a → IsSome o
+    is_open o a is = rw is refl
+
+    pub one_deed_lem : OneDeed
+    one_deed_lem s _ _ rests _ _ _ _ _ (does_open x) (does_open y) = (refl, refl, refl)
+    one_deed_lem s _ _ rests _ _ _ _ _ (does_open x) (ignores barred) = absurd (barred x)
+    one_deed_lem s _ _ rests _ _ _ _ _ (does_feed {t = t} {c = c} {piece = piece} {held = held} {out = a} {rest = p} here h) (does_feed {t = u} {held = other} {out = b} {rest = q} there k) =
+        let same = one_service s t u (held ++ piece) a b p q h (subst (λ bytes. Serves s (bytes ++ piece) b u q) (held_same (rests c) held other here there) k) in
+        (same.0, same.1, ap (λ r. with_connection rests c r) same.2)
+    one_deed_lem s _ _ rests _ _ _ _ _ (does_feed {c = c} {held = held} here h) (ignores barred) = absurd (barred (is_open (rests c) held here))
+    one_deed_lem s _ _ rests _ _ _ _ _ (does_break {t = t} {c = c} {made = made} {piece = piece} {held = held} {out = a} here h) (does_break {t = u} {held = other} {out = b} there k) =
+        let same = one_break s t u (held ++ piece) a b made h (subst (λ bytes. Breaks s (bytes ++ piece) b u made) (held_same (rests c) held other here there) k) in
+        (same.0, same.1, refl)
+    one_deed_lem s _ _ rests _ _ _ _ _ (does_break {c = c} {held = held} here h) (ignores barred) = absurd (barred (is_open (rests c) held here))
+    one_deed_lem s _ _ rests _ _ _ _ _ (does_close x) (does_close y) = (refl, refl, refl)
+    one_deed_lem s _ _ rests _ _ _ _ _ (does_close x) (ignores barred) = absurd (barred x)
+    one_deed_lem s _ _ rests _ _ _ _ _ (ignores barred) (does_open x) = absurd (barred x)
+    one_deed_lem s _ _ rests _ _ _ _ _ (ignores barred) (does_feed {c = c} {held = held} here h) = absurd (barred (is_open (rests c) held here))
+    one_deed_lem s _ _ rests _ _ _ _ _ (ignores barred) (does_break {c = c} {held = held} here h) = absurd (barred (is_open (rests c) held here))
+    one_deed_lem s _ _ rests _ _ _ _ _ (ignores barred) (does_close x) = absurd (barred x)
+    one_deed_lem s _ _ rests _ _ _ _ _ (ignores barred) (ignores other) = (refl, refl, refl)

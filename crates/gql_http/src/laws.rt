@@ -1,0 +1,76 @@
+//! Laws of the service and its hub. The functions do nothing: what they ensure is the law.
+ghost use Rattle.gql_http.specs.Laws.{AnyPieces, FilesPresent, InOrder, OneDeed, OneOrder, OneRun, OneStep, ReportThen, SomeOrder, TwoParts};
+
+/// A request has one answer, and leaves one state.
+pub fn one_step()
+    ensures { OneStep }
+{
+    gql_registry::laws::one_outcome();
+}
+
+/// Requests one after the other have one list of answers, and leave one state.
+pub fn one_run()
+    ensures { OneRun }
+{
+    gql_registry::laws::one_outcome();
+}
+
+/// An event has one answer, and leaves one state and the same unfinished bytes.
+pub fn one_deed()
+    ensures { OneDeed }
+{
+    gql_registry::laws::one_outcome();
+    gql_wire::laws::one_split();
+}
+
+/// Every list of events has exactly one order of requests.
+pub fn one_order()
+    ensures some { SomeOrder }
+    ensures one { OneOrder }
+{
+    gql_wire::laws::some_split();
+    gql_wire::laws::one_split();
+}
+
+/// Whatever the events, the hub answers each with the answers to the requests that it completes, and all requests are run
+/// one after the other in the order in which they are complete.
+pub fn in_order()
+    ensures { InOrder }
+{
+    gql_wire::laws::nothing_is_unfinished();
+    gql_wire::laws::some_split();
+    gql_wire::laws::one_split();
+    gql_wire::laws::more_bytes();
+}
+
+/// In any pieces: what the feeds after an opening complete are the requests of all bytes that they feed.
+pub fn any_pieces()
+    ensures { AnyPieces }
+{
+    gql_wire::laws::nothing_is_unfinished();
+    gql_wire::laws::one_split();
+    gql_wire::laws::more_bytes();
+    gql_wire::laws::closed_drops();
+}
+
+/// A piece that is fed in two parts, of which the first leaves the connection open, does what the whole does.
+pub fn two_parts()
+    ensures { TwoParts }
+{
+    gql_wire::laws::some_split();
+    gql_wire::laws::one_split();
+    gql_wire::laws::more_bytes();
+}
+
+/// Files then present: after requests that began with no files, each name holds the document of its last accepted edit, and
+/// no other name holds one.
+pub fn files_present()
+    ensures { FilesPresent }
+{
+    gql_registry::laws::holds_after();
+}
+
+/// A request for the report is answered with the report of the files that are present after the requests before it.
+pub fn report_then()
+    ensures { ReportThen }
+{}
