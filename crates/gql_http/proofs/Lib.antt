@@ -1,11 +1,13 @@
 pub mod Appended
 pub mod Deeds
 pub mod Determined
+pub mod Exchanging
 pub mod Framers
 pub mod Joining
 pub mod Names
 pub mod Ordered
 pub mod Pieces
+pub mod PipeConnections
 pub mod Presence
 pub mod Queries
 pub mod Serving
