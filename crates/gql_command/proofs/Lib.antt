@@ -1,3 +1,6 @@
-pub mod HelpFlags
-pub mod LineWords
+pub mod FlagWords
 pub mod LineAnswers
+pub mod LineWords
+pub mod Numbers
+pub mod PlainServe
+pub mod ServeWords

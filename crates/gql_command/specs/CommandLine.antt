@@ -1,90 +1,120 @@
--- The command line of the program: clap's grammar of it, and what its words ask for.
-use Rattle.std.specs.Prelude.{◌≡◌, ◌≢◌, ◌⊎◌, ⊤, true, false, List, [], ◌∷◌, Result, Ok, Err, Some}
-use Rattle.std.specs.Prelude.{codes, drop, map, slice_get, String}
+-- What the words of a command line ask for, and how `read_command` answers them.
+use Rattle.std.specs.Prelude.{◌≡◌, ◌⊎◌, ◌≤◌, ⊤, ℕ, List, [], ◌∷◌, ◌++◌, Result, Ok, Err, Some}
+use Rattle.std.specs.Prelude.{codes, decimal, drop, map, slice_get, String}
 use Rattle.std.proofs.Common.{Global}
 use Rattle.std.specs.Str.{chars}
-use Rattle.clap.specs.Simple.{App, new_shape}
 use Rattle.clap.specs.Walk.{Text}
-use Rattle.clap.specs.Kinds.{IsAmong, Kinds}
-use Rattle.clap.specs.Faults.{fault_of}
-use Rattle.clap.specs.declared.error.kind.ErrorKind.{ErrorKind}
-use Rattle.clap.specs.declared.error.kind.ErrorKind.TheVariants.{DisplayHelp, OutOfMemory}
 use Rattle.gql_command.specs.declared.command.Command.{Command}
-use Rattle.gql_command.specs.declared.command.Command.TheVariants.{Pipe}
+use Rattle.gql_command.specs.declared.command.Command.TheVariants.{Pipe, Serve}
 use Rattle.gql_command.specs.declared.command.CommandFault.{CommandFault}
-use Rattle.gql_command.specs.declared.command.CommandFault.TheVariants.{Help, Refused, Memory}
+use Rattle.gql_command.specs.declared.command.CommandFault.TheVariants.{Help, Version, Refused}
+use Rattle.gql_command.specs.declared.command.CommandFault.TheVariants.{Memory}
 
 -- the texts of the words
 abbrev pub spelled : List (String Global) → List Text
 spelled = map (λ word. word.bytes.items)
 
--- ---- the grammar
+-- the words after the program's name
+abbrev pub arguments : List Text → List Text
+arguments = drop 1
 
--- `gqlreg` has no argument of its own and wants a subcommand. Its one subcommand is `pipe`, which
--- has no argument. clap adds `-h`, `--help` and the subcommand `help`.
-abbrev pub command_line : App
-command_line = record {
-  top = record (new_shape (codes "gqlreg")) { is_leaf = false; subcommand_required = true };
-  subs = new_shape (codes "pipe") ∷ [];
-}
+-- ---- numbers
 
--- the kinds of error that clap's grammar of the command gives the words; none where it takes them
-abbrev pub faults : List Text → Kinds
-faults words = fault_of command_line words
+-- a port that `serve` takes, 1 to 65,535
+abbrev pub IsPort : ℕ → Type 0
+IsPort port = (1 ≤ port) × (port ≤ 65535)
 
--- a command comes where the grammar takes the words, help where a fault is a call for help, and a
--- refusal where another fault is there
-abbrev pub FollowsGrammar : List Text → Result Command CommandFault → Type 0
-FollowsGrammar words (Ok command) = faults words ≡ []
-FollowsGrammar words (Err (Help text)) = IsAmong DisplayHelp (faults words)
-FollowsGrammar words (Err (Refused text)) =
-    (kind : ErrorKind) × (kind ≢ DisplayHelp) × IsAmong kind (faults words)
-FollowsGrammar words (Err Memory) = ⊤
+-- a number of connections that `serve` takes, 1 to 1,000,000
+abbrev pub IsConnections : ℕ → Type 0
+IsConnections connections = (1 ≤ connections) × (connections ≤ 1000000)
 
--- ---- the same in plain words
+-- the numbers of the command are in their ranges
+abbrev pub HasRanges : Command → Type 0
+HasRanges Pipe = ⊤
+HasRanges (Serve port connections) = IsPort port × IsConnections connections
 
--- the words behind the program's name ask for the command; `--` may end them
+-- ---- what words ask for
+
+-- `serve` with both options in this order, their numbers in decimal digits with no leading zero
+abbrev pub serve_words : ℕ → ℕ → List Text
+serve_words port connections = codes "serve" ∷ codes "--port" ∷ decimal port
+    ∷ codes "--connections" ∷ decimal connections ∷ []
+
+-- the words ask for the command in its plain form: `pipe`, which `--` may end, or `serve` with
+-- numbers in their ranges
 abbrev pub Asks : Command → List Text → Type 0
 Asks Pipe words =
-    (drop 1 words ≡ codes "pipe" ∷ []) ⊎ (drop 1 words ≡ codes "pipe" ∷ codes "--" ∷ [])
+    (arguments words ≡ codes "pipe" ∷ []) ⊎ (arguments words ≡ codes "pipe" ∷ codes "--" ∷ [])
+Asks (Serve port connections) words =
+    (arguments words ≡ serve_words port connections) × IsPort port × IsConnections connections
 
--- `--help`, or a hyphen (45) and a text whose first character is `h` (104)
+-- the first word after the program's name is `serve`
+abbrev pub BeginsWithServe : List Text → Type 0
+BeginsWithServe words = (rest : List Text) × (arguments words ≡ codes "serve" ∷ rest)
+
+-- a hyphen (45), and a text that begins with this character
+abbrev pub IsShortFlag : ℕ → Text → Type 0
+IsShortFlag character word =
+    (flags : Text) × (word ≡ 45 ∷ flags) × (slice_get (chars flags) 0 ≡ Some character)
+
+-- `--help`, or a short flag that begins with `h` (104)
 abbrev pub IsHelpFlag : Text → Type 0
-IsHelpFlag word = (word ≡ codes "--help")
-    ⊎ ((flags : Text) × (word ≡ 45 ∷ flags) × (slice_get (chars flags) 0 ≡ Some 104))
+IsHelpFlag word = (word ≡ codes "--help") ⊎ IsShortFlag 104 word
 
--- the first word behind the program's name, or behind `pipe`, is a flag for help
+-- `--version`, or a short flag that begins with `V` (86)
+abbrev pub IsVersionFlag : Text → Type 0
+IsVersionFlag word = (word ≡ codes "--version") ⊎ IsShortFlag 86 word
+
+-- the first word after the program's name, or after `pipe` or `serve`, is a flag for help
 abbrev pub HasHelpFlag : List Text → Type 0
 HasHelpFlag words = (flag : Text) × (rest : List Text) × IsHelpFlag flag
-    × ((drop 1 words ≡ flag ∷ rest) ⊎ (drop 1 words ≡ codes "pipe" ∷ flag ∷ rest))
+    × ((arguments words ≡ flag ∷ rest)
+    ⊎ ((arguments words ≡ codes "pipe" ∷ flag ∷ rest)
+    ⊎ (arguments words ≡ codes "serve" ∷ flag ∷ rest)))
 
--- the first word behind the program's name is `help`; clap may refuse the words behind it
+-- the first word after the program's name is `help`; clap may refuse the words after it
 abbrev pub HasHelpWord : List Text → Type 0
-HasHelpWord words = (rest : List Text) × (drop 1 words ≡ codes "help" ∷ rest)
+HasHelpWord words = (rest : List Text) × (arguments words ≡ codes "help" ∷ rest)
 
--- a command comes where the words ask for it, help where they ask for help, and a refusal where
--- they ask for no command and have no flag for help
+-- the first word after the program's name is `serve`, and some word after it is a flag for help
+abbrev pub HasLaterHelpFlag : List Text → Type 0
+HasLaterHelpFlag words = (before : List Text) × (flag : Text) × (after : List Text)
+    × IsHelpFlag flag × (arguments words ≡ codes "serve" ∷ before ++ flag ∷ after)
+
+-- the first word after the program's name is a flag for the version
+abbrev pub HasVersionFlag : List Text → Type 0
+HasVersionFlag words =
+    (flag : Text) × (rest : List Text) × IsVersionFlag flag × (arguments words ≡ flag ∷ rest)
+
+-- ---- answers
+
+-- the words ask for no command in its plain form, and have no flag in a place where it is answered
+abbrev pub AsksNothing : List Text → Type 0
+AsksNothing words = ((command : Command) → Asks command words → ⊥)
+    × (HasHelpFlag words → ⊥) × (HasVersionFlag words → ⊥)
+
+-- a command comes only where the words ask for it, help and the version only where they ask for
+-- them, and a refusal only where they ask for nothing
 abbrev pub Answers : List Text → Result Command CommandFault → Type 0
-Answers words (Ok command) = Asks command words
-Answers words (Err (Help text)) = HasHelpFlag words ⊎ HasHelpWord words
-Answers words (Err (Refused text)) =
-    ((command : Command) → Asks command words → ⊥) × (HasHelpFlag words → ⊥)
+Answers words (Ok Pipe) = Asks Pipe words
+Answers words (Ok (Serve port connections)) = BeginsWithServe words
+Answers words (Err (Help text)) = HasHelpFlag words ⊎ (HasHelpWord words ⊎ HasLaterHelpFlag words)
+Answers words (Err (Version text)) = HasVersionFlag words
+Answers words (Err (Refused text)) = AsksNothing words
 Answers words (Err Memory) = ⊤
 
--- the command, or want of memory
-abbrev pub GivesOrWants : Command → Result Command CommandFault → Type 0
-GivesOrWants command result = (result ≡ Ok command) ⊎ (result ≡ Err Memory)
+-- the command, or out of memory
+abbrev pub GivesOrMemory : Command → Result Command CommandFault → Type 0
+GivesOrMemory command result = (result ≡ Ok command) ⊎ (result ≡ Err Memory)
 
--- help, or want of memory
-abbrev pub HelpsOrWants : Result Command CommandFault → Type 0
-HelpsOrWants (Err (Help text)) = ⊤
-HelpsOrWants (Err Memory) = ⊤
-HelpsOrWants _ = ⊥
+-- help, or out of memory
+abbrev pub HelpOrMemory : Result Command CommandFault → Type 0
+HelpOrMemory (Err (Help text)) = ⊤
+HelpOrMemory (Err Memory) = ⊤
+HelpOrMemory _ = ⊥
 
--- ---- one error of clap
-
--- what is told of an error of this kind
-abbrev pub Tells : ErrorKind → CommandFault → Type 0
-Tells kind (Help text) = kind ≡ DisplayHelp
-Tells kind (Refused text) = (kind ≢ DisplayHelp) × (kind ≢ OutOfMemory)
-Tells kind Memory = ⊤
+-- the version, or out of memory
+abbrev pub VersionOrMemory : Result Command CommandFault → Type 0
+VersionOrMemory (Err (Version text)) = ⊤
+VersionOrMemory (Err Memory) = ⊤
+VersionOrMemory _ = ⊥

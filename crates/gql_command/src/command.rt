@@ -1,59 +1,64 @@
-//! The command line.
+//! The commands of the program, and which one the words of a command line ask for.
 ghost use Rattle.std.specs.Prelude.{◌≡◌, IfOk};
 ghost use Rattle.clap.specs.Walk.{texts as texts_of};
-ghost use Rattle.clap.specs.Words.{app_of, kind_of};
-ghost use Rattle.gql_command.specs.CommandLine.{Answers, Asks, FollowsGrammar, GivesOrWants, HasHelpFlag, HelpsOrWants, Tells, command_line, spelled};
+ghost use Rattle.clap.specs.Words.{kind_of};
+ghost use Rattle.gql_command.specs.CommandLine.{Answers, Asks, GivesOrMemory, HasHelpFlag, HasRanges};
+ghost use Rattle.gql_command.specs.CommandLine.{HasVersionFlag, HelpOrMemory, VersionOrMemory, spelled};
+ghost use Rattle.gql_command.specs.Grammar.{FollowsGrammar, IsAnswerTo};
 
-use clap::Command as Grammar;
+use crate::grammar::grammar;
+use crate::serve::serve;
 use clap::error::ErrorKind;
 use std::alloc::{AllocError, Global};
 
 /// What a command line asks for.
 #[derive(Clone, Copy, Debug, PartialEq, Eq)]
 pub enum Command {
-    /// Standard input to standard output.
+    /// Answer the requests of standard input on standard output.
     Pipe,
+    /// Answer requests over connections to this port of 127.0.0.1, and end after this number of
+    /// connections.
+    Serve {
+        /// 1 to 65,535.
+        port: u16,
+        /// 1 to 1,000,000.
+        connections: u32,
+    },
 }
 
-/// Why a command line asks for nothing, with what is to be told.
+/// Why a command line gives no command, with the text to print.
 #[derive(Debug, PartialEq, Eq, Drop)]
 pub enum CommandFault {
     /// Help was asked for.
     Help(String),
+    /// The version was asked for.
+    Version(String),
     /// The command line is refused.
     Refused(String),
-    /// Memory was wanting.
+    /// An allocation failed.
     Memory,
 }
 
-fn grammar<'a>(alloc: Global) -> Result<Grammar<'a>, AllocError>
-    ensures { IfOk result (λ g. app_of g ≡ command_line) }
-{
-    let pipe = Grammar::new(alloc, "pipe").about(
-        "Answers the HTTP/1.1 requests of standard input on standard output",
-    );
-    Grammar::new(alloc, "gqlreg")
-        .about("A GraphQL schema registry with persisted operations")
-        .subcommand_required(true)
-        .subcommand(pipe)
-}
-
-fn told(alloc: Global, error: &clap::Error) -> CommandFault
-    ensures { Tells (kind_of error.now) result }
+fn fault(alloc: Global, error: &clap::Error) -> CommandFault
+    ensures { IsAnswerTo (kind_of error.now) result }
 {
     let Ok(text) = format!(in alloc; "{error}") else {
         return CommandFault::Memory;
     };
     match error.kind() {
         ErrorKind::DisplayHelp => CommandFault::Help(text),
+        ErrorKind::DisplayVersion => CommandFault::Version(text),
         ErrorKind::OutOfMemory => CommandFault::Memory,
         _ => CommandFault::Refused(text),
     }
 }
 
 fn read_texts(alloc: Global, words: &[&str]) -> Result<Command, CommandFault>
-    ensures asked { (command : Command) → Asks command (texts_of words.now) → GivesOrWants command result }
-    ensures help { HasHelpFlag (texts_of words.now) → HelpsOrWants result }
+    ensures asked { (command : Command) → Asks command (texts_of words.now)
+        → GivesOrMemory command result }
+    ensures ranges { IfOk result HasRanges }
+    ensures help { HasHelpFlag (texts_of words.now) → HelpOrMemory result }
+    ensures version { HasVersionFlag (texts_of words.now) → VersionOrMemory result }
     ensures plain { Answers (texts_of words.now) result }
     ensures grammar { FollowsGrammar (texts_of words.now) result }
 {
@@ -61,8 +66,11 @@ fn read_texts(alloc: Global, words: &[&str]) -> Result<Command, CommandFault>
         return Err(CommandFault::Memory);
     };
     match grammar.try_get_matches_from(words) {
-        Ok(_) => Ok(Command::Pipe),
-        Err(error) => Err(told(alloc, &error)),
+        Ok(matches) => match matches.subcommand_matches("serve") {
+            Some(options) => serve(alloc, options),
+            None => Ok(Command::Pipe),
+        },
+        Err(error) => Err(fault(alloc, &error)),
     }
 }
 
@@ -78,8 +86,11 @@ fn texts<'w>(alloc: Global, words: &'w [String]) -> Result<Vec<&'w str>, AllocEr
 
 /// What the words of a command line ask for, the program's name first.
 pub fn read_command(alloc: Global, words: &[String]) -> Result<Command, CommandFault>
-    ensures asked { (command : Command) → Asks command (spelled words.now) → GivesOrWants command result }
-    ensures help { HasHelpFlag (spelled words.now) → HelpsOrWants result }
+    ensures asked { (command : Command) → Asks command (spelled words.now)
+        → GivesOrMemory command result }
+    ensures ranges { IfOk result HasRanges }
+    ensures help { HasHelpFlag (spelled words.now) → HelpOrMemory result }
+    ensures version { HasVersionFlag (spelled words.now) → VersionOrMemory result }
     ensures plain { Answers (spelled words.now) result }
     ensures grammar { FollowsGrammar (spelled words.now) result }
 {

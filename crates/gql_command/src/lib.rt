@@ -2,5 +2,7 @@
 #![tactic(auto)]
 
 mod command;
+mod grammar;
+mod serve;
 
 pub use command::{Command, CommandFault, read_command};

@@ -1,0 +1,46 @@
+use Rattle.std.proofs.Common.{◌≡◌, ◌∙◌, ℕ, List, Option, Some, None, Err, arith, ap, codes, sym}
+use Rattle.std.specs.Prelude.{Result}
+use Rattle.clap.specs.Walk.{Row, Text}
+use Rattle.clap.specs.Words.{found_of, rows_of}
+use Rattle.gql_command.specs.declared.command.CommandFault.{CommandFault}
+use Rattle.gql_command.specs.declared.command.CommandFault.TheVariants.{Help, Version, Refused, Memory}
+use Rattle.gql_command.specs.Grammar.{IsRefusal, LacksNumbers, ReadsNumbers}
+use Rattle.gql_command.proofs.Numbers.{given, gives}
+use Rattle.gql_command.proofs.serve.serve.Goals as goal
+use Rattle.gql_command.proofs.serve.serve.Goals.{in_default-via-in-Some-Some+then-port-ge1+then-connections-ge1+else-connections-le1000000, in_default-via-in-Some-Some+then-port-ge1+else-connections-ge1, in_default-via-in-Some-Some+else-port-ge1, in_default-via-in-Some+in_default, in_default-via-in_default}
+
+refuses : (rows : List Row) (fault : CommandFault) → IsRefusal fault → LacksNumbers rows → ReadsNumbers rows (Err fault)
+refuses rows (Help text) r lacks = r
+refuses rows (Version text) r lacks = r
+refuses rows (Refused text) r lacks = lacks
+refuses rows Memory r lacks = tt
+
+same_number : (a b : ℕ) (o : Option ℕ) → o ≡ Some a → o ≡ Some b → a ≡ b
+same_number a b o e f = (let s : Some a ≡ Some b = sym e ∙ f in cc)
+
+none_is : (o : Option ℕ) (n : ℕ) → o ≡ None → o ≡ Some n → ⊥
+none_is o n e f = (let bad : None ≡ Some n = sym e ∙ f in cc)
+
+pub returns-in-Some-Some : goal.returns-in-Some-Some
+returns-in-Some-Some c =
+    let rows = c.args.options.now in
+    let port = gives 16 (found_of rows) (codes "port") c.get_one-port.result c.get_one-port.ensures.value c.get_one-port.ensures.none _ c.in-Some-Some.is-0 in
+    let connections = gives 32 (found_of rows) (codes "connections") c.get_one-connections.result c.get_one-connections.ensures.value c.get_one-connections.ensures.none _ c.in-Some-Some.is-1 in
+    (port.0, connections.0, (c.if-port-ge1.true, omega (arith, port.1)), (c.if-connections-ge1.true, c.if-connections-le1000000.true))
+
+pub returns-in_default : goal.returns-in_default
+returns-in_default c = refuses (rows_of (found_of c.args.options.now)) _ c.out_of_range.ensures (λ p n numbers.
+    let fits = numbers.2.1 in
+    let more = numbers.3.1 in
+    let port = given 16 (found_of c.args.options.now) (codes "port") c.get_one-port.result c.get_one-port.ensures.value p (omega (arith, fits)) numbers.0 in
+    let connections = given 32 (found_of c.args.options.now) (codes "connections") c.get_one-connections.result c.get_one-connections.ensures.value n (omega (arith, more)) numbers.1 in
+    elim c.in_default.branch [
+      | in_default-via-in-Some-Some+then-port-ge1+then-connections-ge1+else-connections-le1000000 w ↦
+          (let e = same_number _ _ _ connections w.in-Some-Some.is-1 in let h = w.if-connections-le1000000.false in omega (arith, e, h, more))
+      | in_default-via-in-Some-Some+then-port-ge1+else-connections-ge1 w ↦
+          (let e = same_number _ _ _ connections w.in-Some-Some.is-1 in let h = w.if-connections-ge1.false in let low = numbers.3.0 in omega (arith, e, h, low))
+      | in_default-via-in-Some-Some+else-port-ge1 w ↦
+          (let e = same_number _ _ _ port w.in-Some-Some.is-0 in let h = w.if-port-ge1.false in let low = numbers.2.0 in omega (arith, e, h, low))
+      | in_default-via-in-Some+in_default w ↦ none_is _ _ w.in_default.is-1 connections
+      | in_default-via-in_default w ↦ none_is _ _ w.in_default.is-0 port
+    ])

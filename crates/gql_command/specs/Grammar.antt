@@ -1,0 +1,121 @@
+-- The command line as clap's grammar of it, and the answers that follow from the grammar.
+use Rattle.std.specs.Prelude.{◌≡◌, ◌≢◌, ◌⊎◌, ⊤, ℕ, pos, true, false, List, [], ◌∷◌}
+use Rattle.std.specs.Prelude.{Result, Ok, Err, Some, codes}
+use Rattle.std.specs.Option.{option_map_or}
+use Rattle.std.specs.Str.Parse.{IsNumeral, digits_value, without_leading_plus}
+use Rattle.clap.specs.Simple.{App, Shape, new_rule, new_shape, subcommand_of}
+use Rattle.clap.specs.Walk.{Row, Rule, Text, one_of}
+use Rattle.clap.specs.Kinds.{IsAmong, Kinds}
+use Rattle.clap.specs.Faults.{fault_of}
+use Rattle.clap.specs.declared.builder.value_parser.ValueParser.TheVariants as parser
+use Rattle.clap.specs.declared.error.kind.ErrorKind.{ErrorKind}
+use Rattle.clap.specs.declared.error.kind.ErrorKind.TheVariants.{DisplayHelp, DisplayVersion}
+use Rattle.clap.specs.declared.error.kind.ErrorKind.TheVariants.{OutOfMemory}
+use Rattle.gql_command.specs.declared.command.Command.{Command}
+use Rattle.gql_command.specs.declared.command.Command.TheVariants.{Pipe, Serve}
+use Rattle.gql_command.specs.declared.command.CommandFault.{CommandFault}
+use Rattle.gql_command.specs.declared.command.CommandFault.TheVariants.{Help, Version, Refused}
+use Rattle.gql_command.specs.declared.command.CommandFault.TheVariants.{Memory}
+use Rattle.gql_command.specs.CommandLine.{BeginsWithServe, IsConnections, IsPort}
+
+-- ---- the grammar
+
+-- a required option `--NAME NUMBER`, whose number is 1 to `most`
+abbrev pub number_option : Text → ℕ → Rule
+number_option name most = record (new_rule name) {
+  long = Some name;
+  value_names = 1;
+  parser = Some (parser.Signed (pos 1) (pos most));
+  required = true;
+}
+
+-- `--port P`
+abbrev pub port_option : Rule
+port_option = number_option (codes "port") 65535
+
+-- `--connections N`
+abbrev pub connections_option : Rule
+connections_option = number_option (codes "connections") 1000000
+
+-- `serve`, with its two options
+abbrev pub serve : Shape
+serve =
+    record (new_shape (codes "serve")) { rules = port_option ∷ connections_option ∷ [] }
+
+-- `gqlreg` has no argument of its own but `-V` and `--version`, and requires a subcommand. The
+-- subcommands are `pipe`, which has no argument, and `serve`. clap adds `-h`, `--help` and the
+-- subcommand `help`.
+abbrev pub command_line : App
+command_line = record {
+  top = record (new_shape (codes "gqlreg")) {
+    is_leaf = false;
+    subcommand_required = true;
+    has_version = true;
+  };
+  subs = new_shape (codes "pipe") ∷ serve ∷ [];
+}
+
+-- the kinds of error that clap's grammar of the command gives the words; none where it takes them
+abbrev pub faults : List Text → Kinds
+faults words = fault_of command_line words
+
+-- what clap's grammar finds for each option of the subcommand that the words name
+abbrev pub options : List Text → List Row
+options words = option_map_or (λ p. p.1) (subcommand_of command_line words) []
+
+-- ---- the numbers of `serve`
+
+-- the option's text is a numeral, with or without a plus before it, and this is its number
+abbrev pub GivesNumber : Text → List Row → ℕ → Type 0
+GivesNumber name rows number = (text : Text) × (one_of name rows ≡ Some text)
+    × IsNumeral 10 (without_leading_plus text)
+    × (number ≡ digits_value 10 (without_leading_plus text))
+
+-- the options give both numbers, in their ranges
+abbrev pub GivesNumbers : List Row → ℕ → ℕ → Type 0
+GivesNumbers rows port connections = GivesNumber (codes "port") rows port
+    × GivesNumber (codes "connections") rows connections
+    × IsPort port × IsConnections connections
+
+-- the options do not give both numbers in their ranges
+abbrev pub LacksNumbers : List Row → Type 0
+LacksNumbers rows = (port connections : ℕ) → GivesNumbers rows port connections → ⊥
+
+-- `serve` with the numbers of its options, or a refusal where they lack them
+abbrev pub ReadsNumbers : List Row → Result Command CommandFault → Type 0
+ReadsNumbers rows (Ok (Serve port connections)) = GivesNumbers rows port connections
+ReadsNumbers rows (Err (Refused text)) = LacksNumbers rows
+ReadsNumbers rows (Err Memory) = ⊤
+ReadsNumbers rows _ = ⊥
+
+-- a refusal, or out of memory
+abbrev pub IsRefusal : CommandFault → Type 0
+IsRefusal (Refused text) = ⊤
+IsRefusal Memory = ⊤
+IsRefusal _ = ⊥
+
+-- ---- answers
+
+-- an error of clap that is not answered with the text that was asked for
+abbrev pub IsRefusedKind : ErrorKind → Type 0
+IsRefusedKind kind = (kind ≢ DisplayHelp) × (kind ≢ DisplayVersion) × (kind ≢ OutOfMemory)
+
+-- a command comes where the grammar takes the words, with the numbers of its options; help and the
+-- version where an error is a call for them; and a refusal where another error is there
+abbrev pub FollowsGrammar : List Text → Result Command CommandFault → Type 0
+FollowsGrammar words (Ok Pipe) = faults words ≡ []
+FollowsGrammar words (Ok (Serve port connections)) =
+    (faults words ≡ []) × GivesNumbers (options words) port connections
+FollowsGrammar words (Err (Help text)) = IsAmong DisplayHelp (faults words)
+FollowsGrammar words (Err (Version text)) = IsAmong DisplayVersion (faults words)
+FollowsGrammar words (Err (Refused text)) =
+    ((kind : ErrorKind) × IsRefusedKind kind × IsAmong kind (faults words))
+    ⊎ (BeginsWithServe words × LacksNumbers (options words))
+FollowsGrammar words (Err Memory) = ⊤
+
+-- the answer to one error of clap: the text that was asked for, or a refusal
+abbrev pub IsAnswerTo : ErrorKind → CommandFault → Type 0
+IsAnswerTo kind (Help text) = kind ≡ DisplayHelp
+IsAnswerTo kind (Version text) = kind ≡ DisplayVersion
+IsAnswerTo kind (Refused text) = IsRefusedKind kind
+IsAnswerTo kind Memory = ⊤

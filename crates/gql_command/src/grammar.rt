@@ -1,0 +1,56 @@
+//! The grammar of the command line, as a command of clap.
+ghost use Rattle.std.specs.Prelude.{◌≡◌, IfOk, false};
+ghost use Rattle.clap.specs.Words.{app_of, rule_of, shape_of};
+ghost use Rattle.clap.specs.declared.builder.command.Command.TheViews.{out-Command};
+ghost use Rattle.gql_command.specs.Grammar.{command_line, connections_option, port_option, serve as serve_shape};
+
+use clap::{Arg, Command, value_parser};
+use std::alloc::{AllocError, Global};
+
+fn port<'a>(alloc: Global) -> Arg<'a>
+    ensures option { rule_of result ≡ port_option }
+    ensures local { result.global ≡ false }
+{
+    Arg::new(alloc, "port")
+        .long("port")
+        .value_name("P")
+        .required(true)
+        .value_parser(value_parser!(u16).range(1..=65_535))
+        .help("The port of 127.0.0.1 to listen on, 1 to 65535")
+}
+
+fn connections<'a>(alloc: Global) -> Arg<'a>
+    ensures option { rule_of result ≡ connections_option }
+    ensures local { result.global ≡ false }
+{
+    Arg::new(alloc, "connections")
+        .long("connections")
+        .value_name("N")
+        .required(true)
+        .value_parser(value_parser!(u32).range(1..=1_000_000))
+        .help("The number of connections to answer before the program ends, 1 to 1000000")
+}
+
+fn serve<'a>(alloc: Global) -> Result<Command<'a>, AllocError>
+    ensures shape { IfOk result (λ c. shape_of c ≡ serve_shape) }
+    ensures local { IfOk result (λ c. (out-Command c).has_globals ≡ false) }
+{
+    Command::new(alloc, "serve")
+        .about("Answers HTTP/1.1 requests over connections to 127.0.0.1, one after the other")
+        .arg(port(alloc))?
+        .arg(connections(alloc))
+}
+
+/// The grammar of the whole command line.
+pub fn grammar<'a>(alloc: Global) -> Result<Command<'a>, AllocError>
+    ensures { IfOk result (λ g. app_of g ≡ command_line) }
+{
+    let pipe = Command::new(alloc, "pipe")
+        .about("Answers the HTTP/1.1 requests of standard input on standard output");
+    Command::new(alloc, "gqlreg")
+        .version("1.0.0")
+        .about("A GraphQL schema registry with persisted operations")
+        .subcommand_required(true)
+        .subcommand(pipe)?
+        .subcommand(serve(alloc)?)
+}

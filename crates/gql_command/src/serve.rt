@@ -1,0 +1,34 @@
+//! The command `serve`, from the options that clap found.
+ghost use Rattle.clap.specs.Words.{found_of, rows_of};
+ghost use Rattle.gql_command.specs.Grammar.{IsRefusal, ReadsNumbers};
+
+use crate::command::{Command, CommandFault};
+use clap::ArgMatches;
+use std::alloc::Global;
+
+/// The command `serve` with the numbers of its options. The grammar has tested their ranges; they
+/// are tested here again, so that the ranges need no trust in clap.
+pub fn serve(alloc: Global, options: &ArgMatches<'_>) -> Result<Command, CommandFault>
+    ensures { ReadsNumbers (rows_of (found_of options.now)) result }
+{
+    let port = options.get_one::<u16>("port");
+    let connections = options.get_one::<u32>("connections");
+    match (port, connections) {
+        (Some(port), Some(connections))
+            if port >= 1 && connections >= 1 && connections <= 1_000_000 =>
+        {
+            Ok(Command::Serve { port, connections })
+        }
+        _ => Err(out_of_range(alloc)),
+    }
+}
+
+fn out_of_range(alloc: Global) -> CommandFault
+    ensures { IsRefusal result }
+{
+    let text = "error: a port is 1 to 65535, a number of connections 1 to 1000000\n";
+    match String::from_str(alloc, text) {
+        Ok(text) => CommandFault::Refused(text),
+        Err(_) => CommandFault::Memory,
+    }
+}
