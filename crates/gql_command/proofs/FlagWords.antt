@@ -70,7 +70,7 @@ pub or_nothing : (b : Bool) → (b || false) ≡ true → b ≡ true
 or_nothing true e = refl
 or_nothing false e = e
 
--- a text with no such byte is what stands before the first one
+-- the part before the first such byte is the whole text, where there is none
 before_none : (p : ℕ → Bool) (xs : List ℕ) → list_any p xs ≡ false → before_first p xs ≡ xs
 before_none p [] none = refl
 before_none p (x ∷ xs) none =
@@ -188,9 +188,9 @@ hyphen v again (y ∷ ys) = go (y == 45) refl
     go false e = short_word v again _ (y ∷ ys) refl (one_hyphen y ys e) (bundle_word y ys e)
 
 -- any word
-flagged : (v again : Bool) (word : Text) → IsFlagged v again word
-flagged v again [] = inr (inr (refl, refl))
-flagged v again (x ∷ xs) = go (x == 45) refl
+any_word_of : (v again : Bool) (word : Text) → IsFlagged v again word
+any_word_of v again [] = inr (inr (refl, refl))
+any_word_of v again (x ∷ xs) = go (x == 45) refl
   where
     go : (b : Bool) → (x == 45) ≡ b → IsFlagged v again (x ∷ xs)
     go true e = subst (λ (y : ℕ). IsFlagged v again (y ∷ xs)) (sym (eqb-true x 45 e)) (hyphen v again xs)
@@ -280,9 +280,9 @@ pub turn_is : (b : Shape) (names : Names) (word : Text) → subcommand_met names
 turn_is b names word none dash = rw (none, dash) refl
 
 -- a level's first word that is a flag for help
-pub turned_help : (b : Shape) (names : Names) (word : Text) → FindsHelp b.rules → subcommand_met names idle word ≡ None → IsHelpFlag word
+pub first_help_flag : (b : Shape) (names : Names) (word : Text) → FindsHelp b.rules → subcommand_met names idle word ≡ None → IsHelpFlag word
     → turn_fault b names (walk_from nothing_held) word ≡ DisplayHelp ∷ []
-turned_help b names word finds none is =
+first_help_flag b names word finds none is =
     rw (turn_is b names word none (help_is_no_dash word is), help_word_fault b.rules b.args_override_self word finds is) refl
 
 module _ (v : Bool) (b : Shape) (names : Names) (word : Text) where
@@ -297,9 +297,9 @@ module _ (v : Bool) (b : Shape) (names : Names) (word : Text) where
   ]
 
   -- its first word that is no subcommand and not `--` asks for help or the version, or is refused
-  pub turned : subcommand_met names idle word ≡ None → bytes_eq word (codes "--") ≡ false
+  pub first_word : subcommand_met names idle word ≡ None → bytes_eq word (codes "--") ≡ false
       → AsksBy v word (turn_fault level names (walk_from nothing_held) word) ⊎ IsRefusal (turn_fault level names (walk_from nothing_held) word)
-  turned none dash = rw (turn_is level names word none dash) (elim (flagged v b.args_override_self word) [
+  first_word none dash = rw (turn_is level names word none dash) (elim (any_word_of v b.args_override_self word) [
     | inl (inl p) ↦ inl (inl (p.0, rw p.1 refl))
     | inl (inr p) ↦ inl (inr (p.0, rw p.1 refl))
     | inr (inl r) ↦ inr (refused_first _ _ r)
@@ -307,7 +307,7 @@ module _ (v : Bool) (b : Shape) (names : Names) (word : Text) where
   ])
 
 -- a level's first word that is a flag for the version
-pub turned_version : (b : Shape) (names : Names) (word : Text) → subcommand_met names idle word ≡ None → IsVersionFlag word
+pub first_version_flag : (b : Shape) (names : Names) (word : Text) → subcommand_met names idle word ≡ None → IsVersionFlag word
     → turn_fault (level true b names word) names (walk_from nothing_held) word ≡ DisplayVersion ∷ []
-turned_version b names word none is =
+first_version_flag b names word none is =
     rw (turn_is (level true b names word) names word none (version_is_no_dash word is), version_word_fault b.args_override_self word is) refl

@@ -3,4 +3,5 @@ pub mod LineAnswers
 pub mod LineWords
 pub mod Numbers
 pub mod PlainServe
+pub mod ServeOptions
 pub mod ServeWords

@@ -1,9 +1,9 @@
 -- What `read_command` may answer, by the faults of the words.
-use Rattle.std.proofs.Common.{◌≡◌, ◌∙◌, ◌⊎◌, true, false, List, [], ◌∷◌, Option, Some, None, refl, sym, ap, ap₂, subst, inl, inr, codes, drop, Ok, Err}
+use Rattle.std.proofs.Common.{◌≡◌, ◌∙◌, ◌⊎◌, true, false, List, [], ◌∷◌, Option, Some, None, refl, sym, ap, ap₂, subst, inl, inr, codes, Ok, Err}
 use Rattle.std.specs.Prelude.{Box, IfOk, Result, option_map}
 use Rattle.std.specs.Option.{option_map_or}
 use Rattle.std.specs.Box.{box_value}
-use Rattle.clap.specs.Walk.{Row, Text}
+use Rattle.clap.specs.Walk.{Row, Text, rows_after}
 use Rattle.clap.specs.Simple.{App, HasMatchesOf, is_simple, subcommand_of, subcommand_rows, subcommand_rows_of}
 use Rattle.clap.specs.Kinds.{HasKind, IsAmong, Kinds}
 use Rattle.clap.specs.Faults.{fault_of, is_simple_and_free}
@@ -16,14 +16,16 @@ use Rattle.clap.specs.declared.parser.matches.ArgMatches.{ArgMatches}
 use Rattle.clap.specs.Matches.{subcommand_name_of}
 use Rattle.clap.specs.declared.parser.matches.SubCommand.{SubCommand}
 use Rattle.clap.proofs.OnLiterals.{clap_on_literals}
-use Rattle.gql_command.specs.CommandLine.{Answers, Asks, AsksNothing, BeginsWithServe, GivesOrMemory, HasHelpFlag, HasRanges, HasVersionFlag, HelpOrMemory, VersionOrMemory, arguments}
-use Rattle.gql_command.specs.Grammar.{FollowsGrammar, IsAnswerTo, ReadsNumbers, command_line, faults, options}
+use Rattle.gql_command.specs.CommandLine.{Answers, Asks, BeginsWithServe, GivesOrMemory, HasHelpFlag, HasRanges, HasVersionFlag, HelpOrMemory, VersionOrMemory, arguments}
+use Rattle.gql_command.specs.Grammar.{FollowsGrammar, GivesNumbers, IsAnswerTo, LacksNumbers, ReadsNumbers, command_line, faults, options}
 use Rattle.gql_command.specs.declared.command.Command.{Command}
 use Rattle.gql_command.specs.declared.command.Command.TheVariants.{Pipe, Serve}
 use Rattle.gql_command.specs.declared.command.CommandFault.{CommandFault}
 use Rattle.gql_command.specs.declared.command.CommandFault.TheVariants.{Help, Version, Refused, Memory}
-use Rattle.gql_command.proofs.LineWords.{LineFlag, LineVersion, helped, in_line, line_entered, pipe_entered, pipe_taken, serve_entered, versioned}
-use Rattle.gql_command.proofs.PlainServe.{same_connections, same_port, serve_gives, serve_taken}
+use Rattle.gql_command.proofs.LineWords.{enters_serve, help_flag_faults, in_line, line_entered, line_faults, line_options, pipe_entered, pipe_has_no_fault, serve_entered, serve_options, version_flag_faults}
+use Rattle.gql_command.proofs.ServeOptions.{numbers_given}
+use Rattle.gql_command.proofs.ServeWords.{serve, serve_faults}
+use Rattle.gql_command.proofs.PlainServe.{same_connections, same_port, serve_gives, serve_has_no_fault}
 
 -- ---- clap's clauses speak of the command line
 
@@ -53,9 +55,9 @@ entered_of app words rows is same = same (ap is_simple is ∙ simple) ∙ ap (λ
 -- ---- an error
 
 -- words that ask for a command have no fault
-asked_none : (command : Command) (words : List Text) → Asks command words → faults words ≡ []
-asked_none Pipe words asks = pipe_taken (arguments words) asks
-asked_none (Serve port connections) words asks = serve_taken (arguments words) port connections asks.0 asks.1 asks.2
+asks_no_fault : (command : Command) (words : List Text) → Asks command words → faults words ≡ []
+asks_no_fault Pipe words asks = pipe_has_no_fault (arguments words) asks
+asks_no_fault (Serve port connections) words asks = serve_has_no_fault (arguments words) port connections asks.0 asks.1 asks.2
 
 -- an error of words with no fault is out of memory
 memory_only : (e : Error) (fault : CommandFault) → HasKind [] e → IsAnswerTo (kind_of e) fault → fault ≡ Memory
@@ -70,15 +72,15 @@ memory_only e fault kinds answer = elim kinds [
     go (Refused text) t = absurd (t.2 refl)
     go Memory t = refl
 
-pub asked_err : (command : Command) (words : List Text) (e : Error) (fault : CommandFault) → HasKind (faults words) e → IsAnswerTo (kind_of e) fault
+pub gives_err : (command : Command) (words : List Text) (e : Error) (fault : CommandFault) → HasKind (faults words) e → IsAnswerTo (kind_of e) fault
     → Asks command words → GivesOrMemory command (Err fault)
-asked_err command words e fault kinds answer asks =
-    inr (ap (λ (f : CommandFault). Err f) (memory_only e fault (subst (λ (ks : Kinds). HasKind ks e) (asked_none command words asks) kinds) answer))
+gives_err command words e fault kinds answer asks =
+    inr (ap (λ (f : CommandFault). Err f) (memory_only e fault (subst (λ (ks : Kinds). HasKind ks e) (asks_no_fault command words asks) kinds) answer))
 
 -- an error of words with a flag for help is help, or out of memory
 pub help_err : (words : List Text) (e : Error) (fault : CommandFault) → HasKind (faults words) e → IsAnswerTo (kind_of e) fault
     → HasHelpFlag words → HelpOrMemory (Err fault)
-help_err words e fault kinds answer asks = elim (subst (λ (ks : Kinds). HasKind ks e) (helped (arguments words) asks) kinds) [
+help_err words e fault kinds answer asks = elim (subst (λ (ks : Kinds). HasKind ks e) (help_flag_faults (arguments words) asks) kinds) [
   | inl is ↦ go OutOfMemory (inl refl) fault (subst (λ (k : ErrorKind). IsAnswerTo k fault) is answer)
   | inr (inl is) ↦ go DisplayHelp (inr refl) fault (subst (λ (k : ErrorKind). IsAnswerTo k fault) is answer)
   | inr (inr none) ↦ absurd none
@@ -96,7 +98,7 @@ help_err words e fault kinds answer asks = elim (subst (λ (ks : Kinds). HasKind
 -- and so of the version
 pub version_err : (words : List Text) (e : Error) (fault : CommandFault) → HasKind (faults words) e → IsAnswerTo (kind_of e) fault
     → HasVersionFlag words → VersionOrMemory (Err fault)
-version_err words e fault kinds answer asks = elim (subst (λ (ks : Kinds). HasKind ks e) (versioned (arguments words) asks) kinds) [
+version_err words e fault kinds answer asks = elim (subst (λ (ks : Kinds). HasKind ks e) (version_flag_faults (arguments words) asks) kinds) [
   | inl is ↦ go OutOfMemory (inl refl) fault (subst (λ (k : ErrorKind). IsAnswerTo k fault) is answer)
   | inr (inl is) ↦ go DisplayVersion (inr refl) fault (subst (λ (k : ErrorKind). IsAnswerTo k fault) is answer)
   | inr (inr none) ↦ absurd none
@@ -121,7 +123,7 @@ among_of k words e other kinds is = elim kinds [
 pub follows_err : (words : List Text) (e : Error) (fault : CommandFault) → HasKind (faults words) e → IsAnswerTo (kind_of e) fault → FollowsGrammar words (Err fault)
 follows_err words e (Help text) kinds answer = among_of DisplayHelp words e (λ x. cc) kinds answer
 follows_err words e (Version text) kinds answer = among_of DisplayVersion words e (λ x. cc) kinds answer
-follows_err words e (Refused text) kinds answer = elim kinds [ inl memory ↦ absurd (answer.2 memory) | inr among ↦ inl (kind_of e, answer, among) ]
+follows_err words e (Refused text) kinds answer = elim kinds [ inl memory ↦ absurd (answer.2 memory) | inr among ↦ (kind_of e, answer, among) ]
 follows_err words e Memory kinds answer = tt
 
 -- and answers the words
@@ -129,7 +131,7 @@ pub answers_err : (words : List Text) (e : Error) (fault : CommandFault) → Has
 answers_err words e (Help text) kinds answer = (in_line (arguments words)).1 (follows_err words e (Help text) kinds answer)
 answers_err words e (Version text) kinds answer = (in_line (arguments words)).2 (follows_err words e (Version text) kinds answer)
 answers_err words e (Refused text) kinds answer = (
-  λ command asks. elim (asked_err command words e (Refused text) kinds answer asks) [ inl bad ↦ cc | inr bad ↦ cc ],
+  λ command asks. elim (gives_err command words e (Refused text) kinds answer asks) [ inl bad ↦ cc | inr bad ↦ cc ],
   λ asks. help_err words e (Refused text) kinds answer asks,
   λ asks. version_err words e (Refused text) kinds answer asks,
 )
@@ -139,10 +141,10 @@ answers_err words e Memory kinds answer = tt
 
 -- words with a flag give no matches
 pub help_ok : (words : List Text) → faults words ≡ [] → HasHelpFlag words → ⊥
-help_ok words none asks = (let bad : DisplayHelp ∷ [] ≡ [] = sym (helped (arguments words) asks) ∙ none in cc)
+help_ok words none asks = (let bad : DisplayHelp ∷ [] ≡ [] = sym (help_flag_faults (arguments words) asks) ∙ none in cc)
 
 pub version_ok : (words : List Text) → faults words ≡ [] → HasVersionFlag words → ⊥
-version_ok words none asks = (let bad : DisplayVersion ∷ [] ≡ [] = sym (versioned (arguments words) asks) ∙ none in cc)
+version_ok words none asks = (let bad : DisplayVersion ∷ [] ≡ [] = sym (version_flag_faults (arguments words) asks) ∙ none in cc)
 
 -- the name of the subcommand that was entered
 abbrev name_of : Option (Text × List Row) → Option Text
@@ -176,16 +178,16 @@ serve_ok words none is = elim ((in_line (arguments words)).0 none) [
 ]
 
 -- no words ask for `serve` where it was not entered
-pub pipe_asked : (command : Command) (words : List Text) → (name_of (line_entered (arguments words)) ≡ Some (codes "serve") → ⊥) → Asks command words
+pub gives_pipe : (command : Command) (words : List Text) → (name_of (line_entered (arguments words)) ≡ Some (codes "serve") → ⊥) → Asks command words
     → GivesOrMemory command (Ok Pipe)
-pipe_asked Pipe words other asks = inl refl
-pipe_asked (Serve port connections) words other asks = absurd (other (entered_serve words (_, asks.0)))
+gives_pipe Pipe words other asks = inl refl
+gives_pipe (Serve port connections) words other asks = absurd (other (entered_serve words (_, asks.0)))
 
 -- what `serve` answers, from the options of the words
-pub serve_asked : (command : Command) (words : List Text) (result : Result Command CommandFault) → name_of (line_entered (arguments words)) ≡ Some (codes "serve")
+pub gives_serve : (command : Command) (words : List Text) (result : Result Command CommandFault) → name_of (line_entered (arguments words)) ≡ Some (codes "serve")
     → ReadsNumbers (options words) result → Asks command words → GivesOrMemory command result
-serve_asked Pipe words result is reads asks = absurd (not_both _ (entered_pipe words asks) is)
-serve_asked (Serve port connections) words result is reads asks = go result reads
+gives_serve Pipe words result is reads asks = absurd (not_both _ (entered_pipe words asks) is)
+gives_serve (Serve port connections) words result is reads asks = go result reads
   where
     go : (r : Result Command CommandFault) → ReadsNumbers (options words) r → GivesOrMemory (Serve port connections) r
     go (Ok Pipe) n = absurd n
@@ -199,6 +201,15 @@ serve_asked (Serve port connections) words result is reads asks = go result read
     go (Err (Refused text)) n = absurd (n port connections (serve_gives (arguments words) port connections asks.0 asks.1 asks.2))
     go (Err Memory) n = inr refl
 
+-- options that the grammar takes do not lack their numbers
+never_lacks : (words : List Text) → faults words ≡ [] → BeginsWithServe words → LacksNumbers (options words) → ⊥
+never_lacks words none begins lacks =
+    let rest = begins.0 in
+    let rows : options words ≡ rows_after serve.rules [] rest = ap line_options begins.1 ∙ serve_options rest in
+    let serve_none : serve_faults rest ≡ [] = sym (enters_serve rest) ∙ (sym (ap line_faults begins.1) ∙ none) in
+    let given = numbers_given rest serve_none in
+    lacks given.0 given.1 (subst (λ (r : List Row). GivesNumbers r given.0 given.1) (sym rows) given.2)
+
 pub serve_ranges : (words : List Text) (result : Result Command CommandFault) → ReadsNumbers (options words) result → IfOk result HasRanges
 serve_ranges words (Ok Pipe) n = tt
 serve_ranges words (Ok (Serve p c)) n = (n.2, n.3)
@@ -211,7 +222,7 @@ serve_answers words (Ok (Serve p c)) none begins n = begins
 serve_answers words (Err (Help text)) none begins n = absurd n
 serve_answers words (Err (Version text)) none begins n = absurd n
 serve_answers words (Err (Refused text)) none begins n = (
-  λ command asks. elim (serve_asked command words (Err (Refused text)) (entered_serve words begins) n asks) [ inl bad ↦ cc | inr bad ↦ cc ],
+  λ command asks. elim (gives_serve command words (Err (Refused text)) (entered_serve words begins) n asks) [ inl bad ↦ cc | inr bad ↦ cc ],
   help_ok words none,
   version_ok words none,
 )
@@ -223,7 +234,7 @@ serve_follows words (Ok Pipe) none begins n = absurd n
 serve_follows words (Ok (Serve p c)) none begins n = (none, n)
 serve_follows words (Err (Help text)) none begins n = absurd n
 serve_follows words (Err (Version text)) none begins n = absurd n
-serve_follows words (Err (Refused text)) none begins n = inr (begins, n)
+serve_follows words (Err (Refused text)) none begins n = absurd (never_lacks words none begins n)
 serve_follows words (Err Memory) none begins n = tt
 
 -- ---- what clap says of the subcommand that was entered

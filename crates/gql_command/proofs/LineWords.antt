@@ -14,8 +14,8 @@ use Rattle.clap.proofs.FaultLemmas.{past, stopped_fault}
 use Rattle.clap.proofs.WalkLemmas.{walk_stopped}
 use Rattle.clap.proofs.OnLiterals.{clap_on_literals}
 use Rattle.gql_command.specs.CommandLine.{IsHelpFlag, IsVersionFlag}
-use Rattle.gql_command.proofs.FlagWords.{AsksBy, IsRefusal, NoRequest, help_has_hyphen, no_unknown, one_refusal, refused_first, stray, turned, turned_help, turned_version, version_has_hyphen}
-use Rattle.gql_command.proofs.ServeWords.{HasFlag, HelpsOnly, line, serve, serve_faults, serve_helps}
+use Rattle.gql_command.proofs.FlagWords.{IsRefusal, help_has_hyphen, no_unknown, one_refusal, refused_first, stray, first_word, first_help_flag, first_version_flag, version_has_hyphen}
+use Rattle.gql_command.proofs.ServeWords.{HelpsOnly, line, serve, serve_faults, serve_helps}
 
 -- ---- the level of `pipe`
 
@@ -62,7 +62,7 @@ in_pipe (w ∷ ws) = go (bytes_eq w (codes "--")) refl
 
     go : (b : Bool) → bytes_eq w (codes "--") ≡ b → InPipe (w ∷ ws) (pipe_faults (w ∷ ws))
     go true e = subst (λ (t : Text). InPipe (t ∷ ws) (pipe_faults (t ∷ ws))) (sym ((bytes_eq-Decides _ _).0 e)) (ended ws)
-    go false e = elim (turned false pipe [] w refl e) [
+    go false e = elim (first_word false pipe [] w refl e) [
       | inl (inl p) ↦ inr (inl (w, ws, p.0, refl, pipe_first w ws p.1))
       | inl (inr p) ↦ (let never : false ≡ true = p.0.0 in cc)
       | inr r ↦ inr (inr (pipe_refused w ws r))
@@ -87,13 +87,13 @@ after_walk w = or_else (entered_fault line w.stopped) (or_else (settle_fault lin
 abbrev at_word : Text → List Text → Walk
 at_word name words = record (walk_from nothing_held) { stopped = Some (name, words) }
 
-walked_pipe : (words : List Text) → at_word (codes "pipe") words ≡ walk line.top.rules (names_of line) nothing_held (codes "pipe" ∷ words)
+walk_at_pipe : (words : List Text) → at_word (codes "pipe") words ≡ walk line.top.rules (names_of line) nothing_held (codes "pipe" ∷ words)
 unfolding walked
-walked_pipe words = walk_stopped line.top.rules (names_of line) (walk_from nothing_held) (codes "pipe") [] words
+walk_at_pipe words = walk_stopped line.top.rules (names_of line) (walk_from nothing_held) (codes "pipe") [] words
 
-walked_serve : (words : List Text) → at_word (codes "serve") words ≡ walk line.top.rules (names_of line) nothing_held (codes "serve" ∷ words)
+walk_at_serve : (words : List Text) → at_word (codes "serve") words ≡ walk line.top.rules (names_of line) nothing_held (codes "serve" ∷ words)
 unfolding walked
-walked_serve words = walk_stopped line.top.rules (names_of line) (walk_from nothing_held) (codes "serve") [] words
+walk_at_serve words = walk_stopped line.top.rules (names_of line) (walk_from nothing_held) (codes "serve") [] words
 
 walk_passes_pipe : (words : List Text) → walk_fault line.top (names_of line) (walk_from nothing_held) (codes "pipe" ∷ words) ≡ []
 unfolding walk_fault walked
@@ -113,11 +113,11 @@ after_serve words = or_nothing_else (serve_faults words)
 
 -- the words after `pipe` are left to it
 pub enters_pipe : (words : List Text) → line_faults (codes "pipe" ∷ words) ≡ pipe_faults words
-enters_pipe words = past _ _ (walk_passes_pipe words) ∙ (ap after_walk (sym (walked_pipe words)) ∙ after_pipe words)
+enters_pipe words = past _ _ (walk_passes_pipe words) ∙ (ap after_walk (sym (walk_at_pipe words)) ∙ after_pipe words)
 
 -- and so are those after `serve`
 pub enters_serve : (words : List Text) → line_faults (codes "serve" ∷ words) ≡ serve_faults words
-enters_serve words = past _ _ (walk_passes_serve words) ∙ (ap after_walk (sym (walked_serve words)) ∙ after_serve words)
+enters_serve words = past _ _ (walk_passes_serve words) ∙ (ap after_walk (sym (walk_at_serve words)) ∙ after_serve words)
 
 no_words : line_faults [] ≡ MissingSubcommand ∷ []
 unfolding clap_on_literals
@@ -150,7 +150,7 @@ abbrev pub LineFlag : List Text → Type 0
 LineFlag words = (flag : Text) × (rest : List Text) × IsHelpFlag flag
     × ((words ≡ flag ∷ rest) ⊎ ((words ≡ codes "pipe" ∷ flag ∷ rest) ⊎ (words ≡ codes "serve" ∷ flag ∷ rest)))
 
--- a flag for help stands among the words after `serve`
+-- a flag for help is among the words after `serve`
 abbrev pub LineLater : List Text → Type 0
 LineLater words = (before : List Text) × (flag : Text) × (after : List Text) × IsHelpFlag flag × (words ≡ codes "serve" ∷ before ++ flag ∷ after)
 
@@ -180,10 +180,10 @@ of_version words kinds is e = rw e (λ e. cc, λ h. elim h [ inl e ↦ cc | inr 
 after_pipe_word : (words : List Text) (kinds : Kinds) → InPipe words kinds → InLine (codes "pipe" ∷ words) kinds
 after_pipe_word words kinds in_it = elim in_it [
   | inl p ↦ rw p.0 (
-      λ e. elim p.1 [ inl f ↦ inl (inl (ap (λ l. codes "pipe" ∷ l) f)) | inr f ↦ inl (inr (ap (λ l. codes "pipe" ∷ l) f)) ],
-      λ none. absurd none,
-      λ none. absurd none,
-    )
+    λ e. elim p.1 [ inl f ↦ inl (inl (ap (λ l. codes "pipe" ∷ l) f)) | inr f ↦ inl (inr (ap (λ l. codes "pipe" ∷ l) f)) ],
+    λ none. absurd none,
+    λ none. absurd none,
+  )
   | inr (inl p) ↦ of_help _ kinds (inl (p.0, p.1, p.2, inr (inl (ap (λ l. codes "pipe" ∷ l) p.3)))) p.4
   | inr (inr r) ↦ of_refusal _ kinds r
 ]
@@ -215,7 +215,7 @@ after_dash [] = of_refusal _ _ (rw dash_alone no_missing)
 after_dash (v ∷ vs) = of_refusal _ _ (rw (dash_value v vs) (stray false))
 
 of_word : (w : Text) (ws : List Text) → subcommand_met (names_of line) idle w ≡ None → bytes_eq w (codes "--") ≡ false → InLine (w ∷ ws) (line_faults (w ∷ ws))
-of_word w ws none dash = elim (turned true line.top (names_of line) w none dash) [
+of_word w ws none dash = elim (first_word true line.top (names_of line) w none dash) [
   | inl (inl p) ↦ of_help _ _ (inl (w, ws, p.0, inl refl)) (line_first w ws (DisplayHelp ∷ []) p.1 (inl refl))
   | inl (inr p) ↦ of_version _ _ (w, ws, p.0.1, refl) (line_first w ws (DisplayVersion ∷ []) p.1 (inr refl))
   | inr r ↦ of_refusal _ _ (line_refused w ws r)
@@ -256,8 +256,8 @@ in_line (w ∷ ws) = as_pipe (bytes_eq (codes "pipe") w) refl
 -- ---- the other way round
 
 -- words that ask for `pipe` have no fault
-pub pipe_taken : (words : List Text) → LinePipe words → line_faults words ≡ []
-pipe_taken words asks = elim asks [
+pub pipe_has_no_fault : (words : List Text) → LinePipe words → line_faults words ≡ []
+pipe_has_no_fault words asks = elim asks [
   | inl e ↦ rw e (enters_pipe [] ∙ pipe_alone)
   | inr e ↦ rw e (enters_pipe (codes "--" ∷ []) ∙ pipe_ended)
 ]
@@ -266,29 +266,29 @@ first_help : (w : Text) (ws : List Text) → IsHelpFlag w → line_faults (w ∷
 first_help w ws is =
     let at = help_has_hyphen w is in
     let none : subcommand_met (names_of line) idle w ≡ None = rw at.1 refl in
-    line_first w ws (DisplayHelp ∷ []) (turned_help line.top (names_of line) w (refl, refl) none is) (inl refl)
+    line_first w ws (DisplayHelp ∷ []) (first_help_flag line.top (names_of line) w (refl, refl) none is) (inl refl)
 
 first_version : (w : Text) (ws : List Text) → IsVersionFlag w → line_faults (w ∷ ws) ≡ DisplayVersion ∷ []
 first_version w ws is =
     let at = version_has_hyphen w is in
     let none : subcommand_met (names_of line) idle w ≡ None = rw at.1 refl in
-    line_first w ws (DisplayVersion ∷ []) (turned_version line.top (names_of line) w none is) (inr refl)
+    line_first w ws (DisplayVersion ∷ []) (first_version_flag line.top (names_of line) w none is) (inr refl)
 
 serve_first : (w : Text) (ws : List Text) → turn_fault serve [] (walk_from nothing_held) w ≡ DisplayHelp ∷ [] → serve_faults (w ∷ ws) ≡ DisplayHelp ∷ []
 unfolding walk_fault
 serve_first w ws e = rw e refl
 
 -- words with a flag for help have that one fault
-pub helped : (words : List Text) → LineFlag words → line_faults words ≡ DisplayHelp ∷ []
-helped words asks = elim asks.3 [
+pub help_flag_faults : (words : List Text) → LineFlag words → line_faults words ≡ DisplayHelp ∷ []
+help_flag_faults words asks = elim asks.3 [
   | inl e ↦ rw e (first_help asks.0 asks.1 asks.2)
-  | inr (inl e) ↦ rw e (enters_pipe (asks.0 ∷ asks.1) ∙ pipe_first asks.0 asks.1 (turned_help pipe [] asks.0 (refl, refl) refl asks.2))
-  | inr (inr e) ↦ rw e (enters_serve (asks.0 ∷ asks.1) ∙ serve_first asks.0 asks.1 (turned_help serve [] asks.0 (refl, refl) refl asks.2))
+  | inr (inl e) ↦ rw e (enters_pipe (asks.0 ∷ asks.1) ∙ pipe_first asks.0 asks.1 (first_help_flag pipe [] asks.0 (refl, refl) refl asks.2))
+  | inr (inr e) ↦ rw e (enters_serve (asks.0 ∷ asks.1) ∙ serve_first asks.0 asks.1 (first_help_flag serve [] asks.0 (refl, refl) refl asks.2))
 ]
 
 -- and so have words with a flag for the version
-pub versioned : (words : List Text) → LineVersion words → line_faults words ≡ DisplayVersion ∷ []
-versioned words asks = rw asks.3 (first_version asks.0 asks.1 asks.2)
+pub version_flag_faults : (words : List Text) → LineVersion words → line_faults words ≡ DisplayVersion ∷ []
+version_flag_faults words asks = rw asks.3 (first_version asks.0 asks.1 asks.2)
 
 -- ---- the subcommand that is entered
 
@@ -300,10 +300,10 @@ abbrev pub line_options : List Text → List Row
 line_options words = option_map_or (λ p. p.1) (line_entered words) []
 
 pub pipe_entered : (words : List Text) → option_map (λ p. p.0) (line_entered (codes "pipe" ∷ words)) ≡ Some (codes "pipe")
-pipe_entered words = sym (ap (λ (w : Walk). option_map (λ (p : Text × List Row). p.0) (entered line w.stopped)) (walked_pipe words))
+pipe_entered words = sym (ap (λ (w : Walk). option_map (λ (p : Text × List Row). p.0) (entered line w.stopped)) (walk_at_pipe words))
 
 pub serve_entered : (words : List Text) → line_entered (codes "serve" ∷ words) ≡ Some (codes "serve", rows_after serve.rules [] words)
-serve_entered words = sym (ap (λ (w : Walk). entered line w.stopped) (walked_serve words))
+serve_entered words = sym (ap (λ (w : Walk). entered line w.stopped) (walk_at_serve words))
 
 pub serve_options : (words : List Text) → line_options (codes "serve" ∷ words) ≡ rows_after serve.rules [] words
 serve_options words = ap (λ (o : Option (Text × List Row)). option_map_or (λ p. p.1) o []) (serve_entered words)

@@ -1,20 +1,17 @@
 -- The words `serve --port P --connections N`, with numbers in decimal digits: they have no fault, and give these numbers.
-use Rattle.std.proofs.Common.{◌≡◌, ◌∙◌, ◌==◌, ◌<◌, ◌≤◌, ◌^◌, ℕ, ℤ, Bool, true, false, cond, List, [], ◌∷◌, Option, Some, None, refl, sym, ap, subst, arith, codes, drop, length}
-use Rattle.std.specs.Prelude.{decimal, if◌then◌else◌, pos, ◌≤ℤ◌, FitsSigned}
-use Rattle.std.specs.Int.{w64}
-use Rattle.std.specs.Option.{option_map_or}
+use Rattle.std.proofs.Common.{◌≡◌, ◌∙◌, ◌==◌, ◌<◌, ◌≤◌, ◌^◌, ℕ, Bool, true, false, cond, List, [], ◌∷◌, Some, None, refl, sym, ap, subst, arith, codes, drop}
+use Rattle.std.specs.Prelude.{decimal, if◌then◌else◌, pos}
 use Rattle.std.specs.Str.{bytes_eq}
-use Rattle.std.specs.Str.Parse.{IsNumeral, digits_value, signed_digits_value, starts_with_minus, without_leading_plus, without_leading_sign}
+use Rattle.std.specs.Str.Parse.{IsNumeral, digits_value, starts_with_minus, without_leading_plus}
 use Rattle.std.proofs.lemmas.Bool.{ne_eqb}
 use Rattle.std.proofs.lemmas.Fmt.{decimal_is_IsNumeral}
 use Rattle.std.proofs.lemmas.Int.{ints}
 use Rattle.std.proofs.lemmas.Str.Parse.{digit_from_value}
 use Rattle.clap.specs.Lexer.{long_of, short_of, without_minus}
-use Rattle.clap.specs.Simple.{entered, names_of}
 use Rattle.clap.specs.Kinds.{Kinds, or_else, value_kinds}
 use Rattle.clap.specs.Values.{IsSignedIn}
 use Rattle.clap.specs.ValueTests.{accepts}
-use Rattle.clap.specs.Walk.{Row, Text, Walk, one_of, nothing_held, rows_after, stop_after, walk}
+use Rattle.clap.specs.Walk.{Row, Text, one_of, rows_after}
 use Rattle.clap.specs.declared.builder.value_parser.ValueParser.TheVariants as parser
 use Rattle.clap.specs.declared.error.kind.ErrorKind.TheVariants.{ValueValidation}
 use Rattle.clap.proofs.OnLiterals.{clap_on_literals}
@@ -22,7 +19,7 @@ use Rattle.clap.proofs.ValueTestLemmas.{Accepts-accepts}
 use Rattle.gql_command.specs.CommandLine.{IsConnections, IsPort, serve_words}
 use Rattle.gql_command.specs.Grammar.{GivesNumber, GivesNumbers}
 use Rattle.gql_command.proofs.LineWords.{enters_serve, line_faults, line_options, serve_options}
-use Rattle.gql_command.proofs.ServeWords.{line, serve, serve_faults}
+use Rattle.gql_command.proofs.ServeWords.{serve, serve_faults}
 
 -- ---- a numeral is a word that is no flag
 
@@ -51,9 +48,9 @@ is_signed_in : (most : ℕ) (t : Text) → most < 2 ^ 63 → IsNumeral 10 t → 
 is_signed_in most t small h low high =
     rw (no_minus t h, no_plus t h) (h, record { sfits = omega arith }, omega (arith, ints), omega (arith, ints))
 
-pub accepted : (most : ℕ) (t : Text) → most < 2 ^ 63 → IsNumeral 10 t → 1 ≤ digits_value 10 t → digits_value 10 t ≤ most
+pub is_accepted : (most : ℕ) (t : Text) → most < 2 ^ 63 → IsNumeral 10 t → 1 ≤ digits_value 10 t → digits_value 10 t ≤ most
     → accepts false (parser.Signed (pos 1) (pos most)) t ≡ true
-accepted most t small h low high = Accepts-accepts false (parser.Signed (pos 1) (pos most)) t (is_signed_in most t small h low high)
+is_accepted most t small h low high = Accepts-accepts false (parser.Signed (pos 1) (pos most)) t (is_signed_in most t small h low high)
 
 -- ---- the words
 
@@ -102,11 +99,11 @@ gives_decimal name rows n t is found =
     (t, found, subst (IsNumeral 10) (sym (no_plus t is.0)) is.0, sym is.1 ∙ ap (digits_value 10) (sym (no_plus t is.0)))
 
 in_range : (most n : ℕ) (t : Text) → most < 2 ^ 63 → IsDecimal n t → 1 ≤ n → n ≤ most → accepts false (parser.Signed (pos 1) (pos most)) t ≡ true
-in_range most n t small is low high = accepted most t small is.0 (rw is.1 low) (rw is.1 high)
+in_range most n t small is low high = is_accepted most t small is.0 (rw is.1 low) (rw is.1 high)
 
 -- the plain words of `serve` have no fault
-pub serve_taken : (words : List Text) (port connections : ℕ) → words ≡ serve_words port connections → IsPort port → IsConnections connections → line_faults words ≡ []
-serve_taken words port connections is p c =
+pub serve_has_no_fault : (words : List Text) (port connections : ℕ) → words ≡ serve_words port connections → IsPort port → IsConnections connections → line_faults words ≡ []
+serve_has_no_fault words port connections is p c =
     let x : IsDecimal port (decimal port) = decimal_is_IsNumeral port (omega (arith, p.1)) in
     let y : IsDecimal connections (decimal connections) = decimal_is_IsNumeral connections (omega (arith, c.1)) in
     rw is (enters_serve (both (decimal port) (decimal connections)) ∙ no_fault (decimal port) (decimal connections) (is_value _ x.0) (is_value _ y.0)

@@ -1,20 +1,18 @@
 -- What clap makes of the words after `serve`: a call for help is among the errors only where a word is a flag for help.
-use Rattle.std.proofs.Common.{◌≡◌, ◌⊎◌, ◌∙◌, ◌==◌, ◌||◌, ◌&&◌, not, ℕ, Bool, true, false, zero, suc, List, [], ◌∷◌, ◌++◌, Option, Some, None, refl, sym, ap, subst, inl, inr, arith, cond, codes, length}
-use Rattle.std.specs.Prelude.{fold, slice_get, unwrap_or, if◌then◌else◌, encode_utf8, drop, nat_lt, pos}
+use Rattle.std.proofs.Common.{◌≡◌, ◌⊎◌, ◌∙◌, ◌==◌, ◌||◌, ◌&&◌, not, ℕ, Bool, true, false, zero, suc, List, [], ◌∷◌, ◌++◌, Option, Some, None, refl, sym, ap, subst, inl, inr, cond, codes, length}
+use Rattle.std.specs.Prelude.{fold, slice_get, if◌then◌else◌, encode_utf8, drop, pos}
 use Rattle.std.specs.List.{list_any, slice_index_or}
 use Rattle.std.specs.Str.{bytes_eq, chars}
 use Rattle.std.proofs.lemmas.Bool.{eqb-true}
-use Rattle.std.proofs.lemmas.Slice.Eq.{bytes_eq-Decides}
 use Rattle.clap.specs.Lexer.{long_of, name_and_value, short_of}
-use Rattle.clap.specs.Walk.{with_default, has_row, values_or_missing, bundle_step, short_met, Held, Row, Rule, Step, Text, Waiting, Walk, Outcome, after_flag, after_step, arg_by_id, arg_by_short, bundle, bundle_met, done, waits, plain, refused, finished, has_long, has_short, idle, option, positional, long_met, long_or_other, next, trailing, subcommand, value, nothing_held, option_word, plain_word, pushed, reacted, settled, started, subcommand_met, walk, walk_from, walked, word_met}
+use Rattle.clap.specs.Walk.{with_default, has_row, values_or_missing, bundle_step, short_met, Held, Row, Rule, Step, Text, Waiting, Walk, Outcome, after_flag, after_step, arg_by_id, bundle, bundle_met, done, waits, plain, refused, finished, has_long, has_short, idle, option, positional, long_met, long_or_other, next, trailing, subcommand, value, nothing_held, option_word, plain_word, reacted, settled, started, subcommand_met, walk, walk_from, walked}
 use Rattle.clap.specs.Simple.{App, Shape, built, filled}
-use Rattle.clap.specs.Kinds.{Kinds, IsAmong, or_else, range_kinds, check_kinds, value_kinds, values_kinds}
+use Rattle.clap.specs.Kinds.{Kinds, or_else, range_kinds, check_kinds, value_kinds, values_kinds}
 use Rattle.clap.specs.Faults.{bundle_step_fault, short_fault, repeat_fault, set_fault, values_fault, check_fault, default_fault, defaults_fault, flag_word_fault, flags_fault, level_fault, long_fault, settle_fault, step_fault, turn_fault, use_fault, walk_fault}
 use Rattle.clap.specs.ValueTests.{accepts}
 use Rattle.clap.specs.Takes.{is_given}
 use Rattle.clap.specs.declared.builder.value_parser.ValueParser.TheVariants as parser
-use Rattle.clap.specs.declared.error.kind.ErrorKind.{ErrorKind}
-use Rattle.clap.specs.declared.error.kind.ErrorKind.TheVariants.{ArgumentConflict, DisplayHelp, DisplayVersion, InvalidValue, MissingRequiredArgument, MissingSubcommand, DisplayHelpOnMissingArgumentOrSubcommand, ValueValidation, WrongNumberOfValues}
+use Rattle.clap.specs.declared.error.kind.ErrorKind.TheVariants.{ArgumentConflict, DisplayHelp, InvalidValue, MissingRequiredArgument, MissingSubcommand, DisplayHelpOnMissingArgumentOrSubcommand, ValueValidation, WrongNumberOfValues}
 use Rattle.gql_command.specs.CommandLine.{IsHelpFlag}
 use Rattle.gql_command.specs.Grammar.{command_line, connections_option, number_option, port_option}
 use Rattle.gql_command.proofs.FlagWords.{NoRequest, help, no_unknown, no_many, not_long, not_short, one_hyphen, one_refusal, bundle_word, whole_name, or_nothing}
@@ -31,13 +29,13 @@ serve = slice_index_or line.subs 1 line.top
 abbrev pub serve_faults : List Text → Kinds
 serve_faults words = level_fault serve [] nothing_held words false []
 
-abbrev port : Rule
+abbrev pub port : Rule
 port = filled port_option
 
-abbrev connections : Rule
+abbrev pub connections : Rule
 connections = filled connections_option
 
-abbrev rules : List Rule
+abbrev pub rules : List Rule
 rules = port ∷ connections ∷ help ∷ []
 
 -- ---- errors that are no call for help or for the version
@@ -91,19 +89,19 @@ no_use name most again vs rows =
 -- ---- what is held between two words
 
 -- the id of one of the two options
-abbrev IsOption : Text → Type 0
+abbrev pub IsOption : Text → Type 0
 IsOption id = (id ≡ codes "port") ⊎ (id ≡ codes "connections")
 
 -- what is pending is one of the two options
-abbrev IsPending : Option (Text × List Text) → Type 0
+abbrev pub IsPending : Option (Text × List Text) → Type 0
 IsPending None = Unit {0}
 IsPending (Some p) = IsOption p.0
 
-abbrev IsHeld : Held → Type 0
+abbrev pub IsHeld : Held → Type 0
 IsHeld h = IsPending h.pending × (h.skip ≡ 0)
 
 -- what waits is one of the two options
-abbrev IsWaiting : Waiting → Type 0
+abbrev pub IsWaiting : Waiting → Type 0
 IsWaiting idle = Unit {0}
 IsWaiting (option id) = IsOption id
 IsWaiting positional = Unit {0}
@@ -121,7 +119,7 @@ IsStep value = Unit {0}
 abbrev IsMet : Held × Step → Type 0
 IsMet m = IsHeld m.0 × IsStep m.1
 
-abbrev IsWalk : Walk → Type 0
+abbrev pub IsWalk : Walk → Type 0
 IsWalk w = IsHeld w.held × IsWaiting w.waiting × (w.stopped ≡ None)
 
 no_settle : (again : Bool) (rows : List Row) (p : Option (Text × List Text)) (skip : ℕ) → IsPending p
@@ -161,15 +159,15 @@ after_met waiting word h refused w held o = plain_met waiting word h w held
 -- ---- a flag
 
 -- a word that is a flag for help has that one error, and any other has no such error
-abbrev Answered : Text → Kinds → Type 0
+abbrev pub Answered : Text → Kinds → Type 0
 Answered word kinds = (IsHelpFlag word × (kinds ≡ DisplayHelp ∷ [])) ⊎ NoRequest kinds
 
 -- what a long name finds
-abbrev found : Bool → Bool → Bool → Option Rule
+abbrev pub found : Bool → Bool → Bool → Option Rule
 found a b c = cond a (Some port) (cond b (Some connections) (cond c (Some help) None))
 
-asked : (word : Text) (a : Kinds) → IsHelpFlag word → NoRequest a → Answered word (or_else a (DisplayHelp ∷ []))
-asked word a is none = elim (then_help a none) [ inl e ↦ inl (is, e) | inr n ↦ inr n ]
+answers_flag : (word : Text) (a : Kinds) → IsHelpFlag word → NoRequest a → Answered word (or_else a (DisplayHelp ∷ []))
+answers_flag word a is none = elim (then_help a none) [ inl e ↦ inl (is, e) | inr n ↦ inr n ]
 
 long_answered : (again a b c : Bool) (v : Option Text) (word : Text) (h : Held) → IsHeld h → (c ≡ true → v ≡ None → IsHelpFlag word)
     → Answered word (long_fault rules again (found a b c) v h)
@@ -178,7 +176,7 @@ long_answered again true b c None word h held is = inr (no_held_settle again h h
 long_answered again false true c (Some v) word h held is = inr (either_none (settle_fault rules again h) (use_fault again connections (v ∷ []) (settled rules h).rows) (no_held_settle again h held) (no_use (codes "connections") 1000000 again (v ∷ []) (settled rules h).rows))
 long_answered again false true c None word h held is = inr (no_held_settle again h held)
 long_answered again false false true (Some v) word h held is = inr no_many
-long_answered again false false true None word h held is = asked word (settle_fault rules again h) (is refl refl) (no_held_settle again h held)
+long_answered again false false true None word h held is = answers_flag word (settle_fault rules again h) (is refl refl) (no_held_settle again h held)
 long_answered again false false false v word h held is = inr no_unknown
 
 long_outcome : (a b c : Bool) (v : Option Text) (h : Held) → IsHeld h
@@ -239,7 +237,7 @@ no_flag again waiting word h is held long short = rw (long, short) (inr no_error
 first_flag : (again b : Bool) (x : ℕ) (word rest : Text) (h : Held) (more : Held → Kinds) → IsHeld h → (b ≡ true → IsHelpFlag word)
     → Answered word (short_fault rules again (cond b (Some help) None) rest h more)
 first_flag again false x word rest h more held is = inr no_unknown
-first_flag again true x word rest h more held is = elim (asked word (settle_fault rules again h) (is refl) (no_held_settle again h held)) [
+first_flag again true x word rest h more held is = elim (answers_flag word (settle_fault rules again h) (is refl) (no_held_settle again h held)) [
   | inl p ↦ inl (p.0, rw p.1 refl)
   | inr none ↦ inr (nonempty (settle_fault rules again h) none)
 ]
@@ -285,7 +283,7 @@ any_word again waiting (x ∷ xs) h is held = go (x == 45) refl
     go true e = subst (λ (y : ℕ). Reads again waiting (y ∷ xs) h) (sym (eqb-true x 45 e)) (hyphen again waiting xs h is held)
     go false e = no_flag again waiting _ h is held (not_long x xs e) (not_short x xs e)
 
-no_subcommand : (waiting : Waiting) (word : Text) → subcommand_met [] waiting word ≡ None
+pub no_subcommand : (waiting : Waiting) (word : Text) → subcommand_met [] waiting word ≡ None
 no_subcommand idle word = refl
 no_subcommand (option id) word = refl
 no_subcommand positional word = refl
@@ -311,7 +309,7 @@ step_walk word h waiting position is_trailing j (subcommand name) is held i = ab
 step_walk word h waiting position is_trailing j value is held i = (held, is, refl)
 
 -- what a turn comes to: its errors, and the walk after it
-abbrev Turns : Walk → Text → Type 0
+abbrev pub Turns : Walk → Text → Type 0
 Turns w word = Answered word (turn_fault serve [] w word) × IsWalk (walked rules [] w word)
 
 turns_of : (word : Text) (h : Held) (waiting : Waiting) (position : ℕ) (is_trailing : Bool) → IsHeld h → IsWaiting waiting
@@ -333,11 +331,11 @@ turns_of word h waiting position false held is = rw (no_subcommand waiting word)
     go true e = (inr no_error, (held, is, refl))
     go false e = (
       then_step word (flag_word_fault rules serve.args_override_self (long_of word) word h) position (long_or_other rules waiting word (long_of word) h).0
-      (long_or_other rules waiting word (long_of word) h).1 read.1.1 read.0,
+          (long_or_other rules waiting word (long_of word) h).1 read.1.1 read.0,
       step_walk word h waiting position false (long_or_other rules waiting word (long_of word) h).0 (long_or_other rules waiting word (long_of word) h).1 is read.1.0 read.1.1,
     )
 
-turns : (w : Walk) (word : Text) → IsWalk w → Turns w word
+pub turns : (w : Walk) (word : Text) → IsWalk w → Turns w word
 turns w word is = subst (λ (s : Option (Text × List Text)). Turns (record w { stopped = s }) word) (sym is.2) (turns_of word w.held w.waiting w.position w.is_trailing is.0 is.1)
 
 -- ---- the walk, and the level
@@ -359,7 +357,7 @@ one_more word rest a b (inr none) (inl q) = go a none
     go [] n = inl ((word ∷ q.0.0, q.0.1, q.0.2, q.0.3, ap (λ l. word ∷ l) q.0.4), q.1)
     go (k ∷ ks) n = inr n
 
-walk_helps : (words : List Text) (w : Walk) → IsWalk w → HelpsOnly words (walk_fault serve [] w words) × IsWalk (fold (walked rules []) w words)
+pub walk_helps : (words : List Text) (w : Walk) → IsWalk w → HelpsOnly words (walk_fault serve [] w words) × IsWalk (fold (walked rules []) w words)
 unfolding walk_fault
 walk_helps [] w is = (inr no_error, is)
 walk_helps (word ∷ rest) w is =

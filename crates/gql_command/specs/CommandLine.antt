@@ -11,8 +11,8 @@ use Rattle.gql_command.specs.declared.command.CommandFault.TheVariants.{Help, Ve
 use Rattle.gql_command.specs.declared.command.CommandFault.TheVariants.{Memory}
 
 -- the texts of the words
-abbrev pub spelled : List (String Global) → List Text
-spelled = map (λ word. word.bytes.items)
+abbrev pub word_texts : List (String Global) → List Text
+word_texts = map (λ word. word.bytes.items)
 
 -- the words after the program's name
 abbrev pub arguments : List Text → List Text

@@ -1,5 +1,5 @@
--- The command line as clap's grammar of it, and the answers that follow from the grammar.
-use Rattle.std.specs.Prelude.{◌≡◌, ◌≢◌, ◌⊎◌, ⊤, ℕ, pos, true, false, List, [], ◌∷◌}
+-- clap's grammar of the command line, and the answers that follow from it.
+use Rattle.std.specs.Prelude.{◌≡◌, ◌≢◌, ⊤, ℕ, pos, true, false, List, [], ◌∷◌}
 use Rattle.std.specs.Prelude.{Result, Ok, Err, Some, codes}
 use Rattle.std.specs.Option.{option_map_or}
 use Rattle.std.specs.Str.Parse.{IsNumeral, digits_value, without_leading_plus}
@@ -16,7 +16,7 @@ use Rattle.gql_command.specs.declared.command.Command.TheVariants.{Pipe, Serve}
 use Rattle.gql_command.specs.declared.command.CommandFault.{CommandFault}
 use Rattle.gql_command.specs.declared.command.CommandFault.TheVariants.{Help, Version, Refused}
 use Rattle.gql_command.specs.declared.command.CommandFault.TheVariants.{Memory}
-use Rattle.gql_command.specs.CommandLine.{BeginsWithServe, IsConnections, IsPort}
+use Rattle.gql_command.specs.CommandLine.{IsConnections, IsPort}
 
 -- ---- the grammar
 
@@ -109,8 +109,7 @@ FollowsGrammar words (Ok (Serve port connections)) =
 FollowsGrammar words (Err (Help text)) = IsAmong DisplayHelp (faults words)
 FollowsGrammar words (Err (Version text)) = IsAmong DisplayVersion (faults words)
 FollowsGrammar words (Err (Refused text)) =
-    ((kind : ErrorKind) × IsRefusedKind kind × IsAmong kind (faults words))
-    ⊎ (BeginsWithServe words × LacksNumbers (options words))
+    (kind : ErrorKind) × IsRefusedKind kind × IsAmong kind (faults words)
 FollowsGrammar words (Err Memory) = ⊤
 
 -- the answer to one error of clap: the text that was asked for, or a refusal

@@ -2,8 +2,9 @@
 ghost use Rattle.std.specs.Prelude.{◌≡◌, IfOk};
 ghost use Rattle.clap.specs.Walk.{texts as texts_of};
 ghost use Rattle.clap.specs.Words.{kind_of};
-ghost use Rattle.gql_command.specs.CommandLine.{Answers, Asks, GivesOrMemory, HasHelpFlag, HasRanges};
-ghost use Rattle.gql_command.specs.CommandLine.{HasVersionFlag, HelpOrMemory, VersionOrMemory, spelled};
+ghost use Rattle.gql_command.specs.CommandLine.{Answers, Asks, GivesOrMemory, HasHelpFlag};
+ghost use Rattle.gql_command.specs.CommandLine.{HasRanges, HasVersionFlag, HelpOrMemory};
+ghost use Rattle.gql_command.specs.CommandLine.{VersionOrMemory, word_texts};
 ghost use Rattle.gql_command.specs.Grammar.{FollowsGrammar, IsAnswerTo};
 
 use crate::grammar::grammar;
@@ -54,7 +55,7 @@ fn fault(alloc: Global, error: &clap::Error) -> CommandFault
 }
 
 fn read_texts(alloc: Global, words: &[&str]) -> Result<Command, CommandFault>
-    ensures asked { (command : Command) → Asks command (texts_of words.now)
+    ensures gives { (command : Command) → Asks command (texts_of words.now)
         → GivesOrMemory command result }
     ensures ranges { IfOk result HasRanges }
     ensures help { HasHelpFlag (texts_of words.now) → HelpOrMemory result }
@@ -75,7 +76,7 @@ fn read_texts(alloc: Global, words: &[&str]) -> Result<Command, CommandFault>
 }
 
 fn texts<'w>(alloc: Global, words: &'w [String]) -> Result<Vec<&'w str>, AllocError>
-    ensures { IfOk result (λ t. texts_of t.items ≡ spelled words.now) }
+    ensures { IfOk result (λ t. texts_of t.items ≡ word_texts words.now) }
 {
     let mut texts = Vec::new(alloc);
     for word in words {
@@ -86,13 +87,13 @@ fn texts<'w>(alloc: Global, words: &'w [String]) -> Result<Vec<&'w str>, AllocEr
 
 /// What the words of a command line ask for, the program's name first.
 pub fn read_command(alloc: Global, words: &[String]) -> Result<Command, CommandFault>
-    ensures asked { (command : Command) → Asks command (spelled words.now)
+    ensures gives { (command : Command) → Asks command (word_texts words.now)
         → GivesOrMemory command result }
     ensures ranges { IfOk result HasRanges }
-    ensures help { HasHelpFlag (spelled words.now) → HelpOrMemory result }
-    ensures version { HasVersionFlag (spelled words.now) → VersionOrMemory result }
-    ensures plain { Answers (spelled words.now) result }
-    ensures grammar { FollowsGrammar (spelled words.now) result }
+    ensures help { HasHelpFlag (word_texts words.now) → HelpOrMemory result }
+    ensures version { HasVersionFlag (word_texts words.now) → VersionOrMemory result }
+    ensures plain { Answers (word_texts words.now) result }
+    ensures grammar { FollowsGrammar (word_texts words.now) result }
 {
     let Ok(texts) = texts(alloc, words) else {
         return Err(CommandFault::Memory);

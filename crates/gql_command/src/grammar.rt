@@ -2,7 +2,8 @@
 ghost use Rattle.std.specs.Prelude.{◌≡◌, IfOk, false};
 ghost use Rattle.clap.specs.Words.{app_of, rule_of, shape_of};
 ghost use Rattle.clap.specs.declared.builder.command.Command.TheViews.{out-Command};
-ghost use Rattle.gql_command.specs.Grammar.{command_line, connections_option, port_option, serve as serve_shape};
+ghost use Rattle.gql_command.specs.Grammar.{command_line, connections_option, port_option};
+ghost use Rattle.gql_command.specs.Grammar.{serve as serve_shape};
 
 use clap::{Arg, Command, value_parser};
 use std::alloc::{AllocError, Global};
@@ -45,8 +46,9 @@ fn serve<'a>(alloc: Global) -> Result<Command<'a>, AllocError>
 pub fn grammar<'a>(alloc: Global) -> Result<Command<'a>, AllocError>
     ensures { IfOk result (λ g. app_of g ≡ command_line) }
 {
-    let pipe = Command::new(alloc, "pipe")
-        .about("Answers the HTTP/1.1 requests of standard input on standard output");
+    let pipe = Command::new(alloc, "pipe").about(
+        "Answers the HTTP/1.1 requests of standard input on standard output",
+    );
     Command::new(alloc, "gqlreg")
         .version("1.0.0")
         .about("A GraphQL schema registry with persisted operations")

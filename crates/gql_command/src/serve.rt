@@ -15,8 +15,7 @@ pub fn serve(alloc: Global, options: &ArgMatches<'_>) -> Result<Command, Command
     let connections = options.get_one::<u32>("connections");
     match (port, connections) {
         (Some(port), Some(connections))
-            if port >= 1 && connections >= 1 && connections <= 1_000_000 =>
-        {
+            if port >= 1 && connections >= 1 && connections <= 1_000_000 => {
             Ok(Command::Serve { port, connections })
         }
         _ => Err(out_of_range(alloc)),

@@ -2,17 +2,17 @@ use Rattle.std.proofs.Common.{refl}
 use Rattle.clap.specs.Walk.{rows_of, texts}
 use Rattle.clap.specs.Matches.{found_of}
 use Rattle.gql_command.proofs.command.read_texts.Goals as goal
-use Rattle.gql_command.proofs.LineAnswers.{answers_err, asked_err, at_command_line, follows_err, help_err, help_ok, met_other, met_serve, no_fault, pipe_asked, pipe_ok, reads_options, serve_answers, serve_asked, serve_follows, serve_ok, version_err, version_ok}
+use Rattle.gql_command.proofs.LineAnswers.{answers_err, gives_err, at_command_line, follows_err, help_err, help_ok, met_other, met_serve, no_fault, gives_pipe, pipe_ok, reads_options, serve_answers, gives_serve, serve_follows, serve_ok, version_err, version_ok}
 
 -- ---- `serve` was entered
 
-pub returns-in-Some-clause-asked : goal.returns-in-Some-clause-asked
-returns-in-Some-clause-asked c command asks =
+pub returns-in-Some-clause-gives : goal.returns-in-Some-clause-gives
+returns-in-Some-clause-gives c command asks =
     let words = texts c.args.words.now in
     let m = c.in-Ok-try_get_matches_from.matches in
     let matches = c.in-Ok-try_get_matches_from.ensures.matches in
     let reads = reads_options _ words m c.in-Ok.ensures matches (rows_of (found_of c.in-Some.options.now)) c.serve.result c.in-Some.ensures.rows c.serve.ensures in
-    serve_asked command words c.serve.result (met_serve _ words m c.in-Ok.ensures matches (c.in-Some.ensures.found.0 refl)) reads asks
+    gives_serve command words c.serve.result (met_serve _ words m c.in-Ok.ensures matches (c.in-Some.ensures.found.0 refl)) reads asks
 
 pub returns-in-Some-clause-help : goal.returns-in-Some-clause-help
 returns-in-Some-clause-help c asks =
@@ -44,11 +44,11 @@ returns-in-Some-clause-grammar c =
 
 -- ---- it was not
 
-pub returns-in-Ok-try_get_matches_from-clause-asked :
-    goal.returns-in-Ok-try_get_matches_from-clause-asked
-returns-in-Ok-try_get_matches_from-clause-asked c command asks =
+pub returns-in-Ok-try_get_matches_from-clause-gives :
+    goal.returns-in-Ok-try_get_matches_from-clause-gives
+returns-in-Ok-try_get_matches_from-clause-gives c command asks =
     let words = texts c.args.words.now in
-    pipe_asked command words (met_other _ words c.in-Ok-try_get_matches_from.matches c.in-Ok.ensures c.in-Ok-try_get_matches_from.ensures.matches c.in-None.ensures.found.1) asks
+    gives_pipe command words (met_other _ words c.in-Ok-try_get_matches_from.matches c.in-Ok.ensures c.in-Ok-try_get_matches_from.ensures.matches c.in-None.ensures.found.1) asks
 
 pub returns-in-Ok-try_get_matches_from-clause-help :
     goal.returns-in-Ok-try_get_matches_from-clause-help
@@ -71,10 +71,10 @@ returns-in-Ok-try_get_matches_from-clause-plain c =
 
 -- ---- an error
 
-pub returns-clause-asked : goal.returns-clause-asked
-returns-clause-asked c command asks =
+pub returns-clause-gives : goal.returns-clause-gives
+returns-clause-gives c command asks =
     let kinds = at_command_line _ (texts c.args.words.now) c.in-Err.error c.in-Ok.ensures c.in-Err.ensures.kinds in
-    asked_err command (texts c.args.words.now) c.in-Err.error c.fault.result kinds c.fault.ensures asks
+    gives_err command (texts c.args.words.now) c.in-Err.error c.fault.result kinds c.fault.ensures asks
 
 pub returns-clause-help : goal.returns-clause-help
 returns-clause-help c asks =

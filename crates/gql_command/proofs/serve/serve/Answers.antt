@@ -1,6 +1,5 @@
-use Rattle.std.proofs.Common.{◌≡◌, ◌∙◌, ℕ, List, Option, Some, None, Err, arith, ap, codes, sym}
-use Rattle.std.specs.Prelude.{Result}
-use Rattle.clap.specs.Walk.{Row, Text}
+use Rattle.std.proofs.Common.{◌≡◌, ◌∙◌, ℕ, List, Option, Some, None, Err, arith, codes, sym}
+use Rattle.clap.specs.Walk.{Row}
 use Rattle.clap.specs.Words.{found_of, rows_of}
 use Rattle.gql_command.specs.declared.command.CommandFault.{CommandFault}
 use Rattle.gql_command.specs.declared.command.CommandFault.TheVariants.{Help, Version, Refused, Memory}
