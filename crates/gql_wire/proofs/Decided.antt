@@ -10,7 +10,7 @@ use Rattle.std.proofs.lemmas.Bool.Decides.{leb_tells}
 use Rattle.httparse.specs.Grammar.{LineEnd, crlf, lf, print_end, print_blank, print_version, Field, print_field, IsField, AllPass, is_token_byte, is_uri_byte, is_value_byte, print_section, ReadsSection, RequestHead}
 use Rattle.httparse.specs.Pieces.{Stops, is_newline, FieldLine}
 use Rattle.httparse.proofs.GrammarLemmas.{RequestTree, request_head, request_pieces, request_from_pieces}
-use Rattle.gql_wire.specs.Head.{Said, Says, IsRead, unread, read, judged, parts_of}
+use Rattle.gql_wire.specs.Head.{Outcome, HasOutcome, IsRead, unread, read, outcome_of, parts_of}
 
 -- a fact or its refutation
 abbrev pub Dec : Type 0 → Type 0
@@ -30,21 +30,21 @@ one_of (inl p) d = inl (inl p)
 one_of (inr n) (inl q) = inl (inr q)
 one_of (inr n) (inr m) = inr (λ w. elim w [ inl p ↦ n p | inr q ↦ m q ])
 
-is_so : (b : Bool) → Dec (b ≡ true)
-is_so true = inl refl
-is_so false = inr (λ e. absurd (cc))
+is_true : (b : Bool) → Dec (b ≡ true)
+is_true true = inl refl
+is_true false = inr (λ e. absurd (cc))
 
 same_number : (m n : ℕ) → Dec (m ≡ n)
-same_number m n = via (λ e. eqb-true m n e) (λ e. eq-eqb m n e) (is_so (m == n))
+same_number m n = via (λ e. eqb-true m n e) (λ e. eq-eqb m n e) (is_true (m == n))
 
 at_most : (m n : ℕ) → Dec (m ≤ n)
 at_most m n = elim (leb_tells m n) [ inl w ↦ inl w.1 | inr w ↦ inr (λ h. absurd (omega (arith, w.1))) ]
 
 all_pass : (test : ℕ → Bool) (bytes : List ℕ) → Dec (AllPass test bytes)
-all_pass test bytes = via (AllPass-from_list_all test bytes) (list_all-from_AllPass test bytes) (is_so (list_all test bytes))
+all_pass test bytes = via (AllPass-from_list_all test bytes) (list_all-from_AllPass test bytes) (is_true (list_all test bytes))
 
 is_text : (bytes : List ℕ) → Dec (IsUtf8 bytes)
-is_text bytes = via (IsUtf8-from_is_utf8 bytes) (is_utf8-from_IsUtf8 bytes) (is_so (is_utf8 bytes))
+is_text bytes = via (IsUtf8-from_is_utf8 bytes) (is_utf8-from_IsUtf8 bytes) (is_true (is_utf8 bytes))
 
 -- some cut of the bytes in two has the property
 abbrev Cuts : (List ℕ → List ℕ → Type 0) → List ℕ → Type 0
@@ -148,11 +148,11 @@ field_of P bytes w =
 
 of_field : (P : List ℕ → Type 0) (bytes : List ℕ) → FieldThen P bytes → Cuts (NameThen P) bytes
 of_field P bytes (f, rest, line, p) =
-    let behind = f.raw ++ (print_end f.end ++ rest) in (
+    let after = f.raw ++ (print_end f.end ++ rest) in (
       f.name,
-      (58 ∷ []) ++ behind,
+      (58 ∷ []) ++ after,
       field_parts f.name f.raw (print_end f.end) rest bytes line.1,
-      (line.0.name.0, line.0.name.1, (behind, refl, (f.raw, print_end f.end ++ rest, refl, (line.0.raw, this_end P (print_end f.end ++ rest) f.end (rest, refl, p))))),
+      (line.0.name.0, line.0.name.1, (after, refl, (f.raw, print_end f.end ++ rest, refl, (line.0.raw, this_end P (print_end f.end ++ rest) f.end (rest, refl, p))))),
     )
 
 field_then : (P : List ℕ → Type 0) → ((b : List ℕ) → Dec (P b)) → (bytes : List ℕ) → Dec (FieldThen P bytes)
@@ -200,15 +200,15 @@ lines (suc n) bytes = via (lines_of n bytes) (of_lines n bytes) (one_of (end_the
 
 -- ---- start lines
 
--- what stands behind the version, the target, the method and the empty lines
-abbrev BehindVersion : List ℕ → Type 0
-BehindVersion = EndThen (Lines 32)
+-- what follows the version, the target, the method and the empty lines
+abbrev AfterVersion : List ℕ → Type 0
+AfterVersion = EndThen (Lines 32)
 
-abbrev BehindTarget : List ℕ → Type 0
-BehindTarget bytes = Begins (print_version 0) BehindVersion bytes ⊎ Begins (print_version 1) BehindVersion bytes
+abbrev AfterTarget : List ℕ → Type 0
+AfterTarget bytes = Begins (print_version 0) AfterVersion bytes ⊎ Begins (print_version 1) AfterVersion bytes
 
 abbrev TargetThen : List ℕ → List ℕ → Type 0
-TargetThen word bytes = (0 < length word) × AllPass is_uri_byte word × IsUtf8 word × Begins (32 ∷ []) BehindTarget bytes
+TargetThen word bytes = (0 < length word) × AllPass is_uri_byte word × IsUtf8 word × Begins (32 ∷ []) AfterTarget bytes
 
 abbrev MethodThen : List ℕ → List ℕ → Type 0
 MethodThen word bytes = (0 < length word) × AllPass is_token_byte word × Begins (32 ∷ []) (Cuts TargetThen) bytes
@@ -220,15 +220,15 @@ IsBlank bytes = (ends : List LineEnd) × (bytes ≡ print_blank ends)
 abbrev BlankThen : List ℕ → List ℕ → Type 0
 BlankThen blank bytes = IsBlank blank × Stops is_newline bytes × Cuts MethodThen bytes
 
-behind_version : (bytes : List ℕ) → Dec (BehindVersion bytes)
-behind_version bytes = end_then (Lines 32) bytes (lines 32)
+after_version : (bytes : List ℕ) → Dec (AfterVersion bytes)
+after_version bytes = end_then (Lines 32) bytes (lines 32)
 
-behind_target : (bytes : List ℕ) → Dec (BehindTarget bytes)
-behind_target bytes = one_of (begins (print_version 0) BehindVersion bytes behind_version) (begins (print_version 1) BehindVersion bytes behind_version)
+after_target : (bytes : List ℕ) → Dec (AfterTarget bytes)
+after_target bytes = one_of (begins (print_version 0) AfterVersion bytes after_version) (begins (print_version 1) AfterVersion bytes after_version)
 
 target_then : (word bytes : List ℕ) → Dec (TargetThen word bytes)
 target_then word bytes = via (λ w. (w.0, w.1.0, w.1.1.0, w.1.1.1)) (λ w. (w.0, (w.1, (w.2, w.3))))
-    (both_of (at_most 1 (length word)) (both_of (all_pass is_uri_byte word) (both_of (is_text word) (begins (32 ∷ []) BehindTarget bytes behind_target))))
+    (both_of (at_most 1 (length word)) (both_of (all_pass is_uri_byte word) (both_of (is_text word) (begins (32 ∷ []) AfterTarget bytes after_target))))
 
 method_then : (word bytes : List ℕ) → Dec (MethodThen word bytes)
 method_then word bytes = via (λ w. (w.0, w.1.0, w.1.1)) (λ w. (w.0, (w.1, w.2)))
@@ -253,11 +253,11 @@ is_blank (x ∷ y ∷ xs) = via (blank_of x (y ∷ xs)) (λ w. more_blank x (y �
 
 stops : (bytes : List ℕ) → Dec (Stops is_newline bytes)
 stops [] = inr (λ e. e)
-stops (b ∷ bytes) = elim (is_so (is_newline b)) [ inl t ↦ inr (λ f. absurd (let bad : true ≡ false = sym t ∙ f in cc)) | inr n ↦ inl (not_so (is_newline b) n) ]
+stops (b ∷ bytes) = elim (is_true (is_newline b)) [ inl t ↦ inr (λ f. absurd (let bad : true ≡ false = sym t ∙ f in cc)) | inr n ↦ inl (not_true (is_newline b) n) ]
   where
-    not_so : (b : Bool) → (b ≡ true → ⊥) → b ≡ false
-    not_so true n = absurd (n refl)
-    not_so false n = refl
+    not_true : (b : Bool) → (b ≡ true → ⊥) → b ≡ false
+    not_true true n = absurd (n refl)
+    not_true false n = refl
 
 blank_then : (blank bytes : List ℕ) → Dec (BlankThen blank bytes)
 blank_then blank bytes = via (λ w. (w.0, w.1.0, w.1.1)) (λ w. (w.0, (w.1, w.2)))
@@ -265,22 +265,22 @@ blank_then blank bytes = via (λ w. (w.0, w.1.0, w.1.1)) (λ w. (w.0, (w.1, w.2)
 
 -- ---- heads
 
--- some version, and what stands behind it
+-- some version, and what follows it
 abbrev SomeVersion : List ℕ → Type 0
-SomeVersion bytes = (minor : ℕ) × (minor ≤ 1) × Begins (print_version minor) BehindVersion bytes
+SomeVersion bytes = (minor : ℕ) × (minor ≤ 1) × Begins (print_version minor) AfterVersion bytes
 
-some_version : (bytes : List ℕ) → BehindTarget bytes → SomeVersion bytes
+some_version : (bytes : List ℕ) → AfterTarget bytes → SomeVersion bytes
 some_version bytes (inl w) = (0, omega arith, w)
 some_version bytes (inr w) = (1, omega arith, w)
 
-this_version : (minor : ℕ) (bytes : List ℕ) → minor ≤ 1 → Begins (print_version minor) BehindVersion bytes → BehindTarget bytes
+this_version : (minor : ℕ) (bytes : List ℕ) → minor ≤ 1 → Begins (print_version minor) AfterVersion bytes → AfterTarget bytes
 this_version zero bytes h w = inl w
 this_version (suc zero) bytes h w = inr w
 this_version (suc (suc n)) bytes h w = absurd (omega arith)
 
 head_of : (buf : List ℕ) → Cuts BlankThen buf → (h : RequestHead) × IsRead buf h
-head_of buf (blank, m1, cut, ((ends, is), stop, (method, rest1, cut1, (some, token, (m2, space, (target, rest2, cut2, (some2, uri, text, (m3, space2, behind)))))))) =
-    let version = some_version m3 behind in
+head_of buf (blank, m1, cut, ((ends, is), stop, (method, rest1, cut1, (some, token, (m2, space, (target, rest2, cut2, (some2, uri, text, (m3, space2, after)))))))) =
+    let version = some_version m3 after in
     let ended = some_end (Lines 32) version.2.0 version.2.2 in
     let section = ended.1.2 in
     let tree : RequestTree = ((ends, (method, (target, (version.0, ended.0)))), (section.0, section.1)) in (
@@ -348,8 +348,8 @@ of_head buf h whole =
     )
 
 -- bytes are a head, or are none
-pub says_some : (head : List ℕ) → (said : Said) × Says head said
-says_some head = elim (cuts BlankThen head blank_then) [
-  | inl w ↦ let found = head_of head w in (judged (parts_of found.0), read found.1)
+pub some_outcome : (head : List ℕ) → (outcome : Outcome) × HasOutcome head outcome
+some_outcome head = elim (cuts BlankThen head blank_then) [
+  | inl w ↦ let found = head_of head w in (outcome_of (parts_of found.0), read found.1)
   | inr n ↦ (_, unread (λ h reads few. n (of_head head h (record { reads = reads; few = few }))))
 ]

@@ -4,10 +4,10 @@ use Rattle.std.specs.Prelude.{nat_eq, ◌==◌, ◌&&◌}
 use Rattle.std.specs.List.{ends_with}
 use Rattle.std.proofs.lemmas.List.{take-take, take-append-drop}
 use Rattle.std.proofs.lemmas.Bool.Decides.{leb_tells}
-use Rattle.gql_wire.specs.Head.{Said, Says, refuse, expects}
+use Rattle.gql_wire.specs.Head.{Outcome, HasOutcome, refuse, expects}
 use Rattle.gql_wire.specs.Stream.{Req, request, refused, IsRequest, behind_blank, long, stops, whole, closes, begins_blank, skip_blank, IsHead, IsOpen, head_end, head_limit, IsUnfinished, Placed, Splits, unfinished, last, next}
-use Rattle.gql_wire.proofs.Decided.{says_some}
-use Rattle.gql_wire.proofs.Streams.{tells, both, head_full}
+use Rattle.gql_wire.proofs.Decided.{some_outcome}
+use Rattle.gql_wire.proofs.Streams.{true_or_false, both, head_full}
 use Rattle.gql_wire.proofs.Unique.{open_unfinished, body_unfinished}
 use Rattle.gql_wire.proofs.Splitting.{blank_unfinished}
 
@@ -30,7 +30,7 @@ first_end : (bytes : List ℕ) (n : ℕ) → FirstEnd bytes n ⊎ NoEnd bytes n
 first_end bytes zero = inr (λ k h. let z : k ≡ 0 = omega arith in rw z refl)
 first_end bytes (suc n) = elim (first_end bytes n) [
   | inl w ↦ inl (w.0, omega (arith, w.1), w.2, w.3)
-  | inr none ↦ elim (tells (ends_at bytes (suc n))) [
+  | inr none ↦ elim (true_or_false (ends_at bytes (suc n))) [
     | inl t ↦ inl (suc n, omega arith, t, λ j h. none j (omega arith))
     | inr f ↦ inr (λ k h. elim (leb_tells k n) [
       | inl w ↦ none k w.1
@@ -54,41 +54,41 @@ head_at bytes k begun within short ended before = record {
   short = omega (arith, length-take k bytes);
 }
 
--- a head, and what it says
-judged_at : (bytes : List ℕ) (k : ℕ) → k ≤ length bytes → IsHead (take k bytes) → (said : Said) → Says (take k bytes) said → Begun bytes ⊎ IsUnfinished bytes
-judged_at bytes k within head (refuse refusal bodiless) says = inl (take k bytes, drop k bytes, refused refusal bodiless, stops head says, take-append-drop k bytes)
-judged_at bytes k within head (expects method target n closing) says = elim (leb_tells (k + n) (length bytes)) [
+-- a head and its outcome
+begun_by_head : (bytes : List ℕ) (k : ℕ) → k ≤ length bytes → IsHead (take k bytes) → (outcome : Outcome) → HasOutcome (take k bytes) outcome → Begun bytes ⊎ IsUnfinished bytes
+begun_by_head bytes k within head (refuse refusal bodiless) outcome_is = inl (take k bytes, drop k bytes, refused refusal bodiless, stops head outcome_is, take-append-drop k bytes)
+begun_by_head bytes k within head (expects method target n closing) outcome_is = elim (leb_tells (k + n) (length bytes)) [
   | inl w ↦
       let body : List ℕ = take n (drop k bytes) in
       let len : length body ≡ n = omega (arith, w.1, length-take n (drop k bytes), length-drop k bytes) in
-      let says' : Says (take k bytes) (expects method target (length body) closing) = subst (λ (m : ℕ). Says (take k bytes) (expects method target m closing)) (sym len) says in
+      let outcome_is' : HasOutcome (take k bytes) (expects method target (length body) closing) = subst (λ (m : ℕ). HasOutcome (take k bytes) (expects method target m closing)) (sym len) outcome_is in
       inl (
         take k bytes ++ body,
         drop n (drop k bytes),
         request method target body closing,
-        whole head says',
+        whole head outcome_is',
         append_assoc (take k bytes) body (drop n (drop k bytes)) ∙ ap (λ (z : List ℕ). take k bytes ++ z) (take-append-drop n (drop k bytes)) ∙ take-append-drop k bytes,
       )
-  | inr w ↦ inr (λ front more r g e. body_unfinished bytes front more r k n method target closing within head says (omega (arith, w.1)) g e)
+  | inr w ↦ inr (λ front more r g e. body_unfinished bytes front more r k n method target closing within head outcome_is (omega (arith, w.1)) g e)
 ]
 
 -- bytes that begin with no CR LF
 begun_at : (bytes : List ℕ) → begins_blank bytes ≡ false → Begun bytes ⊎ IsUnfinished bytes
 begun_at bytes f = elim (leb_tells head_limit (length bytes)) [
   | inl w ↦ elim (first_end bytes head_limit) [
-    | inl found ↦ let head = head_at bytes found.0 f (omega (arith, found.1, w.1)) found.1 found.2 found.3 in let said = says_some (take found.0 bytes) in
-        judged_at bytes found.0 (omega (arith, found.1, w.1)) head said.0 said.1
+    | inl found ↦ let head = head_at bytes found.0 f (omega (arith, found.1, w.1)) found.1 found.2 found.3 in let outcome = some_outcome (take found.0 bytes) in
+        begun_by_head bytes found.0 (omega (arith, found.1, w.1)) head outcome.0 outcome.1
     | inr none ↦
         let len : length (take head_limit bytes) ≡ head_limit = omega (arith, w.1, length-take head_limit bytes) in
-        let opened : IsOpen (take head_limit bytes) = record { begun = begun_front head_limit bytes f; unended = λ k h. rw (take-take k head_limit bytes (omega arith)) (none k (omega arith)) } in
-        inl (take head_limit bytes, drop head_limit bytes, _, long opened len, take-append-drop head_limit bytes)
+        let still_open : IsOpen (take head_limit bytes) = record { begun = begun_front head_limit bytes f; unended = λ k h. rw (take-take k head_limit bytes (omega arith)) (none k (omega arith)) } in
+        inl (take head_limit bytes, drop head_limit bytes, _, long still_open len, take-append-drop head_limit bytes)
   ]
   | inr w ↦ elim (first_end bytes (length bytes)) [
-    | inl found ↦ let head = head_at bytes found.0 f found.1 (omega (arith, found.1, w.1)) found.2 found.3 in let said = says_some (take found.0 bytes) in
-        judged_at bytes found.0 found.1 head said.0 said.1
+    | inl found ↦ let head = head_at bytes found.0 f found.1 (omega (arith, found.1, w.1)) found.2 found.3 in let outcome = some_outcome (take found.0 bytes) in
+        begun_by_head bytes found.0 found.1 head outcome.0 outcome.1
     | inr none ↦
-        let opened : IsOpen bytes = record { begun = f; unended = none } in
-        inr (λ front more r g e. open_unfinished bytes front more r opened (omega (arith, w.1)) g e)
+        let still_open : IsOpen bytes = record { begun = f; unended = none } in
+        inr (λ front more r g e. open_unfinished bytes front more r still_open (omega (arith, w.1)) g e)
   ]
 ]
 
@@ -99,7 +99,7 @@ blank_begun bytes (inr u) = inr (blank_unfinished bytes u)
 begun : (bytes : List ℕ) → Begun bytes ⊎ IsUnfinished bytes
 begun [] = begun_at [] refl
 begun (a ∷ []) = begun_at (a ∷ []) refl
-begun (a ∷ b ∷ bytes) = elim (tells (a == 13 && b == 10)) [
+begun (a ∷ b ∷ bytes) = elim (true_or_false (a == 13 && b == 10)) [
   | inl t ↦ let p = both (a == 13) (b == 10) t in
       let x : a ≡ 13 = eqb-true a 13 p.0 in let y : b ≡ 10 = eqb-true b 10 p.1 in
       rw (x, y) (blank_begun bytes (begun bytes))
@@ -118,10 +118,10 @@ split_within zero at bytes h = elim (begun bytes) [
   | inr u ↦ ([], skip_blank bytes, unfinished u refl)
 ]
 split_within (suc room) at bytes h = elim (begun bytes) [
-  | inl w ↦ elim (tells (closes w.2)) [
+  | inl w ↦ elim (true_or_false (closes w.2)) [
     | inl t ↦ (_, [], last w.1 w.3 t w.4)
-    | inr f ↦ let behind = split_within room (at + length w.0) w.1 (omega (arith, request_some w.0 w.2 w.3, ap length w.4, length-append w.0 w.1)) in
-        (_, behind.1, next w.3 f w.4 behind.2)
+    | inr f ↦ let after = split_within room (at + length w.0) w.1 (omega (arith, request_some w.0 w.2 w.3, ap length w.4, length-append w.0 w.1)) in
+        (_, after.1, next w.3 f w.4 after.2)
   ]
   | inr u ↦ ([], skip_blank bytes, unfinished u refl)
 ]

@@ -1,4 +1,4 @@
--- What httparse answers, as this crate's words say it.
+-- What httparse returns, in this crate's definitions.
 use Rattle.std.proofs.Common.{◌≡◌, ◌≢◌, ℕ, ◌≤◌, List, [], length, take, drop, map, refl, sym, ap, ◌∙◌, subst, arith, length-take, Ok, Err, Result}
 use Rattle.std.proofs.lemmas.List.{append-nil, length-map}
 use Rattle.std.proofs.Math.ListN.{drop_of_length-le}
@@ -9,7 +9,7 @@ use Rattle.httparse.specs.declared.spans.RequestSpans.{RequestSpans}
 use Rattle.httparse.specs.declared.Error.{Error}
 use Rattle.httparse.specs.declared.Status.{Status}
 use Rattle.httparse.specs.declared.Status.TheVariants.{Complete, Partial}
-use Rattle.gql_wire.specs.Head.{Parts, parts_of, judged, IsRead, IsNoHead, Says, read}
+use Rattle.gql_wire.specs.Head.{Parts, parts_of, outcome_of, IsRead, IsNoHead, HasOutcome, read}
 use Rattle.gql_wire.specs.Held.{IsWholeHead, parts_at}
 
 -- a whole head is read
@@ -24,14 +24,14 @@ parts_same : {m n t u : List ℕ} {v w : ℕ} {f g : List (List ℕ × List ℕ)
     → ◌≡◌ {A = Parts} (record { method = m; target = t; minor = v; fields = f }) (record { method = n; target = u; minor = w; fields = g })
 parts_same {m} {n} {t} {u} {v} {w} {f} {g} a b c d = cc
 
--- a whole head says what its parts come to
-pub says_at : (buf : List ℕ) (headers : List HeaderSpan) (spans : RequestSpans) → IsWholeHead buf headers spans → length headers ≤ 32
-    → Says buf (judged (parts_at buf (take spans.headers headers) spans))
-says_at buf headers spans (h, at, whole) few =
+-- a whole head has the outcome of its parts
+pub whole_outcome : (buf : List ℕ) (headers : List HeaderSpan) (spans : RequestSpans) → IsWholeHead buf headers spans → length headers ≤ 32
+    → HasOutcome buf (outcome_of (parts_at buf (take spans.headers headers) spans))
+whole_outcome buf headers spans (h, at, whole) few =
     let same : parts_of h ≡ parts_at buf (take spans.headers headers) spans = parts_same (sym at.method) (sym at.path) (sym at.version) (sym at.fields) in
-    subst (λ (p : Parts). Says buf (judged p)) same (read (is_read buf headers spans h at whole few))
+    subst (λ (p : Parts). HasOutcome buf (outcome_of p)) same (read (is_read buf headers spans h at whole few))
 
--- an answer that is no whole head shows that there is none
+-- where httparse finds no whole head, there is none
 pub no_head : (buf : List ℕ) (headers : List HeaderSpan) (room : ℕ) (r : Result (Status RequestSpans) Error) → FindsRequest buf room headers r
     → ((spans : RequestSpans) → r ≡ Ok (Complete spans) → spans.len ≢ length buf) → IsNoHead room buf
 no_head buf headers room (Ok (Complete spans)) finds not h reads few =

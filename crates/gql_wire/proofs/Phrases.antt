@@ -49,6 +49,6 @@ phrase-short n h = elim (either (200 == n) _ h) [
       ]
 ]
 
--- five parts behind a text
+-- five parts appended to a text
 pub joined : (out s a b c e : List ℕ) → ((((out ++ s) ++ a) ++ b) ++ c) ++ e ≡ out ++ ((((s ++ a) ++ b) ++ c) ++ e)
 joined out s a b c e = simp append_assoc refl

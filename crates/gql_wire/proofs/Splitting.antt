@@ -5,11 +5,11 @@ use Rattle.std.proofs.lemmas.List.{take-append-drop}
 use Rattle.std.specs.List.{flat_map}
 use Rattle.gql_wire.specs.Laws.{Feeds, end, goes, closed}
 use Rattle.gql_wire.specs.Stream.{Req, IsRequest, behind_blank, long, stops, whole, closes, skip_blank, IsUnfinished, Placed, Splits, unfinished, last, next, StaysOpen}
-use Rattle.gql_wire.proofs.Streams.{head_full, tells, both}
+use Rattle.gql_wire.proofs.Streams.{head_full, true_or_false, both}
 use Rattle.gql_wire.proofs.Unique.{one_reading_lem, not_blank, cut_left, nothing_unfinished}
 
-placed : {r q : Req} {m n : ℕ} → r ≡ q → m ≡ n → ◌≡◌ {A = Placed} (record { request = r; end = m }) (record { request = q; end = n })
-placed {r} {q} {m} {n} e f = cc
+placed_same : {r q : Req} {m n : ℕ} → r ≡ q → m ≡ n → ◌≡◌ {A = Placed} (record { request = r; end = m }) (record { request = q; end = n })
+placed_same {r} {q} {m} {n} e f = cc
 
 cons_same : {p q : Placed} {ps qs : List Placed} → p ≡ q → ps ≡ qs → p ∷ ps ≡ q ∷ qs
 cons_same {p} {q} {ps} {qs} e f = cc
@@ -22,7 +22,7 @@ one_split_lem at bytes _ _ _ q (last {front = a} m {r = x} g c f) (unfinished u 
 one_split_lem at bytes _ _ r q (next {front = a} {more = m} {r = x} g c f s) (unfinished u e) = absurd (u a m x g f)
 one_split_lem at bytes _ _ _ _ (last {front = a} m {r = x} g c e) (last {front = b} n {r = y} h d f) =
     let one = one_reading_lem a b m n x y g h (e ∙ sym f) in
-    (cons_same (placed one.1 (ap (λ (z : List ℕ). at + length z) one.0)) refl, refl)
+    (cons_same (placed_same one.1 (ap (λ (z : List ℕ). at + length z) one.0)) refl, refl)
 one_split_lem at bytes _ _ _ q (last {front = a} m {r = x} g c e) (next {front = b} {more = n} {r = y} h d f s) =
     let one = one_reading_lem a b m n x y g h (e ∙ sym f) in
     let clash : true ≡ false = sym c ∙ ap closes one.1 ∙ d in absurd (cc)
@@ -34,19 +34,19 @@ one_split_lem at bytes _ _ r q (next {front = a} {more = m} {r = x} {rs = xs} g 
     let same : m ≡ n = cut_left a m n (e ∙ sym f ∙ ap (λ (z : List ℕ). z ++ n) (sym one.0)) in
     let t' : Splits (at + length a) m ys q = rw (one.0, same) t in
     let rest = one_split_lem (at + length a) m xs ys r q s t' in
-    (cons_same (placed one.1 (ap (λ (z : List ℕ). at + length z) one.0)) rest.0, rest.1)
+    (cons_same (placed_same one.1 (ap (λ (z : List ℕ). at + length z) one.0)) rest.0, rest.1)
 
--- of bytes behind a pair, a request is behind it
-behind_pair : (a front more : List ℕ) (r : Req) → IsRequest front r → front ++ more ≡ 13 ∷ 10 ∷ a → (f : List ℕ) × IsRequest f r × (f ++ more ≡ a)
-behind_pair a _ more r (behind_blank {bytes = f} g) e = (f, g, ap (λ (z : List ℕ). drop 2 z) e)
-behind_pair a front more r (long o n) e = absurd (not_blank front a more [] o.begun (omega arith) (e ∙ ap (λ (z : List ℕ). 13 ∷ 10 ∷ z) (sym (append-nil a))))
-behind_pair a front more r (stops h s) e = absurd (not_blank front a more [] h.begun (omega (arith, head_full front h)) (e ∙ ap (λ (z : List ℕ). 13 ∷ 10 ∷ z) (sym (append-nil a))))
-behind_pair a _ more r (whole {head = h} {body = b} ih s) e =
+-- a request at the front of bytes that begin with CR LF is one after it
+after_pair : (a front more : List ℕ) (r : Req) → IsRequest front r → front ++ more ≡ 13 ∷ 10 ∷ a → (f : List ℕ) × IsRequest f r × (f ++ more ≡ a)
+after_pair a _ more r (behind_blank {bytes = f} g) e = (f, g, ap (λ (z : List ℕ). drop 2 z) e)
+after_pair a front more r (long o n) e = absurd (not_blank front a more [] o.begun (omega arith) (e ∙ ap (λ (z : List ℕ). 13 ∷ 10 ∷ z) (sym (append-nil a))))
+after_pair a front more r (stops h s) e = absurd (not_blank front a more [] h.begun (omega (arith, head_full front h)) (e ∙ ap (λ (z : List ℕ). 13 ∷ 10 ∷ z) (sym (append-nil a))))
+after_pair a _ more r (whole {head = h} {body = b} ih s) e =
     absurd (not_blank h a (b ++ more) [] ih.begun (omega (arith, head_full h ih)) (sym (append_assoc h b more) ∙ e ∙ ap (λ (z : List ℕ). 13 ∷ 10 ∷ z) (sym (append-nil a))))
 
--- no front of the bytes behind CR LF is a request either
+-- CR LF before unfinished bytes leaves them unfinished
 pub blank_unfinished : (bytes : List ℕ) → IsUnfinished bytes → IsUnfinished (13 ∷ 10 ∷ bytes)
-blank_unfinished bytes u front more r g e = let had = behind_pair bytes front more r g e in u had.0 more r had.1 had.2
+blank_unfinished bytes u front more r g e = let had = after_pair bytes front more r g e in u had.0 more r had.1 had.2
 
 two_more : (at n : ℕ) → at + 2 + n ≡ at + suc (suc n)
 two_more at n = omega arith
@@ -55,17 +55,17 @@ two_more at n = omega arith
 blank_before : (at : ℕ) (bytes : List ℕ) (rs : List Placed) (r : List ℕ) → Splits (at + 2) bytes rs r → Splits at (13 ∷ 10 ∷ bytes) rs r
 blank_before at bytes _ r (unfinished u e) = unfinished (blank_unfinished bytes u) e
 blank_before at bytes _ _ (last {front = a} m {r = x} g c e) =
-    let end : ◌≡◌ {A = Placed} (record { request = x; end = at + length (13 ∷ 10 ∷ a) }) (record { request = x; end = at + 2 + length a }) = placed refl (sym (two_more at (length a))) in
+    let end : ◌≡◌ {A = Placed} (record { request = x; end = at + length (13 ∷ 10 ∷ a) }) (record { request = x; end = at + 2 + length a }) = placed_same refl (sym (two_more at (length a))) in
     subst (λ (p : Placed). Splits at (13 ∷ 10 ∷ bytes) (p ∷ []) []) end (last m (behind_blank g) c (ap (λ (z : List ℕ). 13 ∷ 10 ∷ z) e))
 blank_before at bytes _ r (next {front = a} {more = m} {r = x} {rs = xs} g c e s) =
-    let end : ◌≡◌ {A = Placed} (record { request = x; end = at + length (13 ∷ 10 ∷ a) }) (record { request = x; end = at + 2 + length a }) = placed refl (sym (two_more at (length a))) in
+    let end : ◌≡◌ {A = Placed} (record { request = x; end = at + length (13 ∷ 10 ∷ a) }) (record { request = x; end = at + 2 + length a }) = placed_same refl (sym (two_more at (length a))) in
     let s' : Splits (at + length (13 ∷ 10 ∷ a)) m xs r = subst (λ (n : ℕ). Splits n m xs r) (two_more at (length a)) s in
     subst (λ (p : Placed). Splits at (13 ∷ 10 ∷ bytes) (p ∷ xs) r) end (next (behind_blank g) c (ap (λ (z : List ℕ). 13 ∷ 10 ∷ z) e) s')
 
 skip_short : (a : List ℕ) → length (skip_blank a) ≤ length a
 skip_short [] = omega arith
 skip_short (x ∷ []) = omega arith
-skip_short (x ∷ y ∷ a) = elim (tells (x == 13 && y == 10)) [
+skip_short (x ∷ y ∷ a) = elim (true_or_false (x == 13 && y == 10)) [
   | inl e ↦ rw e (omega (arith, skip_short a))
   | inr e ↦ rw e (omega arith)
 ]
@@ -74,7 +74,7 @@ skip_short (x ∷ y ∷ a) = elim (tells (x == 13 && y == 10)) [
 skipped_before : (at : ℕ) (a b : List ℕ) (rs : List Placed) (r : List ℕ) → Splits (at + (length a - length (skip_blank a))) (skip_blank a ++ b) rs r → Splits at (a ++ b) rs r
 skipped_before at [] b rs r s = subst (λ (n : ℕ). Splits n b rs r) (omega arith) s
 skipped_before at (x ∷ []) b rs r s = subst (λ (n : ℕ). Splits n (x ∷ b) rs r) (omega arith) s
-skipped_before at (x ∷ y ∷ a) b rs r s = elim (tells (x == 13 && y == 10)) [
+skipped_before at (x ∷ y ∷ a) b rs r s = elim (true_or_false (x == 13 && y == 10)) [
   | inl e ↦ let p = both (x == 13) (y == 10) e in
       let f : x ≡ 13 = eqb-true x 13 p.0 in let g : y ≡ 10 = eqb-true y 10 p.1 in
       let s' = rw e at s in
@@ -106,11 +106,11 @@ closed_lem at a b _ _ (last {front = f} m g c e) not = last (m ++ b) g c (sym (a
 closed_lem at a b _ r (next {front = f} {more = m} {rs = xs} g c e t) not =
     next g c (sym (append_assoc f m b) ∙ ap (λ (z : List ℕ). z ++ b) e) (closed_lem (at + length f) m b xs r t (λ stays. not (c, stays)))
 
--- a request behind dropped pairs is one with them
+-- a request after dropped pairs is one with them
 with_blanks : (a front more : List ℕ) (r : Req) → IsRequest front r → front ++ more ≡ skip_blank a → (f : List ℕ) × IsRequest f r × (f ++ more ≡ a)
 with_blanks [] front more r g e = (front, g, e)
 with_blanks (x ∷ []) front more r g e = (front, g, e)
-with_blanks (x ∷ y ∷ a) front more r g e = elim (tells (x == 13 && y == 10)) [
+with_blanks (x ∷ y ∷ a) front more r g e = elim (true_or_false (x == 13 && y == 10)) [
   | inl t ↦ let p = both (x == 13) (y == 10) t in
       let had = with_blanks a front more r g (rw t at e) in
       let first : 13 ≡ x = sym (eqb-true x 13 p.0) in let second : 10 ≡ y = sym (eqb-true y 10 p.1) in
@@ -121,7 +121,7 @@ with_blanks (x ∷ y ∷ a) front more r g e = elim (tells (x == 13 && y == 10))
 skip_twice : (a : List ℕ) → skip_blank (skip_blank a) ≡ skip_blank a
 skip_twice [] = refl
 skip_twice (x ∷ []) = refl
-skip_twice (x ∷ y ∷ a) = elim (tells (x == 13 && y == 10)) [
+skip_twice (x ∷ y ∷ a) = elim (true_or_false (x == 13 && y == 10)) [
   | inl e ↦ rw e (skip_twice a)
   | inr e ↦ rw e (rw e refl)
 ]
@@ -132,37 +132,37 @@ rest_unfinished at bytes _ r (unfinished u e) =
 rest_unfinished at bytes _ _ (last m g c e) = (nothing_unfinished, refl)
 rest_unfinished at bytes _ r (next {front = f} {more = m} {rs = xs} g c e t) = rest_unfinished (at + length f) m xs r t
 
--- a request with dropped pairs is one behind them
+-- a request with dropped pairs is one after them
 without_blanks : (a front more : List ℕ) (r : Req) → IsRequest front r → front ++ more ≡ a → (f : List ℕ) × IsRequest f r × (f ++ more ≡ skip_blank a)
 without_blanks [] front more r g e = (front, g, e)
 without_blanks (x ∷ []) front more r g e = (front, g, e)
-without_blanks (x ∷ y ∷ a) front more r g e = elim (tells (x == 13 && y == 10)) [
+without_blanks (x ∷ y ∷ a) front more r g e = elim (true_or_false (x == 13 && y == 10)) [
   | inl t ↦ let p = both (x == 13) (y == 10) t in
       let first : x ≡ 13 = eqb-true x 13 p.0 in let second : y ≡ 10 = eqb-true y 10 p.1 in
       let pair : front ++ more ≡ 13 ∷ 10 ∷ a = cc in
-      let had = behind_pair a front more r g pair in
+      let had = after_pair a front more r g pair in
       rw t (without_blanks a had.0 more r had.1 had.2)
   | inr t ↦ rw t (front, g, e)
 ]
 
--- bytes are unfinished where they are behind dropped pairs
+-- bytes are unfinished if they are after their dropped pairs
 pub unskipped : (a : List ℕ) → IsUnfinished (skip_blank a) → IsUnfinished a
 unskipped a u front more r g e = let had = without_blanks a front more r g e in u had.0 more r had.1 had.2
 
-fed : (at : ℕ) (held : List ℕ) (pieces : List (List ℕ)) (rs : List Placed) (r : List ℕ) → IsUnfinished held → skip_blank held ≡ held → Feeds at held pieces rs r
+feeds_split : (at : ℕ) (held : List ℕ) (pieces : List (List ℕ)) (rs : List Placed) (r : List ℕ) → IsUnfinished held → skip_blank held ≡ held → Feeds at held pieces rs r
     → Splits at (held ++ flat_map (λ piece. piece) pieces) rs r
-fed at held _ _ _ u e end = rw (append-nil held) (unfinished u (sym e))
-fed at held _ _ r u e (goes {piece} {rest} {pieces = more} {rs} {qs} s stays f) =
+feeds_split at held _ _ _ u e end = rw (append-nil held) (unfinished u (sym e))
+feeds_split at held _ _ r u e (goes {piece} {rest} {pieces = more} {rs} {qs} s stays f) =
     let left = rest_unfinished at (held ++ piece) rs rest s in
-    let behind = fed (at + (length (held ++ piece) - length rest)) rest more qs r left.0 left.1 f in
-    rw (← (append_assoc held piece (flat_map (λ p. p) more))) (feeding_lem at (held ++ piece) (flat_map (λ p. p) more) rs qs rest r s stays behind)
-fed at held _ _ r u e (closed {piece} {pieces = more} {rs} s not) =
+    let after = feeds_split (at + (length (held ++ piece) - length rest)) rest more qs r left.0 left.1 f in
+    rw (← (append_assoc held piece (flat_map (λ p. p) more))) (feeding_lem at (held ++ piece) (flat_map (λ p. p) more) rs qs rest r s stays after)
+feeds_split at held _ _ r u e (closed {piece} {pieces = more} {rs} s not) =
     rw (← (append_assoc held piece (flat_map (λ p. p) more))) (closed_lem at (held ++ piece) (flat_map (λ p. p) more) rs r s not)
 
 pub any_pieces_lem : (pieces : List (List ℕ)) (rs : List Placed) (r : List ℕ) → Feeds 0 [] pieces rs r → Splits 0 (flat_map (λ piece. piece) pieces) rs r
-any_pieces_lem pieces rs r f = fed 0 [] pieces rs r nothing_unfinished refl f
+any_pieces_lem pieces rs r f = feeds_split 0 [] pieces rs r nothing_unfinished refl f
 
--- the bytes of a piece behind those that were taken
+-- the bytes of a piece after those that were taken
 taken : (held piece : List ℕ) (n : ℕ) → (held ++ take n piece) ++ drop n piece ≡ held ++ piece
 taken held piece n = append_assoc held (take n piece) (drop n piece) ∙ ap (λ (z : List ℕ). held ++ z) (take-append-drop n piece)
 

@@ -7,7 +7,7 @@ use Rattle.std.proofs.lemmas.List.{take-take, take_all, take-append-drop, get_or
 use Rattle.std.proofs.Math.Seq.{take-append_seam}
 use Rattle.std.proofs.lemmas.Bool.Decides.{leb_tells}
 use Rattle.httparse.specs.Spans.{span_bytes}
-use Rattle.gql_wire.specs.Head.{Says, expects}
+use Rattle.gql_wire.specs.Head.{HasOutcome, expects}
 use Rattle.gql_wire.specs.declared.stream.Pending.{Pending}
 use Rattle.gql_wire.specs.Stream.{Req, request, IsRequest, behind_blank, whole, begins_blank, skip_blank, IsOpen, IsHead, head_end, head_limit}
 use Rattle.gql_wire.specs.Held.{IsGrown, IsHeld, IsBodyOpen, IsBodyDone, AreWithin}
@@ -17,9 +17,9 @@ both true true e = (refl, refl)
 both true false e = absurd (cc)
 both false b e = absurd (cc)
 
-pub tells : (b : Bool) → (b ≡ true) ⊎ (b ≡ false)
-tells true = inl refl
-tells false = inr refl
+pub true_or_false : (b : Bool) → (b ≡ true) ⊎ (b ≡ false)
+true_or_false true = inl refl
+true_or_false false = inr refl
 
 -- a head has the four bytes of its end
 pub head_full : (bytes : List ℕ) → IsHead bytes → 4 ≤ length bytes
@@ -39,7 +39,7 @@ last_feed bytes e =
     sym (ap (λ (n : ℕ). get_or bytes n 0) place) ∙ sym (get_or-drop (length bytes - 4) bytes 3 0) ∙ sym (ap (λ (z : List ℕ). get_or z 3 0) same)
 
 not_ended : (bytes : List ℕ) → get_or bytes (length bytes - 1) 0 ≢ 10 → ends_with nat_eq bytes head_end ≡ false
-not_ended bytes other = elim (tells (ends_with nat_eq bytes head_end)) [
+not_ended bytes other = elim (true_or_false (ends_with nat_eq bytes head_end)) [
   | inl t ↦ absurd (other (last_feed bytes t))
   | inr f ↦ f
 ]
@@ -55,8 +55,8 @@ early n bs g k h = elim (leb_tells k n) [
 ]
 
 -- with the bytes the head is still open
-pub opened : (n : ℕ) (bs : List ℕ) → IsGrown n bs → begins_blank bs ≡ false → ends_with nat_eq bs head_end ≡ false → IsOpen bs
-opened n bs g begun ended = record {
+pub still_open : (n : ℕ) (bs : List ℕ) → IsGrown n bs → begins_blank bs ≡ false → ends_with nat_eq bs head_end ≡ false → IsOpen bs
+still_open n bs g begun ended = record {
   begun = begun;
   unended = λ k h. elim (leb_tells (suc k) (length bs)) [
     | inl (w, below) ↦ early n bs g k (omega arith)
@@ -65,8 +65,8 @@ opened n bs g begun ended = record {
 }
 
 -- with the bytes the head is whole
-pub headed : (n : ℕ) (bs : List ℕ) → IsGrown n bs → begins_blank bs ≡ false → ends_with nat_eq bs head_end ≡ true → IsHead bs
-headed n bs g begun ended = record { begun = begun; ended = ended; before = early n bs g; short = g.within }
+pub head_ended : (n : ℕ) (bs : List ℕ) → IsGrown n bs → begins_blank bs ≡ false → ends_with nat_eq bs head_end ≡ true → IsHead bs
+head_ended n bs g begun ended = record { begun = begun; ended = ended; before = early n bs g; short = g.within }
 
 pub begun_on : (n : ℕ) (bs : List ℕ) → 2 ≤ n → begins_blank (take n bs) ≡ false → begins_blank bs ≡ false
 begun_on (suc (suc n)) [] h e = e
@@ -84,40 +84,40 @@ only_blank n (a ∷ b ∷ c ∷ cs) g e = elim (leb_tells 2 n) [
   | inr w ↦ absurd (g.line 1 (omega (arith, w.1)) (omega arith) (eqb-true b 10 (both (a == 13) (b == 10) e).1))
 ]
 
-pub done : (bs : List ℕ) (p : Pending) → p.head ≡ length bs → p.length ≡ 0 → IsHead bs → Says bs (expects (span_bytes bs p.method) (span_bytes bs p.target) p.length p.closing)
+pub done : (bs : List ℕ) (p : Pending) → p.head ≡ length bs → p.length ≡ 0 → IsHead bs → HasOutcome bs (expects (span_bytes bs p.method) (span_bytes bs p.target) p.length p.closing)
     → AreWithin p → IsBodyDone bs p
 done bs p n none h s w =
     let e : take p.head bs ≡ bs = take_all p.head bs (omega arith) in
-    record { head = rw e h; says = rw e s; spans = w; filled = omega arith }
+    record { head = rw e h; outcome_is = rw e s; spans = w; filled = omega arith }
 
-pub awaited : (bs : List ℕ) (p : Pending) → p.head ≡ length bs → p.length ≢ 0 → IsHead bs → Says bs (expects (span_bytes bs p.method) (span_bytes bs p.target) p.length p.closing)
+pub body_open : (bs : List ℕ) (p : Pending) → p.head ≡ length bs → p.length ≢ 0 → IsHead bs → HasOutcome bs (expects (span_bytes bs p.method) (span_bytes bs p.target) p.length p.closing)
     → AreWithin p → IsBodyOpen bs p
-awaited bs p n some h s w =
+body_open bs p n some h s w =
     let e : take p.head bs ≡ bs = take_all p.head bs (omega arith) in
-    record { within = omega arith; head = rw e h; says = rw e s; spans = w; unfilled = omega arith }
+    record { within = omega arith; head = rw e h; outcome_is = rw e s; spans = w; unfilled = omega arith }
 
 pub done_request : (bs m t b : List ℕ) (p : Pending) → IsBodyDone bs p → m ≡ span_bytes (take p.head bs) p.method → t ≡ span_bytes (take p.head bs) p.target → b ≡ drop p.head bs
     → IsRequest bs (request m t b p.closing)
 done_request bs m t b p d em et eb =
     let n : p.length ≡ length (drop p.head bs) = omega (arith, d.filled, length-drop p.head bs) in
-    let says = rw n at d.says in
-    rw (em, et, eb) (subst (λ (xs : List ℕ). IsRequest xs (request (span_bytes (take p.head bs) p.method) (span_bytes (take p.head bs) p.target) (drop p.head bs) p.closing)) (take-append-drop p.head bs) (whole d.head says))
+    let outcome_is = rw n at d.outcome_is in
+    rw (em, et, eb) (subst (λ (xs : List ℕ). IsRequest xs (request (span_bytes (take p.head bs) p.method) (span_bytes (take p.head bs) p.target) (drop p.head bs) p.closing)) (take-append-drop p.head bs) (whole d.head outcome_is))
 
 pub skip_append : (xs ys : List ℕ) → skip_blank (skip_blank xs ++ ys) ≡ skip_blank (xs ++ ys)
 skip_append [] ys = refl
 skip_append (a ∷ []) ys = refl
-skip_append (a ∷ b ∷ xs) ys = elim (tells (a == 13 && b == 10)) [
+skip_append (a ∷ b ∷ xs) ys = elim (true_or_false (a == 13 && b == 10)) [
   | inl e ↦ rw e (skip_append xs ys)
   | inr e ↦ rw e (rw e refl)
 ]
 
-pub request_behind : (xs ys : List ℕ) (r : Req) → IsRequest (skip_blank xs ++ ys) r → IsRequest (xs ++ ys) r
-request_behind [] ys r h = h
-request_behind (a ∷ []) ys r h = h
-request_behind (a ∷ b ∷ xs) ys r h = elim (tells (a == 13 && b == 10)) [
+pub request_after_blanks : (xs ys : List ℕ) (r : Req) → IsRequest (skip_blank xs ++ ys) r → IsRequest (xs ++ ys) r
+request_after_blanks [] ys r h = h
+request_after_blanks (a ∷ []) ys r h = h
+request_after_blanks (a ∷ b ∷ xs) ys r h = elim (true_or_false (a == 13 && b == 10)) [
   | inl e ↦ let p = both (a == 13) (b == 10) e in
       let x : a ≡ 13 = eqb-true a 13 p.0 in let y : b ≡ 10 = eqb-true b 10 p.1 in
-      rw (x, y) (behind_blank (request_behind xs ys r (rw e at h)))
+      rw (x, y) (behind_blank (request_after_blanks xs ys r (rw e at h)))
   | inr e ↦ rw e at h
 ]
 
@@ -125,7 +125,7 @@ pub held_skips : (bs : List ℕ) (p : Option Pending) → IsHeld bs p → skip_b
 held_skips bs None h = skip_same bs h.0.begun
 held_skips bs (Some p) h = skip_same bs (begun_on p.head bs (omega (arith, head_full (take p.head bs) h.head, length-take p.head bs)) h.head.begun)
 
--- more bytes of a piece, behind what was skipped
+-- more bytes of a piece, after skipped ones
 pub more_skipped : (old now new piece : List ℕ) (i n : ℕ) → now ≡ skip_blank (old ++ take i piece) → new ≡ skip_blank (now ++ take n (drop i piece))
     → new ≡ skip_blank (old ++ take (i + n) piece)
 more_skipped old now new piece i n e f =
@@ -135,15 +135,15 @@ more_skipped old now new piece i n e f =
 pub more_requested : (old now piece : List ℕ) (i n : ℕ) (r : Req) → now ≡ skip_blank (old ++ take i piece) → IsRequest (now ++ take n (drop i piece)) r
     → IsRequest (old ++ take (i + n) piece) r
 more_requested old now piece i n r e f =
-    let g : IsRequest ((old ++ take i piece) ++ take n (drop i piece)) r = request_behind (old ++ take i piece) (take n (drop i piece)) r (rw e at f) in
+    let g : IsRequest ((old ++ take i piece) ++ take n (drop i piece)) r = request_after_blanks (old ++ take i piece) (take n (drop i piece)) r (rw e at f) in
     let same : (old ++ take i piece) ++ take n (drop i piece) ≡ old ++ take (i + n) piece =
     append_assoc old (take i piece) (take n (drop i piece)) ∙ ap (λ (xs : List ℕ). old ++ xs) (sym (take-add i n piece)) in
     rw same at g
 
--- a part of a line behind an open head
-pub grown : (old piece : List ℕ) (n : ℕ) → IsOpen old → 0 < n → n ≤ length piece → length old + n ≤ head_limit → ((k : ℕ) → k + 1 < n → get_or piece k 0 ≢ 10)
+-- a part of a line after an unfinished head
+pub is_grown : (old piece : List ℕ) (n : ℕ) → IsOpen old → 0 < n → n ≤ length piece → length old + n ≤ head_limit → ((k : ℕ) → k + 1 < n → get_or piece k 0 ≢ 10)
     → IsGrown (length old) (old ++ take n piece)
-grown old piece n o some within short line = record {
+is_grown old piece n o some within short line = record {
   held = rw (take-append_seam old (take n piece)) o;
   some = omega (arith, length-append old (take n piece), length-take n piece);
   line = λ k h less.

@@ -7,18 +7,18 @@ use Rattle.std.proofs.Math.Seq.{take-append_seam, drop-append_seam}
 use Rattle.std.proofs.lemmas.Bool.Decides.{leb_tells}
 use Rattle.httparse.specs.Grammar.{RequestHead}
 use Rattle.httparse.proofs.GrammarLemmas.{request_unique}
-use Rattle.gql_wire.specs.Head.{Says, Said, refuse, expects, unread, read, judged, parts_of}
+use Rattle.gql_wire.specs.Head.{HasOutcome, Outcome, refuse, expects, unread, read, outcome_of, parts_of}
 use Rattle.gql_wire.proofs.Streams.{head_full}
 use Rattle.gql_wire.specs.Held.{IsHeld}
 use Rattle.gql_wire.specs.Stream.{IsUnfinished, Req, request, IsRequest, behind_blank, long, stops, whole, IsHead, IsOpen, begins_blank, head_end, head_limit}
 use Rattle.gql_wire.specs.declared.head.HeadRefusal.{HeadRefusal}
 use Rattle.gql_wire.specs.declared.stream.Pending.{Pending}
 
-pub says_unique : {head : List ℕ} {s t : Said} → Says head s → Says head t → s ≡ t
-says_unique (unread n) (unread m) = refl
-says_unique (unread n) (read {h = h} r) = absurd (n h r.reads r.few)
-says_unique (read {h = h} r) (unread n) = absurd (n h r.reads r.few)
-says_unique (read {head} {h = h} r) (read {h = k} q) = ap (λ (g : RequestHead). judged (parts_of g)) (request_unique head h k [] [] r.reads q.reads).0
+pub outcome_unique : {head : List ℕ} {s t : Outcome} → HasOutcome head s → HasOutcome head t → s ≡ t
+outcome_unique (unread n) (unread m) = refl
+outcome_unique (unread n) (read {h = h} r) = absurd (n h r.reads r.few)
+outcome_unique (read {h = h} r) (unread n) = absurd (n h r.reads r.few)
+outcome_unique (read {head} {h = h} r) (read {h = k} q) = ap (λ (g : RequestHead). outcome_of (parts_of g)) (request_unique head h k [] [] r.reads q.reads).0
 
 prefix_of : (a b x y : List ℕ) → a ++ x ≡ b ++ y → length a ≤ length b → take (length a) b ≡ a
 prefix_of a b x y e h = sym (take-append-le (length a) b y h) ∙ ap (λ (s : List ℕ). take (length a) s) (sym e) ∙ take-append_seam a x
@@ -51,7 +51,7 @@ begun_of [] x h = absurd (omega arith)
 begun_of (a ∷ []) x h = absurd (omega arith)
 begun_of (a ∷ b ∷ bs) x h = refl
 
--- what begins with no empty line is not behind one
+-- bytes that begin with no empty line do not follow one
 pub not_blank : (a b x y : List ℕ) → begins_blank a ≡ false → 2 ≤ length a → a ++ x ≡ (13 ∷ 10 ∷ b) ++ y → ⊥
 not_blank a b x y f h e = let bad : false ≡ true = sym f ∙ begun_of a x h ∙ ap begins_blank e in absurd (let r : zero ≡ suc zero = cc in omega arith)
 
@@ -67,11 +67,11 @@ whole_same h b c x y m n t u v w e f =
 pub cut_left : (h b c : List ℕ) → h ++ b ≡ h ++ c → b ≡ c
 cut_left h b c e = sym (drop-append_seam h b) ∙ ap (λ (z : List ℕ). drop (length h) z) e ∙ drop-append_seam h c
 
-refused_whole : (h k b x y : List ℕ) (f : HeadRefusal) (fb : Bool) (m t : List ℕ) (v : Bool) → IsHead h → IsHead k → Says h (refuse f fb) → Says k (expects m t (length b) v)
+refused_whole : (h k b x y : List ℕ) (f : HeadRefusal) (fb : Bool) (m t : List ℕ) (v : Bool) → IsHead h → IsHead k → HasOutcome h (refuse f fb) → HasOutcome k (expects m t (length b) v)
     → h ++ x ≡ (k ++ b) ++ y → ⊥
 refused_whole h k b x y f fb m t v ih ik s w e =
     let same : h ≡ k = one_head h k x (b ++ y) ih ik (e ∙ append_assoc k b y) in
-    let clash : refuse f fb ≡ expects m t (length b) v = says_unique (rw same at s) w in absurd (let r : zero ≡ suc zero = cc in omega arith)
+    let clash : refuse f fb ≡ expects m t (length b) v = outcome_unique (rw same at s) w in absurd (let r : zero ≡ suc zero = cc in omega arith)
 
 pub one_reading_lem : (a b x y : List ℕ) (r q : Req) → IsRequest a r → IsRequest b q → a ++ x ≡ b ++ y → (a ≡ b) × (r ≡ q)
 one_reading_lem _ _ x y r q (behind_blank {bytes = a} g) (behind_blank {bytes = b} h) e =
@@ -89,7 +89,7 @@ one_reading_lem a _ x y r q (long o n) (whole {head} {body} h s) e = absurd (not
 one_reading_lem _ b x y r q (whole {head} {body} h s) (long o n) e = absurd (not_long b head y (body ++ x) o n h (sym e ∙ append_assoc head body x))
 one_reading_lem a b x y r q (stops {refusal = f} {bodiless = fb} h s) (stops {refusal = g} {bodiless = gb} k t) e =
     let same : a ≡ b = one_head a b x y h k e in
-    let said : refuse f fb ≡ refuse g gb = says_unique (rw same at s) t in
+    let outcome : refuse f fb ≡ refuse g gb = outcome_unique (rw same at s) t in
     (same, cc)
 one_reading_lem a _ x y r q (stops {refusal = f} {bodiless = fb} h s) (whole {head} {body} {method} {target} {closing} k t) e = absurd (refused_whole a head body x y f fb method target closing h k s t e)
 one_reading_lem _ b x y r q (whole {head} {body} {method} {target} {closing} k t) (stops {refusal = f} {bodiless = fb} h s) e = absurd (refused_whole b head body y x f fb method target closing h k s t (sym e))
@@ -97,7 +97,7 @@ one_reading_lem _ _ x y r q (whole {head = h} {body = b} {method = m} {target = 
     let apart : h ++ (b ++ x) ≡ k ++ (c ++ y) = sym (append_assoc h b x) ∙ e ∙ append_assoc k c y in
     let same : h ≡ k = one_head h k (b ++ x) (c ++ y) ih ik apart in
     let bodies : b ++ x ≡ c ++ y = cut_left h (b ++ x) (c ++ y) (apart ∙ ap (λ (f : List ℕ). f ++ (c ++ y)) (sym same)) in
-    let both = whole_same h b c x y m n t u v w bodies (says_unique s (rw (← same) at z)) in
+    let both = whole_same h b c x y m n t u v w bodies (outcome_unique s (rw (← same) at z)) in
     (both.0 ∙ ap (λ (f : List ℕ). f ++ c) same, both.1)
 
 -- in an open head there is no head
@@ -118,22 +118,22 @@ open_unfinished bytes _ more r o less (whole {head = h} {body = b} ih s) e = ope
 
 -- nor of a head with a part of its body
 pub body_unfinished : (bytes front more : List ℕ) (r : Req) (k n : ℕ) (method target : List ℕ) (closing : Bool) → k ≤ length bytes → IsHead (take k bytes)
-    → Says (take k bytes) (expects method target n closing) → length bytes < k + n → IsRequest front r → front ++ more ≡ bytes → ⊥
-body_unfinished bytes _ more r k n m t c within head says less (behind_blank {bytes = a} g) e =
+    → HasOutcome (take k bytes) (expects method target n closing) → length bytes < k + n → IsRequest front r → front ++ more ≡ bytes → ⊥
+body_unfinished bytes _ more r k n m t c within head outcome_is less (behind_blank {bytes = a} g) e =
     not_blank (take k bytes) a (drop k bytes) more head.begun (omega (arith, head_full (take k bytes) head)) (take-append-drop k bytes ∙ sym e)
-body_unfinished bytes front more r k n m t c within head says less (long q l) e = not_long front (take k bytes) more (drop k bytes) q l head (e ∙ sym (take-append-drop k bytes))
-body_unfinished bytes front more r k n m t c within head says less (stops h s) e =
+body_unfinished bytes front more r k n m t c within head outcome_is less (long q l) e = not_long front (take k bytes) more (drop k bytes) q l head (e ∙ sym (take-append-drop k bytes))
+body_unfinished bytes front more r k n m t c within head outcome_is less (stops h s) e =
     let same : front ≡ take k bytes = one_head front (take k bytes) more (drop k bytes) h head (e ∙ sym (take-append-drop k bytes)) in
-    let clash = says_unique (rw same at s) says in absurd (let r : zero ≡ suc zero = cc in omega arith)
-body_unfinished bytes _ more r k n m t c within head says less (whole {head = h} {body = b} ih s) e =
+    let clash = outcome_unique (rw same at s) outcome_is in absurd (let r : zero ≡ suc zero = cc in omega arith)
+body_unfinished bytes _ more r k n m t c within head outcome_is less (whole {head = h} {body = b} ih s) e =
     let same : h ≡ take k bytes = one_head h (take k bytes) (b ++ more) (drop k bytes) ih head (sym (append_assoc h b more) ∙ e ∙ sym (take-append-drop k bytes)) in
-    let said = says_unique (rw same at s) says in
+    let outcome = outcome_unique (rw same at s) outcome_is in
     let len : length b ≡ n = cc in
     absurd (omega (arith, len, less, within, ap length e, ap length same, length-append (h ++ b) more, length-append h b, length-take k bytes))
 
 pub held_unfinished : (bytes : List ℕ) (p : Option Pending) → IsHeld bytes p → IsUnfinished bytes
 held_unfinished bytes None h front more r g e = open_unfinished bytes front more r h.0 h.1 g e
-held_unfinished bytes (Some p) h front more r g e = body_unfinished bytes front more r p.head p.length _ _ p.closing h.within h.head h.says h.unfilled g e
+held_unfinished bytes (Some p) h front more r g e = body_unfinished bytes front more r p.head p.length _ _ p.closing h.within h.head h.outcome_is h.unfilled g e
 
 -- no bytes are an unfinished request
 pub nothing_unfinished : IsUnfinished []

@@ -1,26 +1,28 @@
--- What a framer holds of a request, and what more bytes of a head come to.
+-- Definitions for private contracts: what a framer holds of a request, and what it does with more
+-- bytes of a head.
 use Rattle.std.specs.Prelude.{ℕ, ◌≢◌, slice_index, ◌≡◌, ◌+◌, ◌<◌, ◌≤◌, List, [], length, take, map, Option, Some, None, ◌==◌, ◌&&◌, if◌then◌else◌}
 use Rattle.httparse.specs.Spans.{span_bytes, header_bytes, IsWithin, IsRequestAt}
 use Rattle.httparse.specs.Grammar.{RequestHead}
 use Rattle.httparse.specs.declared.spans.HeaderSpan.{HeaderSpan}
 use Rattle.httparse.specs.declared.spans.RequestSpans.{RequestSpans}
 use Rattle.gql_wire.specs.Number.{is_number, number_from, number_in}
-use Rattle.gql_wire.specs.Head.{body_limit, Parts, Said, refuse, expects, Says}
+use Rattle.gql_wire.specs.Head.{body_limit, Parts, Outcome, refuse, expects, HasOutcome}
 use Rattle.gql_wire.specs.Stream.{IsHead, IsOpen, IsRequest, refused, skip_blank, head_limit}
-use Rattle.gql_wire.specs.declared.head.HeadSays.{HeadSays}
-use Rattle.gql_wire.specs.declared.head.HeadSays.TheVariants as code
+use Rattle.gql_wire.specs.declared.head.HeadOutcome.{HeadOutcome}
+use Rattle.gql_wire.specs.declared.head.HeadOutcome.TheVariants as code
 use Rattle.gql_wire.specs.declared.stream.Pending.{Pending}
 use Rattle.gql_wire.specs.declared.stream.Advance.{Advance}
 use Rattle.gql_wire.specs.declared.stream.Advance.TheVariants as advance
 
--- the length that a further value says, behind those that said this
-abbrev pub next_said : Option ℕ → List ℕ → Option ℕ
-next_said None v = number_in v
-next_said (Some n) v = if is_number v && number_from 0 v == n then Some n else None
+-- the body length after one more value of Content-Length, where earlier values gave this one
+abbrev pub next_length : Option ℕ → List ℕ → Option ℕ
+next_length None v = number_in v
+next_length (Some n) v = if is_number v && number_from 0 v == n then Some n else None
 
--- the spans are those of a head that these bytes are as a whole
+-- the spans are those of a head, which is these bytes and nothing more
 abbrev pub IsWholeHead : List ℕ → List HeaderSpan → RequestSpans → Type 0
-IsWholeHead head headers spans = (h : RequestHead) × IsRequestAt head headers spans h × (spans.len ≡ length head)
+IsWholeHead head headers spans =
+    (h : RequestHead) × IsRequestAt head headers spans h × (spans.len ≡ length head)
 
 -- the parts that the spans cover
 abbrev pub parts_at : List ℕ → List HeaderSpan → RequestSpans → Parts
@@ -31,52 +33,59 @@ parts_at head headers spans = record {
   fields = map (header_bytes head) headers;
 }
 
--- what the code's answer says of the head
-abbrev pub said_by : List ℕ → HeadSays → Said
-said_by head (code.Refuse refusal bodiless) = refuse refusal bodiless
-said_by head (code.Expects method target length closing) = expects (span_bytes head method) (span_bytes head target) length closing
+-- the outcome that the code's value stands for, with the head's bytes in place of the spans
+abbrev pub outcome_from : List ℕ → HeadOutcome → Outcome
+outcome_from head (code.Refuse refusal bodiless) = refuse refusal bodiless
+outcome_from head (code.Expects method target length closing) =
+    expects (span_bytes head method) (span_bytes head target) length closing
 
 -- the spans lie in the head, and the body is within its limit
-abbrev pub AreSpansWithin : ℕ → HeadSays → Type 0
+abbrev pub AreSpansWithin : ℕ → HeadOutcome → Type 0
 AreSpansWithin n (code.Refuse refusal bodiless) = Unit {0}
-AreSpansWithin n (code.Expects method target length closing) = IsWithin n method × IsWithin n target × (length ≤ body_limit)
+AreSpansWithin n (code.Expects method target length closing) =
+    IsWithin n method × IsWithin n target × (length ≤ body_limit)
 
 -- the spans of the method and the target lie in the head, and the body is within its limit
 abbrev pub AreWithin : Pending → Type 0
 AreWithin p = IsWithin p.head p.method × IsWithin p.head p.target × (p.length ≤ body_limit)
 
+-- the outcome of the head of a request whose body is not complete yet
+abbrev pub outcome_at : List ℕ → Pending → Outcome
+outcome_at head p =
+    expects (span_bytes head p.method) (span_bytes head p.target) p.length p.closing
+
 -- a head and a part of its body
 pub record IsBodyOpen (bytes : List ℕ) (p : Pending) : Type 0 where
   pub within : p.head ≤ length bytes
   pub head : IsHead (take p.head bytes)
-  pub says : Says (take p.head bytes) (expects (span_bytes (take p.head bytes) p.method) (span_bytes (take p.head bytes) p.target) p.length p.closing)
+  pub outcome_is : HasOutcome (take p.head bytes) (outcome_at (take p.head bytes) p)
   pub spans : AreWithin p
   pub unfilled : length bytes < p.head + p.length
 
 -- a head and its whole body
 pub record IsBodyDone (bytes : List ℕ) (p : Pending) : Type 0 where
   pub head : IsHead (take p.head bytes)
-  pub says : Says (take p.head bytes) (expects (span_bytes (take p.head bytes) p.method) (span_bytes (take p.head bytes) p.target) p.length p.closing)
+  pub outcome_is : HasOutcome (take p.head bytes) (outcome_at (take p.head bytes) p)
   pub spans : AreWithin p
   pub filled : length bytes ≡ p.head + p.length
 
--- what the framer holds: the beginning of a request
+-- a framer may hold this: an unfinished head, or a head and a part of its body
 abbrev pub IsHeld : List ℕ → Option Pending → Type 0
 IsHeld bytes None = IsOpen bytes × (length bytes < head_limit)
 IsHeld bytes (Some p) = IsBodyOpen bytes p
 
--- to an open head of n bytes came at most one line end, the last of the bytes
+-- after an unfinished head of n bytes came more bytes, with a line feed at their end at most
 pub record IsGrown (n : ℕ) (bytes : List ℕ) : Type 0 where
   pub held : IsOpen (take n bytes)
   pub some : n < length bytes
   pub line : (k : ℕ) → n ≤ k → k + 1 < length bytes → slice_index bytes k ≢ 10
   pub within : length bytes ≤ head_limit
 
--- to some open head
+-- the same, of some unfinished head
 abbrev pub GrowsByLine : List ℕ → Type 0
 GrowsByLine bytes = (n : ℕ) × IsGrown n bytes
 
--- what more bytes of a head come to
+-- what to do with these bytes of a head
 abbrev pub Advances : List ℕ → Advance → Type 0
 Advances bytes advance.Blank = skip_blank bytes ≡ []
 Advances bytes advance.More = IsHeld bytes None × (skip_blank bytes ≡ bytes)

@@ -1,58 +1,72 @@
--- Laws over streams.
+-- Laws on streams.
 use Rattle.std.specs.Prelude.{ℕ, ◌≡◌, ◌+◌, ◌-◌, ◌<◌, ◌≤◌, List, [], ◌∷◌, ◌++◌, length, take, drop, true, false, All}
 use Rattle.std.specs.List.{flat_map}
 use Rattle.gql_wire.specs.Stream.{Req, IsRequest, closes, Placed, Splits, Requests, StaysOpen, IsUnfinished, skip_blank}
 
--- bytes begin with one request at most
+-- bytes begin with at most one request
 abbrev pub OneReading : Type 0
-OneReading = (a b x y : List ℕ) (r q : Req) → IsRequest a r → IsRequest b q → a ++ x ≡ b ++ y → (a ≡ b) × (r ≡ q)
+OneReading = (a b x y : List ℕ) (r q : Req)
+    → IsRequest a r → IsRequest b q → a ++ x ≡ b ++ y → (a ≡ b) × (r ≡ q)
 
--- a stream has one list of requests at most, and one rest
+-- a stream has at most one list of requests, and at most one rest
 abbrev pub OneSplit : Type 0
-OneSplit = (at : ℕ) (bytes : List ℕ) (rs qs : List Placed) (r q : List ℕ) → Splits at bytes rs r → Splits at bytes qs q → (rs ≡ qs) × (r ≡ q)
+OneSplit = (at : ℕ) (bytes : List ℕ) (rs qs : List Placed) (r q : List ℕ)
+    → Splits at bytes rs r → Splits at bytes qs q → (rs ≡ qs) × (r ≡ q)
 
--- and each stream has one
+-- each stream has a list of requests and a rest
 abbrev pub SomeSplit : Type 0
-SomeSplit = (at : ℕ) (bytes : List ℕ) → (rs : List Placed) × (r : List ℕ) × Splits at bytes rs r
+SomeSplit = (at : ℕ) (bytes : List ℕ)
+    → (rs : List Placed) × (r : List ℕ) × Splits at bytes rs r
 
--- a request that held bytes and the first n of a piece are is the next one of them and the piece
+-- if held bytes and the first n bytes of a piece are a request, it is the next one of the stream
 abbrev pub TakenNext : Type 0
-TakenNext = (at n : ℕ) (held piece : List ℕ) (r : Req) (rs : List Placed) (rest : List ℕ) → IsRequest (held ++ take n piece) r → closes r ≡ false
+TakenNext = (at n : ℕ) (held piece : List ℕ) (r : Req) (rs : List Placed) (rest : List ℕ)
+    → IsRequest (held ++ take n piece) r → closes r ≡ false
     → Splits (at + length (held ++ take n piece)) (drop n piece) rs rest
-    → Splits at (held ++ piece) (record { request = r; end = at + length (held ++ take n piece) } ∷ rs) rest
+    → Splits at (held ++ piece)
+    (record { request = r; end = at + length (held ++ take n piece) } ∷ rs) rest
 
--- and where it closes the connection, the last one
+-- and if it closes the connection, it is the last one
 abbrev pub TakenLast : Type 0
-TakenLast = (at n : ℕ) (held piece : List ℕ) (r : Req) → IsRequest (held ++ take n piece) r → closes r ≡ true
-    → Splits at (held ++ piece) (record { request = r; end = at + length (held ++ take n piece) } ∷ []) []
+TakenLast = (at n : ℕ) (held piece : List ℕ) (r : Req)
+    → IsRequest (held ++ take n piece) r → closes r ≡ true
+    → Splits at (held ++ piece)
+    (record { request = r; end = at + length (held ++ take n piece) } ∷ []) []
 
--- where a stream was open behind its requests, more bytes give the requests of its rest and them
+-- if a stream is open after its requests, more bytes give the requests of its rest and those bytes
 abbrev pub Feeding : Type 0
-Feeding = (at : ℕ) (a b : List ℕ) (rs qs : List Placed) (r q : List ℕ) → Splits at a rs r → StaysOpen rs
+Feeding = (at : ℕ) (a b : List ℕ) (rs qs : List Placed) (r q : List ℕ)
+    → Splits at a rs r → StaysOpen rs
     → Splits (at + (length a - length r)) (r ++ b) qs q → Splits at (a ++ b) (rs ++ qs) q
 
--- a stream that closed drops what follows
+-- a closed stream drops the bytes that follow
 abbrev pub Closed : Type 0
-Closed = (at : ℕ) (a b : List ℕ) (rs : List Placed) (r : List ℕ) → Splits at a rs r → (StaysOpen rs → ⊥) → Splits at (a ++ b) rs r
+Closed = (at : ℕ) (a b : List ℕ) (rs : List Placed) (r : List ℕ)
+    → Splits at a rs r → (StaysOpen rs → ⊥) → Splits at (a ++ b) rs r
 
--- what pieces complete, one after another, behind held bytes that begin at an offset, and what is
--- held behind them; a piece that closes the stream is the last that counts
+-- The requests that pieces complete, one after another, and the bytes held at the end. The bytes
+-- held at the start begin at an offset. Pieces after one that closes the stream change nothing.
 pub data Feeds : ℕ → List ℕ → List (List ℕ) → List Placed → List ℕ → Type 0 where
   end : {at : ℕ} {held : List ℕ} → Feeds at held [] [] held
-  goes : {at : ℕ} {held piece rest final : List ℕ} {pieces : List (List ℕ)} {rs qs : List Placed} → Splits at (held ++ piece) rs rest → StaysOpen rs
-      → Feeds (at + (length (held ++ piece) - length rest)) rest pieces qs final → Feeds at held (piece ∷ pieces) (rs ++ qs) final
-  closed : {at : ℕ} {held piece rest : List ℕ} {pieces : List (List ℕ)} {rs : List Placed} → Splits at (held ++ piece) rs rest → (StaysOpen rs → ⊥)
+  goes : {at : ℕ} {held piece rest final : List ℕ} {pieces : List (List ℕ)} {rs qs : List Placed}
+      → Splits at (held ++ piece) rs rest → StaysOpen rs
+      → Feeds (at + (length (held ++ piece) - length rest)) rest pieces qs final
+      → Feeds at held (piece ∷ pieces) (rs ++ qs) final
+  closed : {at : ℕ} {held piece rest : List ℕ} {pieces : List (List ℕ)} {rs : List Placed}
+      → Splits at (held ++ piece) rs rest → (StaysOpen rs → ⊥)
       → Feeds at held (piece ∷ pieces) rs rest
 
--- any pieces give the requests and the rest of their bytes in a row
+-- pieces give the requests and the rest of all their bytes together
 abbrev pub AnyPieces : Type 0
-AnyPieces = (pieces : List (List ℕ)) (rs : List Placed) (r : List ℕ) → Feeds 0 [] pieces rs r → Requests (flat_map (λ piece. piece) pieces) rs r
+AnyPieces = (pieces : List (List ℕ)) (rs : List Placed) (r : List ℕ)
+    → Feeds 0 [] pieces rs r → Requests (flat_map (λ piece. piece) pieces) rs r
 
--- the rest is unfinished, and has no pairs CR LF at its front
+-- the rest is unfinished, and does not begin with CR LF
 abbrev pub RestUnfinished : Type 0
-RestUnfinished = (at : ℕ) (bytes : List ℕ) (rs : List Placed) (r : List ℕ) → Splits at bytes rs r → IsUnfinished r × (skip_blank r ≡ r)
+RestUnfinished = (at : ℕ) (bytes : List ℕ) (rs : List Placed) (r : List ℕ)
+    → Splits at bytes rs r → IsUnfinished r × (skip_blank r ≡ r)
 
--- no bytes are an unfinished request
+-- the empty list of bytes is unfinished
 abbrev pub NothingUnfinished : Type 0
 NothingUnfinished = IsUnfinished []
 

@@ -26,9 +26,11 @@ Adds (Some old) new passages = new ≡ Some (old ++ passages)
 
 -- writes of these bytes in one or more parts, and nothing else, were added
 abbrev pub SendsAll : Option (List Passage) → Option (List Passage) → List ℕ → Type 0
-SendsAll old new bytes = (parts : List (List ℕ)) × Adds old new (map sent parts) × (concat parts ≡ bytes)
+SendsAll old new bytes =
+    (parts : List (List ℕ)) × Adds old new (map sent parts) × (concat parts ≡ bytes)
 
 -- writes of the first of these bytes in any number of parts, and nothing else, were added
 abbrev pub SendsFront : Option (List Passage) → Option (List Passage) → List ℕ → Type 0
-SendsFront old new bytes = (parts : List (List ℕ)) × (rest : List ℕ)
+SendsFront old new bytes =
+    (parts : List (List ℕ)) × (rest : List ℕ)
     × Adds old new (map sent parts) × (bytes ≡ concat parts ++ rest)

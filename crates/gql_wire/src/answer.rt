@@ -5,10 +5,10 @@ use http::StatusCode;
 use itoa::Buffer;
 use std::alloc::AllocError;
 
-/// The most bytes of an answer's head.
+/// The most bytes that the head of an answer has.
 pub const ANSWER_HEAD_ROOM: usize = 160;
 
-/// The methods that a route serves, for the field Allow.
+/// The methods that a route serves, as the field Allow lists them.
 #[derive(Clone, Copy, Debug, PartialEq, Eq)]
 pub enum Allow {
     /// `PUT, DELETE`
@@ -25,6 +25,7 @@ impl Allow {
     ghost use Rattle.std.specs.Prelude.{◌≡◌, ◌≤◌, length};
     ghost use Rattle.gql_wire.specs.Answer.{methods_text};
 
+    /// The value of the field Allow.
     fn text(self) -> &'static [u8]
         ensures text { result.now ≡ methods_text self }
         ensures short { length result.now ≤ 11 }
@@ -38,7 +39,7 @@ impl Allow {
     }
 }
 
-/// Appends bytes for which there is room.
+/// Appends bytes to a vector that has room for them.
 fn append(out: &mut Vec<u8>, bytes: &[u8])
     requires { vec_len out.old + length bytes.now ≤ vec_capacity out.old }
     ensures items { out.new.items ≡ out.old.items ++ bytes.now }
@@ -50,7 +51,7 @@ fn append(out: &mut Vec<u8>, bytes: &[u8])
     };
 }
 
-/// The phrase of a status.
+/// The reason phrase of a status.
 #[tactic(auto, unfolding(crate::specs::Answer::phrase_of))]
 fn phrase(status: StatusCode) -> &'static str
     requires { IsTrue (is_answered status) }
@@ -63,6 +64,7 @@ fn phrase(status: StatusCode) -> &'static str
     }
 }
 
+/// Appends the status line.
 fn append_status(out: &mut Vec<u8>, status: StatusCode)
     requires answered { IsTrue (is_answered status) }
     requires room { vec_len out.old + 46 ≤ vec_capacity out.old }
@@ -77,6 +79,7 @@ fn append_status(out: &mut Vec<u8>, status: StatusCode)
     append(out, b"\r\n");
 }
 
+/// Appends the field Allow, if methods are given.
 fn append_allow(out: &mut Vec<u8>, allow: Option<Allow>)
     requires room { vec_len out.old + 20 ≤ vec_capacity out.old }
     ensures items { out.new.items ≡ out.old.items ++ allow_line allow }
@@ -90,6 +93,7 @@ fn append_allow(out: &mut Vec<u8>, allow: Option<Allow>)
     }
 }
 
+/// Appends the fields Content-Type and Content-Length.
 fn append_body_lines(out: &mut Vec<u8>, length: usize)
     requires room { vec_len out.old + 70 ≤ vec_capacity out.old }
     ensures items { out.new.items ≡ out.old.items ++ body_lines length }
@@ -102,6 +106,7 @@ fn append_body_lines(out: &mut Vec<u8>, length: usize)
     append(out, b"\r\n");
 }
 
+/// Appends `Connection: close` if the connection closes, and the empty line that ends the head.
 fn append_closing(out: &mut Vec<u8>, closing: bool)
     requires room { vec_len out.old + 21 ≤ vec_capacity out.old }
     ensures items { out.new.items ≡ out.old.items ++ closing_line closing ++ codes "\r\n" }
@@ -114,10 +119,10 @@ fn append_closing(out: &mut Vec<u8>, closing: bool)
     append(out, b"\r\n");
 }
 
-/// Appends the head of an answer with this status, whose body has this many bytes: the status line,
-/// the field Allow where one is given, the body's type and length, `Connection: close` where it
-/// closes, and the empty line. It takes at most `ANSWER_HEAD_ROOM` bytes, and fails only where the
-/// vector has less room than that and cannot grow.
+/// Appends the head of an answer with this status and a body of `length` bytes: the status line,
+/// the field Allow if methods are given, the body's type and length, `Connection: close` if the
+/// connection closes, and the empty line. The head has at most `ANSWER_HEAD_ROOM` bytes. The call
+/// fails only if the vector has less room than that and cannot grow.
 pub fn answer_head(
     out: &mut Vec<u8>,
     status: StatusCode,
@@ -126,7 +131,8 @@ pub fn answer_head(
     closing: bool,
 ) -> Result<(), AllocError>
     requires answered { IsTrue (is_answered status) }
-    ensures ok { OnOk result (out.new.items ≡ out.old.items ++ answer_head_of status allow length closing) }
+    ensures ok { OnOk result
+        (out.new.items ≡ out.old.items ++ answer_head_of status allow length closing) }
     ensures err { OnErr result (out.new.items ≡ out.old.items) }
     ensures succeeds { vec_len out.old + ANSWER_HEAD_ROOM ≤ vec_capacity out.old → IsOk result }
     ensures short { vec_len out.new ≤ vec_len out.old + ANSWER_HEAD_ROOM }

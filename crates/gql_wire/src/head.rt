@@ -1,26 +1,27 @@
+//! The head of a request: whether it is accepted, and how long its body is.
 ghost use Rattle.std.specs.Prelude.{◌≡◌, ◌+◌, ◌<◌, ◌≤◌, ℕ, length, map, All, IsTrue, IfSome, IfNone, codes, take, drop, slice_range};
 ghost use Rattle.std.specs.Str.{str_eq_ignore_ascii_case, bytes_eq};
 ghost use Rattle.std.specs.List.{list_all, list_any, prefix_len};
 ghost use Rattle.httparse.specs.Grammar.{is_ows, skip_ows};
 ghost use Rattle.httparse.specs.Spans.{IsRequestWithin, header_bytes, span_bytes, IsWithin, IsHeaderWithin};
-ghost use Rattle.gql_wire.specs.Head.{IsNoHead, Says, number_of, is_named, values_of, length_said, is_item_byte, items_of, is_close, names_close, is_head, judged};
-ghost use Rattle.gql_wire.specs.Held.{next_said, IsWholeHead, parts_at, said_by, AreSpansWithin};
+ghost use Rattle.gql_wire.specs.Head.{IsNoHead, HasOutcome, number_of, is_named, values_of, content_length, is_item_byte, items_of, is_close, names_close, is_head, outcome_of};
+ghost use Rattle.gql_wire.specs.Held.{next_length, IsWholeHead, parts_at, outcome_from, AreSpansWithin};
 
 use crate::number::number_in;
 use crate::part::{front, rest_from};
 use httparse::Status;
 use httparse::spans::{EMPTY_HEADER_SPAN, HeaderSpan, RequestSpans, Span, parse_request};
 
-/// Why a head is refused. The connection closes behind each.
+/// Why a head is refused. After each refusal the connection closes.
 #[derive(Clone, Copy, Debug, PartialEq, Eq)]
 pub enum HeadRefusal {
-    /// 301: it is no head of HTTP/1.0 or 1.1, or has more than 32 fields.
+    /// 301: it is not a head of HTTP/1.0 or 1.1, or has more than 32 fields.
     BadHead,
-    /// 302: its first 8,192 bytes do not end it.
+    /// 302: it does not end within 8,192 bytes.
     LongHead,
     /// 303: its body has more than 262,144 bytes.
     LongBody,
-    /// 304: it asks for a transfer coding.
+    /// 304: it has a field Transfer-Encoding.
     TransferCoding,
     /// 307: a Content-Length is not 1 to 18 digits, or two differ in value.
     BadLength,
@@ -43,9 +44,9 @@ impl HeadRefusal {
     }
 }
 
-/// What a head comes to. The spans lie in it.
+/// What a head is: refused, or of a request with these parts. The spans lie in the head.
 #[derive(Clone, Copy, Debug)]
-pub enum HeadSays {
+pub enum HeadOutcome {
     Refuse {
         refusal: HeadRefusal,
         bodiless: bool,
@@ -58,47 +59,51 @@ pub enum HeadSays {
     },
 }
 
+/// Whether the two are equal, whatever the case of their letters.
 fn is_same_word(name: &[u8], word: &[u8]) -> bool
     ensures { result ≡ str_eq_ignore_ascii_case name.now word.now }
 {
     name.eq_ignore_ascii_case(word)
 }
 
+/// Whether all bytes are spaces and tabs.
 fn are_blanks(bytes: &[u8]) -> bool
     ensures { result ≡ list_all is_ows bytes.now }
 {
     bytes.iter().all(|byte| *byte == b' ' || *byte == b'\t')
 }
 
-/// The length that a further value says, behind those that said this.
-fn said_after(said: Option<usize>, value: &[u8]) -> Option<usize>
-    ensures { result ≡ next_said said value.now }
+/// The body length after one more value of Content-Length, where the values before gave `earlier`.
+/// `None`: the value is not a number, or differs from the earlier ones.
+fn next_length(earlier: Option<usize>, value: &[u8]) -> Option<usize>
+    ensures { result ≡ next_length earlier value.now }
 {
     let length = number_in(value)?;
-    match said {
-        Some(earlier) if earlier != length => None,
+    match earlier {
+        Some(other) if other != length => None,
         _ => Some(length),
     }
 }
 
-/// The length of the body that the fields say: 0 where there is none.
+/// The length of the body by the fields Content-Length: 0 without one. `None`: they do not agree.
 fn body_length(head: &[u8], fields: &[HeaderSpan]) -> Option<usize>
     requires { All (IsHeaderWithin (length head.now)) fields.now }
-    ensures { result ≡ length_said (values_of (codes "content-length") (map (header_bytes head.now) fields.now)) }
+    ensures { result ≡ content_length
+        (values_of (codes "content-length") (map (header_bytes head.now) fields.now)) }
 {
-    let mut said = None;
+    let mut earlier = None;
     for field in fields {
         if is_same_word(field.name.of(head), b"content-length") {
-            let Some(length) = said_after(said, field.value.of(head)) else {
+            let Some(length) = next_length(earlier, field.value.of(head)) else {
                 return None;
             };
-            said = Some(length);
+            earlier = Some(length);
         }
     }
-    Some(said.unwrap_or(0))
+    Some(earlier.unwrap_or(0))
 }
 
-/// Whether a field of this name is there.
+/// Whether a field has this name.
 fn has_field(head: &[u8], fields: &[HeaderSpan], word: &[u8]) -> bool
     requires { All (IsHeaderWithin (length head.now)) fields.now }
     ensures { result ≡ list_any (is_named word.now) (map (header_bytes head.now) fields.now) }
@@ -111,33 +116,33 @@ fn has_field(head: &[u8], fields: &[HeaderSpan], word: &[u8]) -> bool
     false
 }
 
-/// The bytes behind the blanks at the front.
-fn behind_blanks(bytes: &[u8]) -> &[u8]
+/// The bytes after the spaces and tabs at the front.
+fn skip_blanks(bytes: &[u8]) -> &[u8]
     ensures { result.now ≡ skip_ows bytes.now }
 {
     let mut rest = bytes;
-    'blanks: while let [b' ' | b'\t', behind @ ..] = rest {
-        rest = behind;
+    'blanks: while let [b' ' | b'\t', after @ ..] = rest {
+        rest = after;
     }
     rest
 }
 
-/// Whether the item is `close`, with blanks around it.
+/// Whether the item is `close`, with spaces and tabs around it.
 fn is_close_item(item: &[u8]) -> bool
     ensures { result ≡ is_close item.now }
 {
-    let word = behind_blanks(item);
+    let word = skip_blanks(item);
     word.len() >= 5 && is_same_word(&word[..5], b"close") && are_blanks(&word[5..])
 }
 
-/// How many bytes stand before the first comma.
+/// How many bytes the list has before its first comma.
 fn first_item(list: &[u8]) -> usize
     ensures { result ≡ prefix_len is_item_byte list.now }
 {
     list.iter().take_while(|byte| **byte != b',').count()
 }
 
-/// Whether `close` stands in the list.
+/// Whether `close` is an item of the list.
 #[tactic(auto, using(crate::proofs::Fields::close_first, crate::proofs::Fields::close_one))]
 fn has_close(value: &[u8]) -> bool
     ensures { result ≡ names_close value.now }
@@ -154,10 +159,11 @@ fn has_close(value: &[u8]) -> bool
     is_close_item(rest)
 }
 
-/// Whether a field Connection names `close`.
+/// Whether a field Connection has the item `close`.
 fn asks_to_close(head: &[u8], fields: &[HeaderSpan]) -> bool
     requires { All (IsHeaderWithin (length head.now)) fields.now }
-    ensures { result ≡ list_any names_close (values_of (codes "connection") (map (header_bytes head.now) fields.now)) }
+    ensures { result ≡ list_any names_close
+        (values_of (codes "connection") (map (header_bytes head.now) fields.now)) }
 {
     for field in fields {
         if is_same_word(field.name.of(head), b"connection") && has_close(field.value.of(head)) {
@@ -167,13 +173,14 @@ fn asks_to_close(head: &[u8], fields: &[HeaderSpan]) -> bool
     false
 }
 
+/// Whether the method is HEAD.
 fn is_head_method(method: &[u8]) -> bool
     ensures { result ≡ is_head method.now }
 {
     method == b"HEAD".as_slice()
 }
 
-/// Where the parts of a head are, if the bytes are one as a whole.
+/// Where the parts of the head are, if the bytes are one head and nothing more.
 fn whole_head(head: &[u8], fields: &mut [HeaderSpan]) -> Option<RequestSpans>
     requires { length fields.old ≤ 32 }
     ensures some { IfSome result (λ spans. IsWholeHead head.now fields.new spans) }
@@ -186,31 +193,31 @@ fn whole_head(head: &[u8], fields: &mut [HeaderSpan]) -> Option<RequestSpans>
     }
 }
 
-/// What a head with these parts comes to.
-fn judge(head: &[u8], spans: RequestSpans, fields: &[HeaderSpan]) -> HeadSays
+/// The outcome of a head whose parts are at these places.
+fn outcome_of_parts(head: &[u8], spans: RequestSpans, fields: &[HeaderSpan]) -> HeadOutcome
     requires method { IsWithin (length head.now) spans.method }
     requires path { IsWithin (length head.now) spans.path }
     requires fields_within { All (IsHeaderWithin (length head.now)) fields.now }
-    ensures says { said_by head.now result ≡ judged (parts_at head.now fields.now spans) }
+    ensures outcome_is { outcome_from head.now result ≡ outcome_of (parts_at head.now fields.now spans) }
     ensures within { AreSpansWithin (length head.now) result }
 {
     let bodiless = is_head_method(spans.method.of(head));
     if has_field(head, fields, b"transfer-encoding") {
-        return HeadSays::Refuse {
+        return HeadOutcome::Refuse {
             refusal: HeadRefusal::TransferCoding,
             bodiless,
         };
     }
     match body_length(head, fields) {
-        None => HeadSays::Refuse {
+        None => HeadOutcome::Refuse {
             refusal: HeadRefusal::BadLength,
             bodiless,
         },
-        Some(length) if length > 262_144 => HeadSays::Refuse {
+        Some(length) if length > 262_144 => HeadOutcome::Refuse {
             refusal: HeadRefusal::LongBody,
             bodiless,
         },
-        Some(length) => HeadSays::Expects {
+        Some(length) => HeadOutcome::Expects {
             method: spans.method,
             target: spans.path,
             length,
@@ -219,17 +226,17 @@ fn judge(head: &[u8], spans: RequestSpans, fields: &[HeaderSpan]) -> HeadSays
     }
 }
 
-/// What these bytes come to, as a head.
-pub fn read_head(head: &[u8]) -> HeadSays
-    ensures says { Says head.now (said_by head.now result) }
+/// The outcome of these bytes, as a head.
+pub fn read_head(head: &[u8]) -> HeadOutcome
+    ensures outcome_is { HasOutcome head.now (outcome_from head.now result) }
     ensures within { AreSpansWithin (length head.now) result }
 {
     let mut fields = [EMPTY_HEADER_SPAN; 32];
     match whole_head(head, &mut fields) {
-        None => HeadSays::Refuse {
+        None => HeadOutcome::Refuse {
             refusal: HeadRefusal::BadHead,
             bodiless: false,
         },
-        Some(spans) => judge(head, spans, &fields[..spans.headers]),
+        Some(spans) => outcome_of_parts(head, spans, &fields[..spans.headers]),
     }
 }

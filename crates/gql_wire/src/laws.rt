@@ -1,52 +1,52 @@
-//! Laws over the requests of a stream. The functions do nothing: what they ensure is the law.
+//! Laws on the requests of a stream. The functions do nothing: what each ensures is the law.
 ghost use Rattle.gql_wire.specs.Laws.{OneReading, OneSplit, SomeSplit, TakenNext, TakenLast, Feeding, Closed, AnyPieces, RestUnfinished, NothingUnfinished, MoreBytes, EndsWithin};
 
-/// Bytes begin with one request at most, so it doesn't matter how a stream is cut into pieces.
+/// Bytes begin with at most one request, so it does not matter how a stream is cut into pieces.
 pub fn one_reading()
     ensures { OneReading }
 {}
 
-/// A stream has one list of requests at most, and one rest.
+/// A stream has at most one list of requests, and at most one rest.
 pub fn one_split()
     ensures { OneSplit }
 {}
 
-/// Each stream has a list of requests, and a rest.
+/// Each stream has a list of requests and a rest.
 pub fn some_split()
     ensures { SomeSplit }
 {}
 
-/// A request that a piece completes is the next of the stream.
+/// A request that a piece completes is the next one of the stream.
 pub fn taken_is_next()
     ensures { TakenNext }
 {}
 
-/// A request that a piece completes and that closes the connection is the last of the stream.
+/// A request that a piece completes and that closes the connection is the last one of the stream.
 pub fn taken_is_last()
     ensures { TakenLast }
 {}
 
-/// Bytes that are fed to an open stream complete the requests of its rest and them.
+/// More bytes of an open stream complete the requests of its rest followed by those bytes.
 pub fn feeding()
     ensures { Feeding }
 {}
 
-/// Bytes that are fed to a closed stream change nothing.
+/// More bytes of a closed stream change nothing.
 pub fn closed_drops()
     ensures { Closed }
 {}
 
-/// Any pieces of a stream complete its requests.
+/// Whatever the pieces of a stream are, they complete its requests.
 pub fn any_pieces()
     ensures { AnyPieces }
 {}
 
-/// What is left of a stream is unfinished.
+/// The rest of a stream is unfinished.
 pub fn rest_is_unfinished()
     ensures { RestUnfinished }
 {}
 
-/// No bytes are an unfinished request.
+/// The empty list of bytes is unfinished.
 pub fn nothing_is_unfinished()
     ensures { NothingUnfinished }
 {}

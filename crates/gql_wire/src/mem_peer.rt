@@ -67,8 +67,8 @@ fn succeeds(failing: &mut Option<u64>) -> bool
 
 /// Notes that these bytes were read.
 fn note_received(passages: &mut Vec<Passed>, bytes: &[u8]) -> Result<(), AllocError>
-    ensures ok { OnOk result
-        (map passage passages.new.items ≡ map passage passages.old.items ++ received bytes.now ∷ []) }
+    ensures ok { OnOk result (map passage passages.new.items
+        ≡ map passage passages.old.items ++ received bytes.now ∷ []) }
     ensures err { OnErr result (passages.new.items ≡ passages.old.items) }
 {
     let bytes = Vec::from_slice(*passages.allocator(), bytes)?;
@@ -78,8 +78,8 @@ fn note_received(passages: &mut Vec<Passed>, bytes: &[u8]) -> Result<(), AllocEr
 
 /// Notes that these bytes were written.
 fn note_sent(passages: &mut Vec<Passed>, bytes: &[u8]) -> Result<(), AllocError>
-    ensures ok { OnOk result
-        (map passage passages.new.items ≡ map passage passages.old.items ++ sent bytes.now ∷ []) }
+    ensures ok { OnOk result (map passage passages.new.items
+        ≡ map passage passages.old.items ++ sent bytes.now ∷ []) }
     ensures err { OnErr result (passages.new.items ≡ passages.old.items) }
 {
     let bytes = Vec::from_slice(*passages.allocator(), bytes)?;

@@ -4,6 +4,7 @@ ghost use Rattle.std.specs.List.{list_all};
 ghost use Rattle.std.specs.Char.{is_ascii_digit};
 ghost use Rattle.gql_wire.specs.Number.{number_in};
 
+/// Whether all bytes are decimal digits.
 fn are_digits(value: &[u8]) -> bool
     ensures { result ≡ list_all is_ascii_digit value.now }
 {

@@ -1,6 +1,7 @@
+//! Parts of a slice of bytes.
 ghost use Rattle.std.specs.Prelude.{◌≡◌, ◌≢◌, ◌+◌, ◌-◌, ◌<◌, ◌≤◌, ℕ, length, take, drop, slice_index};
 
-/// The first bytes.
+/// The first `count` bytes.
 pub fn front(bytes: &[u8], count: usize) -> &[u8]
     requires { count ≤ length bytes.now }
     ensures { result.now ≡ take count bytes.now }
@@ -8,7 +9,7 @@ pub fn front(bytes: &[u8], count: usize) -> &[u8]
     &bytes[..count]
 }
 
-/// The bytes from there on.
+/// The bytes from `start` on.
 pub fn rest_from(bytes: &[u8], start: usize) -> &[u8]
     requires { start ≤ length bytes.now }
     ensures { result.now ≡ drop start bytes.now }
@@ -16,7 +17,7 @@ pub fn rest_from(bytes: &[u8], start: usize) -> &[u8]
     &bytes[start..]
 }
 
-/// How many bytes there are up to the first line feed, with it, or all of them.
+/// The number of bytes up to and including the first line feed; without one, of all bytes.
 pub fn line_len(bytes: &[u8]) -> usize
     requires { 0 < length bytes.now }
     ensures some { 0 < result }

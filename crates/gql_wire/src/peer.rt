@@ -59,7 +59,8 @@ pub trait Peer {
             (λ _. write_failures self.new ≡ write_failures self.old)
             (λ _. write_failures self.new ≡ write_failures self.old + 1) }
         ensures others { (reads self.new ≡ reads self.old)
-            × (read_failures self.new ≡ read_failures self.old) × (ended self.new ≡ ended self.old) };
+            × (read_failures self.new ≡ read_failures self.old)
+            × (ended self.new ≡ ended self.old) };
 }
 
 /// Writes all of the bytes, in one or more writes.

@@ -1,17 +1,18 @@
+//! The requests of a stream of bytes, which come in any pieces.
 ghost use Rattle.std.specs.Prelude.{◌≡◌, ◌+◌, ◌<◌, ◌≤◌, ◌-◌, Some, None, ◌++◌, ◌∷◌, [], List, ℕ, length, take, IfOk, OnErr, IfNone, IfSome, MatchOption, nat_lt};
 ghost use Rattle.gql_wire.specs.Stream.{IsUnfinished, IsRequest, req, begins_blank, skip_blank};
 ghost use Rattle.gql_wire.specs.Held.{IsHeld, GrowsByLine, IsBodyOpen, IsBodyDone, Advances};
 
-use crate::head::{HeadRefusal, HeadSays, read_head};
+use crate::head::{HeadOutcome, HeadRefusal, read_head};
 use crate::part::{front, line_len, rest_from};
 use httparse::spans::Span;
 use std::alloc::{AllocError, Global};
 use std::marker::Model;
 
-/// A request, or a head that is refused.
+/// A request, or a refused head.
 #[derive(Debug, Drop, PartialEq, Eq)]
 pub enum Framed {
-    /// A request whose body came.
+    /// A whole request.
     Request {
         /// The method's bytes.
         method: Vec<u8>,
@@ -19,19 +20,19 @@ pub enum Framed {
         target: Vec<u8>,
         /// The body's bytes.
         body: Vec<u8>,
-        /// Whether the connection closes behind the answer.
+        /// Whether the connection closes after the answer.
         closing: bool,
     },
-    /// A head that is refused. The connection closes behind the answer.
+    /// A refused head. The connection closes after the answer.
     Refused {
-        /// Why.
+        /// Why it is refused.
         number: HeadRefusal,
-        /// Whether the answer has no body: the head was read, and its method is HEAD.
+        /// Whether the answer has no body: the head could be read, and its method is HEAD.
         bodiless: bool,
     },
 }
 
-/// A head that was read, and where its parts are.
+/// A head whose body is not complete yet: its length, where its parts are, and the body's length.
 #[derive(Clone, Copy)]
 pub struct Pending {
     pub head: usize,
@@ -41,21 +42,26 @@ pub struct Pending {
     pub closing: bool,
 }
 
-/// What more bytes of a head come to.
+/// What to do after more bytes of a head.
 #[derive(Clone, Copy)]
 pub enum Advance {
+    /// The bytes are CR LF before a head: drop them.
     Blank,
+    /// The head is not complete: wait for more.
     More,
+    /// The head is complete: wait for its body.
     Await(Pending),
+    /// The request is complete, and has no body.
     Done(Pending),
+    /// The head is refused.
     Refuse {
         refusal: HeadRefusal,
         bodiless: bool,
     },
 }
 
-/// The unfinished request at the end of a stream. A contract sees the bytes that it holds: pairs
-/// CR LF before a head are dropped at once.
+/// The unfinished request at the end of a stream. In contracts its value is the bytes that it
+/// holds. Pairs CR LF before a head are dropped at once.
 #[derive(Drop)]
 pub struct Framer {
     bytes: Vec<u8>,
@@ -73,14 +79,14 @@ impl Model for Framer {
     ghost invariant = { λ f. IsHeld f.bytes.items f.pending };
 }
 
-/// Whether CR LF stands at the front.
+/// Whether the bytes begin with CR LF.
 fn begins_with_blank(bytes: &[u8]) -> bool
     ensures { result ≡ begins_blank bytes.now }
 {
     matches!(bytes, [b'\r', b'\n', ..])
 }
 
-/// What the bytes of a head come to, to which a part of a line came.
+/// What to do with these bytes of a head, after at most one line of them was added.
 fn advance_head(bytes: &[u8]) -> Advance
     requires { GrowsByLine bytes.now }
     ensures { Advances bytes.now result }
@@ -89,8 +95,8 @@ fn advance_head(bytes: &[u8]) -> Advance
         Advance::Blank
     } else if bytes.ends_with(b"\r\n\r\n") {
         match read_head(bytes) {
-            HeadSays::Refuse { refusal, bodiless } => Advance::Refuse { refusal, bodiless },
-            HeadSays::Expects {
+            HeadOutcome::Refuse { refusal, bodiless } => Advance::Refuse { refusal, bodiless },
+            HeadOutcome::Expects {
                 method,
                 target,
                 length,
@@ -120,7 +126,7 @@ fn advance_head(bytes: &[u8]) -> Advance
     }
 }
 
-/// The request that the bytes are.
+/// The request that these bytes are.
 fn request_of(alloc: Global, bytes: &[u8], pending: Pending) -> Result<Framed, AllocError>
     requires { IsBodyDone bytes.now pending }
     ensures { IfOk result (λ framed. IsRequest bytes.now (req framed)) }
@@ -138,7 +144,8 @@ fn request_of(alloc: Global, bytes: &[u8], pending: Pending) -> Result<Framed, A
     })
 }
 
-/// Takes bytes of a head, up to the end of a line.
+/// Takes bytes of a head, up to the end of a line. Returns how many, and the request that they
+/// complete.
 fn push_head(
     bytes: &mut Vec<u8>,
     pending: &mut Option<Pending>,
@@ -151,7 +158,8 @@ fn push_head(
     ensures within { IfOk result (λ taken. (0 < taken.0) × (taken.0 ≤ length piece.now)) }
     ensures found { IfOk result (λ taken. MatchOption taken.1
         (bytes.new.items ≡ skip_blank (bytes.old.items ++ take taken.0 piece.now))
-        (λ framed. (bytes.new.items ≡ []) × IsRequest (bytes.old.items ++ take taken.0 piece.now) (req framed))) }
+        (λ framed. (bytes.new.items ≡ [])
+        × IsRequest (bytes.old.items ++ take taken.0 piece.now) (req framed))) }
     ensures emptied { OnErr result (bytes.new.items ≡ []) }
 {
     let count = line_len(piece).min(8192 - bytes.len());
@@ -187,7 +195,8 @@ fn push_head(
     }
 }
 
-/// Takes the bytes of a body that are left of it, as many as there are.
+/// Takes the missing bytes of a body, as many of them as the piece has. Returns how many, and the
+/// request that they complete.
 fn fill_body(
     bytes: &mut Vec<u8>,
     pending: &mut Option<Pending>,
@@ -201,7 +210,8 @@ fn fill_body(
     ensures within { IfOk result (λ taken. (0 < taken.0) × (taken.0 ≤ length piece.now)) }
     ensures found { IfOk result (λ taken. MatchOption taken.1
         (bytes.new.items ≡ skip_blank (bytes.old.items ++ take taken.0 piece.now))
-        (λ framed. (bytes.new.items ≡ []) × IsRequest (bytes.old.items ++ take taken.0 piece.now) (req framed))) }
+        (λ framed. (bytes.new.items ≡ [])
+        × IsRequest (bytes.old.items ++ take taken.0 piece.now) (req framed))) }
     ensures emptied { OnErr result (bytes.new.items ≡ []) }
 {
     let missing = expected.head + expected.length - bytes.len();
@@ -231,13 +241,15 @@ impl Framer {
         }
     }
 
-    /// Takes bytes of a part of a request: of one line of a head, or all that a body lacks.
+    /// Takes bytes up to the end of a line of the head, or up to the end of the body. Returns how
+    /// many, and the request that they complete.
     fn step(&mut self, piece: &[u8]) -> Result<(usize, Option<Framed>), AllocError>
         requires { 0 < length piece.now }
         ensures within { IfOk result (λ taken. (0 < taken.0) × (taken.0 ≤ length piece.now)) }
         ensures found { IfOk result (λ taken. MatchOption taken.1
             (self.new ≡ skip_blank (self.old ++ take taken.0 piece.now))
-            (λ framed. (self.new ≡ []) × IsRequest (self.old ++ take taken.0 piece.now) (req framed))) }
+            (λ framed. (self.new ≡ [])
+            × IsRequest (self.old ++ take taken.0 piece.now) (req framed))) }
         ensures emptied { OnErr result (self.new ≡ []) }
     {
         match self.pending {
@@ -246,7 +258,8 @@ impl Framer {
         }
     }
 
-    /// What is held begins with no CR LF, and no front of it is a request.
+    /// Does nothing: its contract is what every framer meets. The bytes that it holds do not begin
+    /// with CR LF, and no front of them is a request.
     fn touch(&self)
         ensures begun { skip_blank self.now ≡ self.now }
         ensures unfinished { IsUnfinished self.now }
@@ -254,15 +267,16 @@ impl Framer {
         let _pending = &self.pending;
     }
 
-    /// Takes bytes up to the end of the first request that they complete, and says how many it took:
-    /// all of them where they complete none, and a request leaves nothing held. Where memory is
-    /// refused what was held is lost.
+    /// Takes bytes up to the end of the first request that they complete. Returns how many it took,
+    /// and the request. If they complete no request, it takes all of them and holds the unfinished
+    /// request. If an allocation fails, the bytes that it held are lost.
     pub fn take(&mut self, piece: &[u8]) -> Result<(usize, Option<Framed>), AllocError>
         ensures within { IfOk result (λ taken. taken.0 ≤ length piece.now) }
         ensures moved { IfOk result (λ taken. IfSome taken.1 (λ _. 0 < taken.0)) }
         ensures more { IfOk result (λ taken. IfNone taken.1
             ((taken.0 ≡ length piece.now) × (self.new ≡ skip_blank (self.old ++ piece.now)))) }
-        ensures none { IfOk result (λ taken. IfNone taken.1 (IsUnfinished (self.old ++ piece.now))) }
+        ensures none { IfOk result (λ taken.
+            IfNone taken.1 (IsUnfinished (self.old ++ piece.now))) }
         ensures framed { IfOk result (λ taken. IfSome taken.1 (λ framed.
             (self.new ≡ []) × IsRequest (self.old ++ take taken.0 piece.now) (req framed))) }
         ensures rest { IfOk result (λ _. IsUnfinished self.new) }
@@ -282,7 +296,7 @@ impl Framer {
         Ok((taken, None))
     }
 
-    /// Whether an unfinished request is held.
+    /// Whether the framer holds an unfinished request.
     pub fn has_rest(&self) -> bool
         ensures { result ≡ nat_lt 0 (length self.now) }
     {
