@@ -198,7 +198,8 @@ fn outcome_of_parts(head: &[u8], spans: RequestSpans, fields: &[HeaderSpan]) -> 
     requires method { IsWithin (length head.now) spans.method }
     requires path { IsWithin (length head.now) spans.path }
     requires fields_within { All (IsHeaderWithin (length head.now)) fields.now }
-    ensures outcome_is { outcome_from head.now result ≡ outcome_of (parts_at head.now fields.now spans) }
+    ensures outcome_is { outcome_from head.now result
+        ≡ outcome_of (parts_at head.now fields.now spans) }
     ensures within { AreSpansWithin (length head.now) result }
 {
     let bodiless = is_head_method(spans.method.of(head));
