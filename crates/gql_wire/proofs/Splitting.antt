@@ -145,7 +145,7 @@ without_blanks (x ∷ y ∷ a) front more r g e = elim (true_or_false (x == 13 &
   | inr t ↦ rw t (front, g, e)
 ]
 
--- bytes are unfinished if they are after their dropped pairs
+-- bytes are unfinished if the bytes after their dropped pairs are
 pub unskipped : (a : List ℕ) → IsUnfinished (skip_blank a) → IsUnfinished a
 unskipped a u front more r g e = let had = without_blanks a front more r g e in u had.0 more r had.1 had.2
 

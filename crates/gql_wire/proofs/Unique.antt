@@ -1,4 +1,4 @@
--- Bytes begin with one request at most.
+-- Bytes begin with at most one request.
 use Rattle.std.proofs.Common.{◌+◌, ◌≡◌, inl, inr, ℕ, zero, suc, ◌≤◌, ◌<◌, List, [], ◌∷◌, ◌++◌, length, take, drop, refl, sym, ap, ◌∙◌, arith, Bool, true, false, append_assoc, length-append, length-take, Option, Some, None}
 use Rattle.std.specs.Prelude.{nat_eq}
 use Rattle.std.specs.List.{ends_with}
@@ -135,7 +135,7 @@ pub held_unfinished : (bytes : List ℕ) (p : Option Pending) → IsHeld bytes p
 held_unfinished bytes None h front more r g e = open_unfinished bytes front more r h.0 h.1 g e
 held_unfinished bytes (Some p) h front more r g e = body_unfinished bytes front more r p.head p.length _ _ p.closing h.within h.head h.outcome_is h.unfilled g e
 
--- no bytes are an unfinished request
+-- the empty list of bytes is unfinished
 pub nothing_unfinished : IsUnfinished []
 nothing_unfinished _ more r (behind_blank {bytes = a} g) e = absurd (omega (arith, ap length e, length-append (13 ∷ 10 ∷ a) more))
 nothing_unfinished front more r (long p n) e = absurd (omega (arith, ap length e, length-append front more))

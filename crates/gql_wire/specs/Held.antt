@@ -33,7 +33,7 @@ parts_at head headers spans = record {
   fields = map (header_bytes head) headers;
 }
 
--- the outcome that the code's value stands for, with the head's bytes in place of the spans
+-- the outcome that the code's value means, with the head's bytes in place of the spans
 abbrev pub outcome_from : List ℕ → HeadOutcome → Outcome
 outcome_from head (code.Refuse refusal bodiless) = refuse refusal bodiless
 outcome_from head (code.Expects method target length closing) =
@@ -49,7 +49,7 @@ AreSpansWithin n (code.Expects method target length closing) =
 abbrev pub AreWithin : Pending → Type 0
 AreWithin p = IsWithin p.head p.method × IsWithin p.head p.target × (p.length ≤ body_limit)
 
--- the outcome of the head of a request whose body is not complete yet
+-- the outcome that these parts give a head
 abbrev pub outcome_at : List ℕ → Pending → Outcome
 outcome_at head p =
     expects (span_bytes head p.method) (span_bytes head p.target) p.length p.closing

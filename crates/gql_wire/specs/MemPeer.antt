@@ -4,7 +4,7 @@ use Rattle.gql_wire.specs.Peer.{Passage, received, sent}
 use Rattle.gql_wire.specs.declared.mem_peer.Passed.{Passed}
 use Rattle.gql_wire.specs.declared.mem_peer.Passed.TheVariants as code
 
--- the passage that the program's value is
+-- the passage that the code's value means
 abbrev pub passage : Passed → Passage
 passage (code.Received bytes) = received bytes.items
 passage (code.Sent bytes) = sent bytes.items

@@ -24,7 +24,7 @@ abbrev pub Adds : Option (List Passage) → Option (List Passage) → List Passa
 Adds None new passages = new ≡ None
 Adds (Some old) new passages = new ≡ Some (old ++ passages)
 
--- writes of these bytes in one or more parts, and nothing else, were added
+-- writes of these bytes in any number of parts, and nothing else, were added
 abbrev pub SendsAll : Option (List Passage) → Option (List Passage) → List ℕ → Type 0
 SendsAll old new bytes =
     (parts : List (List ℕ)) × Adds old new (map sent parts) × (concat parts ≡ bytes)

@@ -13,7 +13,7 @@ pub data Req : Type 0 where
   request : List ℕ → List ℕ → List ℕ → Bool → Req
   refused : HeadRefusal → Bool → Req
 
--- the request that the code's value stands for
+-- the request that the code's value means
 abbrev pub req : Framed → Req
 req (code.Request method target body closing) = request method.items target.items body.items closing
 req (code.Refused refusal bodiless) = refused refusal bodiless

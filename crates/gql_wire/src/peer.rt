@@ -63,7 +63,8 @@ pub trait Peer {
             × (ended self.new ≡ ended self.old) };
 }
 
-/// Writes all of the bytes, in one or more writes.
+/// Writes all of the bytes, in as many writes as that takes. If a write fails, the bytes of the
+/// writes before it are written.
 pub fn write_all<P: Peer>(peer: &mut P, bytes: &[u8]) -> Result<(), WriteFailed>
     requires { P.write_failures peer.old < 2 ^ 64 - 1 }
     ensures ok { OnOk result (SendsAll (P.transcript peer.old) (P.transcript peer.new) bytes.now) }

@@ -32,7 +32,7 @@ pub enum Framed {
     },
 }
 
-/// A head whose body is not complete yet: its length, where its parts are, and the body's length.
+/// A whole head: its length, where its parts are, and the length of its body.
 #[derive(Clone, Copy)]
 pub struct Pending {
     pub head: usize,
