@@ -1,20 +1,28 @@
 #!/bin/sh
-# Tries the edits of this folder, which the gate does not try: `edits/run.sh CRATE..`, or all of them without a name. Each
-# has to be refused by the prover. While it runs they stand in the crate's must-fail/ in place of those of the gate.
+# Tries wrong bodies, each of which the prover has to refuse: those of this folder and those of the crate's must-fail/.
+#   edits/run.sh CRATE..             those of the crates that are named
+#   edits/run.sh --changed REVISION  those of the crates in which a file changed since that commit
+#   edits/run.sh                     all of them
+# It works in a copy of the repository, which it removes at the end. The last line says how many crates passed.
 set -eu
 cd "$(dirname "$0")/.."
-status=0
-for crate in ${*:-$(cd edits && ls -d */ | tr -d /)}; do
-    kept=$(mktemp -d)
-    mkdir -p "crates/$crate/must-fail"
-    mv "crates/$crate/must-fail" "$kept/"
-    trap 'rm -rf "crates/$crate/must-fail"; mv "$kept/must-fail" "crates/$crate/"; trap - EXIT' EXIT
-    trap 'exit 1' INT TERM
-    cp -r "edits/$crate" "crates/$crate/must-fail"
-    rt must-fail "$crate" || status=1
-    rm -rf "crates/$crate/must-fail"
-    mv "$kept/must-fail" "crates/$crate/"
-    trap - EXIT
-    rmdir "$kept"
+crates=
+if [ "${1:-}" = --changed ]; then
+    for crate in $(git diff --name-only "$2" -- crates edits | sed -n 's,^\(crates\|edits\)/\([^/]*\)/.*,\2,p' | sort -u); do
+        if [ -d "edits/$crate" ] || [ -d "crates/$crate/must-fail" ]; then crates="$crates $crate"; fi
+    done
+else
+    crates=${*:-$(for folder in edits/*/; do basename "$folder"; done)}
+fi
+copy=$(mktemp -d)
+trap 'rm -rf "$copy"' EXIT
+trap 'exit 1' INT TERM
+cp -a . "$copy/repository"
+passed=0 failed=0
+for crate in $crates; do
+    mkdir -p "$copy/repository/crates/$crate/must-fail"
+    if [ -d "edits/$crate" ]; then cp edits/"$crate"/*.edit "$copy/repository/crates/$crate/must-fail/"; fi
+    if (cd "$copy/repository" && rt must-fail "$crate"); then passed=$((passed + 1)); else failed=$((failed + 1)); echo "$crate: failed"; fi
 done
-exit $status
+echo "crates: $passed passed, $failed failed"
+[ "$failed" = 0 ]

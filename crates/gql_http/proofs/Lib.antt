@@ -2,6 +2,7 @@ pub mod Appended
 pub mod Deeds
 pub mod Determined
 pub mod Exchanging
+pub mod Exchanges
 pub mod Framers
 pub mod Joining
 pub mod Names

@@ -1,13 +1,11 @@
-//! `gqlreg pipe` answers the requests of standard input on standard output.
+//! `gqlreg pipe` answers the requests of standard input on standard output, `gqlreg serve` those of connections.
 #![tactic(auto)]
 
-mod status;
-
-use crate::status::status_of;
 use gql_command::{Command, CommandFault, read_command};
-use gql_http::{Hub, pipe};
+use gql_http::{Hub, pipe, serve_on, status_of};
 use gql_registry::Registry;
-use gql_wire::{ReadDevice, WriteDevice};
+use gql_wire::DevicePeer;
+use std::net::TcpListener;
 use std::process::ExitCode;
 use std::{env, io};
 
@@ -20,21 +18,40 @@ fn words(rt: &HostRuntime) -> io::Result<Vec<String>> {
     Ok(words)
 }
 
-/// Standard input to standard output.
+/// Answers the requests of standard input on standard output.
 fn run_pipe(rt: &HostRuntime) -> u8 {
     let mut hub = Hub::new(rt.alloc(), Registry::new(rt.alloc()));
-    let mut reader = ReadDevice::new(rt.stdin());
-    let mut writer = WriteDevice::new(rt.stdout());
-    status_of(&pipe(&mut hub, &mut reader, &mut writer))
+    let mut peer = DevicePeer::new(rt.stdin(), rt.stdout());
+    status_of(&pipe(&mut hub, &mut peer))
 }
 
-/// Tells of a command line that is refused, or helps, and gives the status.
-fn tell(rt: &HostRuntime, fault: CommandFault) -> u8 {
+/// Answers the requests of this many connections to a port of 127.0.0.1, one connection after the other.
+fn run_serve(rt: &HostRuntime, port: u16, connections: u32) -> u8 {
+    let Ok(listener) = TcpListener::bind(rt, ("127.0.0.1", port)) else {
+        return 1;
+    };
+    if rt.print("listening\n").is_err() {
+        return 1;
+    }
+    let mut hub = Hub::new(rt.alloc(), Registry::new(rt.alloc()));
+    match serve_on(&listener, &mut hub, connections) {
+        Ok(()) => 0,
+        Err(_) => 1,
+    }
+}
+
+/// Prints a text that was asked for, and returns the status.
+fn print_text(rt: &HostRuntime, text: String) -> u8 {
+    match rt.print(text) {
+        Ok(()) => 0,
+        Err(_) => 1,
+    }
+}
+
+/// Prints why no command is run, and returns the status.
+fn report_fault(rt: &HostRuntime, fault: CommandFault) -> u8 {
     match fault {
-        CommandFault::Help(text) => match rt.print(text) {
-            Ok(()) => 0,
-            Err(_) => 1,
-        },
+        CommandFault::Help(text) | CommandFault::Version(text) => print_text(rt, text),
         CommandFault::Refused(text) => {
             let _ = rt.eprintln(text);
             2
@@ -43,23 +60,28 @@ fn tell(rt: &HostRuntime, fault: CommandFault) -> u8 {
     }
 }
 
-/// The status where the words can't be read: 4 for want of memory, and 2 for words that are no text.
-fn unread(error: &io::Error) -> u8 {
+/// The status where the command line cannot be read: 4 if an allocation failed, and 2 with a text for words that are not
+/// UTF-8.
+fn report_unread(rt: &HostRuntime, error: &io::Error) -> u8 {
     match error.kind() {
         io::ErrorKind::OutOfMemory => 4,
-        _ => 2,
+        _ => {
+            let _ = rt.eprintln("error: a word of the command line is not UTF-8");
+            2
+        }
     }
 }
 
-/// Status 0: done; 1: a read or a write failed, or there were too many reads; 2: the command line is refused; 3: the
-/// input ended within a request; 4: memory was wanting.
+/// Status 0: done; 1: a read, a write or the network failed, or there were too many reads; 2: the command line is refused;
+/// 3: the input ended within a request; 4: an allocation failed.
 fn main(rt: HostRuntime) -> ExitCode {
     let words = match words(&rt) {
         Ok(words) => words,
-        Err(error) => return ExitCode::from(unread(&error)),
+        Err(error) => return ExitCode::from(report_unread(&rt, &error)),
     };
     ExitCode::from(match read_command(rt.alloc(), words.as_slice()) {
         Ok(Command::Pipe) => run_pipe(&rt),
-        Err(fault) => tell(&rt, fault),
+        Ok(Command::Serve { port, connections }) => run_serve(&rt, port, connections),
+        Err(fault) => report_fault(&rt, fault),
     })
 }

@@ -1,4 +1,0 @@
-use Rattle.gqlreg.proofs.run_pipe.Goals as goal
-
-pub pipe-requires-clause-closed : goal.pipe-requires-clause-closed
-pipe-requires-clause-closed c = c.new-hub.ensures.closed 0
