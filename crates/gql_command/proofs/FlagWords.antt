@@ -19,9 +19,9 @@ abbrev pub NoRequest : Kinds → Type 0
 NoRequest kinds = (IsAmong DisplayHelp kinds → ⊥) × (IsAmong DisplayVersion kinds → ⊥)
 
 -- there is an error, and none is such a call
-abbrev pub IsRefusal : Kinds → Type 0
-IsRefusal [] = ⊥
-IsRefusal (k ∷ ks) = NoRequest (k ∷ ks)
+abbrev pub OnlyRefuses : Kinds → Type 0
+OnlyRefuses [] = ⊥
+OnlyRefuses (k ∷ ks) = NoRequest (k ∷ ks)
 
 -- the two flags that clap adds
 abbrev pub help : Rule
@@ -47,19 +47,19 @@ AsksBy v word kinds = (IsHelpFlag word × (kinds ≡ DisplayHelp ∷ []))
 -- what a word that is no subcommand and not `--` comes to, before it is taken for a value
 abbrev Flagged : Bool → Text → Kinds → Held × Step → Type 0
 Flagged v word kinds met = AsksBy v word kinds
-    ⊎ (IsRefusal kinds ⊎ ((kinds ≡ []) × (met ≡ (nothing_held, value))))
+    ⊎ (OnlyRefuses kinds ⊎ ((kinds ≡ []) × (met ≡ (nothing_held, value))))
 
 -- an error alone that is no such call
-pub one_refusal : (k : ErrorKind) → (DisplayHelp ≡ k → ⊥) → (DisplayVersion ≡ k → ⊥) → IsRefusal (k ∷ [])
+pub one_refusal : (k : ErrorKind) → (DisplayHelp ≡ k → ⊥) → (DisplayVersion ≡ k → ⊥) → OnlyRefuses (k ∷ [])
 one_refusal k h v = (
   λ among. elim among [ inl e ↦ h e | inr none ↦ none ],
   λ among. elim among [ inl e ↦ v e | inr none ↦ none ],
 )
 
-pub no_unknown : IsRefusal (UnknownArgument ∷ [])
+pub no_unknown : OnlyRefuses (UnknownArgument ∷ [])
 no_unknown = one_refusal UnknownArgument (λ e. cc) (λ e. cc)
 
-pub no_many : IsRefusal (TooManyValues ∷ [])
+pub no_many : OnlyRefuses (TooManyValues ∷ [])
 no_many = one_refusal TooManyValues (λ e. cc) (λ e. cc)
 
 or_false : (a b : Bool) → (a || b) ≡ false → (a ≡ false) × (b ≡ false)
@@ -96,7 +96,7 @@ found b c = cond b (Some help) (cond c (Some version) None)
 long_case : (c : List Rule) (again b1 b2 : Bool) (v : Option Text) (A B T : Type 0) → (b1 ≡ true → v ≡ None → A) → (b2 ≡ true → v ≡ None → B)
     → ((A × (long_fault c again (found b1 b2) v nothing_held ≡ DisplayHelp ∷ []))
     ⊎ (B × (long_fault c again (found b1 b2) v nothing_held ≡ DisplayVersion ∷ [])))
-    ⊎ (IsRefusal (long_fault c again (found b1 b2) v nothing_held) ⊎ T)
+    ⊎ (OnlyRefuses (long_fault c again (found b1 b2) v nothing_held) ⊎ T)
 long_case c again false false v A B T a b = inr (inl no_unknown)
 long_case c again true b2 (Some t) A B T a b = inr (inl no_many)
 long_case c again false true (Some t) A B T a b = inr (inl no_many)
@@ -126,7 +126,7 @@ double true again (z ∷ zs) =
 short_case : (c : List Rule) (again b1 b2 : Bool) (rest : Text) (next : Held → Kinds) (A B T : Type 0) → (b1 ≡ true → A) → (b2 ≡ true → B)
     → ((A × (short_fault c again (found b1 b2) rest nothing_held next ≡ DisplayHelp ∷ []))
     ⊎ (B × (short_fault c again (found b1 b2) rest nothing_held next ≡ DisplayVersion ∷ [])))
-    ⊎ (IsRefusal (short_fault c again (found b1 b2) rest nothing_held next) ⊎ T)
+    ⊎ (OnlyRefuses (short_fault c again (found b1 b2) rest nothing_held next) ⊎ T)
 short_case c again false false rest next A B T a b = inr (inl no_unknown)
 short_case c again true b2 rest next A B T a b = inl (inl (a refl, refl))
 short_case c again false true rest next A B T a b = inl (inr (b refl, refl))
@@ -142,7 +142,7 @@ same_char a x e = ap (λ y. Some y) (sym (eqb-true a x e))
 bundle_of : (v again : Bool) (k : ℕ) (text : Text) (o : Option ℕ) → slice_get (chars text) 0 ≡ o
     → ((Begins 104 text × (flags_fault (flags v) again k text 0 nothing_held ≡ DisplayHelp ∷ []))
     ⊎ (((v ≡ true) × Begins 86 text) × (flags_fault (flags v) again k text 0 nothing_held ≡ DisplayVersion ∷ [])))
-    ⊎ (IsRefusal (flags_fault (flags v) again k text 0 nothing_held)
+    ⊎ (OnlyRefuses (flags_fault (flags v) again k text 0 nothing_held)
     ⊎ ((flags_fault (flags v) again k text 0 nothing_held ≡ []) × (bundle_met (flags v) k text 0 plain nothing_held ≡ (nothing_held, plain))))
 unfolding flags_fault bundle_met
 bundle_of v again zero text o first = inr (inr (refl, refl))
@@ -262,14 +262,14 @@ version_has_hyphen word is = elim is [ inl e ↦ (codes "-version", e) | inr p �
 
 -- ---- the first word of a level
 
-pub refused_first : (a b : Kinds) → IsRefusal a → IsRefusal (or_else a b)
+pub refused_first : (a b : Kinds) → OnlyRefuses a → OnlyRefuses (or_else a b)
 refused_first [] b r = absurd r
 refused_first (k ∷ ks) b r = r
 
 no_two : (k : ErrorKind) → (k ≡ UnknownArgument → ⊥) → (k ≡ InvalidSubcommand → ⊥) → IsAmong k (UnknownArgument ∷ InvalidSubcommand ∷ []) → ⊥
 no_two k a b among = elim among [ inl e ↦ a e | inr (inl e) ↦ b e | inr (inr none) ↦ none ]
 
-pub stray : (is_leaf : Bool) → IsRefusal (if is_leaf then UnknownArgument ∷ [] else UnknownArgument ∷ InvalidSubcommand ∷ [])
+pub stray : (is_leaf : Bool) → OnlyRefuses (if is_leaf then UnknownArgument ∷ [] else UnknownArgument ∷ InvalidSubcommand ∷ [])
 stray true = no_unknown
 stray false = (no_two DisplayHelp (λ e. cc) (λ e. cc), no_two DisplayVersion (λ e. cc) (λ e. cc))
 
@@ -290,15 +290,15 @@ module _ (v : Bool) (b : Shape) (names : Names) (word : Text) where
   abbrev level : Shape
   level = record b { rules = flags v }
 
-  stray_first : IsRefusal (step_fault level 1 nothing_held value)
-  stray_first = elim v as (λ (u : Bool). IsRefusal (step_fault (record b { rules = flags u }) 1 nothing_held value)) [
+  stray_first : OnlyRefuses (step_fault level 1 nothing_held value)
+  stray_first = elim v as (λ (u : Bool). OnlyRefuses (step_fault (record b { rules = flags u }) 1 nothing_held value)) [
     | true ↦ stray b.is_leaf
     | false ↦ stray b.is_leaf
   ]
 
   -- its first word that is no subcommand and not `--` asks for help or the version, or is refused
   pub first_word : subcommand_met names idle word ≡ None → bytes_eq word (codes "--") ≡ false
-      → AsksBy v word (turn_fault level names (walk_from nothing_held) word) ⊎ IsRefusal (turn_fault level names (walk_from nothing_held) word)
+      → AsksBy v word (turn_fault level names (walk_from nothing_held) word) ⊎ OnlyRefuses (turn_fault level names (walk_from nothing_held) word)
   first_word none dash = rw (turn_is level names word none dash) (elim (any_word_of v b.args_override_self word) [
     | inl (inl p) ↦ inl (inl (p.0, rw p.1 refl))
     | inl (inr p) ↦ inl (inr (p.0, rw p.1 refl))

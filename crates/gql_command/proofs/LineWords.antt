@@ -14,7 +14,7 @@ use Rattle.clap.proofs.FaultLemmas.{past, stopped_fault}
 use Rattle.clap.proofs.WalkLemmas.{walk_stopped}
 use Rattle.clap.proofs.OnLiterals.{clap_on_literals}
 use Rattle.gql_command.specs.CommandLine.{IsHelpFlag, IsVersionFlag}
-use Rattle.gql_command.proofs.FlagWords.{IsRefusal, help_has_hyphen, no_unknown, one_refusal, refused_first, stray, first_word, first_help_flag, first_version_flag, version_has_hyphen}
+use Rattle.gql_command.proofs.FlagWords.{OnlyRefuses, help_has_hyphen, no_unknown, one_refusal, refused_first, stray, first_word, first_help_flag, first_version_flag, version_has_hyphen}
 use Rattle.gql_command.proofs.ServeWords.{HelpsOnly, line, serve, serve_faults, serve_helps}
 
 -- ---- the level of `pipe`
@@ -29,7 +29,7 @@ pipe_faults words = level_fault pipe [] nothing_held words false []
 abbrev pub InPipe : List Text → Kinds → Type 0
 InPipe words kinds = ((kinds ≡ []) × ((words ≡ []) ⊎ (words ≡ codes "--" ∷ [])))
     ⊎ (((flag : Text) × (rest : List Text) × IsHelpFlag flag × (words ≡ flag ∷ rest) × (kinds ≡ DisplayHelp ∷ []))
-    ⊎ IsRefusal kinds)
+    ⊎ OnlyRefuses kinds)
 
 pipe_alone : pipe_faults [] ≡ []
 unfolding clap_on_literals
@@ -47,7 +47,7 @@ pipe_first : (w : Text) (ws : List Text) → turn_fault pipe [] (walk_from nothi
 unfolding walk_fault
 pipe_first w ws e = rw e refl
 
-pipe_refused : (w : Text) (ws : List Text) → IsRefusal (turn_fault pipe [] (walk_from nothing_held) w) → IsRefusal (pipe_faults (w ∷ ws))
+pipe_refused : (w : Text) (ws : List Text) → OnlyRefuses (turn_fault pipe [] (walk_from nothing_held) w) → OnlyRefuses (pipe_faults (w ∷ ws))
 unfolding walk_fault
 pipe_refused w ws r = refused_first _ _ (refused_first _ _ r)
 
@@ -167,7 +167,7 @@ abbrev pub InLine : List Text → Kinds → Type 0
 InLine words kinds = (kinds ≡ [] → LinePipe words ⊎ LineServe words)
     × (IsAmong DisplayHelp kinds → LineHelp words) × (IsAmong DisplayVersion kinds → LineVersion words)
 
-of_refusal : (words : List Text) (kinds : Kinds) → IsRefusal kinds → InLine words kinds
+of_refusal : (words : List Text) (kinds : Kinds) → OnlyRefuses kinds → InLine words kinds
 of_refusal words [] r = absurd r
 of_refusal words (k ∷ ks) r = (λ e. cc, λ h. absurd (r.0 h), λ v. absurd (r.1 v))
 
@@ -199,7 +199,7 @@ line_first : (w : Text) (ws : List Text) (kinds : Kinds) → turn_fault line.top
 unfolding walk_fault
 line_first w ws kinds e some = elim some [ inl f ↦ rw (e, f) refl | inr f ↦ rw (e, f) refl ]
 
-line_refused : (w : Text) (ws : List Text) → IsRefusal (turn_fault line.top (names_of line) (walk_from nothing_held) w) → IsRefusal (line_faults (w ∷ ws))
+line_refused : (w : Text) (ws : List Text) → OnlyRefuses (turn_fault line.top (names_of line) (walk_from nothing_held) w) → OnlyRefuses (line_faults (w ∷ ws))
 unfolding walk_fault
 line_refused w ws r = refused_first _ _ (refused_first _ _ r)
 
@@ -207,7 +207,7 @@ names_none : (w : Text) → bytes_eq (codes "pipe") w ≡ false → bytes_eq (co
     → subcommand_met (names_of line) idle w ≡ None
 names_none w no_pipe no_serve no_help = rw (no_pipe, no_serve, no_help) refl
 
-no_missing : IsRefusal (MissingSubcommand ∷ [])
+no_missing : OnlyRefuses (MissingSubcommand ∷ [])
 no_missing = one_refusal MissingSubcommand (λ e. cc) (λ e. cc)
 
 after_dash : (rest : List Text) → InLine (codes "--" ∷ rest) (line_faults (codes "--" ∷ rest))

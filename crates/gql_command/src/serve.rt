@@ -1,5 +1,7 @@
 //! The command `serve`, from the options that clap found.
+ghost use Rattle.std.specs.Prelude.{◌↔◌, IsTrue};
 ghost use Rattle.clap.specs.Words.{found_of, rows_of};
+ghost use Rattle.gql_command.specs.CommandLine.{IsConnections, IsPort};
 ghost use Rattle.gql_command.specs.Grammar.{IsRefusal, ReadsNumbers};
 
 use crate::command::{Command, CommandFault};
@@ -14,12 +16,17 @@ pub fn serve(alloc: Global, options: &ArgMatches<'_>) -> Result<Command, Command
     let port = options.get_one::<u16>("port");
     let connections = options.get_one::<u32>("connections");
     match (port, connections) {
-        (Some(port), Some(connections))
-            if port >= 1 && connections >= 1 && connections <= 1_000_000 => {
+        (Some(port), Some(connections)) if are_in_range(port, connections) => {
             Ok(Command::Serve { port, connections })
         }
         _ => Err(out_of_range(alloc)),
     }
+}
+
+fn are_in_range(port: u16, connections: u32) -> bool
+    ensures { IsTrue result ↔ (IsPort port × IsConnections connections) }
+{
+    port >= 1 && (1..=1_000_000).contains(&connections)
 }
 
 fn out_of_range(alloc: Global) -> CommandFault

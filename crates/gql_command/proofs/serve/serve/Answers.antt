@@ -1,12 +1,13 @@
-use Rattle.std.proofs.Common.{◌≡◌, ◌∙◌, ℕ, List, Option, Some, None, Err, arith, codes, sym}
+use Rattle.std.proofs.Common.{true, false, subst, ◌≡◌, ◌∙◌, ℕ, List, Option, Some, None, Err, arith, codes, sym}
 use Rattle.clap.specs.Walk.{Row}
 use Rattle.clap.specs.Words.{found_of, rows_of}
 use Rattle.gql_command.specs.declared.command.CommandFault.{CommandFault}
 use Rattle.gql_command.specs.declared.command.CommandFault.TheVariants.{Help, Version, Refused, Memory}
+use Rattle.gql_command.specs.CommandLine.{IsConnections, IsPort}
 use Rattle.gql_command.specs.Grammar.{IsRefusal, LacksNumbers, ReadsNumbers}
 use Rattle.gql_command.proofs.Numbers.{given, gives}
 use Rattle.gql_command.proofs.serve.serve.Goals as goal
-use Rattle.gql_command.proofs.serve.serve.Goals.{in_default-via-in-Some-Some+then-port-ge1+then-connections-ge1+else-connections-le1000000, in_default-via-in-Some-Some+then-port-ge1+else-connections-ge1, in_default-via-in-Some-Some+else-port-ge1, in_default-via-in-Some+in_default, in_default-via-in_default}
+use Rattle.gql_command.proofs.serve.serve.Goals.{in_default-via-in-Some-Some+else-are_in_range, in_default-via-in-Some+in_default, in_default-via-in_default}
 
 refuses : (rows : List Row) (fault : CommandFault) → IsRefusal fault → LacksNumbers rows → ReadsNumbers rows (Err fault)
 refuses rows (Help text) r lacks = r
@@ -20,12 +21,16 @@ same_number a b o e f = (let s : Some a ≡ Some b = sym e ∙ f in cc)
 none_is : (o : Option ℕ) (n : ℕ) → o ≡ None → o ≡ Some n → ⊥
 none_is o n e f = (let bad : None ≡ Some n = sym e ∙ f in cc)
 
+never : true ≡ false → ⊥
+never e = cc
+
 pub returns-in-Some-Some : goal.returns-in-Some-Some
 returns-in-Some-Some c =
     let rows = c.args.options.now in
     let port = gives 16 (found_of rows) (codes "port") c.get_one-port.result c.get_one-port.ensures.value c.get_one-port.ensures.none _ c.in-Some-Some.is-0 in
     let connections = gives 32 (found_of rows) (codes "connections") c.get_one-connections.result c.get_one-connections.ensures.value c.get_one-connections.ensures.none _ c.in-Some-Some.is-1 in
-    (port.0, connections.0, (c.if-port-ge1.true, omega (arith, port.1)), (c.if-connections-ge1.true, c.if-connections-le1000000.true))
+    let ranges = c.are_in_range.ensures.0 c.if-are_in_range.true in
+    (port.0, connections.0, ranges.0, ranges.1)
 
 pub returns-in_default : goal.returns-in_default
 returns-in_default c = refuses (rows_of (found_of c.args.options.now)) _ c.out_of_range.ensures (λ p n numbers.
@@ -34,12 +39,10 @@ returns-in_default c = refuses (rows_of (found_of c.args.options.now)) _ c.out_o
     let port = given 16 (found_of c.args.options.now) (codes "port") c.get_one-port.result c.get_one-port.ensures.value p (omega (arith, fits)) numbers.0 in
     let connections = given 32 (found_of c.args.options.now) (codes "connections") c.get_one-connections.result c.get_one-connections.ensures.value n (omega (arith, more)) numbers.1 in
     elim c.in_default.branch [
-      | in_default-via-in-Some-Some+then-port-ge1+then-connections-ge1+else-connections-le1000000 w ↦
-          (let e = same_number _ _ _ connections w.in-Some-Some.is-1 in let h = w.if-connections-le1000000.false in omega (arith, e, h, more))
-      | in_default-via-in-Some-Some+then-port-ge1+else-connections-ge1 w ↦
-          (let e = same_number _ _ _ connections w.in-Some-Some.is-1 in let h = w.if-connections-ge1.false in let low = numbers.3.0 in omega (arith, e, h, low))
-      | in_default-via-in-Some-Some+else-port-ge1 w ↦
-          (let e = same_number _ _ _ port w.in-Some-Some.is-0 in let h = w.if-port-ge1.false in let low = numbers.2.0 in omega (arith, e, h, low))
+      | in_default-via-in-Some-Some+else-are_in_range w ↦
+          (let is_port = subst IsPort (same_number _ _ _ port w.in-Some-Some.is-0) numbers.2 in
+          let is_connections = subst IsConnections (same_number _ _ _ connections w.in-Some-Some.is-1) numbers.3 in
+          never (sym (w.are_in_range.ensures.1 (is_port, is_connections)) ∙ w.if-are_in_range.false))
       | in_default-via-in-Some+in_default w ↦ none_is _ _ w.in_default.is-1 connections
       | in_default-via-in_default w ↦ none_is _ _ w.in_default.is-0 port
     ])
