@@ -35,7 +35,7 @@ fn text(alloc: Global, file: u64) -> Result<String> {
 fn put(alloc: Global, registry: &mut Registry, file: u64, text: &str) -> Result<u64> {
     let name = format!(in alloc; "f{file}")?;
     if let Some(name) = FileName::read(name.as_str()) {
-        if let Ok(edited) = registry.put_schema(name, text.as_bytes()) {
+        if let Ok(edited) = registry.put_schema(name, text.as_bytes(), None) {
             return Ok(edited.faults);
         }
     }

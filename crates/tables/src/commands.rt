@@ -1,3 +1,4 @@
+//! What command lines ask for.
 use gql_command::{Command, CommandFault, read_command};
 use std::alloc::{AllocError, Global};
 
@@ -14,7 +15,11 @@ pub fn command_answer(alloc: Global, line: &str) -> Option<String> {
     let words = words_in(alloc, line).ok()?;
     let answer = match read_command(alloc, words.as_slice()) {
         Ok(Command::Pipe) => "pipe",
+        Ok(Command::Serve { port, connections }) => {
+            return format!(in alloc; "serve {port} {connections}").ok();
+        }
         Err(CommandFault::Help(_)) => "help",
+        Err(CommandFault::Version(_)) => "version",
         Err(CommandFault::Refused(_)) => "refused",
         Err(CommandFault::Memory) => "memory",
     };

@@ -1,7 +1,7 @@
-//! Devices, which move some bytes a call.
+//! Peers, which move some bytes in each call.
 use crate::bytes::{bytes_in, quoted_bytes};
 use crate::joined::join;
-use gql_wire::{MemSink, MemSource, ReadDevice, Source, WriteDevice, write_all};
+use gql_wire::{DevicePeer, MemPeer, Moves, Peer, write_all};
 use std::alloc::Global;
 
 /// How many bytes a read asks for.
@@ -10,98 +10,100 @@ const PIECE_BYTES: usize = 4;
 /// How many reads are made at most.
 const MOST_READS: u64 = 1_000;
 
-/// The most bytes that a call moves, and how many calls go well before one fails, if one does.
-#[derive(Clone, Copy)]
-pub struct Moves {
-    pub most: usize,
-    pub failing: Option<u64>,
-}
-
-impl Moves {
-    /// What `MOST` or `MOST fails after COUNT` says.
-    pub fn read(text: &str) -> Option<Moves> {
-        match text.split_once(" fails after ") {
-            Some((most, count)) => Some(Moves {
-                most: most.parse::<usize>().ok()?,
-                failing: Some(count.parse::<u64>().ok()?),
-            }),
-            None => Some(Moves {
-                most: text.parse::<usize>().ok()?,
-                failing: None,
-            }),
-        }
+/// What `MOST` or `MOST fails after COUNT` says; none where MOST is 0.
+pub fn moves_in(text: &str) -> Option<Moves> {
+    let (most, failing) = match text.split_once(" fails after ") {
+        Some((most, count)) => (most, Some(count.parse::<u64>().ok()?)),
+        None => (text, None),
+    };
+    let most = most.parse::<usize>().ok()?;
+    if most == 0 {
+        return None;
     }
+    Some(Moves { most, failing })
 }
 
-/// What a read brings, and whether more may come behind it; none where too many were made.
-fn read_once(alloc: Global, source: &mut MemSource<'_>) -> Option<(String, bool)> {
-    if source.reads > MOST_READS || source.failures > MOST_READS {
+/// What a read brings, and whether more bytes may follow; none where too many reads were made.
+fn read_once(alloc: Global, peer: &mut MemPeer<'_>) -> Option<(String, bool)> {
+    if peer.reads > MOST_READS || peer.read_failures > MOST_READS {
         return None;
     }
     let mut piece = [0; PIECE_BYTES];
-    match source.read(&mut piece) {
+    match peer.read(&mut piece) {
         Ok(0) => Some((String::from_str(alloc, "end").ok()?, false)),
         Ok(count) => Some((quoted_bytes(alloc, &piece[..count]).ok()?, true)),
         Err(_) => Some((String::from_str(alloc, "failed").ok()?, false)),
     }
 }
 
-/// What the reads of a source in memory bring, up to its end or to one that fails, and how many they were: `MOVES`.
-pub fn source_answer(alloc: Global, text: &str, moves: &str) -> Option<String> {
-    let bytes = bytes_in(alloc, text)?;
-    let moves = Moves::read(moves)?;
-    if moves.most == 0 {
-        return None;
-    }
-    let mut source = MemSource::new(bytes.as_slice(), moves.most, moves.failing);
+/// What reads from a peer in memory bring, up to its end or to a read that fails, and how many reads and failures there
+/// were: `MOVES`.
+fn peer_reads(alloc: Global, bytes: &[u8], moves: &str) -> Option<String> {
+    let reading = moves_in(moves)?;
+    let mut peer = MemPeer::new(alloc, bytes, reading, moves_in("1")?);
     let mut written = String::new(alloc);
     for _ in 0..MOST_READS {
-        let (brought, goes_on) = read_once(alloc, &mut source)?;
+        let (brought, goes_on) = read_once(alloc, &mut peer)?;
         join(&mut written, ", ", brought.as_str()).ok()?;
         if !goes_on {
             break;
         }
     }
     let written = written.as_str();
-    let reads = source.reads;
-    let failures = source.failures;
+    let reads = peer.reads;
+    let failures = peer.read_failures;
     format!(in alloc; "{written}; reads: {reads}, failures: {failures}").ok()
 }
 
-/// What a sink in memory holds once a text is written to it, or a part where a write fails: `MOVES`.
-pub fn sink_answer(alloc: Global, text: &str, moves: &str) -> Option<String> {
-    let bytes = bytes_in(alloc, text)?;
-    let moves = Moves::read(moves)?;
-    if moves.most == 0 {
-        return None;
-    }
-    let mut sink = MemSink::new(alloc, moves.most, moves.failing);
-    let end = match write_all(&mut sink, bytes.as_slice()) {
+/// What a peer in memory holds after all bytes are written to it, or after a write that fails: `MOVES`.
+fn peer_writes(alloc: Global, bytes: &[u8], moves: &str) -> Option<String> {
+    let writing = moves_in(moves)?;
+    let mut peer = MemPeer::new(alloc, &[], moves_in("1")?, writing);
+    let end = match write_all(&mut peer, bytes) {
         Ok(()) => "written",
         Err(_) => "failed",
     };
-    let held = quoted_bytes(alloc, sink.bytes.as_slice()).ok()?;
+    let held = peer.sent_bytes(alloc).ok()?;
+    let held = quoted_bytes(alloc, held.as_slice()).ok()?;
     let held = held.as_str();
-    let failures = sink.failures;
+    let failures = peer.write_failures;
     format!(in alloc; "{held} {end}; failures: {failures}").ok()
 }
 
-/// What a read brings from a reader of the operating system's kind, and how many were made.
-pub fn reader_answer(alloc: Global, text: &str) -> Option<String> {
+/// The answer to a question about a peer in memory: `reads MOVES` or `writes MOVES`.
+pub fn peer_answer(alloc: Global, text: &str, question: &str) -> Option<String> {
     let bytes = bytes_in(alloc, text)?;
-    let mut reader = ReadDevice::new(bytes.as_slice());
+    match question.split_once(" ")? {
+        ("reads", moves) => peer_reads(alloc, bytes.as_slice(), moves),
+        ("writes", moves) => peer_writes(alloc, bytes.as_slice(), moves),
+        _ => None,
+    }
+}
+
+/// What a read brings from a peer over a reader of std, and how many reads were made.
+fn device_reads(alloc: Global, bytes: &[u8]) -> Option<String> {
+    let mut peer = DevicePeer::new(bytes, Vec::new(alloc));
     let mut piece = [0; PIECE_BYTES];
-    let count = reader.read(&mut piece).ok()?;
+    let count = peer.read(&mut piece).ok()?;
     let brought = quoted_bytes(alloc, &piece[..count]).ok()?;
     let brought = brought.as_str();
-    let reads = reader.reads;
+    let reads = peer.reads;
     format!(in alloc; "{brought}; reads: {reads}").ok()
 }
 
-/// What a writer of the operating system's kind holds once a text is written to it.
-pub fn writer_answer(alloc: Global, text: &str) -> Option<String> {
+/// What a writer of std holds after bytes are written to a peer over it.
+fn device_writes(alloc: Global, bytes: &[u8]) -> Option<String> {
+    let mut peer = DevicePeer::new(bytes, Vec::new(alloc));
+    write_all(&mut peer, bytes).ok()?;
+    quoted_bytes(alloc, peer.writer.as_slice()).ok()
+}
+
+/// The answer to a question about a peer over a reader and a writer of std: `reads` or `writes`.
+pub fn device_answer(alloc: Global, text: &str, question: &str) -> Option<String> {
     let bytes = bytes_in(alloc, text)?;
-    let mut writer = WriteDevice::new(Vec::new(alloc));
-    write_all(&mut writer, bytes.as_slice()).ok()?;
-    quoted_bytes(alloc, writer.inner.as_slice()).ok()
+    match question {
+        "reads" => device_reads(alloc, bytes.as_slice()),
+        "writes" => device_writes(alloc, bytes.as_slice()),
+        _ => None,
+    }
 }

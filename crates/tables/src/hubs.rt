@@ -1,7 +1,6 @@
-//! The service: its answers to a stream of requests, and its connections.
+//! The service: its answers to a stream of requests.
 use crate::bytes::{bytes_in, quoted_bytes};
-use crate::joined::join;
-use gql_http::{Hub, OpenRefusal};
+use gql_http::Hub;
 use gql_registry::Registry;
 use std::alloc::Global;
 
@@ -53,33 +52,4 @@ pub fn answers_answer(alloc: Global, text: &str) -> Option<String> {
         return String::from_str(alloc, "another byte by byte").ok();
     }
     quoted_bytes(alloc, whole.as_slice()).ok()
-}
-
-/// What a step on a connection comes to: `open NUMBER`, `close NUMBER` or `is-open NUMBER`.
-fn step_answer(hub: &mut Hub, step: &str) -> Option<&'static str> {
-    let (verb, connection) = step.split_once(" ")?;
-    let connection = connection.parse::<u8>().ok()?;
-    match verb {
-        "open" => match hub.open(connection) {
-            Ok(()) => Some("opened"),
-            Err(OpenRefusal::NoSuch) => Some("no such connection"),
-            Err(OpenRefusal::AlreadyOpen) => Some("already open"),
-        },
-        "close" => {
-            hub.close(connection);
-            Some("closed")
-        }
-        "is-open" => Some(if hub.is_open(connection) { "yes" } else { "no" }),
-        _ => None,
-    }
-}
-
-/// What steps on the connections of a service come to: `STEP, STEP`.
-pub fn connections_answer(alloc: Global, steps: &str) -> Option<String> {
-    let mut hub = Hub::new(alloc, Registry::new(alloc));
-    let mut written = String::new(alloc);
-    for step in steps.split(", ") {
-        join(&mut written, ", ", step_answer(&mut hub, step)?).ok()?;
-    }
-    Some(written)
 }

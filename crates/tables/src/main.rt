@@ -15,17 +15,20 @@ mod faults;
 mod file_maps;
 mod hubs;
 mod inputs;
+mod interleaved;
 mod joined;
 mod levels;
 mod look_ups;
 mod pipes;
 mod quoted;
 mod row;
+mod servers;
 mod steps;
 mod streams;
 mod table;
 mod texts;
 mod tokens;
+mod transcripts;
 mod trees;
 mod values;
 mod wire;
@@ -37,7 +40,7 @@ use table::Table;
 fn main(rt: HostRuntime) -> Result<()> {
     let mut table = Table::new(rt.alloc());
     for line in rt.lines(rt.alloc()) {
-        table.read(line?.as_str())?;
+        table.read(&rt, line?.as_str())?;
     }
     let differences = table.differences.as_str();
     let answers = table.answers;

@@ -1,23 +1,19 @@
-//! Pipes: the requests of a source answered to a sink, of which reads and writes fail.
+//! Pipes: the requests of a peer answered, where reads and writes fail.
 use crate::bytes::bytes_in;
-use crate::devices::Moves;
+use crate::devices::moves_in;
 use crate::hubs::answered;
-use gql_http::{Hub, PipeEnd, PipeFault, pipe};
+use gql_http::{Hub, PipeEnd, PipeFault, pipe, status_of};
 use gql_registry::Registry;
-use gql_wire::{MemSink, MemSource};
+use gql_wire::MemPeer;
 use std::alloc::Global;
 
-/// How a pipe of a service on an empty registry ends, whose devices are new; none where they are not.
-fn piped(
-    alloc: Global,
-    source: &mut MemSource<'_>,
-    sink: &mut MemSink,
-) -> Option<Result<PipeEnd, PipeFault>> {
-    if source.reads > 0 || source.failures > 0 || sink.failures > 0 {
+/// How a pipe of a service on an empty registry ends, whose peer is new; none where it is not.
+fn piped(alloc: Global, peer: &mut MemPeer<'_>) -> Option<Result<PipeEnd, PipeFault>> {
+    if peer.read_failures > 0 || peer.write_failures > 0 {
         return None;
     }
     let mut hub = Hub::new(alloc, Registry::new(alloc));
-    Some(pipe(&mut hub, source, sink))
+    Some(pipe(&mut hub, peer))
 }
 
 fn written_end(ended: &Result<PipeEnd, PipeFault>) -> &'static str {
@@ -31,22 +27,20 @@ fn written_end(ended: &Result<PipeEnd, PipeFault>) -> &'static str {
     }
 }
 
-/// How a pipe ends, and how many bytes of the stream's answers it wrote: `reads MOVES, writes MOVES`.
+/// How a pipe ends, how many bytes of the stream's answers it wrote, and the status of a program that runs it:
+/// `reads MOVES, writes MOVES`.
 pub fn pipe_answer(alloc: Global, text: &str, question: &str) -> Option<String> {
     let (reads, writes) = question.strip_prefix("reads ")?.split_once(", writes ")?;
-    let reads = Moves::read(reads)?;
-    let writes = Moves::read(writes)?;
-    if reads.most == 0 || writes.most == 0 {
-        return None;
-    }
     let bytes = bytes_in(alloc, text)?;
-    let mut source = MemSource::new(bytes.as_slice(), reads.most, reads.failing);
-    let mut sink = MemSink::new(alloc, writes.most, writes.failing);
-    let ended = written_end(&piped(alloc, &mut source, &mut sink)?);
+    let mut peer = MemPeer::new(alloc, bytes.as_slice(), moves_in(reads)?, moves_in(writes)?);
+    let ended = piped(alloc, &mut peer)?;
+    let written = peer.sent_bytes(alloc).ok()?;
     let answers = answered(alloc, bytes.as_slice(), 0)?;
-    if !answers.as_slice().starts_with(sink.bytes.as_slice()) {
+    if !answers.as_slice().starts_with(written.as_slice()) {
         return String::from_str(alloc, "other bytes").ok();
     }
-    let count = sink.bytes.len();
-    format!(in alloc; "{ended}, {count} bytes").ok()
+    let count = written.len();
+    let end = written_end(&ended);
+    let status = status_of(&ended);
+    format!(in alloc; "{end}, {count} bytes, status {status}").ok()
 }

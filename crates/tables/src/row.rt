@@ -1,7 +1,9 @@
 use crate::faults::written_faults;
 use crate::inputs::put_file;
 use crate::look_ups::look_up_answer;
+use crate::servers::serves_answer;
 use crate::texts::text_answer;
+use crate::transcripts::Transcript;
 use crate::values::value_answer;
 use crate::wire::wire_answer;
 use gql_ast::{FileName, Files};
@@ -22,6 +24,8 @@ pub struct Row {
     is_refused: bool,
     /// The schema of the files, once a question about it is asked.
     schema: Option<Schema>,
+    /// The service that `hub` lines are about.
+    transcript: Transcript,
 }
 
 impl Row {
@@ -34,6 +38,7 @@ impl Row {
             files: Files::new(alloc),
             is_refused: false,
             schema: None,
+            transcript: Transcript::new(alloc),
         }
     }
 
@@ -47,7 +52,7 @@ impl Row {
                 if put_file(self.alloc, &mut self.files, &name, self.text.as_str()).is_none()
                     || self
                         .registry
-                        .put_schema(name, self.text.as_str().as_bytes())
+                        .put_schema(name, self.text.as_str().as_bytes(), None)
                         .is_err()
                 {
                     self.is_refused = true;
@@ -119,10 +124,22 @@ impl Row {
         }
     }
 
+    /// The answer to a question about the row's service with connections, or about its text as a stream to a server; none
+    /// for another question.
+    fn service_answer(&mut self, rt: &HostRuntime, question: &str) -> Option<String> {
+        if question == "serves" {
+            return serves_answer(rt, self.text.as_str());
+        }
+        self.transcript.step(question.strip_prefix("hub ")?)
+    }
+
     /// The answer to a question of the table.
-    pub fn answer(&mut self, question: &str) -> Result<String, AllocError> {
+    pub fn answer(&mut self, rt: &HostRuntime, question: &str) -> Result<String, AllocError> {
         if question == "report" {
             return self.report();
+        }
+        if let Some(answer) = self.service_answer(rt, question) {
+            return Ok(answer);
         }
         let text = self.text.as_str();
         if let Some(answer) = text_answer(self.alloc, text, question) {

@@ -26,10 +26,10 @@ impl Table {
     }
 
     /// Compares an answer with what is expected.
-    fn ask(&mut self, question: &str, expected: &str) -> Result<(), AllocError> {
+    fn ask(&mut self, rt: &HostRuntime, question: &str, expected: &str) -> Result<(), AllocError> {
         self.answers = self.answers.wrapping_add(1);
         self.is_asked = true;
-        let answer = self.row.answer(question)?;
+        let answer = self.row.answer(rt, question)?;
         let answer = answer.as_str();
         if answer != expected {
             let number = self.answers;
@@ -56,22 +56,22 @@ impl Table {
     }
 
     /// Adds what a line `text STRING` or `text STRING times COUNT` says, whose string is one of JSON.
-    fn add_text(&mut self, line: &str) -> Result<(), AllocError> {
+    fn add_text(&mut self, rt: &HostRuntime, line: &str) -> Result<(), AllocError> {
         self.begin();
         let (text, times) = line.rsplit_once(" times ").unwrap_or((line, "1"));
         match (unquoted(self.alloc, text), times.parse::<u32>()) {
             (Some(text), Ok(times)) => self.row.add_text(text.as_str(), times),
-            _ => self.ask("no such question", line),
+            _ => self.ask(rt, "no such question", line),
         }
     }
 
     /// Reads a line.
-    pub fn read(&mut self, line: &str) -> Result<(), AllocError> {
+    pub fn read(&mut self, rt: &HostRuntime, line: &str) -> Result<(), AllocError> {
         if line.starts_with("#") {
             return Ok(());
         }
         if let Some(text) = line.strip_prefix("text ") {
-            return self.add_text(text);
+            return self.add_text(rt, text);
         }
         if let Some((name, text)) = line.split_once("|")
             && !name.contains(" ")
@@ -79,13 +79,13 @@ impl Table {
             return self.add(name, text);
         }
         if let Some((question, expected)) = line.split_once(" => ") {
-            return self.ask(question, expected);
+            return self.ask(rt, question, expected);
         }
         if let Some(question) = line.strip_suffix(" =>") {
-            return self.ask(question, "");
+            return self.ask(rt, question, "");
         }
         match line.split_once(":") {
-            Some((question, expected)) => self.ask(question, expected.trim_start()),
+            Some((question, expected)) => self.ask(rt, question, expected.trim_start()),
             None => Ok(()),
         }
     }

@@ -1,10 +1,12 @@
 //! Questions about a text that is a stream of bytes, and about the program around it.
 use crate::answer_heads::head_answer;
 use crate::commands::command_answer;
-use crate::devices::{reader_answer, sink_answer, source_answer, writer_answer};
-use crate::hubs::{answers_answer, connections_answer};
+use crate::devices::{device_answer, peer_answer};
+use crate::hubs::answers_answer;
+use crate::interleaved::interleaved_answer;
 use crate::pipes::pipe_answer;
 use crate::streams::requests_answer;
+use crate::transcripts::connections_answer;
 use std::alloc::Global;
 
 /// The answer to a question about a stream of bytes, by its first word; none where there is no such question, or where it is not
@@ -15,11 +17,10 @@ pub fn wire_answer(alloc: Global, text: &str, question: &str) -> Option<String> 
         "requests" => requests_answer(alloc, text, rest),
         "answers" => answers_answer(alloc, text),
         "connections" => connections_answer(alloc, rest),
+        "interleaved" => interleaved_answer(alloc, rest),
         "pipe" => pipe_answer(alloc, text, rest),
-        "source" => source_answer(alloc, text, rest),
-        "sink" => sink_answer(alloc, text, rest),
-        "reader" => reader_answer(alloc, text),
-        "writer" => writer_answer(alloc, text),
+        "peer" => peer_answer(alloc, text, rest),
+        "device" => device_answer(alloc, text, rest),
         "head" => head_answer(alloc, rest),
         "command" => command_answer(alloc, rest),
         _ => None,

@@ -1,0 +1,94 @@
+//! Transcripts of a service with several connections: what each step gives.
+use crate::bytes::{bytes_in, quoted_bytes};
+use crate::joined::join;
+use crate::quoted::unquoted;
+use gql_http::{Hub, OpenRefusal};
+use gql_registry::Registry;
+use std::alloc::Global;
+
+/// A service and its connections.
+#[derive(Drop)]
+pub struct Transcript {
+    alloc: Global,
+    hub: Hub,
+}
+
+impl Transcript {
+    /// A service on an empty registry, with every connection closed.
+    pub fn new(alloc: Global) -> Transcript {
+        Transcript {
+            alloc,
+            hub: Hub::new(alloc, Registry::new(alloc)),
+        }
+    }
+
+    fn open(&mut self, connection: u8) -> &'static str {
+        match self.hub.open(connection) {
+            Ok(()) => "opened",
+            Err(OpenRefusal::NoSuch) => "no such connection",
+            Err(OpenRefusal::AlreadyOpen) => "already open",
+        }
+    }
+
+    /// Feeds bytes to a connection. Returns the answers that this gave, and `closes` where a request closed the connection;
+    /// `closed` where it was not open.
+    fn feed(&mut self, connection: u8, piece: &[u8]) -> Option<String> {
+        if !self.hub.is_open(connection) {
+            return String::from_str(self.alloc, "closed").ok();
+        }
+        let fed = self.hub.feed(connection, piece);
+        let mut written = quoted_bytes(self.alloc, fed.out.as_slice()).ok()?;
+        if fed.memory {
+            written.push_str(" memory").ok()?;
+        } else if fed.closed {
+            written.push_str(" closes").ok()?;
+        }
+        Some(written)
+    }
+
+    /// Feeds what `NUMBER STRING` says.
+    fn feed_string(&mut self, rest: &str) -> Option<String> {
+        let (connection, text) = rest.split_once(" ")?;
+        let connection = connection.parse::<u8>().ok()?;
+        let piece = bytes_in(self.alloc, unquoted(self.alloc, text)?.as_str())?;
+        self.feed(connection, piece.as_slice())
+    }
+
+    /// What a step that says a word and the number of a connection gives: `open`, `close` or `is-open`.
+    fn short_step(&mut self, word: &str, connection: &str) -> Option<&'static str> {
+        let connection = connection.parse::<u8>().ok()?;
+        match word {
+            "open" => Some(self.open(connection)),
+            "close" => {
+                self.hub.close(connection);
+                Some("closed")
+            }
+            "is-open" => Some(if self.hub.is_open(connection) { "yes" } else { "no" }),
+            _ => None,
+        }
+    }
+
+    /// What a step gives: `begin`, `open NUMBER`, `close NUMBER`, `is-open NUMBER` or `feed NUMBER STRING`.
+    pub fn step(&mut self, step: &str) -> Option<String> {
+        let (word, rest) = step.split_once(" ").unwrap_or((step, ""));
+        match word {
+            "begin" => {
+                self.hub = Hub::new(self.alloc, Registry::new(self.alloc));
+                String::from_str(self.alloc, "begun").ok()
+            }
+            "feed" => self.feed_string(rest),
+            _ => String::from_str(self.alloc, self.short_step(word, rest)?).ok(),
+        }
+    }
+}
+
+/// What steps on a new service give, with commas between them. No step is a `feed`, whose string may have commas.
+pub fn connections_answer(alloc: Global, steps: &str) -> Option<String> {
+    let mut transcript = Transcript::new(alloc);
+    let mut written = String::new(alloc);
+    for step in steps.split(", ") {
+        let answer = transcript.step(step)?;
+        join(&mut written, ", ", answer.as_str()).ok()?;
+    }
+    Some(written)
+}

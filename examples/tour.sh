@@ -1,0 +1,41 @@
+#!/bin/sh
+# A tour of the registry with curl, against a server on an empty registry: examples/tour.sh [PORT], by default 8080.
+# Start the server in another terminal by examples/serve.sh. The tour prints each request and its answer, and compares
+# what it printed with examples/tour.txt. It makes seven connections.
+set -eu
+folder=$(cd "$(dirname "$0")" && pwd)
+at="http://127.0.0.1:${1:-8080}"
+
+# ask METHOD PATH [BODY]: prints the request, then the status and the body of the answer
+ask() {
+    printf '> %s %s\n' "$1" "$2"
+    if [ $# -gt 2 ]; then
+        printf '%s\n' "$3" | sed 's/^/> /'
+        curl -s -X "$1" --data-binary "$3" -w '\n%{http_code}\n' "$at$2"
+    else
+        curl -s -X "$1" -w '\n%{http_code}\n' "$at$2"
+    fi
+    printf '\n'
+}
+
+tour() {
+    ask PUT /schema/users 'type Query { user(id: ID!): User }
+type User { id: ID! name: String }'
+    ask PUT /schema/reviews 'extend type User { reviews: [Review!] }
+type Review { stars: Int }
+type User { id: ID! }'
+    ask GET /report
+    ask PUT '/schema/reviews?revision=1' 'type Review { stars: Int }'
+    ask PUT /schema/reviews 'type Review { stars: }'
+    ask DELETE '/schema/reviews?revision=2'
+    ask GET /report
+}
+
+printed=$(tour)
+printf '%s\n' "$printed"
+if printf '%s\n' "$printed" | cmp -s - "$folder/tour.txt"; then
+    echo "The answers are those of examples/tour.txt."
+else
+    echo "The answers differ from examples/tour.txt." >&2
+    exit 1
+fi
