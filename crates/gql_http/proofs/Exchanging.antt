@@ -194,7 +194,7 @@ module _ (some : SomeSplit) (one : OneSplit) (more_bytes : MoreBytes) where
         let both = breaks_join piece made x.serves h in (
           both.0,
           subst (λ bytes. Breaks s bytes (sent_in (turned x.passed piece parts)) t both.0) (sym (received_turn x.passed piece parts))
-          (subst (λ bytes. Breaks s (received_in x.passed ++ piece) bytes t both.0) (sym (sent_turn x.passed piece parts ∙ ap (λ zs. sent_in x.passed ++ zs) is)) both.1),
+              (subst (λ bytes. Breaks s (received_in x.passed ++ piece) bytes t both.0) (sym (sent_turn x.passed piece parts ∙ ap (λ zs. sent_in x.passed ++ zs) is)) both.1),
         )
 
     pub turn_prompt : (piece : List ℕ) (parts : List (List ℕ)) → IsPrompt s (turned x.passed piece parts)
@@ -253,10 +253,10 @@ module _ (some : SomeSplit) (one : OneSplit) (more_bytes : MoreBytes) where
           unsent,
           ap (λ zs. sent_in x.passed ++ zs) cut ∙ sym (append_assoc (sent_in x.passed) (concat parts) unsent) ∙ ap (λ zs. zs ++ unsent) (sym (sent_turn x.passed piece parts)),
           subst (λ bytes. ((held : Option (List ℕ)) × Serves s bytes (sent_in x.passed ++ out) t held) ⊎ ((made : ℕ) × Breaks s bytes (sent_in x.passed ++ out) t made)) (sym (received_turn x.passed piece parts))
-          (elim made [
-            | inl (left, h) ↦ inl (left, serves_join some one more_bytes piece x.serves h)
-            | inr (count, h) ↦ inr (breaks_join piece count x.serves h)
-          ]),
+              (elim made [
+                | inl (left, h) ↦ inl (left, serves_join some one more_bytes piece x.serves h)
+                | inr (count, h) ↦ inr (breaks_join piece count x.serves h)
+              ]),
         );
       },
     )

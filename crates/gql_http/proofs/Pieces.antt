@@ -80,7 +80,7 @@ fed_event fed _ _ _ c bytes (by_feed {c = d} {piece = piece} {bytes = other} {re
       splits = subst (λ z. Requests (z ++ piece) requests rest) equal h;
       group_is = ap (λ z. completed_after (length z) requests) equal;
       next_is = ap (with_connection fed d (held_after (requests_of requests) (other ++ piece))) (sym number) ∙ changed fed d (held_after (requests_of requests) (other ++ piece))
-      ∙ ap (λ z. held_after (requests_of requests) (z ++ piece)) equal;
+          ∙ ap (λ z. held_after (requests_of requests) (z ++ piece)) equal;
     }
 fed_event fed _ _ _ c bytes (by_break {c = d} there h) only same here = absurd (only (eqb-true d c same))
 fed_event fed _ _ _ c bytes (by_close {c = d} allowed) only same here = absurd (only (eqb-true d c same))
@@ -113,7 +113,7 @@ module _ (split : OneSplit) (more_bytes : MoreBytes) (drops : Closed) where
       → Requests (bytes ++ joined (on c (e ∷ events) (pieces_of (e ∷ events)))) requests rest
       → (next c ≡ Some bytes → Requests (bytes ++ joined (on c events (pieces_of events))) requests rest → requests_of requests ≡ requests_of before ++ joined (on c events groups))
       → ((so_far more_left : List ℕ) (more_before : List Placed) → next c ≡ Some so_far → Requests so_far more_before more_left → StaysOpen more_before
-        → Requests (so_far ++ joined (on c events (pieces_of events))) requests rest → requests_of requests ≡ requests_of more_before ++ joined (on c events groups))
+      → Requests (so_far ++ joined (on c events (pieces_of events))) requests rest → requests_of requests ≡ requests_of more_before ++ joined (on c events groups))
       → requests_of requests ≡ requests_of before ++ joined (on c (e ∷ events) (group ∷ groups))
   event_by fed next last c bytes left rest before requests e group events groups false is step order only all here h stays k same_on fed_on =
       same_on (kept fed next e group c step is ∙ here) (subst (λ z. Requests (bytes ++ z) requests rest) (pieces_step c e events false is) k)

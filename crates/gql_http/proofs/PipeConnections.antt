@@ -37,5 +37,5 @@ between s t u v old new ended result first last (passed, adds, h) = (
   passed,
   adds,
   subst (λ b. IsExchange (record { before = b; after = v; passed = passed; ended = ended; result = result })) first
-  (subst (λ a. IsExchange (record { before = s; after = a; passed = passed; ended = ended; result = result })) last h),
+      (subst (λ a. IsExchange (record { before = s; after = a; passed = passed; ended = ended; result = result })) last h),
 )

@@ -87,4 +87,4 @@ abbrev pub ReportThen : Type 0
 ReportThen = (s u : State) (front rest : List Req) (method target body : List ℕ) (closing : Bool) (answers : List (List ℕ))
     → call_of method target ≡ report → Run s (front ++ (request method target body closing ∷ rest)) answers u
     → (before after : List (List ℕ)) × (t : State) × (faults : List Fault) × Run s front before t × IsReport t.files faults
-      × (answers ≡ before ++ (answer_bytes closing (is_head method) (report_said t.revision faults) ∷ after)) × Run t rest after u
+    × (answers ≡ before ++ (answer_bytes closing (is_head method) (report_said t.revision faults) ∷ after)) × Run t rest after u

@@ -17,7 +17,7 @@ pub data Completes : Connections → Event → List Req → Connections → Type
   by_open : {fed : Connections} {c : ℕ} → IsAllowed fed (opens c) → Completes fed (opens c) [] (with_connection fed c (Some []))
   by_feed : {fed : Connections} {c : ℕ} {piece bytes rest : List ℕ} {requests : List Placed} → fed c ≡ Some bytes
       → Requests (bytes ++ piece) requests rest → Completes fed (feeds c piece) (completed_after (length bytes) requests)
-        (with_connection fed c (held_after (requests_of requests) (bytes ++ piece)))
+      (with_connection fed c (held_after (requests_of requests) (bytes ++ piece)))
   by_break : {fed : Connections} {c made : ℕ} {piece bytes rest : List ℕ} {requests : List Placed} → fed c ≡ Some bytes
       → Requests (bytes ++ piece) requests rest
       → Completes fed (breaks c piece made) (take made (completed_after (length bytes) requests)) (with_connection fed c None)

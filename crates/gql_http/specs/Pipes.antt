@@ -46,7 +46,7 @@ Sends (Err TooManyReads) x = (held : Option (List ℕ)) × IsAnswered x held
 Sends (Err Memory) x = (made : ℕ) × Breaks x.before (received_in x.passed) (sent_in x.passed) x.after made
 Sends (Err WriteFailed) x = (out unsent : List ℕ) × (out ≡ sent_in x.passed ++ unsent)
     × (((held : Option (List ℕ)) × Serves x.before (received_in x.passed) out x.after held)
-      ⊎ ((made : ℕ) × Breaks x.before (received_in x.passed) out x.after made))
+    ⊎ ((made : ℕ) × Breaks x.before (received_in x.passed) out x.after made))
 
 -- a pipe does this
 pub record IsExchange (x : Exchange) : Type 0 where

@@ -107,12 +107,8 @@ fn call_on(resource: Resource, method: &[u8], query: Query) -> Call
         Resource::Nothing => Call::Refused(RouteRefusal::NoRoute),
         Resource::Report if method == b"GET".as_slice() => without_query(query, Call::Report),
         Resource::Report => Call::Refused(RouteRefusal::NotAllowed(Allow::Get)),
-        Resource::SchemaFile(name) if method == b"PUT".as_slice() => {
-            putting(query, name)
-        }
-        Resource::SchemaFile(name) if method == b"DELETE".as_slice() => {
-            removing(query, name)
-        }
+        Resource::SchemaFile(name) if method == b"PUT".as_slice() => { putting(query, name) }
+        Resource::SchemaFile(name) if method == b"DELETE".as_slice() => { removing(query, name) }
         Resource::SchemaFile(_) => Call::Refused(RouteRefusal::NotAllowed(Allow::PutDelete)),
     }
 }

@@ -31,11 +31,7 @@ fn serve_one(hub: &mut Hub, stream: &TcpStream)
 /// Serves this many connections of a listener, one after the other: on each it answers the requests that come, with at most
 /// 1,048,576 reads. A connection that fails is closed and counts. What the connections did to the service is one request
 /// after the other, and every connection of the hub is closed or open as before.
-pub fn serve_on(
-    listener: &TcpListener,
-    hub: &mut Hub,
-    connections: u32,
-) -> Result<(), ServeFault>
+pub fn serve_on(listener: &TcpListener, hub: &mut Hub, connections: u32) -> Result<(), ServeFault>
     requires closed { rests_of hub.old 0 ≡ None }
     ensures connections { rests_of hub.new ≡ rests_of hub.old }
     ensures requests { (requests : List Req) × (answers : List (List ℕ)) × Run (service_of hub.old) requests answers (service_of hub.new) }

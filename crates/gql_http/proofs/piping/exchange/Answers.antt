@@ -63,7 +63,7 @@ loop-turn-preserved g c =
       writing = c.in-Ok-write_all.ensures.failed ∙ c.in-Ok.ensures.others ∙ c.loop-turn.invariant.writing;
       others = λ n apart. does_others _ _ _ _ d.0 _ n d.2 (λ is. apart (is ∙ feed_connection _ _ _ _ d.1)) ∙ c.loop-turn.invariant.others n apart;
       exchanged = exchanged_more c.some_split.ensures c.one_split.ensures c.more_bytes.ensures c.loop-turn.invariant.exchanged _ _ _ _ _ _ left.0 c.in-Ok.ensures.received
-      (rw c.as_slice.ensures.value at c.in-Ok-write_all.ensures.ok) (fed_serves _ _ _ _ _ _ _ c.loop-turn.invariant.exchanged.held d.0 (rw c.if-fed.false at d.1) d.2 c.loop-turn.invariant.exchanged.stays) left.1;
+          (rw c.as_slice.ensures.value at c.in-Ok-write_all.ensures.ok) (fed_serves _ _ _ _ _ _ _ c.loop-turn.invariant.exchanged.held d.0 (rw c.if-fed.false at d.1) d.2 c.loop-turn.invariant.exchanged.stays) left.1;
     }
 
 pub returns-clause-exchange : goal.returns-clause-exchange

@@ -17,7 +17,7 @@ returns-else-closed-clause-does c =
       feeds c.args.connection c.args.piece.now,
       refl,
       fed _ _ c.args.self.now.framers c.take_framer.new.self.framers c.args.connection c.from-index.result _ c.args.piece.now _ _ c.from-index.ensures c.in-Some.ensures.value
-      c.in-Some.ensures.closed serves,
+          c.in-Some.ensures.closed serves,
     )
 
 pub returns-in-Err-clause-does : goal.returns-in-Err-clause-does
