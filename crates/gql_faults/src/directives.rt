@@ -1,3 +1,4 @@
+//! The directives of a schema, each by its first definition.
 ghost use Rattle.std.specs.Prelude.{◌≡◌, ◌++◌, ◌∷◌, [], ◌||◌, ℕ, List, IfOk, OnOk, map, is_some, bytes_eq, if◌then◌else◌};
 ghost use Rattle.std.specs.HashMap as hash;
 ghost use Rattle.gql_faults.specs.Directives.{first_directives};

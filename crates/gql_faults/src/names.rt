@@ -1,15 +1,46 @@
+//! Lists of names, and the names that occur more than once.
 ghost use Rattle.std.specs.Prelude.{◌≡◌, ◌+◌, ◌++◌, ◌∷◌, [], ℕ, List, IfOk, OnOk, map, bytes_eq, nat_lt, unwrap_or, filter, if◌then◌else◌};
 ghost use Rattle.std.specs.HashMap as hash;
 ghost use Rattle.gql_faults.specs.Names as spec;
+ghost use Rattle.gql_faults.specs.Faults.{own_name_of};
 ghost use Rattle.gql_faults.specs.Places.{named};
 
 use crate::fault::add_faults;
-use crate::place::NamePlace;
-use gql_ast::{Fault, Rule};
+use crate::place::{HasOwnName, NamePlace};
+use gql_ast::{Fault, Name, Rule, Shared};
+use gql_built_in::Sited;
 use std::alloc::{AllocError, Global};
 use std::collections::HashMap;
 
-/// How often each text stands among these.
+/// These names of the schema.
+pub fn name_places<'t>(
+    alloc: Global,
+    names: &'t [Sited<Name>],
+) -> Result<Vec<NamePlace<'t>>, AllocError>
+    ensures { IfOk result (λ places. map named places.items ≡ names.now) }
+{
+    let mut places = Vec::new(alloc);
+    for name in names {
+        places.push(NamePlace::of(name))?;
+    }
+    Ok(places)
+}
+
+/// The names of these nodes of the schema.
+pub fn own_names<'t, T: HasOwnName>(
+    alloc: Global,
+    nodes: &'t [Sited<Shared<T>>],
+) -> Result<Vec<NamePlace<'t>>, AllocError>
+    ensures { IfOk result (λ places. map named places.items ≡ map (own_name_of T.own_name) nodes.now) }
+{
+    let mut places = Vec::new(alloc);
+    for node in nodes {
+        places.push(NamePlace::of_node(node))?;
+    }
+    Ok(places)
+}
+
+/// How often each text occurs among these names.
 #[tactic(auto, using(crate::proofs::Counting::count_named))]
 pub fn counts<'t>(
     alloc: Global,
@@ -41,7 +72,7 @@ fn add_if_repeated<'t>(
     Ok(())
 }
 
-/// The names whose text stands more than once among these, each of them.
+/// The names whose text occurs more than once among these, each of them.
 pub fn repeated<'t>(
     alloc: Global,
     names: &[NamePlace<'t>],
@@ -56,7 +87,7 @@ pub fn repeated<'t>(
     Ok(found)
 }
 
-/// Adds a fault at each name that stands more than once, about it.
+/// Adds a fault at each name that occurs more than once, about it.
 pub fn add_repeated(
     alloc: Global,
     rule: Rule,
