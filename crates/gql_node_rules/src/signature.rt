@@ -4,8 +4,8 @@ ghost use Rattle.std.specs.Option.{option_copied};
 ghost use Rattle.gql_ast.specs.declared.type_system.DirectiveLocation.{DirectiveLocation as TheLocation};
 ghost use Rattle.gql_faults.specs.TypeNames.{is_required};
 ghost use Rattle.gql_node_rules.specs.Applied.{is_listed};
-ghost use Rattle.gql_node_rules.specs.S32Arguments as spec;
-ghost use Rattle.gql_node_rules.specs.S33ArgumentValues.{argument_named};
+ghost use Rattle.gql_node_rules.specs.S32BadArguments as spec;
+ghost use Rattle.gql_node_rules.specs.S33BadArgumentValues.{argument_named};
 
 use crate::locations::{distinct, is_listed};
 use gql_ast::{DirectiveDefinition, DirectiveLocation, InputValueDefinition, Shared};
