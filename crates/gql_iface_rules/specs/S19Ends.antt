@@ -1,6 +1,6 @@
--- Which defaults are needed where the fields of a name are lacking.
+-- Which defaults are needed where the fields of a name are missing.
 use Rattle.std.specs.Prelude.{◌≡◌, ◌<◌, ◌↔◌, ◌++◌, ℕ, List, [], ◌∷◌, is_some, map, flat_map, length, nat_lt, slice_set, slice_index_or, Contains, if◌then◌else◌}
-use Rattle.gql_iface_rules.specs.S19DefaultCircles.{Numbered, NumberedObject}
+use Rattle.gql_iface_rules.specs.S19DefaultValueCycles.{Numbered, NumberedObject}
 use Rattle.gql_iface_rules.specs.S19Ranges.{first_number}
 use Rattle.gql_iface_rules.specs.declared.s19_ends.End.{End}
 

@@ -1,37 +1,21 @@
-//! Which interfaces a type implements, and the fields that both have (GraphQL specification, 3.6 and 3.7).
+//! The interfaces that types implement, and the fields that both have (GraphQL 3.6 and 3.7).
 ghost use Rattle.std.specs.Prelude.{◌≡◌, ◌++◌, IfOk, OnOk, map, flat_map};
 ghost use Rattle.std.specs.Option.{option_copied};
-ghost use Rattle.gql_faults.specs.Places.{named};
 ghost use Rattle.gql_iface_rules.specs.Borrowed.{implements, pair};
 ghost use Rattle.gql_iface_rules.specs.Implementing as spec;
 
-use gql_ast::{FieldDefinition, InputValueDefinition, Name, Shared};
+use gql_ast::{FieldDefinition, Name, Shared};
 use gql_built_in::Sited;
-use gql_faults::NamePlace;
 use gql_types::{HasName, Named, Schema, SchemaType, TypeKind};
 use std::alloc::{AllocError, Global};
 
-/// Whether a kind of type is that of interfaces.
-pub fn is_interface(kind: TypeKind) -> bool
-    ensures { result ≡ spec.is_interface kind }
-{
-    match kind {
-        TypeKind::Interface => true,
-        TypeKind::Scalar
-        | TypeKind::Object
-        | TypeKind::Union
-        | TypeKind::Enum
-        | TypeKind::InputObject => false,
-    }
-}
-
-/// The interface of a name, where it is known and an interface.
+/// The interface of a name, if an interface has it.
 pub fn interface_named<'s>(schema: &'s Schema, name: &str) -> Option<&'s SchemaType>
     ensures { option_copied result ≡ spec.interface_named schema.now name.now }
 {
     match schema.get(name) {
         Some(of_type) => {
-            if is_interface(of_type.kind) {
+            if of_type.kind.is(TypeKind::Interface) {
                 Some(of_type)
             } else {
                 None
@@ -49,6 +33,7 @@ pub struct Implementation<'s> {
     pub interface: &'s SchemaType,
 }
 
+// Adds the interface of a name in the list of a type, if an interface has the name.
 fn add_implemented<'s>(
     schema: &'s Schema,
     of_type: &'s SchemaType,
@@ -81,7 +66,7 @@ pub fn add_implementations<'s>(
     Ok(())
 }
 
-/// What all types implement.
+/// The interfaces that all types implement.
 pub fn implementations(
     alloc: Global,
     schema: &Schema,
@@ -95,7 +80,7 @@ pub fn implementations(
     Ok(found)
 }
 
-/// A type's own field, and the field of that name that an interface of the type has.
+/// A type's own field, and the interface's field of that name.
 #[derive(Clone, Copy)]
 pub struct FieldPair<'s> {
     pub own: &'s Sited<Shared<FieldDefinition>>,
@@ -112,6 +97,7 @@ pub fn field_in<'s>(
     fields.get(name)
 }
 
+// Adds a field of an interface with the type's field of its name, if there is one.
 fn add_paired<'s>(
     of_type: &'s SchemaType,
     expected: &'s Sited<Shared<FieldDefinition>>,
@@ -125,6 +111,7 @@ fn add_paired<'s>(
     Ok(())
 }
 
+// Adds the pairs of fields of a type and an interface.
 fn add_pairs<'s>(
     implementation: &Implementation<'s>,
     pairs: &mut Vec<FieldPair<'s>>,
@@ -137,7 +124,7 @@ fn add_pairs<'s>(
     Ok(())
 }
 
-/// Each field of an interface with the field of its name of each type that implements it.
+/// The fields of interfaces, each with the field of its name of the type that implements it.
 pub fn field_pairs<'s>(
     alloc: Global,
     implementations: &[Implementation<'s>],
@@ -149,14 +136,4 @@ pub fn field_pairs<'s>(
         add_pairs(implementation, &mut pairs)?;
     }
     Ok(pairs)
-}
-
-/// The name of a field, where it stands.
-pub fn field_name<'s>(field: &'s Sited<Shared<FieldDefinition>>) -> NamePlace<'s>
-    ensures { named result ≡ spec.field_name field.now }
-{
-    NamePlace {
-        file: field.file.as_ref(),
-        name: &field.node.get().name,
-    }
 }

@@ -1,4 +1,4 @@
-//! Which defaults are needed where the fields of a name are lacking: a name stands at the number of its first field.
+//! Which defaults are needed where the fields of a name are missing: a name stands at the number of its first field.
 ghost use Rattle.std.specs.Prelude.{◌≡◌, ◌<◌, ◌++◌, ◌↔◌, ℕ, [], map, flat_map, length, replicate, slice_index_or, IfOk, OnOk, Contains};
 ghost use Rattle.gql_iface_rules.specs.S19Inputs.{numbered, object};
 ghost use Rattle.gql_iface_rules.specs.S19Ends as spec;

@@ -2,14 +2,14 @@
 ghost use Rattle.std.specs.Prelude.{◌≡◌, ◌++◌, ◌∷◌, [], map, length, option_map, IfOk, OnOk};
 ghost use Rattle.std.specs.Option.{option_copied};
 ghost use Rattle.gql_inputs.specs.InputTypes.{name_in as name_within};
-ghost use Rattle.gql_iface_rules.specs.S19DefaultCircles as spec;
+ghost use Rattle.gql_iface_rules.specs.S19DefaultValueCycles as spec;
 ghost use Rattle.gql_iface_rules.specs.S19Inputs.{numbered, object};
 ghost use Rattle.gql_types.specs.Written.{written};
 
 use gql_ast::{InputValueDefinition, Shared, TypeRef};
 use gql_built_in::Sited;
+use gql_cycles::Range;
 use gql_inputs::name_in;
-use gql_ranges::Range;
 use gql_types::{HasName, Named, Schema, SchemaType, TypeKind};
 use std::alloc::{AllocError, Global};
 

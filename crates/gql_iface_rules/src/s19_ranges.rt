@@ -1,17 +1,17 @@
-//! What the objects within a default lack, as ranges of numbers: a field is lacking where the number of the first field of its
+//! What the objects within a default lack, as ranges of numbers: a field is missing where the number of the first field of its
 //! name is in a range.
 ghost use Rattle.std.specs.Prelude.{◌≡◌, ◌<◌, ◌++◌, ◌↔◌, ◌⊎◌, ℕ, [], map, flat_map, length, slice_index_or, IfOk, OnOk};
 ghost use Rattle.std.specs.List.Sorted.{IsNonDecreasing, IsPermutation};
 ghost use Rattle.gql_ast.specs.declared.type_system.InputValueDefinition.{InputValueDefinition};
 ghost use Rattle.gql_built_in.specs.declared.sited.Sited.{Sited};
-ghost use Rattle.gql_iface_rules.specs.S19DefaultCircles.{default_standings};
-ghost use Rattle.gql_iface_rules.specs.S19Inputs.{object, standing};
+ghost use Rattle.gql_iface_rules.specs.S19DefaultValueCycles.{default_values};
+ghost use Rattle.gql_iface_rules.specs.S19Inputs.{object, object_value};
 ghost use Rattle.gql_iface_rules.specs.S19Ranges as spec;
-ghost use Rattle.gql_ranges.specs.Cover.{IsWithinAny};
+ghost use Rattle.gql_cycles.specs.Cover.{IsWithinAny};
 
 use crate::s19_inputs::{Input, InputObject};
-use crate::s19_standings::{Standing, default_standings};
-use gql_ranges::Range;
+use crate::s19_object_values::{ObjectValue, default_values};
+use gql_cycles::Range;
 use gql_types::Named;
 use std::alloc::{AllocError, Global};
 
@@ -33,8 +33,8 @@ fn add_first(
 }
 
 /// The numbers of the first fields of the names that an object gives.
-fn given_numbers(alloc: Global, at: &Standing<'_, '_>) -> Result<Vec<usize>, AllocError>
-    ensures { IfOk result (λ numbers. numbers.items ≡ spec.given_numbers (standing at.now)) }
+fn given_numbers(alloc: Global, at: &ObjectValue<'_, '_>) -> Result<Vec<usize>, AllocError>
+    ensures { IfOk result (λ numbers. numbers.items ≡ spec.given_numbers (object_value at.now)) }
 {
     let mut numbers = Vec::new(alloc);
     for field in at.fields {
@@ -44,9 +44,9 @@ fn given_numbers(alloc: Global, at: &Standing<'_, '_>) -> Result<Vec<usize>, All
 }
 
 /// The same, from the least to the greatest.
-fn sorted_numbers(alloc: Global, at: &Standing<'_, '_>) -> Result<Vec<usize>, AllocError>
+fn sorted_numbers(alloc: Global, at: &ObjectValue<'_, '_>) -> Result<Vec<usize>, AllocError>
     ensures rises { IfOk result (λ numbers. IsNonDecreasing numbers.items) }
-    ensures moved { IfOk result (λ numbers. IsPermutation (spec.given_numbers (standing at.now)) numbers.items) }
+    ensures moved { IfOk result (λ numbers. IsPermutation (spec.given_numbers (object_value at.now)) numbers.items) }
 {
     let mut numbers = given_numbers(alloc, at)?;
     numbers.sort()?;
@@ -88,12 +88,12 @@ fn add_gaps(numbers: &Range, given: &[usize], gaps: &mut Vec<Range>) -> Result<(
 }
 
 /// Adds what an object lacks.
-fn add_lacking(
+fn add_missing(
     alloc: Global,
-    at: &Standing<'_, '_>,
+    at: &ObjectValue<'_, '_>,
     ranges: &mut Vec<Range>,
 ) -> Result<(), AllocError>
-    ensures { OnOk result ((p : ℕ) → IsWithinAny ranges.new.items p ↔ (IsWithinAny ranges.old.items p ⊎ spec.IsLacking (standing at.now) p)) }
+    ensures { OnOk result ((p : ℕ) → IsWithinAny ranges.new.items p ↔ (IsWithinAny ranges.old.items p ⊎ spec.IsMissing (object_value at.now) p)) }
 {
     let given = sorted_numbers(alloc, at)?;
     add_gaps(&at.input_object.numbers, given.as_slice(), ranges)?;
@@ -101,12 +101,12 @@ fn add_lacking(
 }
 
 /// What these objects lack.
-fn lacking(alloc: Global, all: &[Standing<'_, '_>]) -> Result<Vec<Range>, AllocError>
-    ensures { IfOk result (λ ranges. spec.Lack (map standing all.now) ranges.items) }
+fn missing(alloc: Global, all: &[ObjectValue<'_, '_>]) -> Result<Vec<Range>, AllocError>
+    ensures { IfOk result (λ ranges. spec.AreMissing (map object_value all.now) ranges.items) }
 {
     let mut ranges = Vec::new(alloc);
     for at in all {
-        add_lacking(alloc, at, &mut ranges)?;
+        add_missing(alloc, at, &mut ranges)?;
     }
     Ok(ranges)
 }
@@ -117,10 +117,10 @@ fn default_ranges(
     field: &Input,
     objects: &Named<InputObject<'_>>,
 ) -> Result<Vec<Range>, AllocError>
-    ensures { IfOk result (λ ranges. spec.Lack (default_standings (map object objects.now) field.now) ranges.items) }
+    ensures { IfOk result (λ ranges. spec.AreMissing (default_values (map object objects.now) field.now) ranges.items) }
 {
-    let all = default_standings(alloc, field, objects)?;
-    let ranges = lacking(alloc, all.as_slice())?;
+    let all = default_values(alloc, field, objects)?;
+    let ranges = missing(alloc, all.as_slice())?;
     Ok(ranges)
 }
 
@@ -132,7 +132,7 @@ pub fn all_ranges(
 ) -> Result<Vec<Vec<Range>>, AllocError>
     ensures length { IfOk result (λ ranges. length ranges.items ≡ length fields.now) }
     ensures ranges { IfOk result (λ ranges. (i : ℕ) (d : Sited InputValueDefinition) → i < length fields.now
-        → spec.Lack (default_standings (map object objects.now) (slice_index_or (map (λ f. f.now) fields.now) i d)) (slice_index_or (map (λ v. v.items) ranges.items) i [])) }
+        → spec.AreMissing (default_values (map object objects.now) (slice_index_or (map (λ f. f.now) fields.now) i d)) (slice_index_or (map (λ v. v.items) ranges.items) i [])) }
 {
     let mut ranges = Vec::new(alloc);
     for field in fields {
