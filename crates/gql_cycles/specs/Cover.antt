@@ -1,4 +1,4 @@
--- A segment tree over numbers, and the segments that stand for ranges of them.
+-- A segment tree over numbers, and the segments that cover ranges of them.
 use Rattle.std.specs.Prelude.{◌≡◌, ℕ, ◌+◌, ◌*◌, ◌%◌, ◌<◌, ◌≤◌, ◌==◌, List, [], ◌∷◌, Contains, if◌then◌else◌}
 use Rattle.gql_cycles.specs.declared.cover.Range.{Range}
 

@@ -1,4 +1,4 @@
--- Nodes that stand for names.
+-- The nodes of names.
 use Rattle.std.specs.Prelude.{◌≡◌, ◌≢◌, ℕ, ◌<◌, ◌⊎◌, List, [], Bool, true, false, Option, Some, length, map, slice_index_or, Contains}
 use Rattle.std.specs.List.{AllPairs}
 use Rattle.gql_cycles.specs.Names.{Steps}
@@ -19,10 +19,12 @@ pub record Nodes (names : List (List ℕ)) (node : List ℕ → Option ℕ) : Ty
 
 -- an edge from the node of a row to the node of a name to which it leads
 abbrev pub RowJoins : (List ℕ → Option ℕ) → Steps → ℕ → ℕ → Type 0
-RowJoins node row i j = (b : List ℕ) × (node row.name ≡ Some i) × Contains row.leads b × (node b ≡ Some j)
+RowJoins node row i j = (b : List ℕ) × (node row.name ≡ Some i) × Contains row.leads b
+    × (node b ≡ Some j)
 
 -- the edges are those that some row makes
-pub record Joins (node : List ℕ → Option ℕ) (rows : List Steps) (graph : List (List ℕ)) : Type 0 where
+pub record Joins (node : List ℕ
+    → Option ℕ) (rows : List Steps) (graph : List (List ℕ)) : Type 0 where
   pub sound : (i j : ℕ) → IsEdge graph i j → (r : Steps) × Contains rows r × RowJoins node r i j
   pub complete : (r : Steps) (i j : ℕ) → Contains rows r → RowJoins node r i j → IsEdge graph i j
 
@@ -35,7 +37,9 @@ pub record AddsRow (node : List ℕ → Option ℕ) (row : Steps) (old new : Lis
 
 -- of the nodes of a name one at most is marked
 abbrev pub MarksApart : List (List ℕ) → List Bool → Type 0
-MarksApart names marks = (i j : ℕ) → slice_index_or marks i false ≡ true → slice_index_or marks j false ≡ true → slice_index_or names i [] ≡ slice_index_or names j [] → i ≡ j
+MarksApart names marks = (i j : ℕ) → slice_index_or marks i false ≡ true
+    → slice_index_or marks j false ≡ true → slice_index_or names i [] ≡ slice_index_or names j []
+    → i ≡ j
 
 -- no two are equal
 abbrev pub AreApart : List (List ℕ) → Type 0

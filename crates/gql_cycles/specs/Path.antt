@@ -23,14 +23,16 @@ IsClosed s = (c : Bool) × (s ≡ Closed c)
 
 -- closed, or on the path, not before the component of i
 abbrev pub IsSeen : List ℕ → ℕ → State → Type 0
-IsSeen bounds i s = IsClosed s ⊎ ((j : ℕ) × (s ≡ OnPath j) × ((b : ℕ) → Contains bounds b → b ≤ i → b ≤ j))
+IsSeen bounds i s = IsClosed s
+    ⊎ ((j : ℕ) × (s ≡ OnPath j) × ((b : ℕ) → Contains bounds b → b ≤ i → b ≤ j))
 
 -- where the k-th edge of v ends
 abbrev pub end_of : List (List ℕ) → ℕ → ℕ → ℕ
 end_of graph v k = slice_index_or (slice_index_or graph v []) k 0
 
 -- a path of `size` nodes; `bounds` has where its components begin, and `calls` what is still followed
-pub record Path (graph : List (List ℕ)) (state : ℕ → State) (next_edges : ℕ → ℕ) (size : ℕ) (path : ℕ → ℕ) (bounds calls : List ℕ) : Type 0 where
+pub record Path (graph : List (List ℕ)) (state : ℕ → State) (next_edges : ℕ
+    → ℕ) (size : ℕ) (path : ℕ → ℕ) (bounds calls : List ℕ) : Type 0 where
   -- a node whose state says so is on the path
   pub there : (v i : ℕ) → state v ≡ OnPath i → (i < size) × (path i ≡ v)
   pub placed : (i : ℕ) → i < size → state (path i) ≡ OnPath i
@@ -42,8 +44,10 @@ pub record Path (graph : List (List ℕ)) (state : ℕ → State) (next_edges : 
   pub forth : (i j : ℕ) → i ≤ j → j < size → Reaches graph (path i) (path j)
   pub back : (i j : ℕ) → i ≤ j → j < size → IsTogether bounds i j → Reaches graph (path j) (path i)
   -- the edges that were followed, and those that are still to be
-  pub seen : (i k : ℕ) → i < size → k < next_edges (path i) → IsSeen bounds i (state (end_of graph (path i) k))
-  pub finished : (i : ℕ) → i < size → Contains calls i ⊎ (length (slice_index_or graph (path i) []) ≤ next_edges (path i))
+  pub seen : (i k : ℕ) → i < size → k < next_edges (path i)
+      → IsSeen bounds i (state (end_of graph (path i) k))
+  pub finished : (i : ℕ) → i < size → Contains calls i
+      ⊎ (length (slice_index_or graph (path i) []) ≤ next_edges (path i))
   pub fresh : (v : ℕ) → state v ≡ New → next_edges v ≡ 0
   -- both lists rise, the first node of each component is still followed, and the first component begins at 0
   pub calls_within : (c : ℕ) → Contains calls c → c < size
@@ -56,8 +60,10 @@ pub record Path (graph : List (List ℕ)) (state : ℕ → State) (next_edges : 
 pub record IsWalk (graph : List (List ℕ)) (walk : Walk) : Type 0 where
   pub states_are : length walk.states.items ≡ length graph
   pub next_edges_are : length walk.next_edges.items ≡ length graph
-  pub path : Path graph (λ v. slice_index_or walk.states.items v New) (λ v. slice_index_or walk.next_edges.items v 0)
-      (length walk.path.items) (λ i. slice_index_or walk.path.items i 0) walk.bounds.items walk.calls.items
+  pub path : Path graph (λ v. slice_index_or walk.states.items v New)
+      (λ v. slice_index_or walk.next_edges.items v 0)
+      (length walk.path.items)
+      (λ i. slice_index_or walk.path.items i 0) walk.bounds.items walk.calls.items
 
 -- just those up to n are kept, in their order
 pub record KeepsUpTo (n : ℕ) (old new : List ℕ) : Type 0 where
@@ -77,7 +83,8 @@ Ends xs x = (0 < length xs) × (slice_index_or xs (length xs - 1) 0 ≡ x)
 
 -- no node is new again
 abbrev pub KeepsMet : Walk → Walk → Type 0
-KeepsMet old new = (v : ℕ) → slice_index_or new.states.items v New ≡ New → slice_index_or old.states.items v New ≡ New
+KeepsMet old new = (v : ℕ) → slice_index_or new.states.items v New ≡ New
+    → slice_index_or old.states.items v New ≡ New
 
 -- the end of an edge was met, from a position of the path
 pub record Meets (graph : List (List ℕ)) (at end : ℕ) (old new : Walk) : Type 0 where

@@ -1,6 +1,7 @@
-//! A tree over numbers, and the segments that stand for a range.
+//! A segment tree over numbers, and the segments that cover a range.
 //!
-//! Over `count` numbers the segment of the number n is `count + n`, and below a segment v less than `count` stand 2 v and 2 v + 1.
+//! Over `count` numbers the segment of the number n is `count + n`, and the segments 2 v and 2 v + 1
+//! are below a segment v that is less than `count`.
 ghost use Rattle.std.specs.Prelude.{◌≡◌, ◌<◌, ◌*◌, ◌^◌, ◌++◌, ◌↔◌, ◌⊎◌, ℕ, IfOk, OnOk, Contains};
 ghost use Rattle.gql_cycles.specs.Cover.{IsAbove, IsWithin, IsWithinAny, if_odd};
 
@@ -23,11 +24,13 @@ fn add_if_odd(number: usize, segment: usize, segments: &mut Vec<usize>) -> Resul
     Ok(())
 }
 
-// Adds the segments that stand for a range of the numbers.
+// Adds the segments that cover a range of the numbers.
 fn add_cover(count: usize, range: &Range, segments: &mut Vec<usize>) -> Result<(), AllocError>
     requires { 2 * count < 2 ^ 64 }
-    ensures within { OnOk result ((v : ℕ) → Contains segments.new.items v → Contains segments.old.items v ⊎ (v < 2 * count)) }
-    ensures above { OnOk result ((p : ℕ) → IsAbove count segments.new.items p ↔ (IsAbove count segments.old.items p ⊎ ((p < count) × IsWithin range.now p))) }
+    ensures within { OnOk result ((v : ℕ) → Contains segments.new.items v
+        → Contains segments.old.items v ⊎ (v < 2 * count)) }
+    ensures above { OnOk result ((p : ℕ) → IsAbove count segments.new.items p
+        ↔ (IsAbove count segments.old.items p ⊎ ((p < count) × IsWithin range.now p))) }
 {
     let mut left = count + range.start.min(count);
     let mut right = count + range.end.min(count);
@@ -40,11 +43,13 @@ fn add_cover(count: usize, range: &Range, segments: &mut Vec<usize>) -> Result<(
     Ok(())
 }
 
-/// The segments that stand for these ranges of the numbers.
+/// The segments that cover these ranges of the numbers.
 pub fn cover(alloc: Global, count: usize, ranges: &[Range]) -> Result<Vec<usize>, AllocError>
     requires { 2 * count < 2 ^ 64 }
     ensures within { IfOk result (λ segments. (v : ℕ) → Contains segments.items v → v < 2 * count) }
-    ensures above { IfOk result (λ segments. (p : ℕ) → IsAbove count segments.items p ↔ ((p < count) × IsWithinAny ranges.now p)) }
+    ensures above { IfOk result
+        (λ segments. (p : ℕ) → IsAbove count segments.items p
+        ↔ ((p < count) × IsWithinAny ranges.now p)) }
 {
     let mut segments = Vec::new(alloc);
     for range in ranges {

@@ -2,8 +2,8 @@
 //!
 //! Names: input objects that need themselves, directives whose definitions use them, fragments that
 //! spread themselves. Nodes: the same by number, and nodes that lead to ranges of numbers, where a
-//! segment tree over the numbers stands for the ranges, so that a range costs a few edges however
-//! long it is. One walk with stacks of its own finds them, in time linear in the nodes and edges.
+//! segment tree over the numbers covers the ranges, so that a range costs a few edges however long
+//! it is. One walk with stacks of its own finds them, in time linear in the nodes and edges.
 #![tactic(auto)]
 
 mod cover;

@@ -10,7 +10,9 @@ use std::collections::HashMap;
 
 /// A node for each name: that of one of its rows.
 pub fn nodes_of<'n>(alloc: Global, rows: &[Row<'n>]) -> Result<HashMap<&'n str, usize>, AllocError>
-    ensures { IfOk result (λ nodes. Nodes (names_of (map row_of rows.now)) (λ q. hash.get_by (λ k. bytes_eq q k.now) nodes)) }
+    ensures { IfOk result
+        (λ nodes. Nodes (names_of (map row_of rows.now))
+        (λ q. hash.get_by (λ k. bytes_eq q k.now) nodes)) }
 {
     let mut nodes = HashMap::new(alloc);
     for (node, row) in rows.iter().enumerate() {
@@ -53,8 +55,10 @@ fn add_row(
     nodes: &HashMap<&str, usize>,
     edges: &mut Vec<Vec<usize>>,
 ) -> Result<(), AllocError>
-    requires { (i : ℕ) → hash.get_by (λ k. bytes_eq row.now.name.now k.now) nodes.now ≡ Some i → i < length edges.old.items }
-    ensures { OnOk result (AddsRow (λ q. hash.get_by (λ k. bytes_eq q k.now) nodes.now) (row_of row.now)
+    requires { (i : ℕ) → hash.get_by (λ k. bytes_eq row.now.name.now k.now) nodes.now ≡ Some i
+        → i < length edges.old.items }
+    ensures { OnOk result (AddsRow
+        (λ q. hash.get_by (λ k. bytes_eq q k.now) nodes.now) (row_of row.now)
         (map (λ v. v.items) edges.old.items) (map (λ v. v.items) edges.new.items)) }
 {
     if let Some(node) = nodes.get(row.name) {
@@ -70,9 +74,12 @@ pub fn edges_of(
     rows: &[Row<'_>],
     nodes: &HashMap<&str, usize>,
 ) -> Result<Vec<Vec<usize>>, AllocError>
-    requires { Nodes (names_of (map row_of rows.now)) (λ q. hash.get_by (λ k. bytes_eq q k.now) nodes.now) }
+    requires { Nodes (names_of (map row_of rows.now))
+        (λ q. hash.get_by (λ k. bytes_eq q k.now) nodes.now) }
     ensures length { IfOk result (λ edges. length edges.items ≡ length rows.now) }
-    ensures joins { IfOk result (λ edges. Joins (λ q. hash.get_by (λ k. bytes_eq q k.now) nodes.now) (map row_of rows.now) (map (λ v. v.items) edges.items)) }
+    ensures joins { IfOk result
+        (λ edges. Joins
+        (λ q. hash.get_by (λ k. bytes_eq q k.now) nodes.now) (map row_of rows.now) (map (λ v. v.items) edges.items)) }
 {
     let mut edges = no_edges(alloc, rows.len())?;
     for row in rows {
@@ -90,7 +97,9 @@ pub fn marked_names<'n>(
     requires length { length marks.now ≡ length rows.now }
     requires apart { MarksApart (names_of (map row_of rows.now)) marks.now }
     ensures once { IfOk result (λ names. AreApart (map (λ m. m.now) names.items)) }
-    ensures names { IfOk result (λ names. (q : List ℕ) → Contains (map (λ m. m.now) names.items) q ↔ IsMarked (names_of (map row_of rows.now)) marks.now q) }
+    ensures names { IfOk result
+        (λ names. (q : List ℕ) → Contains (map (λ m. m.now) names.items) q
+        ↔ IsMarked (names_of (map row_of rows.now)) marks.now q) }
 {
     let mut names = Vec::new(alloc);
     for (node, row) in rows.iter().enumerate() {

@@ -17,8 +17,12 @@ pub struct Row<'n> {
 /// The names that lead back to themselves, each once.
 pub fn names_on_cycles<'n>(alloc: Global, rows: &[Row<'n>]) -> Result<Vec<&'n str>, AllocError>
     ensures once { IfOk result (λ names. AreApart (map (λ m. m.now) names.items)) }
-    ensures sound { IfOk result (λ names. (n : List ℕ) → Contains (map (λ m. m.now) names.items) n → Leads (map row_of rows.now) n n) }
-    ensures complete { IfOk result (λ names. (n : List ℕ) → Leads (map row_of rows.now) n n → Contains (map (λ m. m.now) names.items) n) }
+    ensures sound { IfOk result
+        (λ names. (n : List ℕ) → Contains (map (λ m. m.now) names.items) n
+        → Leads (map row_of rows.now) n n) }
+    ensures complete { IfOk result
+        (λ names. (n : List ℕ) → Leads (map row_of rows.now) n n
+        → Contains (map (λ m. m.now) names.items) n) }
 {
     let nodes = nodes_of(alloc, rows)?;
     let edges = edges_of(alloc, rows, &nodes)?;

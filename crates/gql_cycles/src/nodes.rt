@@ -34,7 +34,9 @@ fn edges_inside(
     edges: &[Vec<usize>],
     count: usize,
 ) -> Result<Vec<Vec<usize>>, AllocError>
-    ensures { IfOk result (λ found. map (λ v. v.items) found.items ≡ map (spec.ends_inside count) (map (λ v. v.items) edges.now)) }
+    ensures { IfOk result
+        (λ found. map (λ v. v.items) found.items
+        ≡ map (spec.ends_inside count) (map (λ v. v.items) edges.now)) }
 {
     let mut found = Vec::new(alloc);
     for ends in edges {
@@ -46,7 +48,8 @@ fn edges_inside(
 // The nodes that are marked, from the first to the last.
 fn marked_nodes(alloc: Global, marks: &[bool]) -> Result<Vec<usize>, AllocError>
     ensures once { IfOk result (λ nodes. Rises nodes.items) }
-    ensures marked { IfOk result (λ nodes. (i : ℕ) → Contains nodes.items i ↔ (slice_index_or marks.now i false ≡ true)) }
+    ensures marked { IfOk result
+        (λ nodes. (i : ℕ) → Contains nodes.items i ↔ (slice_index_or marks.now i false ≡ true)) }
 {
     let mut nodes = Vec::new(alloc);
     for (node, mark) in marks.iter().enumerate() {
@@ -61,8 +64,10 @@ fn marked_nodes(alloc: Global, marks: &[bool]) -> Result<Vec<usize>, AllocError>
 /// each node those to which it leads; an edge to a number that is no node is ignored.
 pub fn nodes_on_cycles(alloc: Global, edges: &[Vec<usize>]) -> Result<Vec<usize>, AllocError>
     ensures once { IfOk result (λ nodes. Rises nodes.items) }
-    ensures sound { IfOk result (λ nodes. (i : ℕ) → Contains nodes.items i → Trail (map (λ v. v.items) edges.now) i i) }
-    ensures complete { IfOk result (λ nodes. (i : ℕ) → Trail (map (λ v. v.items) edges.now) i i → Contains nodes.items i) }
+    ensures sound { IfOk result
+        (λ nodes. (i : ℕ) → Contains nodes.items i → Trail (map (λ v. v.items) edges.now) i i) }
+    ensures complete { IfOk result
+        (λ nodes. (i : ℕ) → Trail (map (λ v. v.items) edges.now) i i → Contains nodes.items i) }
 {
     let inside = edges_inside(alloc, edges, edges.len())?;
     let marks = cycle_marks(alloc, &inside)?;

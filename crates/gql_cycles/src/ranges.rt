@@ -60,7 +60,9 @@ fn node_rows(
     ends: &[Vec<usize>],
 ) -> Result<Vec<Vec<usize>>, AllocError>
     requires { first + nodes < 2 ^ 64 }
-    ensures { IfOk result (λ rows. map (λ v. v.items) rows.items ≡ node_rows first nodes (map (λ v. v.items) ends.now)) }
+    ensures { IfOk result
+        (λ rows. map (λ v. v.items) rows.items
+        ≡ node_rows first nodes (map (λ v. v.items) ends.now)) }
 {
     let mut rows = Vec::new(alloc);
     for nodes_there in ends {
@@ -69,7 +71,7 @@ fn node_rows(
     Ok(rows)
 }
 
-// The segments that stand for the ranges of each node.
+// The segments that cover the ranges of each node.
 fn covers(alloc: Global, count: usize, ranges: &[Vec<Range>]) -> Result<Vec<Vec<usize>>, AllocError>
     requires { 2 * count < 2 ^ 64 }
     ensures length { IfOk result (λ rows. length rows.items ≡ length ranges.now) }
@@ -89,7 +91,8 @@ fn tree(
     ranges: &[Vec<Range>],
     ends: &[Vec<usize>],
 ) -> Result<Vec<Vec<usize>>, AllocError>
-    ensures { IfOk result (λ graph. IsTree (map (λ v. v.items) ranges.now) (map (λ v. v.items) ends.now) (map (λ v. v.items) graph.items)) }
+    ensures { IfOk result
+        (λ graph. IsTree (map (λ v. v.items) ranges.now) (map (λ v. v.items) ends.now) (map (λ v. v.items) graph.items)) }
 {
     let count = ends.len();
     let mut graph = inner_rows(alloc, count)?;

@@ -83,11 +83,14 @@ fn is_last(nodes: &[usize], node: usize) -> bool
 // A new node goes onto the path, as a component of its own.
 fn enter(walk: &mut Walk, node: usize) -> Result<(), AllocError>
     requires { node < length walk.old.states.items }
-    ensures states { OnOk result (walk.new.states.items ≡ slice_set walk.old.states.items node (State.OnPath (length walk.old.path.items))) }
+    ensures states { OnOk result (walk.new.states.items
+        ≡ slice_set walk.old.states.items node (State.OnPath (length walk.old.path.items))) }
     ensures next_edges { OnOk result (walk.new.next_edges.items ≡ walk.old.next_edges.items) }
     ensures path { OnOk result (walk.new.path.items ≡ walk.old.path.items ++ node ∷ []) }
-    ensures bounds { OnOk result (walk.new.bounds.items ≡ walk.old.bounds.items ++ length walk.old.path.items ∷ []) }
-    ensures calls { OnOk result (walk.new.calls.items ≡ walk.old.calls.items ++ length walk.old.path.items ∷ []) }
+    ensures bounds { OnOk result (walk.new.bounds.items ≡ walk.old.bounds.items
+        ++ length walk.old.path.items ∷ []) }
+    ensures calls { OnOk result (walk.new.calls.items ≡ walk.old.calls.items
+        ++ length walk.old.path.items ∷ []) }
 {
     let top = walk.path.len();
     walk.path.push(node)?;
@@ -133,9 +136,12 @@ fn meet(edges: &[Vec<usize>], walk: &mut Walk, at: usize, end: usize) -> Result<
 // Closes the nodes of the path from `start` on.
 fn close(states: &mut [State], path: &[usize], start: usize, mark: bool)
     requires start { start ≤ length path.now }
-    requires there { (v i : ℕ) → slice_index_or states.old v State.New ≡ State.OnPath i → (i < length path.now) × (slice_index_or path.now i 0 ≡ v) }
-    requires placed { (i : ℕ) → i < length path.now → slice_index_or states.old (slice_index_or path.now i 0) State.New ≡ State.OnPath i }
-    ensures { (v : ℕ) → slice_index_or states.new v State.New ≡ closed_from start mark (slice_index_or states.old v State.New) }
+    requires there { (v i : ℕ) → slice_index_or states.old v State.New ≡ State.OnPath i
+        → (i < length path.now) × (slice_index_or path.now i 0 ≡ v) }
+    requires placed { (i : ℕ) → i < length path.now
+        → slice_index_or states.old (slice_index_or path.now i 0) State.New ≡ State.OnPath i }
+    ensures { (v : ℕ) → slice_index_or states.new v State.New
+        ≡ closed_from start mark (slice_index_or states.old v State.New) }
 {
     for i in start..path.len() {
         states[path[i]] = State::Closed(mark);

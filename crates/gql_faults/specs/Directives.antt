@@ -8,4 +8,4 @@ abbrev pub first_directives : List (Sited DirectiveDefinition) → List (Sited D
 first_directives [] = []
 first_directives (d ∷ ds) =
     d ∷ filter (λ (e : Sited DirectiveDefinition). not (bytes_eq d.node.name.text e.node.name.text))
-        (first_directives ds)
+    (first_directives ds)

@@ -56,6 +56,6 @@ fault_of rule n = fault_at rule n.node.text (place_of n)
 abbrev pub faults_of : Rule → List (Sited Name) → List Fault
 faults_of rule names = flat_map (fault_of rule) names
 
--- the faults by a definition that was looked up by its name; none where no definition has the name
+-- the faults by a definition that is found by its name; none where no definition has the name
 abbrev pub where_known : {A : Type 0} → Option A → (A → List Fault) → List Fault
 where_known known faults = option_map_or faults known []

@@ -53,7 +53,8 @@ pub fn add_fault(
     at: &Spot<'_>,
     faults: &mut Vec<Fault>,
 ) -> Result<(), AllocError>
-    ensures { OnOk result (faults.new.items ≡ faults.old.items ++ spec.fault_at rule about.now (spot at.now)) }
+    ensures { OnOk result (faults.new.items ≡ faults.old.items
+        ++ spec.fault_at rule about.now (spot at.now)) }
 {
     if let Some(file) = at.file {
         let places = one_place(alloc, file, at.place)?;
@@ -70,7 +71,9 @@ fn two_places(
     second_file: &FileName,
     second: Place,
 ) -> Result<Items<FilePlace>, AllocError>
-    ensures { IfOk result (λ places. places ≡ spec.in_file file.now place ∷ spec.in_file second_file.now second ∷ []) }
+    ensures { IfOk result
+        (λ places. places
+        ≡ spec.in_file file.now place ∷ spec.in_file second_file.now second ∷ []) }
 {
     let mut places = Items::new(alloc);
     places.push(in_file(file, place))?;
@@ -87,7 +90,8 @@ pub fn add_fault_between(
     second: &Spot<'_>,
     faults: &mut Vec<Fault>,
 ) -> Result<(), AllocError>
-    ensures { OnOk result (faults.new.items ≡ faults.old.items ++ spec.fault_between rule about.now (spot first.now) (spot second.now)) }
+    ensures { OnOk result (faults.new.items ≡ faults.old.items
+        ++ spec.fault_between rule about.now (spot first.now) (spot second.now)) }
 {
     if let Some(file) = first.file {
         if let Some(second_file) = second.file {
@@ -105,7 +109,8 @@ pub fn add_fault_of(
     name: &NamePlace<'_>,
     faults: &mut Vec<Fault>,
 ) -> Result<(), AllocError>
-    ensures { OnOk result (faults.new.items ≡ faults.old.items ++ spec.fault_of rule (named name.now)) }
+    ensures { OnOk result (faults.new.items ≡ faults.old.items
+        ++ spec.fault_of rule (named name.now)) }
 {
     add_fault(alloc, rule, name.name.as_str(), &name.spot(), faults)
 }
@@ -117,7 +122,8 @@ pub fn add_faults(
     names: &[NamePlace<'_>],
     faults: &mut Vec<Fault>,
 ) -> Result<(), AllocError>
-    ensures { OnOk result (faults.new.items ≡ faults.old.items ++ spec.faults_of rule (map named names.now)) }
+    ensures { OnOk result (faults.new.items ≡ faults.old.items
+        ++ spec.faults_of rule (map named names.now)) }
 {
     for name in names {
         add_fault_of(alloc, rule, name, faults)?;

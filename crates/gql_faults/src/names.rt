@@ -31,7 +31,8 @@ pub fn own_names<'t, T: HasOwnName>(
     alloc: Global,
     nodes: &'t [Sited<Shared<T>>],
 ) -> Result<Vec<NamePlace<'t>>, AllocError>
-    ensures { IfOk result (λ places. map named places.items ≡ map (own_name_of T.own_name) nodes.now) }
+    ensures { IfOk result
+        (λ places. map named places.items ≡ map (own_name_of T.own_name) nodes.now) }
 {
     let mut places = Vec::new(alloc);
     for node in nodes {
@@ -47,7 +48,8 @@ pub fn counts<'t>(
     names: &[NamePlace<'t>],
 ) -> Result<HashMap<&'t str, usize>, AllocError>
     ensures { IfOk result (λ counts. (q : List ℕ) →
-        unwrap_or (hash.get_by (λ k. bytes_eq q k.now) counts) 0 ≡ spec.count_of q (map named names.now)) }
+        unwrap_or (hash.get_by (λ k. bytes_eq q k.now) counts) 0
+        ≡ spec.count_of q (map named names.now)) }
 {
     let mut counts = HashMap::new(alloc);
     for name in names {
@@ -64,7 +66,9 @@ fn add_if_repeated<'t>(
     found: &mut Vec<NamePlace<'t>>,
 ) -> Result<(), AllocError>
     ensures { OnOk result (map named found.new.items ≡ map named found.old.items
-        ++ (if nat_lt 1 (unwrap_or (hash.get_by (λ k. bytes_eq name.now.name.now.text k.now) counts.now) 0) then named name.now ∷ [] else [])) }
+        ++ (if nat_lt 1 (unwrap_or (hash.get_by
+        (λ k. bytes_eq name.now.name.now.text k.now) counts.now) 0) then named name.now ∷ []
+        else [])) }
 {
     if counts.get(name.name.as_str()).copied().unwrap_or(0) > 1 {
         found.push(*name)?;
@@ -94,7 +98,8 @@ pub fn add_repeated(
     names: &[NamePlace<'_>],
     faults: &mut Vec<Fault>,
 ) -> Result<(), AllocError>
-    ensures { OnOk result (faults.new.items ≡ faults.old.items ++ spec.repeated_faults rule (map named names.now)) }
+    ensures { OnOk result (faults.new.items ≡ faults.old.items
+        ++ spec.repeated_faults rule (map named names.now)) }
 {
     let found = repeated(alloc, names)?;
     add_faults(alloc, rule, found.as_slice(), faults)

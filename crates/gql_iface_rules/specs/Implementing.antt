@@ -68,5 +68,7 @@ abbrev pub arguments_of : Sited FieldDefinition → List (Sited InputValueDefini
 arguments_of f = sited f.file f.node.arguments
 
 -- the first argument of this name
-abbrev pub argument_in : List (Sited InputValueDefinition) → List ℕ → Option (Sited InputValueDefinition)
-argument_in arguments name = find (λ (a : Sited InputValueDefinition). bytes_eq name a.node.name.text) arguments
+abbrev pub argument_in : List (Sited InputValueDefinition) → List ℕ
+    → Option (Sited InputValueDefinition)
+argument_in arguments name = find
+    (λ (a : Sited InputValueDefinition). bytes_eq name a.node.name.text) arguments

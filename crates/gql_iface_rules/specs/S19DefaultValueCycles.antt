@@ -85,20 +85,25 @@ pub record Given : Type 0 where
 
 -- the objects within the value of a field, at the type of the field of its name
 abbrev pub values_in_field : SchemaType → Given → List ObjectValue
-values_in_field t f = option_map_or (λ (d : Sited InputValueDefinition). f.value false (written d.node.of_type)) (find (λ (d : Sited InputValueDefinition). bytes_eq f.name d.node.name.text) t.input_fields) []
+values_in_field t f = option_map_or
+    (λ (d : Sited InputValueDefinition). f.value false (written d.node.of_type)) (find
+    (λ (d : Sited InputValueDefinition). bytes_eq f.name d.node.name.text) t.input_fields) []
 
 -- the objects within the fields of an object, and itself
 abbrev pub values_of_object : List Given → NumberedObject → List ObjectValue
-values_of_object fields o = flat_map (values_in_field o.of_type) fields ++ record { input_object = o; names = map (λ (f : Given). f.name) fields } ∷ []
+values_of_object fields o = flat_map (values_in_field o.of_type) fields
+    ++ record { input_object = o; names = map (λ (f : Given). f.name) fields } ∷ []
 
 -- the objects within an object, at the input object within lists and Non-Nulls, as a list of one;
 -- but an item is not made a list of one
 abbrev pub object_at : List NumberedObject → List Given → ObjectsAt
-object_at all fields is_item t = if is_item && is_list t then [] else option_map_or (values_of_object fields) (object_named all (name_in t)) []
+object_at all fields is_item t = if is_item && is_list t then []
+    else option_map_or (values_of_object fields) (object_named all (name_in t)) []
 
 -- the objects within a list, whose items have the type of its items
 abbrev pub list_at : List ObjectsAt → Written → List ObjectValue
-list_at items t = option_map_or (λ item. flat_map (λ (x : ObjectsAt). x true item) items) (item_of t) []
+list_at items t = option_map_or
+    (λ item. flat_map (λ (x : ObjectsAt). x true item) items) (item_of t) []
 
 -- the objects within a value, by its form and the objects within its parts
 abbrev pub object_values_at : List NumberedObject → Literal-F ObjectsAt Given → ObjectsAt
@@ -140,7 +145,8 @@ missing_defaults x = flat_map (missing_default x.names) x.input_object.inputs
 
 -- the objects within the default of an input field, at the type of the field
 abbrev pub default_values : List NumberedObject → Sited InputValueDefinition → List ObjectValue
-default_values all d = option_map_or (λ (x : Literal). object_values all x false (written d.node.of_type)) d.node.default []
+default_values all d = option_map_or
+    (λ (x : Literal). object_values all x false (written d.node.of_type)) d.node.default []
 
 -- what the default of an input field needs
 abbrev pub default_needs : List NumberedObject → Sited InputValueDefinition → List ℕ

@@ -1,4 +1,4 @@
--- What the code holds of input fields and input objects.
+-- Helper definitions for private contracts: input fields and input objects as the code holds them.
 use Rattle.std.specs.Prelude.{map}
 use Rattle.gql_iface_rules.specs.S19DefaultValueCycles.{Numbered, NumberedObject, ObjectValue as TheObjectValue}
 use Rattle.gql_iface_rules.specs.declared.s19_inputs.InputObject.{InputObject}
@@ -12,4 +12,7 @@ abbrev pub object : InputObject → NumberedObject
 object o = record { of_type = o.of_type.now; numbers = o.numbers; inputs = map numbered o.inputs }
 
 abbrev pub object_value : ObjectValue → TheObjectValue
-object_value x = record { input_object = object x.input_object.now; names = map (λ f. f.name.text) x.fields.now }
+object_value x = record {
+  input_object = object x.input_object.now;
+  names = map (λ f. f.name.text) x.fields.now;
+}

@@ -40,7 +40,8 @@ fn add_implemented<'s>(
     name: &'s Sited<Name>,
     found: &mut Vec<Implementation<'s>>,
 ) -> Result<(), AllocError>
-    ensures { OnOk result (map implements found.new.items ≡ map implements found.old.items ++ spec.implemented_by schema.now of_type.now name.now) }
+    ensures { OnOk result (map implements found.new.items ≡ map implements found.old.items
+        ++ spec.implemented_by schema.now of_type.now name.now) }
 {
     if let Some(interface) = interface_named(schema, name.node.as_str()) {
         found.push(Implementation {
@@ -58,7 +59,8 @@ pub fn add_implementations<'s>(
     of_type: &'s SchemaType,
     found: &mut Vec<Implementation<'s>>,
 ) -> Result<(), AllocError>
-    ensures { OnOk result (map implements found.new.items ≡ map implements found.old.items ++ spec.implementations_of schema.now of_type.now) }
+    ensures { OnOk result (map implements found.new.items ≡ map implements found.old.items
+        ++ spec.implementations_of schema.now of_type.now) }
 {
     for name in of_type.interfaces.as_slice() {
         add_implemented(schema, of_type, name, found)?;
@@ -103,7 +105,8 @@ fn add_paired<'s>(
     expected: &'s Sited<Shared<FieldDefinition>>,
     pairs: &mut Vec<FieldPair<'s>>,
 ) -> Result<(), AllocError>
-    ensures { OnOk result (map pair pairs.new.items ≡ map pair pairs.old.items ++ spec.paired of_type.now.fields expected.now) }
+    ensures { OnOk result (map pair pairs.new.items ≡ map pair pairs.old.items
+        ++ spec.paired of_type.now.fields expected.now) }
 {
     if let Some(own) = field_in(&of_type.fields, expected.name()) {
         pairs.push(FieldPair { own, expected })?;
@@ -116,7 +119,8 @@ fn add_pairs<'s>(
     implementation: &Implementation<'s>,
     pairs: &mut Vec<FieldPair<'s>>,
 ) -> Result<(), AllocError>
-    ensures { OnOk result (map pair pairs.new.items ≡ map pair pairs.old.items ++ spec.pairs_of (implements implementation.now)) }
+    ensures { OnOk result (map pair pairs.new.items ≡ map pair pairs.old.items
+        ++ spec.pairs_of (implements implementation.now)) }
 {
     for expected in implementation.interface.fields.as_slice() {
         add_paired(implementation.of_type, expected, pairs)?;
@@ -129,7 +133,9 @@ pub fn field_pairs<'s>(
     alloc: Global,
     implementations: &[Implementation<'s>],
 ) -> Result<Vec<FieldPair<'s>>, AllocError>
-    ensures { IfOk result (λ pairs. map pair pairs.items ≡ flat_map spec.pairs_of (map implements implementations.now)) }
+    ensures { IfOk result
+        (λ pairs. map pair pairs.items
+        ≡ flat_map spec.pairs_of (map implements implementations.now)) }
 {
     let mut pairs = Vec::new(alloc);
     for implementation in implementations {

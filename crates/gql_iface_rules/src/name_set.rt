@@ -27,12 +27,15 @@ impl<'s> Model for NameSet<'s> {
 
     ghost view = { λ d. d.names.now };
 
-    ghost invariant = { λ d. (q : List ℕ) → is_some (hash.get_by (λ k. bytes_eq q k.now) d.set) ≡ is_among q d.names.now };
+    ghost invariant = { λ d. (q : List ℕ) → is_some (hash.get_by (λ k. bytes_eq q k.now) d.set)
+        ≡ is_among q d.names.now };
 }
 
 // The texts of these names.
 fn set_of<'s>(alloc: Global, names: &'s [Sited<Name>]) -> Result<HashMap<&'s str, ()>, AllocError>
-    ensures { IfOk result (λ set. (q : List ℕ) → is_some (hash.get_by (λ k. bytes_eq q k.now) set) ≡ is_among q names.now) }
+    ensures { IfOk result
+        (λ set. (q : List ℕ) → is_some (hash.get_by (λ k. bytes_eq q k.now) set)
+        ≡ is_among q names.now) }
 {
     let mut set = HashMap::new(alloc);
     for name in names {

@@ -40,7 +40,8 @@ fn add_needed<'s>(
     field: &'s Sited<Shared<InputValueDefinition>>,
     names: &mut Vec<&'s str>,
 ) -> Result<(), AllocError>
-    ensures { OnOk result (map (λ n. n.now) names.new.items ≡ map (λ n. n.now) names.old.items ++ spec.needed_by field.now) }
+    ensures { OnOk result (map (λ n. n.now) names.new.items ≡ map (λ n. n.now) names.old.items
+        ++ spec.needed_by field.now) }
 {
     if let Some(name) = needed_name(&field.node.get().of_type) {
         names.push(name)?;
@@ -68,7 +69,8 @@ fn add_input_row<'s>(
     of_type: &'s SchemaType,
     rows: &mut Vec<Row<'s>>,
 ) -> Result<(), AllocError>
-    ensures { OnOk result (map row_of rows.new.items ≡ map row_of rows.old.items ++ spec.input_row of_type.now.kind of_type.now) }
+    ensures { OnOk result (map row_of rows.new.items ≡ map row_of rows.old.items
+        ++ spec.input_row of_type.now.kind of_type.now) }
 {
     match of_type.kind {
         TypeKind::InputObject => {
@@ -103,7 +105,8 @@ fn add_at_type(
     name: &str,
     faults: &mut Vec<Fault>,
 ) -> Result<(), AllocError>
-    ensures { OnOk result (faults.new.items ≡ faults.old.items ++ spec.fault_at_type schema.now name.now) }
+    ensures { OnOk result (faults.new.items ≡ faults.old.items
+        ++ spec.fault_at_type schema.now name.now) }
 {
     match schema.get(name) {
         Some(of_type) => {
@@ -132,8 +135,12 @@ fn add_at_types(
 
 // The names of the input objects that lead back to themselves.
 fn input_cycles(alloc: Global, schema: &Schema) -> Result<Vec<&str>, AllocError>
-    ensures sound { IfOk result (λ names. (n : List ℕ) → Contains (map (λ m. m.now) names.items) n → Leads (spec.input_rows schema.now) n n) }
-    ensures complete { IfOk result (λ names. (n : List ℕ) → Leads (spec.input_rows schema.now) n n → Contains (map (λ m. m.now) names.items) n) }
+    ensures sound { IfOk result
+        (λ names. (n : List ℕ) → Contains (map (λ m. m.now) names.items) n
+        → Leads (spec.input_rows schema.now) n n) }
+    ensures complete { IfOk result
+        (λ names. (n : List ℕ) → Leads (spec.input_rows schema.now) n n
+        → Contains (map (λ m. m.now) names.items) n) }
 {
     let rows = input_rows(alloc, schema)?;
     let names = names_on_cycles(alloc, rows.as_slice())?;

@@ -19,7 +19,8 @@ fn add_at_input(
     number: usize,
     faults: &mut Vec<Fault>,
 ) -> Result<(), AllocError>
-    ensures { OnOk result (faults.new.items ≡ faults.old.items ++ spec.fault_at_number (map (λ f. f.now) fields.now) number) }
+    ensures { OnOk result (faults.new.items ≡ faults.old.items
+        ++ spec.fault_at_number (map (λ f. f.now) fields.now) number) }
 {
     match fields.get(number) {
         Some(field) => { add_fault_of(alloc, Rule::S19, &NamePlace::of_node(field), faults) }

@@ -1,4 +1,4 @@
-//! The objects within a default, and where they stand (GraphQL specification, 3.10).
+//! The objects within a default value, at their input objects (GraphQL 3.10).
 ghost use Rattle.std.specs.Prelude.{◌≡◌, ◌++◌, true, map, flat_map, IfOk, OnOk};
 ghost use Rattle.gql_iface_rules.specs.S19DefaultValueCycles as spec;
 ghost use Rattle.gql_iface_rules.specs.S19Inputs.{object, object_value};
@@ -10,7 +10,7 @@ use gql_inputs::{is_list, item_of};
 use gql_types::{Named, SchemaType};
 use std::alloc::{AllocError, Global};
 
-/// An object within a value, and the input object at which it stands.
+/// An object within a value, and the input object of its type.
 #[derive(Clone, Copy)]
 pub struct ObjectValue<'a, 's> {
     pub input_object: &'a InputObject<'s>,
@@ -28,7 +28,8 @@ pub fn add_object_values<'a, 's>(
     objects: &'a Named<InputObject<'s>>,
     object_values: &mut Vec<ObjectValue<'a, 's>>,
 ) -> Result<(), AllocError>
-    ensures { OnOk result (map object_value object_values.new.items ≡ map object_value object_values.old.items
+    ensures { OnOk result (map object_value object_values.new.items
+        ≡ map object_value object_values.old.items
         ++ spec.object_values (map object objects.now) value.now is_item (written of_type.now)) }
 {
     match value {
@@ -64,7 +65,8 @@ fn add_list<'a, 's>(
     objects: &'a Named<InputObject<'s>>,
     object_values: &mut Vec<ObjectValue<'a, 's>>,
 ) -> Result<(), AllocError>
-    ensures { OnOk result (map object_value object_values.new.items ≡ map object_value object_values.old.items
+    ensures { OnOk result (map object_value object_values.new.items
+        ≡ map object_value object_values.old.items
         ++ spec.list_at (map (spec.object_values (map object objects.now)) items.now) (written of_type.now)) }
 {
     match item_of(of_type) {
@@ -82,7 +84,8 @@ fn add_items<'a, 's>(
     objects: &'a Named<InputObject<'s>>,
     object_values: &mut Vec<ObjectValue<'a, 's>>,
 ) -> Result<(), AllocError>
-    ensures { OnOk result (map object_value object_values.new.items ≡ map object_value object_values.old.items
+    ensures { OnOk result (map object_value object_values.new.items
+        ≡ map object_value object_values.old.items
         ++ flat_map (λ x. x true (written of_type.now)) (map (spec.object_values (map object objects.now)) items.now)) }
 {
     for item in items {
@@ -100,7 +103,8 @@ fn add_object<'a, 's>(
     objects: &'a Named<InputObject<'s>>,
     object_values: &mut Vec<ObjectValue<'a, 's>>,
 ) -> Result<(), AllocError>
-    ensures { OnOk result (map object_value object_values.new.items ≡ map object_value object_values.old.items
+    ensures { OnOk result (map object_value object_values.new.items
+        ≡ map object_value object_values.old.items
         ++ spec.object_at (map object objects.now) (map (spec.given (map object objects.now)) fields.now) is_item (written of_type.now)) }
 {
     if !(is_item && is_list(of_type)) {
@@ -119,7 +123,8 @@ fn add_values_of_object<'a, 's>(
     objects: &'a Named<InputObject<'s>>,
     object_values: &mut Vec<ObjectValue<'a, 's>>,
 ) -> Result<(), AllocError>
-    ensures { OnOk result (map object_value object_values.new.items ≡ map object_value object_values.old.items
+    ensures { OnOk result (map object_value object_values.new.items
+        ≡ map object_value object_values.old.items
         ++ spec.values_of_object (map (spec.given (map object objects.now)) fields.now) (object found.now)) }
 {
     add_fields(alloc, fields, found.of_type, objects, object_values)?;
@@ -138,7 +143,8 @@ fn add_fields<'a, 's>(
     objects: &'a Named<InputObject<'s>>,
     object_values: &mut Vec<ObjectValue<'a, 's>>,
 ) -> Result<(), AllocError>
-    ensures { OnOk result (map object_value object_values.new.items ≡ map object_value object_values.old.items
+    ensures { OnOk result (map object_value object_values.new.items
+        ≡ map object_value object_values.old.items
         ++ flat_map (spec.values_in_field of_type.now) (map (spec.given (map object objects.now)) fields.now)) }
 {
     for field in fields {
@@ -155,7 +161,8 @@ fn add_field<'a, 's>(
     objects: &'a Named<InputObject<'s>>,
     object_values: &mut Vec<ObjectValue<'a, 's>>,
 ) -> Result<(), AllocError>
-    ensures { OnOk result (map object_value object_values.new.items ≡ map object_value object_values.old.items
+    ensures { OnOk result (map object_value object_values.new.items
+        ≡ map object_value object_values.old.items
         ++ spec.values_in_field of_type.now (spec.given (map object objects.now) field.now)) }
 {
     if let Some(definition) = of_type.input_fields.get(field.name.as_str()) {
@@ -178,7 +185,9 @@ pub fn default_values<'a, 's>(
     field: &'a Input,
     objects: &'a Named<InputObject<'s>>,
 ) -> Result<Vec<ObjectValue<'a, 's>>, AllocError>
-    ensures { IfOk result (λ object_values. map object_value object_values.items ≡ spec.default_values (map object objects.now) field.now) }
+    ensures { IfOk result
+        (λ object_values. map object_value object_values.items
+        ≡ spec.default_values (map object objects.now) field.now) }
 {
     let mut object_values = Vec::new(alloc);
     let definition = field.node.get();

@@ -1,5 +1,5 @@
-//! What the objects within a default lack, as ranges of numbers: a field is missing where the number of the first field of its
-//! name is in a range.
+//! The fields that the objects within a default value do not give, as ranges of numbers: a field is
+//! missing if the number of the first field of its name is in a range.
 ghost use Rattle.std.specs.Prelude.{◌≡◌, ◌<◌, ◌++◌, ◌↔◌, ◌⊎◌, ℕ, [], map, flat_map, length, slice_index_or, IfOk, OnOk};
 ghost use Rattle.std.specs.List.Sorted.{IsNonDecreasing, IsPermutation};
 ghost use Rattle.gql_ast.specs.declared.type_system.InputValueDefinition.{InputValueDefinition};
@@ -21,7 +21,8 @@ fn add_first(
     name: &str,
     numbers: &mut Vec<usize>,
 ) -> Result<(), AllocError>
-    ensures { OnOk result (numbers.new.items ≡ numbers.old.items ++ spec.first_number (object input_object.now).inputs name.now) }
+    ensures { OnOk result (numbers.new.items ≡ numbers.old.items
+        ++ spec.first_number (object input_object.now).inputs name.now) }
 {
     match input_object.inputs.get(name) {
         Some(input) => {
@@ -46,7 +47,8 @@ fn given_numbers(alloc: Global, at: &ObjectValue<'_, '_>) -> Result<Vec<usize>, 
 /// The same, from the least to the greatest.
 fn sorted_numbers(alloc: Global, at: &ObjectValue<'_, '_>) -> Result<Vec<usize>, AllocError>
     ensures rises { IfOk result (λ numbers. IsNonDecreasing numbers.items) }
-    ensures moved { IfOk result (λ numbers. IsPermutation (spec.given_numbers (object_value at.now)) numbers.items) }
+    ensures moved { IfOk result
+        (λ numbers. IsPermutation (spec.given_numbers (object_value at.now)) numbers.items) }
 {
     let mut numbers = given_numbers(alloc, at)?;
     numbers.sort()?;
@@ -60,7 +62,8 @@ fn add_gap(
     end: usize,
     gaps: &mut Vec<Range>,
 ) -> Result<usize, AllocError>
-    ensures gaps { OnOk result (gaps.new.items ≡ gaps.old.items ++ spec.gap_before start number end) }
+    ensures gaps { OnOk result (gaps.new.items ≡ gaps.old.items
+        ++ spec.gap_before start number end) }
     ensures start { IfOk result (λ rest. rest ≡ spec.start_after start number end) }
 {
     if start <= number && number < end {
@@ -74,7 +77,8 @@ fn add_gap(
 /// Adds what these numbers leave of a range.
 fn add_gaps(numbers: &Range, given: &[usize], gaps: &mut Vec<Range>) -> Result<(), AllocError>
     requires { IsNonDecreasing given.now }
-    ensures { OnOk result ((p : ℕ) → IsWithinAny gaps.new.items p ↔ (IsWithinAny gaps.old.items p ⊎ spec.IsLeft numbers.now given.now p)) }
+    ensures { OnOk result ((p : ℕ) → IsWithinAny gaps.new.items p
+        ↔ (IsWithinAny gaps.old.items p ⊎ spec.IsLeft numbers.now given.now p)) }
 {
     let mut start = numbers.start;
     for number in given {
@@ -87,20 +91,21 @@ fn add_gaps(numbers: &Range, given: &[usize], gaps: &mut Vec<Range>) -> Result<(
     Ok(())
 }
 
-/// Adds what an object lacks.
+/// Adds the ranges of the fields that an object does not give.
 fn add_missing(
     alloc: Global,
     at: &ObjectValue<'_, '_>,
     ranges: &mut Vec<Range>,
 ) -> Result<(), AllocError>
-    ensures { OnOk result ((p : ℕ) → IsWithinAny ranges.new.items p ↔ (IsWithinAny ranges.old.items p ⊎ spec.IsMissing (object_value at.now) p)) }
+    ensures { OnOk result ((p : ℕ) → IsWithinAny ranges.new.items p
+        ↔ (IsWithinAny ranges.old.items p ⊎ spec.IsMissing (object_value at.now) p)) }
 {
     let given = sorted_numbers(alloc, at)?;
     add_gaps(&at.input_object.numbers, given.as_slice(), ranges)?;
     Ok(())
 }
 
-/// What these objects lack.
+/// The ranges of the fields that these objects do not give.
 fn missing(alloc: Global, all: &[ObjectValue<'_, '_>]) -> Result<Vec<Range>, AllocError>
     ensures { IfOk result (λ ranges. spec.AreMissing (map object_value all.now) ranges.items) }
 {
@@ -111,27 +116,29 @@ fn missing(alloc: Global, all: &[ObjectValue<'_, '_>]) -> Result<Vec<Range>, All
     Ok(ranges)
 }
 
-/// What the objects within the default of a field lack.
+/// The same for the objects within the default value of a field.
 fn default_ranges(
     alloc: Global,
     field: &Input,
     objects: &Named<InputObject<'_>>,
 ) -> Result<Vec<Range>, AllocError>
-    ensures { IfOk result (λ ranges. spec.AreMissing (default_values (map object objects.now) field.now) ranges.items) }
+    ensures { IfOk result
+        (λ ranges. spec.AreMissing (default_values (map object objects.now) field.now) ranges.items) }
 {
     let all = default_values(alloc, field, objects)?;
     let ranges = missing(alloc, all.as_slice())?;
     Ok(ranges)
 }
 
-/// What the objects within the default of each field lack.
+/// The same for each field.
 pub fn all_ranges(
     alloc: Global,
     fields: &[&Input],
     objects: &Named<InputObject<'_>>,
 ) -> Result<Vec<Vec<Range>>, AllocError>
     ensures length { IfOk result (λ ranges. length ranges.items ≡ length fields.now) }
-    ensures ranges { IfOk result (λ ranges. (i : ℕ) (d : Sited InputValueDefinition) → i < length fields.now
+    ensures ranges { IfOk result
+        (λ ranges. (i : ℕ) (d : Sited InputValueDefinition) → i < length fields.now
         → spec.AreMissing (default_values (map object objects.now) (slice_index_or (map (λ f. f.now) fields.now) i d)) (slice_index_or (map (λ v. v.items) ranges.items) i [])) }
 {
     let mut ranges = Vec::new(alloc);

@@ -76,7 +76,8 @@ fn add_at_name(
     name: &str,
     faults: &mut Vec<Fault>,
 ) -> Result<(), AllocError>
-    ensures { OnOk result (faults.new.items ≡ faults.old.items ++ spec.fault_at_name schema.now name.now) }
+    ensures { OnOk result (faults.new.items ≡ faults.old.items
+        ++ spec.fault_at_name schema.now name.now) }
 {
     match without_sign(name) {
         Some(name) => add_at_directive(alloc, schema, name, faults),
@@ -102,8 +103,12 @@ fn add_at_names(
 
 // The names that lead back to themselves.
 fn cycle_names<'n>(alloc: Global, owned: &'n [OwnedRow]) -> Result<Vec<&'n str>, AllocError>
-    ensures sound { IfOk result (λ names. (n : List ℕ) → Contains (map (λ m. m.now) names.items) n → Leads (map steps owned.now) n n) }
-    ensures complete { IfOk result (λ names. (n : List ℕ) → Leads (map steps owned.now) n n → Contains (map (λ m. m.now) names.items) n) }
+    ensures sound { IfOk result
+        (λ names. (n : List ℕ) → Contains (map (λ m. m.now) names.items) n
+        → Leads (map steps owned.now) n n) }
+    ensures complete { IfOk result
+        (λ names. (n : List ℕ) → Leads (map steps owned.now) n n
+        → Contains (map (λ m. m.now) names.items) n) }
 {
     let rows = borrowed_rows(alloc, owned)?;
     let names = names_on_cycles(alloc, rows.as_slice())?;

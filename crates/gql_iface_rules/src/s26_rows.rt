@@ -55,7 +55,8 @@ fn add_type_rows(
     types: &[SchemaType],
     rows: &mut Vec<OwnedRow>,
 ) -> Result<(), AllocError>
-    ensures { OnOk result (map steps rows.new.items ≡ map steps rows.old.items ++ map spec.type_row types.now) }
+    ensures { OnOk result (map steps rows.new.items ≡ map steps rows.old.items
+        ++ map spec.type_row types.now) }
 {
     for of_type in types {
         rows.push(type_row(alloc, of_type)?)?;
@@ -69,7 +70,8 @@ fn add_directive_rows(
     directives: &[&Sited<Shared<DirectiveDefinition>>],
     rows: &mut Vec<OwnedRow>,
 ) -> Result<(), AllocError>
-    ensures { OnOk result (map steps rows.new.items ≡ map steps rows.old.items ++ map spec.directive_row (map (λ d. d.now) directives.now)) }
+    ensures { OnOk result (map steps rows.new.items ≡ map steps rows.old.items
+        ++ map spec.directive_row (map (λ d. d.now) directives.now)) }
 {
     for directive in directives {
         rows.push(directive_row(alloc, directive)?)?;

@@ -19,7 +19,7 @@ use Rattle.gql_types.specs.declared.schema.Schema.{Schema}
 use Rattle.gql_node_rules.specs.Applied.{Application, applied, name_of, place_of}
 use Rattle.gql_node_rules.specs.Nodes.{AllNodes}
 
--- the names of the arguments that are given, where they stand
+-- the names of the arguments that are given
 abbrev pub names_of : List Argument → List Name
 names_of arguments = map (λ (a : Argument). a.name) arguments
 

@@ -1,4 +1,4 @@
-//! The definitions of directives (GraphQL specification, 3.13), with look-up of their arguments and locations.
+//! The definitions of directives (GraphQL 3.13), with look-up of their arguments and locations.
 ghost use Rattle.std.specs.Prelude.{◌≡◌, ◌++◌, ◌∷◌, [], IfOk, OnOk, map, filter, find, bytes_eq, option_map, if◌then◌else◌};
 ghost use Rattle.std.specs.Option.{option_copied};
 ghost use Rattle.gql_ast.specs.declared.type_system.DirectiveLocation.{DirectiveLocation as TheLocation};
