@@ -1,145 +1,147 @@
 ghost use Rattle.std.specs.Prelude.{◌≡◌};
 ghost use Rattle.gql_ast.specs.Rules.{name_of};
 
-/// The rules that faults break, by the names that users see, in the order of these names: P, what this registry
-/// leaves out; S, the rules on a schema; V, the rules on documents (GraphQL specification, 3 and 5).
+/// The rules that faults break, by the names that users see, in the order of these names.
+///
+/// P is for what this registry does not serve, S for the rules on a schema (GraphQL 3) and V for the
+/// rules on documents (GraphQL 5). `docs/RULES.md` says where each is reported and about what.
 #[derive(Clone, Copy, Debug, PartialEq, Eq)]
 pub enum Rule {
-    /// A reference to Float, which this registry doesn't serve.
+    /// Float References: a schema file refers to Float, which this registry does not serve.
     P01,
-    /// A subscription root, which this registry doesn't serve.
+    /// Subscription Roots: the schema has a subscription root, and this registry serves none.
     P02,
-    /// A subscription operation, which this registry doesn't serve.
+    /// Subscriptions: an operation is a subscription, which this registry does not serve.
     P03,
-    /// A variable of type Float, which this registry doesn't serve.
+    /// Float Variables: a variable is of type Float, which this registry does not serve.
     P04,
-    /// A mutation where the schema has no mutation root.
+    /// Mutations Without a Root: an operation is a mutation, and the schema has no mutation root.
     P05,
-    /// Two type definitions of one name.
+    /// Duplicate Types: two type definitions have the same name.
     S01,
-    /// Two directive definitions of one name.
+    /// Duplicate Directives: two directive definitions have the same name.
     S02,
-    /// A name that begins with two underscores.
+    /// Reserved Names: a name that a schema file defines begins with two underscores.
     S03,
-    /// A built-in scalar or a built-in directive is defined again.
+    /// Built-In Names: a built-in scalar or directive, or Float, is defined again.
     S04,
-    /// A type without any part.
+    /// Empty Types: a type that needs fields, enum values or members has none.
     S05,
-    /// A field or an input field name twice in one type.
+    /// Duplicate Fields: a type has two fields or two input fields of the same name.
     S06,
-    /// An enum value or a union member twice in one type.
+    /// Duplicate Values: an enum has two values, or a union two members, of the same name.
     S07,
-    /// An argument name twice on one field or directive.
+    /// Duplicate Arguments: a field or a directive has two arguments of the same name.
     S08,
-    /// An implemented name that is no interface, or is listed twice.
+    /// Bad Interface Names: a type lists a type that is no interface, or lists a name twice.
     S09,
-    /// An interface that implements itself.
+    /// Self-Implementation: an interface implements itself.
     S10,
-    /// An interface of an interface is not declared.
+    /// Undeclared Interfaces: a type does not declare an interface that one of its own declares.
     S11,
-    /// A field of an interface is missing.
+    /// Missing Fields: a type has no field for a field of an interface that it implements.
     S12,
-    /// An argument of the interface's field is missing, or has another type.
+    /// Missing Arguments: an argument of the interface's field is missing, or its type differs.
     S13,
-    /// A further argument that is required.
+    /// Extra Required Arguments: a required argument is not one of the interface's field.
     S14,
-    /// A field type that isn't covariant with the interface's.
+    /// Incompatible Field Types: a field's type is not covariant with the interface's.
     S15,
-    /// An argument or an input field whose type is no input type.
+    /// Non-Input Types: the type of an argument or an input field is not an input type.
     S16,
-    /// An input object that needs itself.
+    /// Input Object Cycles: an input object refers to itself through Non-Null fields.
     S17,
-    /// A default that doesn't fit its type.
+    /// Bad Default Values: a default value does not fit the type of its argument or input field.
     S18,
-    /// An input field whose default needs itself.
+    /// Default Value Cycles: the default value of an input field needs itself.
     S19,
-    /// A reference to a type that isn't defined.
+    /// Unknown Types: a reference names no type.
     S20,
-    /// A field whose type is no output type.
+    /// Non-Output Types: the type of a field is not an output type.
     S21,
-    /// A union member that is no object.
+    /// Non-Object Members: a member of a union is not an object.
     S22,
-    /// No query root operation type.
+    /// Missing Query Root: the schema has no query root operation type.
     S23,
-    /// A root operation type that is no object.
+    /// Non-Object Roots: a root operation type is not an object.
     S24,
-    /// Two kinds of operation with one root operation type.
+    /// Shared Root Types: two kinds of operations have the same root operation type.
     S25,
-    /// A directive definition that reaches itself.
+    /// Directive Cycles: the definition of a directive refers to the directive itself.
     S26,
-    /// An extension of a type that isn't defined.
+    /// Extensions of Unknown Types: an extension names no type.
     S27,
-    /// An extension of a type of another kind.
+    /// Extensions of Another Kind: an extension names a type of another kind.
     S28,
-    /// An applied directive that isn't defined.
+    /// Unknown Directives: an applied directive is not defined.
     S29,
-    /// An applied directive in a location that it doesn't list.
+    /// Bad Locations: a directive is applied at a location that it does not list.
     S30,
-    /// A directive that isn't repeatable stands twice.
+    /// Repeated Directives: a directive that is not repeatable is applied twice.
     S31,
-    /// An applied directive's argument that isn't defined, stands twice or is missing.
+    /// Bad Arguments: an argument of an applied directive is undefined, repeated or missing.
     S32,
-    /// An applied directive's argument value that doesn't fit.
+    /// Bad Argument Values: the value of an applied directive's argument does not fit its type.
     S33,
-    /// Two schema definitions, or an operation kind given again.
+    /// Duplicate Schemas: there are two schema definitions, or an operation type is given twice.
     S34,
-    /// Executable Definitions (5.1.1).
+    /// Executable Definitions: a document file has a definition of the type system.
     V01,
-    /// Operation Name Uniqueness (5.2.1.1).
+    /// Operation Name Uniqueness: two operations have the same name.
     V02,
-    /// Lone Anonymous Operation (5.2.2.1).
+    /// Lone Anonymous Operation: an operation without a name is not the only one.
     V03,
-    /// Field Selections (5.3.1).
+    /// Field Selections: the parent type has no field of this name.
     V04,
-    /// Field Selection Merging, names or arguments (5.3.2).
+    /// Field Selection Merging: two fields of one response name differ in name or arguments.
     V05,
-    /// Field Selection Merging, shapes (5.3.2).
+    /// Field Selection Merging: two fields of one response name differ in shape.
     V06,
-    /// Leaf Field Selections (5.3.3).
+    /// Leaf Field Selections: a leaf field has a selection set, or a composite one has none.
     V07,
-    /// Argument Names (5.4.1).
+    /// Argument Names: an argument of a field or a directive is not defined.
     V08,
-    /// Argument Uniqueness (5.4.2).
+    /// Argument Uniqueness: an argument is given twice.
     V09,
-    /// Required Arguments (5.4.2.1).
+    /// Required Arguments: a required argument is missing or null.
     V10,
-    /// Fragment Name Uniqueness (5.5.1.1).
+    /// Fragment Name Uniqueness: two fragments have the same name.
     V11,
-    /// Fragment Spread Type Existence (5.5.1.2).
+    /// Fragment Spread Type Existence: a type condition names no type.
     V12,
-    /// Fragments On Composite Types (5.5.1.3).
+    /// Fragments On Composite Types: a type condition names a type that is not composite.
     V13,
-    /// Fragments Must Be Used (5.5.1.4).
+    /// Fragments Must Be Used: no spread of the document names the fragment.
     V14,
-    /// Fragment Spread Target Defined (5.5.2.1).
+    /// Fragment Spread Target Defined: a spread names no fragment.
     V15,
-    /// Fragment Spreads Must Not Form Cycles (5.5.2.2).
+    /// Fragment Spreads Must Not Form Cycles: a fragment spreads itself.
     V16,
-    /// Fragment Spread Is Possible (5.5.2.3).
+    /// Fragment Spread Is Possible: no object is possible for both condition and parent.
     V17,
-    /// Values of Correct Type (5.6.1).
+    /// Values of Correct Type: a value does not fit the type that is expected of it.
     V18,
-    /// Input Object Field Names (5.6.2).
+    /// Input Object Field Names: an object value has a field that is not defined.
     V19,
-    /// Input Object Field Uniqueness (5.6.3).
+    /// Input Object Field Uniqueness: an object value has two fields of the same name.
     V20,
-    /// Input Object Required Fields (5.6.4).
+    /// Input Object Required Fields: a required input field is missing or null.
     V21,
-    /// Directives Are Defined (5.7.1).
+    /// Directives Are Defined: an applied directive is not defined.
     V22,
-    /// Directives Are in Valid Locations (5.7.2).
+    /// Directives Are in Valid Locations: a directive does not list the location.
     V23,
-    /// Directives Are Unique per Location (5.7.3).
+    /// Directives Are Unique per Location: a directive that is not repeatable is applied twice.
     V24,
-    /// Variable Uniqueness (5.8.1).
+    /// Variable Uniqueness: an operation has two variables of the same name.
     V25,
-    /// Variables Are Input Types (5.8.2).
+    /// Variables Are Input Types: the type of a variable is unknown, or not an input type.
     V26,
-    /// All Variable Uses Defined (5.8.3).
+    /// All Variable Uses Defined: an operation does not define a variable that it uses.
     V27,
-    /// All Variables Used (5.8.4).
+    /// All Variables Used: neither the operation nor its fragments use a variable.
     V28,
-    /// All Variable Usages Are Allowed (5.8.5).
+    /// All Variable Usages Are Allowed: a variable is used where its type does not fit.
     V29,
 }
 

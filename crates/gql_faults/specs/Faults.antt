@@ -1,5 +1,5 @@
--- Faults of a schema: which rule, about which text, at which places of schema files. What is built in has no place, so that no
--- fault is found there.
+-- Faults of a schema: which rule, about which text, at which places of schema files. Built-in
+-- definitions are in no file, so that no fault is found there.
 use Rattle.std.specs.Prelude.{ℕ, List, [], ◌∷◌, flat_map, Option, Some, None}
 use Rattle.std.specs.Option.{option_map_or}
 use Rattle.gql_text.specs.declared.place.Place.{Place}
@@ -23,21 +23,30 @@ abbrev pub fault_in : Rule → List ℕ → Option (List ℕ) → Place → List
 fault_in rule about None place = []
 fault_in rule about (Some file) place = fault rule about (in_file file place ∷ []) ∷ []
 
+-- the same, at a place with its file
 abbrev pub fault_at : Rule → List ℕ → Sited Place → List Fault
 fault_at rule about at = fault_in rule about at.file at.node
 
--- a fault at a place, with a second one
-abbrev pub fault_in_both : Rule → List ℕ → Option (List ℕ) → Place → Option (List ℕ) → Place → List Fault
+-- a fault at two places, both in files
+abbrev pub fault_in_both : Rule → List ℕ → Option (List ℕ) → Place → Option (List ℕ) → Place
+    → List Fault
 fault_in_both rule about None place second_file second = []
 fault_in_both rule about (Some file) place None second = []
-fault_in_both rule about (Some file) place (Some second_file) second = fault rule about (in_file file place ∷ in_file second_file second ∷ []) ∷ []
+fault_in_both rule about (Some file) place (Some second_file) second =
+    fault rule about (in_file file place ∷ in_file second_file second ∷ []) ∷ []
 
+-- the same, at places with their files
 abbrev pub fault_between : Rule → List ℕ → Sited Place → Sited Place → List Fault
-fault_between rule about first second = fault_in_both rule about first.file first.node second.file second.node
+fault_between rule about first second =
+    fault_in_both rule about first.file first.node second.file second.node
 
--- where a name stands
+-- the place of a name
 abbrev pub place_of : Sited Name → Sited Place
 place_of n = record { file = n.file; node = n.node.place }
+
+-- the name of a node, in the file of the node
+abbrev pub own_name_of : {A : Type 0} → (A → Name) → Sited A → Sited Name
+own_name_of own_name n = record { file = n.file; node = own_name n.node }
 
 -- a fault at a name, about it
 abbrev pub fault_of : Rule → Sited Name → List Fault
@@ -47,6 +56,6 @@ fault_of rule n = fault_at rule n.node.text (place_of n)
 abbrev pub faults_of : Rule → List (Sited Name) → List Fault
 faults_of rule names = flat_map (fault_of rule) names
 
--- Where a name is not known, what is looked up by it is none, and rules that need it say nothing.
+-- the faults by a definition that is found by its name; none where no definition has the name
 abbrev pub where_known : {A : Type 0} → Option A → (A → List Fault) → List Fault
 where_known known faults = option_map_or faults known []

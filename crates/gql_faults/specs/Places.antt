@@ -1,4 +1,4 @@
--- Names and places where the code borrows them.
+-- Helper definitions for contracts: names and places as the code borrows them.
 use Rattle.std.specs.Option.{option_copied}
 use Rattle.gql_text.specs.declared.place.Place.{Place}
 use Rattle.gql_ast.specs.declared.text.Name.{Name}
@@ -6,7 +6,7 @@ use Rattle.gql_built_in.specs.declared.sited.Sited.{Sited}
 use Rattle.gql_faults.specs.declared.place.NamePlace.{NamePlace}
 use Rattle.gql_faults.specs.declared.place.Spot.{Spot}
 
--- a borrowed name, where it stands
+-- a borrowed name and its file
 abbrev pub named : NamePlace → Sited Name
 named n = record { file = option_copied n.file; node = n.name.now }
 

@@ -1,4 +1,5 @@
--- What a type is made of (GraphQL specification, 2.11), and which arguments and input fields are required (3.6.1, 3.10).
+-- The name within a type (GraphQL 2.11), and which arguments and input fields are required
+-- (GraphQL 3.6.1, 3.10).
 use Rattle.std.specs.Prelude.{◌≡◌, ◌&&◌, Bool, true, false, not, is_some}
 use Rattle.std.proofs.Common.{ap, sym, ◌∙◌}
 use Rattle.gql_text.specs.declared.place.Place.{Place}

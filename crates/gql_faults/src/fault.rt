@@ -1,3 +1,4 @@
+//! Faults at places of schema files.
 ghost use Rattle.std.specs.Prelude.{◌≡◌, ◌++◌, ◌∷◌, [], OnOk, IfOk, map};
 ghost use Rattle.gql_faults.specs.Faults as spec;
 ghost use Rattle.gql_faults.specs.Places.{named, spot};
@@ -7,6 +8,7 @@ use gql_ast::{Fault, FileName, FilePlace, FileSide, Items, Rule, Text};
 use gql_text::Place;
 use std::alloc::{AllocError, Global};
 
+// A place of a schema file.
 fn in_file(file: &FileName, place: Place) -> FilePlace
     ensures { result ≡ spec.in_file file.now place }
 {
@@ -17,6 +19,7 @@ fn in_file(file: &FileName, place: Place) -> FilePlace
     }
 }
 
+// A fault of the schema, which has no owner.
 fn fault(
     alloc: Global,
     rule: Rule,
@@ -33,6 +36,7 @@ fn fault(
     })
 }
 
+// One place as the places of a fault.
 fn one_place(alloc: Global, file: &FileName, place: Place) -> Result<Items<FilePlace>, AllocError>
     ensures { IfOk result (λ places. places ≡ spec.in_file file.now place ∷ []) }
 {
@@ -41,7 +45,7 @@ fn one_place(alloc: Global, file: &FileName, place: Place) -> Result<Items<FileP
     Ok(places)
 }
 
-/// Adds a fault at a place of a schema file, if it stands in one.
+/// Adds a fault at a place, if that is in a schema file.
 pub fn add_fault(
     alloc: Global,
     rule: Rule,
@@ -49,7 +53,8 @@ pub fn add_fault(
     at: &Spot<'_>,
     faults: &mut Vec<Fault>,
 ) -> Result<(), AllocError>
-    ensures { OnOk result (faults.new.items ≡ faults.old.items ++ spec.fault_at rule about.now (spot at.now)) }
+    ensures { OnOk result (faults.new.items ≡ faults.old.items
+        ++ spec.fault_at rule about.now (spot at.now)) }
 {
     if let Some(file) = at.file {
         let places = one_place(alloc, file, at.place)?;
@@ -58,6 +63,7 @@ pub fn add_fault(
     Ok(())
 }
 
+// Two places as the places of a fault.
 fn two_places(
     alloc: Global,
     file: &FileName,
@@ -65,7 +71,9 @@ fn two_places(
     second_file: &FileName,
     second: Place,
 ) -> Result<Items<FilePlace>, AllocError>
-    ensures { IfOk result (λ places. places ≡ spec.in_file file.now place ∷ spec.in_file second_file.now second ∷ []) }
+    ensures { IfOk result
+        (λ places. places
+        ≡ spec.in_file file.now place ∷ spec.in_file second_file.now second ∷ []) }
 {
     let mut places = Items::new(alloc);
     places.push(in_file(file, place))?;
@@ -73,7 +81,7 @@ fn two_places(
     Ok(places)
 }
 
-/// Adds a fault at a place of a schema file, with a second one, if both stand in files.
+/// Adds a fault at two places, if both are in schema files.
 pub fn add_fault_between(
     alloc: Global,
     rule: Rule,
@@ -82,7 +90,8 @@ pub fn add_fault_between(
     second: &Spot<'_>,
     faults: &mut Vec<Fault>,
 ) -> Result<(), AllocError>
-    ensures { OnOk result (faults.new.items ≡ faults.old.items ++ spec.fault_between rule about.now (spot first.now) (spot second.now)) }
+    ensures { OnOk result (faults.new.items ≡ faults.old.items
+        ++ spec.fault_between rule about.now (spot first.now) (spot second.now)) }
 {
     if let Some(file) = first.file {
         if let Some(second_file) = second.file {
@@ -93,13 +102,15 @@ pub fn add_fault_between(
     Ok(())
 }
 
-fn add_fault_of(
+/// Adds a fault at a name, about it.
+pub fn add_fault_of(
     alloc: Global,
     rule: Rule,
     name: &NamePlace<'_>,
     faults: &mut Vec<Fault>,
 ) -> Result<(), AllocError>
-    ensures { OnOk result (faults.new.items ≡ faults.old.items ++ spec.fault_of rule (named name.now)) }
+    ensures { OnOk result (faults.new.items ≡ faults.old.items
+        ++ spec.fault_of rule (named name.now)) }
 {
     add_fault(alloc, rule, name.name.as_str(), &name.spot(), faults)
 }
@@ -111,7 +122,8 @@ pub fn add_faults(
     names: &[NamePlace<'_>],
     faults: &mut Vec<Fault>,
 ) -> Result<(), AllocError>
-    ensures { OnOk result (faults.new.items ≡ faults.old.items ++ spec.faults_of rule (map named names.now)) }
+    ensures { OnOk result (faults.new.items ≡ faults.old.items
+        ++ spec.faults_of rule (map named names.now)) }
 {
     for name in names {
         add_fault_of(alloc, rule, name, faults)?;

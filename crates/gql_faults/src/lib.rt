@@ -1,5 +1,7 @@
-//! Words that the rules on schemas share: faults at places of schema files, names that stand more than once, and what a
-//! type is made of.
+//! What the rules on schemas have in common: faults at places of schema files, names that occur more
+//! than once, first definitions of directives, and the name within a type.
+//!
+//! A function that adds to a list may have added a part where it fails for memory.
 #![tactic(auto)]
 
 mod directives;
@@ -9,7 +11,7 @@ mod place;
 mod type_name;
 
 pub use directives::first_directives;
-pub use fault::{add_fault, add_fault_between, add_faults};
-pub use names::{add_repeated, counts, repeated};
-pub use place::{NamePlace, Spot};
+pub use fault::{add_fault, add_fault_between, add_fault_of, add_faults};
+pub use names::{add_repeated, counts, name_places, own_names, repeated};
+pub use place::{HasOwnName, NamePlace, Spot};
 pub use type_name::{is_required, named_type};

@@ -1,12 +1,14 @@
 pub mod AtNames
 pub mod Members
 pub mod Names
+pub mod S19Edges
+pub mod S19Equations
+pub mod S19Faults
 pub mod S19Firsts
 pub mod S19Gaps
-pub mod S19Joins
-pub mod S19Lacking
 pub mod S19Literals
+pub mod S19Missing
 pub mod S19Steps
-pub mod S19Told
 pub mod Steps
+pub mod Together
 pub mod Types

@@ -1,5 +1,5 @@
 -- Members of what a walk over a list gives.
-use Rattle.std.proofs.Common.{◌≡◌, ◌++◌, zero, suc, ◌⊎◌, List, [], ◌∷◌, flat_map, sym, refl, subst, inl, inr, arith}
+use Rattle.std.proofs.Common.{◌≡◌, ◌↔◌, ◌++◌, zero, suc, ◌⊎◌, List, [], ◌∷◌, flat_map, sym, refl, subst, inl, inr, arith}
 use Rattle.std.specs.Prelude.{Contains}
 use Rattle.std.proofs.lemmas.List.Elements.{Contains-append_left, Contains-append_right, Contains-append_cases}
 
@@ -31,29 +31,18 @@ Contains-flat_map_from f (y ∷ ys) a h = elim (Contains-append_cases (f y) (fla
   | inr t ↦ let r = Contains-flat_map_from f ys a t in (r.0, one_more r.0 y ys r.1, r.2)
 ]
 
--- what the code told, for each of some names
-pub told_from : {X A : Type 0} (f : X → List A) (xs : List X) (told : List A) → told ≡ flat_map f xs → (a : A) → Contains told a → (x : X) × Contains xs x × Contains (f x) a
-told_from f xs told is a h = Contains-flat_map_from f xs a (subst (λ ys. Contains ys a) is h)
-
-pub told_at : {X A : Type 0} (f : X → List A) (xs : List X) (told : List A) → told ≡ flat_map f xs → (x : X) (a : A) → Contains xs x → Contains (f x) a → Contains told a
-told_at f xs told is x a h g = subst (λ ys. Contains ys a) (sym is) (Contains-flat_map f xs x a h g)
-
--- what three walks told
-pub told_by_one : {A : Type 0} (a b c told : List A) → told ≡ (a ++ b) ++ c → (x : A) → Contains told x → Contains a x ⊎ (Contains b x ⊎ Contains c x)
-told_by_one a b c told is x h = elim (Contains-append_cases (a ++ b) c x (subst (λ ys. Contains ys x) is h)) [
-  | inl l ↦ elim (Contains-append_cases a b x l) [ inl m ↦ inl m | inr m ↦ inr (inl m) ]
-  | inr r ↦ inr (inr r)
-]
-
-pub told_by_all : {A : Type 0} (a b c told : List A) → told ≡ (a ++ b) ++ c → (x : A) → Contains a x ⊎ (Contains b x ⊎ Contains c x) → Contains told x
-told_by_all a b c told is x h = subst (λ ys. Contains ys x) (sym is) (elim h [
-  | inl l ↦ Contains-append_left (a ++ b) c x (Contains-append_left a b x l)
-  | inr r ↦ elim r [ inl m ↦ Contains-append_left (a ++ b) c x (Contains-append_right a b x m) | inr m ↦ Contains-append_right (a ++ b) c x m ]
-])
-
--- what two walks told
-pub told_by_either : {A : Type 0} (a b told : List A) → told ≡ a ++ b → (x : A) → Contains told x → Contains a x ⊎ Contains b x
-told_by_either a b told is x h = Contains-append_cases a b x (subst (λ ys. Contains ys x) is h)
-
-pub told_by_both : {A : Type 0} (a b told : List A) → told ≡ a ++ b → (x : A) → Contains a x ⊎ Contains b x → Contains told x
-told_by_both a b told is x h = subst (λ ys. Contains ys x) (sym is) (elim h [ inl l ↦ Contains-append_left a b x l | inr r ↦ Contains-append_right a b x r ])
+-- the faults that the code adds for each of some things are those of a relation
+pub added : {X A : Type 0} (f : X → List A) (xs : List X) (old new : List A) (P : A → Type 0) → new ≡ old ++ flat_map f xs
+    → ((x : X) (a : A) → Contains xs x → Contains (f x) a → P a)
+    → ((a : A) → P a → (x : X) × Contains xs x × Contains (f x) a)
+    → (a : A) → Contains new a ↔ (Contains old a ⊎ P a)
+added f xs old new P is sound complete a = (
+  λ h. elim (Contains-append_cases old (flat_map f xs) a (subst (λ ys. Contains ys a) is h)) [
+    | inl o ↦ inl o
+    | inr g ↦ let r = Contains-flat_map_from f xs a g in inr (sound r.0 a r.1 r.2)
+  ],
+  λ h. subst (λ ys. Contains ys a) (sym is) (elim h [
+    | inl o ↦ Contains-append_left old (flat_map f xs) a o
+    | inr p ↦ let r = complete a p in Contains-append_right old (flat_map f xs) a (Contains-flat_map f xs r.0 a r.1 r.2)
+  ]),
+)

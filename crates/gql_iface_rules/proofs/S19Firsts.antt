@@ -6,9 +6,9 @@ use Rattle.std.proofs.lemmas.Bool.{cases_eq, cases_lt, lt-ltb}
 use Rattle.std.proofs.lemmas.Bool.Decides.{nat_tests}
 use Rattle.std.proofs.lemmas.List.{get_or_default, get_or-replicate, get_or_past, get_or-set_same, get_or-set_other, length-map, length-replicate, map-set}
 use Rattle.std.proofs.lemmas.List.Elements.{Contains-append_left, Contains-push, Contains-push_cases}
-use Rattle.gql_circles.proofs.Members.{Contains-nil, read_at, take_has, take_kept}
+use Rattle.gql_cycles.proofs.Members.{Contains-nil, read_at, take_has, take_kept}
 use Rattle.gql_iface_rules.proofs.S19Steps.{find-map}
-use Rattle.gql_iface_rules.specs.S19DefaultCircles.{Numbered, NumberedObject}
+use Rattle.gql_iface_rules.specs.S19DefaultValueCycles.{Numbered, NumberedObject}
 use Rattle.gql_iface_rules.specs.S19Ends.{end_of, with_end, Rows}
 use Rattle.gql_iface_rules.specs.S19Inputs.{numbered}
 use Rattle.gql_iface_rules.specs.S19Ranges.{first_number}

@@ -7,13 +7,13 @@ use Rattle.std.proofs.Math.Seq.{get_or-append_seam}
 use Rattle.std.proofs.lemmas.List.Sorted.{Contains-permutation, IsPermutation-sym}
 use Rattle.std.proofs.lemmas.List.Elements.{Contains-append_left, Contains-push, Contains-push_cases}
 use Rattle.std.specs.List.Sorted.{IsNonDecreasing, IsPermutation}
-use Rattle.gql_circles.proofs.Members.{Contains-nil, take_has, take_kept}
-use Rattle.gql_iface_rules.specs.S19Ranges.{gap_before, start_after, IsLeft, IsLacking, Lack}
-use Rattle.gql_iface_rules.specs.S19DefaultCircles.{NumberedObject, Standing, default_standings}
+use Rattle.gql_cycles.proofs.Members.{Contains-nil, take_has, take_kept}
+use Rattle.gql_iface_rules.specs.S19Ranges.{gap_before, start_after, IsLeft, IsMissing, AreMissing}
+use Rattle.gql_iface_rules.specs.S19DefaultValueCycles.{NumberedObject, ObjectValue, default_values}
 use Rattle.gql_ast.specs.declared.type_system.InputValueDefinition.{InputValueDefinition}
 use Rattle.gql_built_in.specs.declared.sited.Sited.{Sited}
-use Rattle.gql_ranges.specs.Cover.{IsWithin, IsWithinAny}
-use Rattle.gql_ranges.specs.declared.cover.Range.{Range}
+use Rattle.gql_cycles.specs.Cover.{IsWithin, IsWithinAny}
+use Rattle.gql_cycles.specs.declared.cover.Range.{Range}
 
 -- one range more
 pub within_push : (ranges : List Range) (r : Range) (p : ℕ) → IsWithinAny (ranges ++ r ∷ []) p ↔ (IsWithinAny ranges p ⊎ IsWithin r p)
@@ -156,33 +156,33 @@ left_by r xs ys ys' old after moved same is p = (
   λ h. elim h [ inl o ↦ (is p).1 (inl o) | inr l ↦ (is p).1 (inr (l.0, λ c. l.1 (Contains-permutation ys xs p (IsPermutation-sym xs ys moved) (subst (λ zs. Contains zs p) same c)))) ],
 )
 
-pub lack_none : Lack [] []
+pub lack_none : AreMissing [] []
 lack_none p = (λ h. absurd (Contains-nil h.0 h.1), λ h. absurd (Contains-nil h.0 h.1))
 
 -- one object more
-pub lack_more : {A : Type 0} (g : A → Standing) (xs : List A) (i : ℕ) (x : A) (before after : List Range) → i < length xs → get_or xs i x ≡ x → Lack (map g (take i xs)) before →
-    ((p : ℕ) → IsWithinAny after p ↔ (IsWithinAny before p ⊎ IsLacking (g x) p)) → Lack (map g (take (i + 1) xs)) after
+pub lack_more : {A : Type 0} (g : A → ObjectValue) (xs : List A) (i : ℕ) (x : A) (before after : List Range) → i < length xs → get_or xs i x ≡ x → AreMissing (map g (take i xs)) before →
+    ((p : ℕ) → IsWithinAny after p ↔ (IsWithinAny before p ⊎ IsMissing (g x) p)) → AreMissing (map g (take (i + 1) xs)) after
 lack_more g xs i x before after lt at_i was is =
     let t : map g (take (i + 1) xs) ≡ map g (take i xs) ++ g x ∷ [] = ap (map g) (take_more xs i x lt ∙ ap (λ z. take i xs ++ z ∷ []) at_i) ∙ map_push g (take i xs) x in
-    subst (λ all. Lack all after) (sym t) (λ p. (
+    subst (λ all. AreMissing all after) (sym t) (λ p. (
       λ h. elim ((is p).0 h) [
         | inl o ↦ let f = (was p).0 o in (f.0, Contains-append_left (map g (take i xs)) (g x ∷ []) f.0 f.1, f.2)
         | inr l ↦ (g x, Contains-push (map g (take i xs)) (g x), l)
       ],
       λ h. elim (Contains-push_cases (map g (take i xs)) (g x) h.0 h.1) [
         | inl o ↦ (is p).1 (inl ((was p).1 (h.0, o, h.2)))
-        | inr e ↦ (is p).1 (inr (subst (λ y. IsLacking y p) (sym e) h.2))
+        | inr e ↦ (is p).1 (inr (subst (λ y. IsMissing y p) (sym e) h.2))
       ],
     ))
 
 -- the objects of one field more
 pub ranges_more : (objects : List NumberedObject) (fields : List (Sited InputValueDefinition)) (before after : List (List Range)) (row : List Range) (i : ℕ) → length before ≡ i → after ≡ before ++ row ∷ [] →
-    ((k : ℕ) (d : Sited InputValueDefinition) → k < i → Lack (default_standings objects (get_or fields k d)) (get_or before k [])) → ((d : Sited InputValueDefinition) → Lack (default_standings objects (get_or fields i d)) row) →
-    (k : ℕ) (d : Sited InputValueDefinition) → k < i + 1 → Lack (default_standings objects (get_or fields k d)) (get_or after k [])
-ranges_more objects fields before after row i len is was here k d lt = subst (λ rows. Lack (default_standings objects (get_or fields k d)) (get_or rows k [])) (sym is) (elim (cases_lt k i) [
-  | inl less ↦ subst (λ rs. Lack (default_standings objects (get_or fields k d)) rs) (sym (get_or_append_left before (row ∷ []) [] k (omega (arith, less, len)))) (was k d less)
+    ((k : ℕ) (d : Sited InputValueDefinition) → k < i → AreMissing (default_values objects (get_or fields k d)) (get_or before k [])) → ((d : Sited InputValueDefinition) → AreMissing (default_values objects (get_or fields i d)) row) →
+    (k : ℕ) (d : Sited InputValueDefinition) → k < i + 1 → AreMissing (default_values objects (get_or fields k d)) (get_or after k [])
+ranges_more objects fields before after row i len is was here k d lt = subst (λ rows. AreMissing (default_values objects (get_or fields k d)) (get_or rows k [])) (sym is) (elim (cases_lt k i) [
+  | inl less ↦ subst (λ rs. AreMissing (default_values objects (get_or fields k d)) rs) (sym (get_or_append_left before (row ∷ []) [] k (omega (arith, less, len)))) (was k d less)
   | inr le ↦
       let e : k ≡ i = omega (arith, le, lt) in
       let at_k : get_or (before ++ row ∷ []) k [] ≡ row = ap (λ x. get_or (before ++ row ∷ []) x []) (e ∙ sym len) ∙ get_or-append_seam before row [] [] in
-      subst (λ rs. Lack (default_standings objects (get_or fields k d)) rs) (sym at_k) (subst (λ x. Lack (default_standings objects (get_or fields x d)) row) (sym e) (here d))
+      subst (λ rs. AreMissing (default_values objects (get_or fields k d)) rs) (sym at_k) (subst (λ x. AreMissing (default_values objects (get_or fields x d)) row) (sym e) (here d))
 ])

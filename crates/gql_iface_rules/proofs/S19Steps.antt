@@ -7,14 +7,14 @@ use Rattle.gql_ast.specs.declared.literal.Literal.{Literal}
 use Rattle.gql_ast.specs.declared.literal.ObjectField.{ObjectField}
 use Rattle.gql_ast.specs.declared.type_system.InputValueDefinition.{InputValueDefinition}
 use Rattle.gql_built_in.specs.declared.sited.Sited.{Sited}
-use Rattle.gql_iface_rules.specs.S19DefaultCircles.{Numbered, NumberedObject, Standing, Given, standings, given, standing_in, object_standings, input_objects, fields_of, numbered_from, objects_from}
+use Rattle.gql_iface_rules.specs.S19DefaultValueCycles.{Numbered, NumberedObject, ObjectValue, Given, object_values, given, values_in_field, values_of_object, input_objects, fields_of, numbered_from, objects_from}
 use Rattle.gql_types.specs.Kinds.{same_kind}
 use Rattle.gql_types.specs.Written.{Written}
 use Rattle.gql_types.specs.declared.kind.TypeKind.TheVariants.{InputObject}
 use Rattle.gql_types.specs.declared.schema_type.SchemaType.{SchemaType}
 
-pub no_standings : (xs : List Standing) (all : List NumberedObject) (is_item : Bool) (t : Written) (x : Literal) → standings all x is_item t ≡ [] → xs ≡ xs ++ standings all x is_item t
-no_standings xs all is_item t x is = rw is (sym (append-nil xs))
+pub no_object_values : (xs : List ObjectValue) (all : List NumberedObject) (is_item : Bool) (t : Written) (x : Literal) → object_values all x is_item t ≡ [] → xs ≡ xs ++ object_values all x is_item t
+no_object_values xs all is_item t x is = rw is (sym (append-nil xs))
 
 -- what was given has its names
 pub given_names : (all : List NumberedObject) (fields : List ObjectField) → map (λ (f : Given). f.name) (map (given all) fields) ≡ map (λ (f : ObjectField). f.name.text) fields
@@ -22,12 +22,12 @@ given_names all [] = refl
 given_names all (f ∷ fields) = ap (λ (ns : List (List ℕ)). f.name.text ∷ ns) (given_names all fields)
 
 -- the objects of an object are those within its fields, and the object itself
-pub with_itself : (all : List NumberedObject) (fields : List ObjectField) (o : NumberedObject) (start middle after : List Standing) → middle ≡ start ++ flat_map (standing_in o.of_type) (map (given all) fields) →
-    after ≡ middle ++ record { input_object = o; names = map (λ (f : ObjectField). f.name.text) fields } ∷ [] → after ≡ start ++ object_standings (map (given all) fields) o
+pub with_itself : (all : List NumberedObject) (fields : List ObjectField) (o : NumberedObject) (start middle after : List ObjectValue) → middle ≡ start ++ flat_map (values_in_field o.of_type) (map (given all) fields) →
+    after ≡ middle ++ record { input_object = o; names = map (λ (f : ObjectField). f.name.text) fields } ∷ [] → after ≡ start ++ values_of_object (map (given all) fields) o
 with_itself all fields o start middle after first second =
-    second ∙ ap (λ (xs : List Standing). xs ++ record { input_object = o; names = map (λ (f : ObjectField). f.name.text) fields } ∷ []) first
-    ∙ append_assoc start (flat_map (standing_in o.of_type) (map (given all) fields)) (record { input_object = o; names = map (λ (f : ObjectField). f.name.text) fields } ∷ [])
-    ∙ ap (λ (ns : List (List ℕ)). start ++ (flat_map (standing_in o.of_type) (map (given all) fields) ++ record { input_object = o; names = ns } ∷ [])) (sym (given_names all fields))
+    second ∙ ap (λ (xs : List ObjectValue). xs ++ record { input_object = o; names = map (λ (f : ObjectField). f.name.text) fields } ∷ []) first
+    ∙ append_assoc start (flat_map (values_in_field o.of_type) (map (given all) fields)) (record { input_object = o; names = map (λ (f : ObjectField). f.name.text) fields } ∷ [])
+    ∙ ap (λ (ns : List (List ℕ)). start ++ (flat_map (values_in_field o.of_type) (map (given all) fields) ++ record { input_object = o; names = ns } ∷ [])) (sym (given_names all fields))
 
 -- one field more
 pub numbered_push : (n : ℕ) (fields : List (Sited InputValueDefinition)) (f : Sited InputValueDefinition) → numbered_from n (fields ++ f ∷ []) ≡ numbered_from n fields ++ record { number = n + length fields; field = f } ∷ []

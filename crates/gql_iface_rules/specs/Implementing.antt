@@ -1,30 +1,23 @@
--- Which interfaces a type implements, and the fields that both have (GraphQL specification, 3.6 and 3.7, IsValidImplementation).
-use Rattle.std.specs.Prelude.{ℕ, List, [], ◌∷◌, Bool, true, false, flat_map, find, Option, Some, None, option_and_then, bytes_eq, if◌then◌else◌}
+-- The interfaces that types implement, and the fields that both have (GraphQL 3.6 and 3.7,
+-- IsValidImplementation).
+use Rattle.std.specs.Prelude.{ℕ, List, [], ◌∷◌, flat_map, find, Option, Some, None, option_and_then, bytes_eq, if◌then◌else◌}
 use Rattle.std.specs.Option.{option_map_or}
 use Rattle.gql_ast.specs.declared.text.Name.{Name}
 use Rattle.gql_ast.specs.declared.type_system.FieldDefinition.{FieldDefinition}
 use Rattle.gql_ast.specs.declared.type_system.InputValueDefinition.{InputValueDefinition}
 use Rattle.gql_built_in.specs.declared.sited.Sited.{Sited}
+use Rattle.gql_types.specs.Kinds.{same_kind}
 use Rattle.gql_types.specs.Parts.{sited}
 use Rattle.gql_types.specs.Schemas.{type_named}
-use Rattle.gql_types.specs.declared.kind.TypeKind.{TypeKind}
 use Rattle.gql_types.specs.declared.kind.TypeKind.TheVariants as kind
 use Rattle.gql_types.specs.declared.schema.Schema.{Schema}
 use Rattle.gql_types.specs.declared.schema_type.SchemaType.{SchemaType}
 
-abbrev pub is_interface : TypeKind → Bool
-is_interface kind.Interface = true
-is_interface kind.Scalar = false
-is_interface kind.Object = false
-is_interface kind.Union = false
-is_interface kind.Enum = false
-is_interface kind.InputObject = false
-
 -- the type, if it is an interface
 abbrev pub as_interface : SchemaType → Option SchemaType
-as_interface t = if is_interface t.kind then Some t else None
+as_interface t = if same_kind t.kind kind.Interface then Some t else None
 
--- the interface of this name: the type of the name, where it is known and an interface
+-- the interface of this name, if an interface has it
 abbrev pub interface_named : Schema → List ℕ → Option SchemaType
 interface_named s name = option_and_then as_interface (type_named s name)
 
@@ -36,7 +29,9 @@ pub record Implements : Type 0 where
 
 -- a name in the list, if an interface has it
 abbrev pub implemented_by : Schema → SchemaType → Sited Name → List Implements
-implemented_by s t n = option_map_or (λ (i : SchemaType). record { of_type = t; name = n; interface = i } ∷ []) (interface_named s n.node.text) []
+implemented_by s t n = option_map_or
+    (λ (i : SchemaType). record { of_type = t; name = n; interface = i } ∷ [])
+    (interface_named s n.node.text) []
 
 -- the interfaces that a type implements, each as often as it lists them
 abbrev pub implementations_of : Schema → SchemaType → List Implements
@@ -57,23 +52,23 @@ pub record FieldPair : Type 0 where
 
 -- a field of the interface with the field of its name among the type's own, if there is one
 abbrev pub paired : List (Sited FieldDefinition) → Sited FieldDefinition → List FieldPair
-paired fields f = option_map_or (λ (own : Sited FieldDefinition). record { own = own; expected = f } ∷ []) (field_in fields f.node.name.text) []
+paired fields f = option_map_or
+    (λ (own : Sited FieldDefinition). record { own = own; expected = f } ∷ []) (field_in fields f.node.name.text) []
 
--- each field of the interface so
+-- the pairs of a type and an interface that it implements
 abbrev pub pairs_of : Implements → List FieldPair
 pairs_of i = flat_map (paired i.of_type.fields) i.interface.fields
 
+-- the pairs of all types
 abbrev pub field_pairs : Schema → List FieldPair
 field_pairs s = flat_map pairs_of (implementations s)
-
--- the name of a field, where it stands
-abbrev pub field_name : Sited FieldDefinition → Sited Name
-field_name f = record { file = f.file; node = f.node.name }
 
 -- the arguments of a field (3.6.1)
 abbrev pub arguments_of : Sited FieldDefinition → List (Sited InputValueDefinition)
 arguments_of f = sited f.file f.node.arguments
 
 -- the first argument of this name
-abbrev pub argument_in : List (Sited InputValueDefinition) → List ℕ → Option (Sited InputValueDefinition)
-argument_in arguments name = find (λ (a : Sited InputValueDefinition). bytes_eq name a.node.name.text) arguments
+abbrev pub argument_in : List (Sited InputValueDefinition) → List ℕ
+    → Option (Sited InputValueDefinition)
+argument_in arguments name = find
+    (λ (a : Sited InputValueDefinition). bytes_eq name a.node.name.text) arguments

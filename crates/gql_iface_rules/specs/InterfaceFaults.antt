@@ -1,25 +1,32 @@
--- The faults of a schema by the rules on interfaces, and by the three rules on circles.
-use Rattle.std.specs.Prelude.{List, ◌++◌, ◌⊎◌, Contains}
+-- The faults by the rules on interfaces, S09 to S15, and by those on cycles, S17, S19 and S26.
+use Rattle.std.specs.Prelude.{List, ◌++◌, Contains}
 use Rattle.gql_ast.specs.declared.fault.Fault.{Fault}
-use Rattle.gql_iface_rules.specs.S09Interfaces.{s09_faults}
-use Rattle.gql_iface_rules.specs.S10Itself.{s10_faults}
-use Rattle.gql_iface_rules.specs.S11Declared.{s11_faults}
-use Rattle.gql_iface_rules.specs.S12Fields.{s12_faults}
-use Rattle.gql_iface_rules.specs.S13Arguments.{s13_faults}
-use Rattle.gql_iface_rules.specs.S14Further.{s14_faults}
-use Rattle.gql_iface_rules.specs.S15Covariant.{s15_faults}
-use Rattle.gql_iface_rules.specs.S17InputCircles.{IsInputCircle}
-use Rattle.gql_iface_rules.specs.S19DefaultCircles.{IsDefaultCircle}
-use Rattle.gql_iface_rules.specs.S26DirectiveCircles.{IsDirectiveCircle}
+use Rattle.gql_iface_rules.specs.S09BadInterfaceNames as s09
+use Rattle.gql_iface_rules.specs.S10SelfImplementation as s10
+use Rattle.gql_iface_rules.specs.S11UndeclaredInterfaces as s11
+use Rattle.gql_iface_rules.specs.S12MissingFields as s12
+use Rattle.gql_iface_rules.specs.S13MissingArguments as s13
+use Rattle.gql_iface_rules.specs.S14ExtraRequiredArguments as s14
+use Rattle.gql_iface_rules.specs.S15IncompatibleFieldTypes as s15
+use Rattle.gql_iface_rules.specs.S17InputObjectCycles as s17
+use Rattle.gql_iface_rules.specs.S19DefaultValueCycles as s19
+use Rattle.gql_iface_rules.specs.S26DirectiveCycles as s26
 use Rattle.gql_types.specs.declared.schema.Schema.{Schema}
 
--- what types and the interfaces that they implement break
-abbrev pub implementing_faults : Schema → List Fault
-implementing_faults s = s09_faults s ++ (s10_faults s ++ (s11_faults s ++ (s12_faults s ++ (s13_faults s ++ (s14_faults s ++ s15_faults s)))))
+-- by the rules on interfaces alone, as the code joins them
+abbrev pub listed_faults : Schema → List Fault
+listed_faults s = s09.faults s ++ (s10.faults s ++ (s11.faults s ++ (s12.faults s
+    ++ (s13.faults s ++ (s14.faults s ++ s15.faults s)))))
 
--- what leads back to itself: input objects, defaults of input fields, and directives
-abbrev pub IsCircle : Schema → Fault → Type 0
-IsCircle s f = IsInputCircle s f ⊎ (IsDefaultCircle s f ⊎ IsDirectiveCircle s f)
-
-abbrev pub IsInterfaceFault : Schema → Fault → Type 0
-IsInterfaceFault s f = Contains (implementing_faults s) f ⊎ IsCircle s f
+-- by one of these rules
+pub data IsInterfaceFault (s : Schema) (f : Fault) : Type 0 where
+  by_s09 : Contains (s09.faults s) f → IsInterfaceFault s f
+  by_s10 : Contains (s10.faults s) f → IsInterfaceFault s f
+  by_s11 : Contains (s11.faults s) f → IsInterfaceFault s f
+  by_s12 : Contains (s12.faults s) f → IsInterfaceFault s f
+  by_s13 : Contains (s13.faults s) f → IsInterfaceFault s f
+  by_s14 : Contains (s14.faults s) f → IsInterfaceFault s f
+  by_s15 : Contains (s15.faults s) f → IsInterfaceFault s f
+  by_s17 : s17.IsFault s f → IsInterfaceFault s f
+  by_s19 : s19.IsFault s f → IsInterfaceFault s f
+  by_s26 : s26.IsFault s f → IsInterfaceFault s f

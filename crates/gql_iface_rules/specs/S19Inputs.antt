@@ -1,9 +1,9 @@
--- What the code holds of input fields and input objects.
+-- Helper definitions for private contracts: input fields and input objects as the code holds them.
 use Rattle.std.specs.Prelude.{map}
-use Rattle.gql_iface_rules.specs.S19DefaultCircles.{Numbered, NumberedObject, Standing as TheStanding}
+use Rattle.gql_iface_rules.specs.S19DefaultValueCycles.{Numbered, NumberedObject, ObjectValue as TheObjectValue}
 use Rattle.gql_iface_rules.specs.declared.s19_inputs.InputObject.{InputObject}
 use Rattle.gql_iface_rules.specs.declared.s19_inputs.NumberedInput.{NumberedInput}
-use Rattle.gql_iface_rules.specs.declared.s19_standings.Standing.{Standing}
+use Rattle.gql_iface_rules.specs.declared.s19_object_values.ObjectValue.{ObjectValue}
 
 abbrev pub numbered : NumberedInput → Numbered
 numbered i = record { number = i.number; field = i.field.now }
@@ -11,5 +11,8 @@ numbered i = record { number = i.number; field = i.field.now }
 abbrev pub object : InputObject → NumberedObject
 object o = record { of_type = o.of_type.now; numbers = o.numbers; inputs = map numbered o.inputs }
 
-abbrev pub standing : Standing → TheStanding
-standing x = record { input_object = object x.input_object.now; names = map (λ f. f.name.text) x.fields.now }
+abbrev pub object_value : ObjectValue → TheObjectValue
+object_value x = record {
+  input_object = object x.input_object.now;
+  names = map (λ f. f.name.text) x.fields.now;
+}

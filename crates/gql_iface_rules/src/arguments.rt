@@ -1,3 +1,4 @@
+//! The arguments of fields, with look-up.
 ghost use Rattle.std.specs.Prelude.{◌≡◌, ◌++◌, IfOk, OnOk};
 ghost use Rattle.std.specs.Option.{option_copied};
 ghost use Rattle.gql_iface_rules.specs.Implementing as spec;
@@ -11,6 +12,7 @@ use std::alloc::{AllocError, Global};
 /// The arguments of a field, with look-up.
 pub type Arguments = Named<Sited<Shared<InputValueDefinition>>>;
 
+// The same file.
 fn copied(file: &Option<FileName>) -> Option<FileName>
     ensures { result ≡ file.now }
 {
@@ -20,6 +22,7 @@ fn copied(file: &Option<FileName>) -> Option<FileName>
     }
 }
 
+// These arguments of a file.
 fn sited_arguments(
     alloc: Global,
     file: &Option<FileName>,
@@ -37,7 +40,7 @@ fn sited_arguments(
     Ok(found)
 }
 
-/// The arguments of a field (GraphQL specification, 3.6.1).
+/// The arguments of a field (GraphQL 3.6.1).
 pub fn arguments_of(
     alloc: Global,
     field: &Sited<Shared<FieldDefinition>>,

@@ -1,37 +1,21 @@
-//! Which interfaces a type implements, and the fields that both have (GraphQL specification, 3.6 and 3.7).
+//! The interfaces that types implement, and the fields that both have (GraphQL 3.6 and 3.7).
 ghost use Rattle.std.specs.Prelude.{◌≡◌, ◌++◌, IfOk, OnOk, map, flat_map};
 ghost use Rattle.std.specs.Option.{option_copied};
-ghost use Rattle.gql_faults.specs.Places.{named};
 ghost use Rattle.gql_iface_rules.specs.Borrowed.{implements, pair};
 ghost use Rattle.gql_iface_rules.specs.Implementing as spec;
 
-use gql_ast::{FieldDefinition, InputValueDefinition, Name, Shared};
+use gql_ast::{FieldDefinition, Name, Shared};
 use gql_built_in::Sited;
-use gql_faults::NamePlace;
 use gql_types::{HasName, Named, Schema, SchemaType, TypeKind};
 use std::alloc::{AllocError, Global};
 
-/// Whether a kind of type is that of interfaces.
-pub fn is_interface(kind: TypeKind) -> bool
-    ensures { result ≡ spec.is_interface kind }
-{
-    match kind {
-        TypeKind::Interface => true,
-        TypeKind::Scalar
-        | TypeKind::Object
-        | TypeKind::Union
-        | TypeKind::Enum
-        | TypeKind::InputObject => false,
-    }
-}
-
-/// The interface of a name, where it is known and an interface.
+/// The interface of a name, if an interface has it.
 pub fn interface_named<'s>(schema: &'s Schema, name: &str) -> Option<&'s SchemaType>
     ensures { option_copied result ≡ spec.interface_named schema.now name.now }
 {
     match schema.get(name) {
         Some(of_type) => {
-            if is_interface(of_type.kind) {
+            if of_type.kind.is(TypeKind::Interface) {
                 Some(of_type)
             } else {
                 None
@@ -49,13 +33,15 @@ pub struct Implementation<'s> {
     pub interface: &'s SchemaType,
 }
 
+// Adds the interface of a name in the list of a type, if an interface has the name.
 fn add_implemented<'s>(
     schema: &'s Schema,
     of_type: &'s SchemaType,
     name: &'s Sited<Name>,
     found: &mut Vec<Implementation<'s>>,
 ) -> Result<(), AllocError>
-    ensures { OnOk result (map implements found.new.items ≡ map implements found.old.items ++ spec.implemented_by schema.now of_type.now name.now) }
+    ensures { OnOk result (map implements found.new.items ≡ map implements found.old.items
+        ++ spec.implemented_by schema.now of_type.now name.now) }
 {
     if let Some(interface) = interface_named(schema, name.node.as_str()) {
         found.push(Implementation {
@@ -73,7 +59,8 @@ pub fn add_implementations<'s>(
     of_type: &'s SchemaType,
     found: &mut Vec<Implementation<'s>>,
 ) -> Result<(), AllocError>
-    ensures { OnOk result (map implements found.new.items ≡ map implements found.old.items ++ spec.implementations_of schema.now of_type.now) }
+    ensures { OnOk result (map implements found.new.items ≡ map implements found.old.items
+        ++ spec.implementations_of schema.now of_type.now) }
 {
     for name in of_type.interfaces.as_slice() {
         add_implemented(schema, of_type, name, found)?;
@@ -81,7 +68,7 @@ pub fn add_implementations<'s>(
     Ok(())
 }
 
-/// What all types implement.
+/// The interfaces that all types implement.
 pub fn implementations(
     alloc: Global,
     schema: &Schema,
@@ -95,7 +82,7 @@ pub fn implementations(
     Ok(found)
 }
 
-/// A type's own field, and the field of that name that an interface of the type has.
+/// A type's own field, and the interface's field of that name.
 #[derive(Clone, Copy)]
 pub struct FieldPair<'s> {
     pub own: &'s Sited<Shared<FieldDefinition>>,
@@ -112,12 +99,14 @@ pub fn field_in<'s>(
     fields.get(name)
 }
 
+// Adds a field of an interface with the type's field of its name, if there is one.
 fn add_paired<'s>(
     of_type: &'s SchemaType,
     expected: &'s Sited<Shared<FieldDefinition>>,
     pairs: &mut Vec<FieldPair<'s>>,
 ) -> Result<(), AllocError>
-    ensures { OnOk result (map pair pairs.new.items ≡ map pair pairs.old.items ++ spec.paired of_type.now.fields expected.now) }
+    ensures { OnOk result (map pair pairs.new.items ≡ map pair pairs.old.items
+        ++ spec.paired of_type.now.fields expected.now) }
 {
     if let Some(own) = field_in(&of_type.fields, expected.name()) {
         pairs.push(FieldPair { own, expected })?;
@@ -125,11 +114,13 @@ fn add_paired<'s>(
     Ok(())
 }
 
+// Adds the pairs of fields of a type and an interface.
 fn add_pairs<'s>(
     implementation: &Implementation<'s>,
     pairs: &mut Vec<FieldPair<'s>>,
 ) -> Result<(), AllocError>
-    ensures { OnOk result (map pair pairs.new.items ≡ map pair pairs.old.items ++ spec.pairs_of (implements implementation.now)) }
+    ensures { OnOk result (map pair pairs.new.items ≡ map pair pairs.old.items
+        ++ spec.pairs_of (implements implementation.now)) }
 {
     for expected in implementation.interface.fields.as_slice() {
         add_paired(implementation.of_type, expected, pairs)?;
@@ -137,26 +128,18 @@ fn add_pairs<'s>(
     Ok(())
 }
 
-/// Each field of an interface with the field of its name of each type that implements it.
+/// The fields of interfaces, each with the field of its name of the type that implements it.
 pub fn field_pairs<'s>(
     alloc: Global,
     implementations: &[Implementation<'s>],
 ) -> Result<Vec<FieldPair<'s>>, AllocError>
-    ensures { IfOk result (λ pairs. map pair pairs.items ≡ flat_map spec.pairs_of (map implements implementations.now)) }
+    ensures { IfOk result
+        (λ pairs. map pair pairs.items
+        ≡ flat_map spec.pairs_of (map implements implementations.now)) }
 {
     let mut pairs = Vec::new(alloc);
     for implementation in implementations {
         add_pairs(implementation, &mut pairs)?;
     }
     Ok(pairs)
-}
-
-/// The name of a field, where it stands.
-pub fn field_name<'s>(field: &'s Sited<Shared<FieldDefinition>>) -> NamePlace<'s>
-    ensures { named result ≡ spec.field_name field.now }
-{
-    NamePlace {
-        file: field.file.as_ref(),
-        name: &field.node.get().name,
-    }
 }

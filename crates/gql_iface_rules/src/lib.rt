@@ -1,27 +1,29 @@
-//! The rules on what types and the interfaces that they implement have (GraphQL specification, 3.6 and 3.7), and the three
-//! rules on circles: of input objects (3.10), of the defaults of input fields (3.10) and of directives (3.13).
+//! The rules on what types and the interfaces that they implement have (GraphQL 3.6 and 3.7), and the
+//! three rules on cycles: of input objects and of their default values (3.10), and of directives
+//! (3.13).
+//!
+//! A function that adds to a list may have added a part where it fails for memory.
 #![tactic(auto)]
 
 mod arguments;
-mod declared;
 mod implementing;
+mod name_set;
 mod rules;
-mod s09_interfaces;
-mod s10_itself;
-mod s11_declared;
-mod s12_fields;
-mod s13_arguments;
-mod s14_further;
-mod s15_covariant;
-mod s17_input_circles;
-mod s19_default_circles;
+mod s09_bad_interface_names;
+mod s10_self_implementation;
+mod s11_undeclared_interfaces;
+mod s12_missing_fields;
+mod s13_missing_arguments;
+mod s14_extra_required_arguments;
+mod s15_incompatible_field_types;
+mod s17_input_object_cycles;
+mod s19_default_value_cycles;
 mod s19_ends;
 mod s19_inputs;
+mod s19_object_values;
 mod s19_ranges;
-mod s19_standings;
-mod s26_directive_circles;
+mod s26_directive_cycles;
 mod s26_parts;
 mod s26_rows;
-mod told;
 
 pub use rules::iface_faults;

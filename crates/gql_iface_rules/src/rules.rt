@@ -1,57 +1,47 @@
+//! The rules of this crate together.
 ghost use Rattle.std.specs.Prelude.{◌≡◌, IfOk, Contains};
 ghost use Rattle.gql_ast.specs.declared.fault.Fault.{Fault as TheFault};
 ghost use Rattle.gql_iface_rules.specs.InterfaceFaults as spec;
 
 use crate::implementing::{field_pairs, implementations};
-use crate::s09_interfaces::add_s09;
-use crate::s10_itself::add_s10;
-use crate::s11_declared::add_s11;
-use crate::s12_fields::add_s12;
-use crate::s13_arguments::add_s13;
-use crate::s14_further::add_s14;
-use crate::s15_covariant::add_s15;
-use crate::s17_input_circles::s17_faults;
-use crate::s19_default_circles::s19_faults;
-use crate::s26_directive_circles::s26_faults;
+use crate::{
+    s09_bad_interface_names, s10_self_implementation, s11_undeclared_interfaces,
+    s12_missing_fields, s13_missing_arguments, s14_extra_required_arguments,
+    s15_incompatible_field_types, s17_input_object_cycles, s19_default_value_cycles,
+    s26_directive_cycles,
+};
 use gql_ast::Fault;
 use gql_types::Schema;
 use std::alloc::{AllocError, Global};
 
-fn implementing_faults(alloc: Global, schema: &Schema) -> Result<Vec<Fault>, AllocError>
-    ensures { IfOk result (λ found. found.items ≡ spec.implementing_faults schema.now) }
+// The faults by S09 to S15.
+fn listed_faults(alloc: Global, schema: &Schema) -> Result<Vec<Fault>, AllocError>
+    ensures { IfOk result (λ found. found.items ≡ spec.listed_faults schema.now) }
 {
     let mut faults = Vec::new(alloc);
-    add_s09(alloc, schema, &mut faults)?;
-    add_s10(alloc, schema, &mut faults)?;
-    add_s11(alloc, schema, &mut faults)?;
+    s09_bad_interface_names::check(alloc, schema, &mut faults)?;
+    s10_self_implementation::check(alloc, schema, &mut faults)?;
+    s11_undeclared_interfaces::check(alloc, schema, &mut faults)?;
     let implementations = implementations(alloc, schema)?;
-    add_s12(alloc, implementations.as_slice(), &mut faults)?;
+    s12_missing_fields::check(alloc, implementations.as_slice(), &mut faults)?;
     let pairs = field_pairs(alloc, implementations.as_slice())?;
-    add_s13(alloc, pairs.as_slice(), &mut faults)?;
-    add_s14(alloc, pairs.as_slice(), &mut faults)?;
-    add_s15(alloc, schema, pairs.as_slice(), &mut faults)?;
+    s13_missing_arguments::check(alloc, pairs.as_slice(), &mut faults)?;
+    s14_extra_required_arguments::check(alloc, pairs.as_slice(), &mut faults)?;
+    s15_incompatible_field_types::check(alloc, schema, pairs.as_slice(), &mut faults)?;
     Ok(faults)
 }
 
-fn circle_faults(alloc: Global, schema: &Schema) -> Result<Vec<Fault>, AllocError>
-    ensures sound { IfOk result (λ found. (f : TheFault) → Contains found.items f → spec.IsCircle schema.now f) }
-    ensures complete { IfOk result (λ found. (f : TheFault) → spec.IsCircle schema.now f → Contains found.items f) }
-{
-    let mut found = s17_faults(alloc, schema)?;
-    let mut defaults = s19_faults(alloc, schema)?;
-    found.append(&mut defaults)?;
-    let mut directives = s26_faults(alloc, schema)?;
-    found.append(&mut directives)?;
-    Ok(found)
-}
-
-/// The faults of a schema by the rules on interfaces, S09 to S15, and the rules on circles, S17, S19 and S26.
+/// The faults of a schema by the rules on interfaces, S09 to S15, and by the rules on cycles, S17,
+/// S19 and S26.
 pub fn iface_faults(alloc: Global, schema: &Schema) -> Result<Vec<Fault>, AllocError>
-    ensures sound { IfOk result (λ found. (f : TheFault) → Contains found.items f → spec.IsInterfaceFault schema.now f) }
-    ensures complete { IfOk result (λ found. (f : TheFault) → spec.IsInterfaceFault schema.now f → Contains found.items f) }
+    ensures sound { IfOk result (λ found. (f : TheFault)
+        → Contains found.items f → spec.IsInterfaceFault schema.now f) }
+    ensures complete { IfOk result (λ found. (f : TheFault)
+        → spec.IsInterfaceFault schema.now f → Contains found.items f) }
 {
-    let mut found = implementing_faults(alloc, schema)?;
-    let mut circles = circle_faults(alloc, schema)?;
-    found.append(&mut circles)?;
-    Ok(found)
+    let mut faults = listed_faults(alloc, schema)?;
+    s17_input_object_cycles::check(alloc, schema, &mut faults)?;
+    s19_default_value_cycles::check(alloc, schema, &mut faults)?;
+    s26_directive_cycles::check(alloc, schema, &mut faults)?;
+    Ok(faults)
 }

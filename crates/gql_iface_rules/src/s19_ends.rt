@@ -1,4 +1,5 @@
-//! Which defaults are needed where the fields of a name are lacking: a name stands at the number of its first field.
+//! The default values that are needed when fields of a name are not given: a name has the number of
+//! its first field.
 ghost use Rattle.std.specs.Prelude.{◌≡◌, ◌<◌, ◌++◌, ◌↔◌, ℕ, [], map, flat_map, length, replicate, slice_index_or, IfOk, OnOk, Contains};
 ghost use Rattle.gql_iface_rules.specs.S19Inputs.{numbered, object};
 ghost use Rattle.gql_iface_rules.specs.S19Ends as spec;
@@ -20,7 +21,8 @@ fn add_end(
     input: &NumberedInput<'_>,
     ends: &mut Vec<End>,
 ) -> Result<(), AllocError>
-    ensures { OnOk result (ends.new.items ≡ ends.old.items ++ spec.end_of (object input_object.now) (numbered input.now)) }
+    ensures { OnOk result (ends.new.items ≡ ends.old.items
+        ++ spec.end_of (object input_object.now) (numbered input.now)) }
 {
     if !input.field.node.get().default.is_some() {
         return Ok(());
@@ -39,7 +41,8 @@ fn add_end(
 
 /// Adds the fields of an input object that have a default.
 fn add_ends(input_object: &InputObject<'_>, ends: &mut Vec<End>) -> Result<(), AllocError>
-    ensures { OnOk result (ends.new.items ≡ ends.old.items ++ spec.ends_of (object input_object.now)) }
+    ensures { OnOk result (ends.new.items ≡ ends.old.items
+        ++ spec.ends_of (object input_object.now)) }
 {
     for input in input_object.inputs.as_slice() {
         add_end(input_object, input, ends)?;
@@ -71,7 +74,8 @@ fn empty_rows(alloc: Global, count: usize) -> Result<Vec<Vec<usize>>, AllocError
 
 /// Adds a field to the row of the first field of its name.
 fn put_end(end: &End, rows: &mut Vec<Vec<usize>>) -> Result<(), AllocError>
-    ensures { OnOk result (map (λ v. v.items) rows.new.items ≡ spec.with_end end.now (map (λ v. v.items) rows.old.items)) }
+    ensures { OnOk result (map (λ v. v.items) rows.new.items
+        ≡ spec.with_end end.now (map (λ v. v.items) rows.old.items)) }
 {
     if end.first < rows.len() {
         let row = &mut rows[end.first];

@@ -2,21 +2,21 @@
 ghost use Rattle.std.specs.Prelude.{◌≡◌, ◌++◌, ◌∷◌, [], map, length, option_map, IfOk, OnOk};
 ghost use Rattle.std.specs.Option.{option_copied};
 ghost use Rattle.gql_inputs.specs.InputTypes.{name_in as name_within};
-ghost use Rattle.gql_iface_rules.specs.S19DefaultCircles as spec;
+ghost use Rattle.gql_iface_rules.specs.S19DefaultValueCycles as spec;
 ghost use Rattle.gql_iface_rules.specs.S19Inputs.{numbered, object};
 ghost use Rattle.gql_types.specs.Written.{written};
 
 use gql_ast::{InputValueDefinition, Shared, TypeRef};
 use gql_built_in::Sited;
+use gql_cycles::Range;
 use gql_inputs::name_in;
-use gql_ranges::Range;
 use gql_types::{HasName, Named, Schema, SchemaType, TypeKind};
 use std::alloc::{AllocError, Global};
 
 /// An input field of a schema.
 pub type Input = Sited<Shared<InputValueDefinition>>;
 
-/// An input field, and how many stand before it.
+/// An input field, and how many are before it.
 #[derive(Drop)]
 pub struct NumberedInput<'s> {
     pub number: usize,
@@ -60,8 +60,11 @@ fn numbered_inputs<'s>(
     of_type: &'s SchemaType,
     all: &mut Vec<&'s Input>,
 ) -> Result<Vec<NumberedInput<'s>>, AllocError>
-    ensures all { OnOk result (map (λ f. f.now) all.new.items ≡ map (λ f. f.now) all.old.items ++ of_type.now.input_fields) }
-    ensures numbers { IfOk result (λ inputs. map numbered inputs.items ≡ spec.numbered_from (length all.old.items) of_type.now.input_fields) }
+    ensures all { OnOk result (map (λ f. f.now) all.new.items ≡ map (λ f. f.now) all.old.items
+        ++ of_type.now.input_fields) }
+    ensures numbers { IfOk result
+        (λ inputs. map numbered inputs.items
+        ≡ spec.numbered_from (length all.old.items) of_type.now.input_fields) }
 {
     let mut inputs = Vec::new(alloc);
     for field in of_type.input_fields.as_slice() {
@@ -80,9 +83,11 @@ fn add_object<'s>(
     objects: &mut Vec<InputObject<'s>>,
 ) -> Result<(), AllocError>
     ensures all { OnOk result (map (λ f. f.now) all.new.items
-        ≡ map (λ f. f.now) all.old.items ++ spec.fields_of (spec.input_objects (of_type.now ∷ []))) }
+        ≡ map (λ f. f.now) all.old.items
+        ++ spec.fields_of (spec.input_objects (of_type.now ∷ []))) }
     ensures objects { OnOk result (map object objects.new.items
-        ≡ map object objects.old.items ++ spec.objects_from (length all.old.items) (spec.input_objects (of_type.now ∷ []))) }
+        ≡ map object objects.old.items
+        ++ spec.objects_from (length all.old.items) (spec.input_objects (of_type.now ∷ []))) }
 {
     if of_type.kind.is(TypeKind::InputObject) {
         let start = all.len();
@@ -103,7 +108,8 @@ fn add_object<'s>(
 
 /// The input fields and the input objects of a schema.
 pub fn all_inputs(alloc: Global, schema: &Schema) -> Result<AllInputs<'_>, AllocError>
-    ensures fields { IfOk result (λ all. map (λ f. f.now) all.fields.items ≡ spec.all_inputs schema.now) }
+    ensures fields { IfOk result
+        (λ all. map (λ f. f.now) all.fields.items ≡ spec.all_inputs schema.now) }
     ensures objects { IfOk result (λ all. map object all.objects ≡ spec.objects schema.now) }
 {
     let mut fields = Vec::new(alloc);
@@ -120,7 +126,8 @@ pub fn object_of<'o, 's>(
     objects: &'o Named<InputObject<'s>>,
     of_type: &TypeRef,
 ) -> Option<&'o InputObject<'s>>
-    ensures { option_map object (option_copied result) ≡ spec.object_named (map object objects.now) (name_within (written of_type.now)) }
+    ensures { option_map object (option_copied result)
+        ≡ spec.object_named (map object objects.now) (name_within (written of_type.now)) }
 {
     objects.get(name_in(of_type))
 }

@@ -1,17 +1,17 @@
-//! What the objects within a default lack, as ranges of numbers: a field is lacking where the number of the first field of its
-//! name is in a range.
+//! The fields that the objects within a default value do not give, as ranges of numbers: a field is
+//! missing if the number of the first field of its name is in a range.
 ghost use Rattle.std.specs.Prelude.{◌≡◌, ◌<◌, ◌++◌, ◌↔◌, ◌⊎◌, ℕ, [], map, flat_map, length, slice_index_or, IfOk, OnOk};
 ghost use Rattle.std.specs.List.Sorted.{IsNonDecreasing, IsPermutation};
 ghost use Rattle.gql_ast.specs.declared.type_system.InputValueDefinition.{InputValueDefinition};
 ghost use Rattle.gql_built_in.specs.declared.sited.Sited.{Sited};
-ghost use Rattle.gql_iface_rules.specs.S19DefaultCircles.{default_standings};
-ghost use Rattle.gql_iface_rules.specs.S19Inputs.{object, standing};
+ghost use Rattle.gql_iface_rules.specs.S19DefaultValueCycles.{default_values};
+ghost use Rattle.gql_iface_rules.specs.S19Inputs.{object, object_value};
 ghost use Rattle.gql_iface_rules.specs.S19Ranges as spec;
-ghost use Rattle.gql_ranges.specs.Cover.{IsWithinAny};
+ghost use Rattle.gql_cycles.specs.Cover.{IsWithinAny};
 
 use crate::s19_inputs::{Input, InputObject};
-use crate::s19_standings::{Standing, default_standings};
-use gql_ranges::Range;
+use crate::s19_object_values::{ObjectValue, default_values};
+use gql_cycles::Range;
 use gql_types::Named;
 use std::alloc::{AllocError, Global};
 
@@ -21,7 +21,8 @@ fn add_first(
     name: &str,
     numbers: &mut Vec<usize>,
 ) -> Result<(), AllocError>
-    ensures { OnOk result (numbers.new.items ≡ numbers.old.items ++ spec.first_number (object input_object.now).inputs name.now) }
+    ensures { OnOk result (numbers.new.items ≡ numbers.old.items
+        ++ spec.first_number (object input_object.now).inputs name.now) }
 {
     match input_object.inputs.get(name) {
         Some(input) => {
@@ -33,8 +34,8 @@ fn add_first(
 }
 
 /// The numbers of the first fields of the names that an object gives.
-fn given_numbers(alloc: Global, at: &Standing<'_, '_>) -> Result<Vec<usize>, AllocError>
-    ensures { IfOk result (λ numbers. numbers.items ≡ spec.given_numbers (standing at.now)) }
+fn given_numbers(alloc: Global, at: &ObjectValue<'_, '_>) -> Result<Vec<usize>, AllocError>
+    ensures { IfOk result (λ numbers. numbers.items ≡ spec.given_numbers (object_value at.now)) }
 {
     let mut numbers = Vec::new(alloc);
     for field in at.fields {
@@ -44,9 +45,10 @@ fn given_numbers(alloc: Global, at: &Standing<'_, '_>) -> Result<Vec<usize>, All
 }
 
 /// The same, from the least to the greatest.
-fn sorted_numbers(alloc: Global, at: &Standing<'_, '_>) -> Result<Vec<usize>, AllocError>
+fn sorted_numbers(alloc: Global, at: &ObjectValue<'_, '_>) -> Result<Vec<usize>, AllocError>
     ensures rises { IfOk result (λ numbers. IsNonDecreasing numbers.items) }
-    ensures moved { IfOk result (λ numbers. IsPermutation (spec.given_numbers (standing at.now)) numbers.items) }
+    ensures moved { IfOk result
+        (λ numbers. IsPermutation (spec.given_numbers (object_value at.now)) numbers.items) }
 {
     let mut numbers = given_numbers(alloc, at)?;
     numbers.sort()?;
@@ -60,7 +62,8 @@ fn add_gap(
     end: usize,
     gaps: &mut Vec<Range>,
 ) -> Result<usize, AllocError>
-    ensures gaps { OnOk result (gaps.new.items ≡ gaps.old.items ++ spec.gap_before start number end) }
+    ensures gaps { OnOk result (gaps.new.items ≡ gaps.old.items
+        ++ spec.gap_before start number end) }
     ensures start { IfOk result (λ rest. rest ≡ spec.start_after start number end) }
 {
     if start <= number && number < end {
@@ -74,7 +77,8 @@ fn add_gap(
 /// Adds what these numbers leave of a range.
 fn add_gaps(numbers: &Range, given: &[usize], gaps: &mut Vec<Range>) -> Result<(), AllocError>
     requires { IsNonDecreasing given.now }
-    ensures { OnOk result ((p : ℕ) → IsWithinAny gaps.new.items p ↔ (IsWithinAny gaps.old.items p ⊎ spec.IsLeft numbers.now given.now p)) }
+    ensures { OnOk result ((p : ℕ) → IsWithinAny gaps.new.items p
+        ↔ (IsWithinAny gaps.old.items p ⊎ spec.IsLeft numbers.now given.now p)) }
 {
     let mut start = numbers.start;
     for number in given {
@@ -87,52 +91,55 @@ fn add_gaps(numbers: &Range, given: &[usize], gaps: &mut Vec<Range>) -> Result<(
     Ok(())
 }
 
-/// Adds what an object lacks.
-fn add_lacking(
+/// Adds the ranges of the fields that an object does not give.
+fn add_missing(
     alloc: Global,
-    at: &Standing<'_, '_>,
+    at: &ObjectValue<'_, '_>,
     ranges: &mut Vec<Range>,
 ) -> Result<(), AllocError>
-    ensures { OnOk result ((p : ℕ) → IsWithinAny ranges.new.items p ↔ (IsWithinAny ranges.old.items p ⊎ spec.IsLacking (standing at.now) p)) }
+    ensures { OnOk result ((p : ℕ) → IsWithinAny ranges.new.items p
+        ↔ (IsWithinAny ranges.old.items p ⊎ spec.IsMissing (object_value at.now) p)) }
 {
     let given = sorted_numbers(alloc, at)?;
     add_gaps(&at.input_object.numbers, given.as_slice(), ranges)?;
     Ok(())
 }
 
-/// What these objects lack.
-fn lacking(alloc: Global, all: &[Standing<'_, '_>]) -> Result<Vec<Range>, AllocError>
-    ensures { IfOk result (λ ranges. spec.Lack (map standing all.now) ranges.items) }
+/// The ranges of the fields that these objects do not give.
+fn missing(alloc: Global, all: &[ObjectValue<'_, '_>]) -> Result<Vec<Range>, AllocError>
+    ensures { IfOk result (λ ranges. spec.AreMissing (map object_value all.now) ranges.items) }
 {
     let mut ranges = Vec::new(alloc);
     for at in all {
-        add_lacking(alloc, at, &mut ranges)?;
+        add_missing(alloc, at, &mut ranges)?;
     }
     Ok(ranges)
 }
 
-/// What the objects within the default of a field lack.
+/// The same for the objects within the default value of a field.
 fn default_ranges(
     alloc: Global,
     field: &Input,
     objects: &Named<InputObject<'_>>,
 ) -> Result<Vec<Range>, AllocError>
-    ensures { IfOk result (λ ranges. spec.Lack (default_standings (map object objects.now) field.now) ranges.items) }
+    ensures { IfOk result
+        (λ ranges. spec.AreMissing (default_values (map object objects.now) field.now) ranges.items) }
 {
-    let all = default_standings(alloc, field, objects)?;
-    let ranges = lacking(alloc, all.as_slice())?;
+    let all = default_values(alloc, field, objects)?;
+    let ranges = missing(alloc, all.as_slice())?;
     Ok(ranges)
 }
 
-/// What the objects within the default of each field lack.
+/// The same for each field.
 pub fn all_ranges(
     alloc: Global,
     fields: &[&Input],
     objects: &Named<InputObject<'_>>,
 ) -> Result<Vec<Vec<Range>>, AllocError>
     ensures length { IfOk result (λ ranges. length ranges.items ≡ length fields.now) }
-    ensures ranges { IfOk result (λ ranges. (i : ℕ) (d : Sited InputValueDefinition) → i < length fields.now
-        → spec.Lack (default_standings (map object objects.now) (slice_index_or (map (λ f. f.now) fields.now) i d)) (slice_index_or (map (λ v. v.items) ranges.items) i [])) }
+    ensures ranges { IfOk result
+        (λ ranges. (i : ℕ) (d : Sited InputValueDefinition) → i < length fields.now
+        → spec.AreMissing (default_values (map object objects.now) (slice_index_or (map (λ f. f.now) fields.now) i d)) (slice_index_or (map (λ v. v.items) ranges.items) i [])) }
 {
     let mut ranges = Vec::new(alloc);
     for field in fields {

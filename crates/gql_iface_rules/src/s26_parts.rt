@@ -1,6 +1,6 @@
-//! To which names the parts of types and directives lead (GraphQL specification, 3.13).
+//! The names to which the parts of types and directives lead, for S26.
 ghost use Rattle.std.specs.Prelude.{◌≡◌, ◌++◌, IfOk, OnOk, flat_map};
-ghost use Rattle.gql_iface_rules.specs.S26DirectiveCircles as spec;
+ghost use Rattle.gql_iface_rules.specs.S26DirectiveCycles as spec;
 
 use gql_ast::{
     Directive, EnumValueDefinition, FieldDefinition, InputValueDefinition, Items, Shared, Text,
@@ -33,6 +33,7 @@ pub fn add_applied(
     Ok(())
 }
 
+// Adds the names to which an argument or an input field leads.
 fn add_input(
     alloc: Global,
     input: &InputValueDefinition,
@@ -45,7 +46,7 @@ fn add_input(
     Ok(())
 }
 
-/// Adds what the arguments of a directive lead to.
+/// Adds the names to which the arguments of a directive lead.
 pub fn add_inputs(
     alloc: Global,
     inputs: &[Shared<InputValueDefinition>],
@@ -59,6 +60,7 @@ pub fn add_inputs(
     Ok(())
 }
 
+// Adds the directives on the arguments of a field.
 fn add_on_arguments(
     alloc: Global,
     arguments: &[Shared<InputValueDefinition>],
@@ -72,6 +74,7 @@ fn add_on_arguments(
     Ok(())
 }
 
+// Adds the names to which a field leads.
 fn add_field(
     alloc: Global,
     field: &FieldDefinition,
@@ -83,7 +86,7 @@ fn add_field(
     add_on_arguments(alloc, field.arguments.as_slice(), names)
 }
 
-/// Adds what fields lead to.
+/// Adds the names to which fields lead.
 pub fn add_fields(
     alloc: Global,
     fields: &[Sited<Shared<FieldDefinition>>],
@@ -111,7 +114,7 @@ pub fn add_values(
     Ok(())
 }
 
-/// Adds what input fields lead to.
+/// Adds the names to which input fields lead.
 pub fn add_input_fields(
     alloc: Global,
     fields: &[Sited<Shared<InputValueDefinition>>],

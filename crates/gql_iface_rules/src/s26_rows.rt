@@ -1,8 +1,8 @@
-//! To which names types and directives lead (GraphQL specification, 3.13).
+//! The names to which types and directives lead, for S26.
 ghost use Rattle.std.specs.Prelude.{◌≡◌, ◌++◌, IfOk, OnOk, map, flat_map};
 ghost use Rattle.gql_faults.specs.Directives.{first_directives as firsts_of};
-ghost use Rattle.gql_iface_rules.specs.Leading.{steps};
-ghost use Rattle.gql_iface_rules.specs.S26DirectiveCircles as spec;
+ghost use Rattle.gql_iface_rules.specs.Borrowed.{steps};
+ghost use Rattle.gql_iface_rules.specs.S26DirectiveCycles as spec;
 
 use crate::s26_parts::{
     add_applied, add_extensions, add_fields, add_input_fields, add_inputs, add_values, at_sign,
@@ -13,14 +13,15 @@ use gql_faults::first_directives;
 use gql_types::{Schema, SchemaType};
 use std::alloc::{AllocError, Global};
 
-/// A type or a directive, and what it leads to.
+/// A type or a directive, and the names to which it leads.
 #[derive(Drop)]
-pub struct Leading {
+pub struct OwnedRow {
     pub name: Text,
     pub leads: Items<Text>,
 }
 
-fn type_row(alloc: Global, of_type: &SchemaType) -> Result<Leading, AllocError>
+// The row of a type.
+fn type_row(alloc: Global, of_type: &SchemaType) -> Result<OwnedRow, AllocError>
     ensures { IfOk result (λ row. steps row ≡ spec.type_row of_type.now) }
 {
     let definition = of_type.definition.node.get();
@@ -31,28 +32,31 @@ fn type_row(alloc: Global, of_type: &SchemaType) -> Result<Leading, AllocError>
     add_values(alloc, of_type.values.as_slice(), &mut leads)?;
     add_input_fields(alloc, of_type.input_fields.as_slice(), &mut leads)?;
     let name = definition.name.text.copy(alloc)?;
-    Ok(Leading { name, leads })
+    Ok(OwnedRow { name, leads })
 }
 
+// The row of a directive.
 fn directive_row(
     alloc: Global,
     directive: &Sited<Shared<DirectiveDefinition>>,
-) -> Result<Leading, AllocError>
+) -> Result<OwnedRow, AllocError>
     ensures { IfOk result (λ row. steps row ≡ spec.directive_row directive.now) }
 {
     let definition = directive.node.get();
     let mut leads = Items::new(alloc);
     add_inputs(alloc, definition.arguments.as_slice(), &mut leads)?;
     let name = at_sign(alloc, definition.name.as_str())?;
-    Ok(Leading { name, leads })
+    Ok(OwnedRow { name, leads })
 }
 
+// Adds the rows of types.
 fn add_type_rows(
     alloc: Global,
     types: &[SchemaType],
-    rows: &mut Vec<Leading>,
+    rows: &mut Vec<OwnedRow>,
 ) -> Result<(), AllocError>
-    ensures { OnOk result (map steps rows.new.items ≡ map steps rows.old.items ++ map spec.type_row types.now) }
+    ensures { OnOk result (map steps rows.new.items ≡ map steps rows.old.items
+        ++ map spec.type_row types.now) }
 {
     for of_type in types {
         rows.push(type_row(alloc, of_type)?)?;
@@ -60,12 +64,14 @@ fn add_type_rows(
     Ok(())
 }
 
+// Adds the rows of directives.
 fn add_directive_rows(
     alloc: Global,
     directives: &[&Sited<Shared<DirectiveDefinition>>],
-    rows: &mut Vec<Leading>,
+    rows: &mut Vec<OwnedRow>,
 ) -> Result<(), AllocError>
-    ensures { OnOk result (map steps rows.new.items ≡ map steps rows.old.items ++ map spec.directive_row (map (λ d. d.now) directives.now)) }
+    ensures { OnOk result (map steps rows.new.items ≡ map steps rows.old.items
+        ++ map spec.directive_row (map (λ d. d.now) directives.now)) }
 {
     for directive in directives {
         rows.push(directive_row(alloc, directive)?)?;
@@ -73,8 +79,8 @@ fn add_directive_rows(
     Ok(())
 }
 
-/// All types and directives, and what they lead to.
-pub fn definition_rows(alloc: Global, schema: &Schema) -> Result<Vec<Leading>, AllocError>
+/// The rows of all types and directives.
+pub fn definition_rows(alloc: Global, schema: &Schema) -> Result<Vec<OwnedRow>, AllocError>
     ensures { IfOk result (λ rows. map steps rows.items ≡ spec.definition_rows schema.now) }
 {
     let mut rows = Vec::new(alloc);

@@ -1,5 +1,5 @@
--- The directives that are applied to nodes (GraphQL specification, 2.12), with the location of their node (3.13).
-use Rattle.std.specs.Prelude.{ℕ, List, ◌++◌, map, flat_map, Option, Bool}
+-- The directives that are applied to nodes (GraphQL 2.12), with the location of their node (3.13).
+use Rattle.std.specs.Prelude.{ℕ, List, [], ◌∷◌, ◌++◌, map, flat_map, take, Option, Bool}
 use Rattle.std.specs.List.{list_any}
 use denote.Enum.Bare.{sameb}
 use Rattle.gql_text.specs.declared.place.Place.{Place}
@@ -17,6 +17,7 @@ use Rattle.gql_ast.specs.declared.type_system.FieldDefinition.{FieldDefinition}
 use Rattle.gql_ast.specs.declared.type_system.EnumValueDefinition.{EnumValueDefinition}
 use Rattle.gql_ast.specs.declared.type_system.InputValueDefinition.{InputValueDefinition}
 use Rattle.gql_built_in.specs.declared.sited.Sited.{Sited}
+use Rattle.gql_types.specs.declared.schema_type.SchemaType.{SchemaType}
 use Rattle.gql_node_rules.specs.Nodes.{AllNodes}
 
 -- a node: its location, its file, and the directives that are applied to it
@@ -44,21 +45,26 @@ location_of (parts.Union members) = location.Union
 location_of (parts.Enum values) = location.Enum
 location_of (parts.InputObject fields) = location.InputObject
 
--- the schema and types
+-- the definitions and extensions of the schema
 abbrev pub annotated_schemas : AllNodes → List Annotations
 annotated_schemas n = all_at location.Schema (λ (d : SchemaDefinition). d.directives) n.schemas
     ++ all_at location.Schema (λ (e : SchemaExtension). e.directives) n.schema_extensions
 
+-- the definitions of types
 abbrev pub types_at : List (Sited TypeDefinition) → List Annotations
-types_at types = map (λ (d : Sited TypeDefinition). record { location = location_of d.node.parts; file = d.file; directives = d.node.directives }) types
+types_at types = map (λ (d : Sited TypeDefinition).
+    record { location = location_of d.node.parts; file = d.file; directives = d.node.directives }) types
 
+-- the extensions of types
 abbrev pub type_extensions_at : List (Sited TypeExtension) → List Annotations
-type_extensions_at extensions = map (λ (e : Sited TypeExtension). record { location = location_of e.node.parts; file = e.file; directives = e.node.directives }) extensions
+type_extensions_at extensions = map (λ (e : Sited TypeExtension).
+    record { location = location_of e.node.parts; file = e.file; directives = e.node.directives }) extensions
 
+-- both
 abbrev pub annotated_types : AllNodes → List Annotations
 annotated_types n = types_at n.types ++ type_extensions_at n.type_extensions
 
--- what types and directives hold
+-- the parts of types and directives
 abbrev pub annotated_parts : AllNodes → List Annotations
 annotated_parts n = all_at location.FieldDefinition (λ (f : FieldDefinition). f.directives) n.fields
     ++ (all_at location.ArgumentDefinition (λ (a : InputValueDefinition). a.directives) n.arguments
@@ -69,17 +75,28 @@ annotated_parts n = all_at location.FieldDefinition (λ (f : FieldDefinition). f
 abbrev pub annotated : AllNodes → List Annotations
 annotated n = annotated_schemas n ++ (annotated_types n ++ annotated_parts n)
 
--- the directives of a node, and of all nodes
+-- a type, by its first definition, and its extensions
+abbrev pub type_and_extensions : SchemaType → List Annotations
+type_and_extensions t = types_at (t.definition ∷ []) ++ type_extensions_at t.extensions
+
+-- the first definition of the schema, and its extensions
+abbrev pub schema_and_extensions : AllNodes → List Annotations
+schema_and_extensions n = all_at location.Schema (λ (d : SchemaDefinition). d.directives) (take 1 n.schemas)
+    ++ all_at location.Schema (λ (e : SchemaExtension). e.directives) n.schema_extensions
+
+-- the directives of a node
 abbrev pub applied_at : Annotations → List Application
 applied_at n = map (λ (d : Directive). record { location = n.location; file = n.file; directive = d }) n.directives
 
+-- the directives of all nodes
 abbrev pub applied : AllNodes → List Application
 applied n = flat_map applied_at (annotated n)
 
--- where an applied directive stands: at its @
+-- the place of an applied directive, that of its `@`
 abbrev pub place_of : Application → Sited Place
 place_of a = record { file = a.file; node = a.directive.place }
 
+-- its name
 abbrev pub name_of : Application → List ℕ
 name_of a = a.directive.name.text
 

@@ -1,4 +1,4 @@
--- Nodes where the code borrows them.
+-- Helper definitions for contracts: nodes as the code borrows them.
 use Rattle.std.specs.Option.{option_copied}
 use Rattle.std.specs.Prelude.{Some, map}
 use Rattle.gql_ast.specs.declared.literal.Literal.{Literal}
@@ -11,7 +11,7 @@ use Rattle.gql_node_rules.specs.declared.node.Node.{Node}
 use Rattle.gql_node_rules.specs.declared.nodes.Nodes.{Nodes}
 use Rattle.gql_node_rules.specs.declared.value_faults.ValuePlace.{ValuePlace}
 
--- a borrowed node, where it stands
+-- a borrowed node and its file
 abbrev pub one : {A : Type 0} → Node A → Sited A
 one n = record { file = Some n.file.now; node = n.node.now }
 
@@ -32,12 +32,14 @@ lists n = record {
 
 -- a borrowed node with its directives
 abbrev pub annotations : Annotated → Annotations
-annotations a = record { location = a.location; file = Some a.file.now; directives = a.directives.now }
+annotations a =
+    record { location = a.location; file = option_copied a.file; directives = a.directives.now }
 
 -- one borrowed directive
 abbrev pub application : Applied → Application
-application a = record { location = a.location; file = Some a.file.now; directive = a.directive.now }
+application a =
+    record { location = a.location; file = option_copied a.file; directive = a.directive.now }
 
--- a borrowed value, where it stands
+-- a borrowed value and its file
 abbrev pub value : ValuePlace → Sited Literal
 value v = record { file = option_copied v.file; node = v.value.now }

@@ -1,4 +1,5 @@
--- The names that definitions give, where they stand (GraphQL specification, 3.3 to 3.13); an extension of a type gives one too.
+-- The names that schema files define (GraphQL 3.3 to 3.13). An extension of a type counts: its name
+-- is that of the type.
 use Rattle.std.specs.Prelude.{List, ◌++◌}
 use Rattle.gql_ast.specs.declared.text.Name.{Name}
 use Rattle.gql_ast.specs.declared.type_system.TypeDefinition.{TypeDefinition}
@@ -23,5 +24,6 @@ part_names n = each (λ (f : FieldDefinition). f.name) n.fields
     ++ (each (λ (f : InputValueDefinition). f.name) n.input_fields
     ++ each (λ (v : EnumValueDefinition). v.name) n.values))
 
+-- all of them
 abbrev pub defined_names : AllNodes → List (Sited Name)
 defined_names n = definition_names n ++ part_names n

@@ -1,5 +1,5 @@
--- The nodes of schema files (GraphQL specification, 3.3 to 3.13): their definitions and extensions, and what these hold. Second
--- definitions of a name and extensions that extend nothing are among them.
+-- The nodes of schema files (GraphQL 3.3 to 3.13): their definitions and extensions, and what these
+-- hold. Second definitions of a name and extensions that extend nothing are among them.
 use Rattle.std.specs.Prelude.{List, [], ◌∷◌, ◌++◌, map, flat_map}
 use Rattle.gql_ast.specs.declared.definition.Tree.{Tree}
 use Rattle.gql_ast.specs.declared.definition.Tree.TheVariants as tree
@@ -15,15 +15,15 @@ use Rattle.gql_ast.specs.declared.type_system.InputValueDefinition.{InputValueDe
 use Rattle.gql_built_in.specs.declared.sited.Sited.{Sited}
 use Rattle.gql_types.specs.Parts.{fields_of, values_of, input_fields_of, sited}
 
--- a part of each of these, where it stands
+-- a part of each of these
 abbrev pub each : {A B : Type 0} → (A → B) → List (Sited A) → List (Sited B)
 each part nodes = map (λ n. record { file = n.file; node = part n.node }) nodes
 
--- what all of these hold, where it stands
+-- what all of these hold
 abbrev pub within : {A B : Type 0} → (A → List B) → List (Sited A) → List (Sited B)
 within held nodes = flat_map (λ n. sited n.file (held n.node)) nodes
 
--- a definition as that of a type, if it is one
+-- the definition of a type, if this is one
 abbrev pub type_of : Tree → List TypeDefinition
 type_of (tree.Type definition) = definition ∷ []
 type_of (tree.Operation operation) = []
@@ -33,7 +33,7 @@ type_of (tree.Directive definition) = []
 type_of (tree.SchemaExtension extension) = []
 type_of (tree.TypeExtension extension) = []
 
--- as an extension of a type
+-- the extension of a type, if this is one
 abbrev pub type_extension_of : Tree → List TypeExtension
 type_extension_of (tree.TypeExtension extension) = extension ∷ []
 type_extension_of (tree.Operation operation) = []
@@ -43,7 +43,7 @@ type_extension_of (tree.Type definition) = []
 type_extension_of (tree.Directive definition) = []
 type_extension_of (tree.SchemaExtension extension) = []
 
--- as the definition of a directive
+-- the definition of a directive, if this is one
 abbrev pub directive_of : Tree → List DirectiveDefinition
 directive_of (tree.Directive definition) = definition ∷ []
 directive_of (tree.Operation operation) = []
@@ -53,7 +53,7 @@ directive_of (tree.Type definition) = []
 directive_of (tree.SchemaExtension extension) = []
 directive_of (tree.TypeExtension extension) = []
 
--- as the definition of the schema
+-- the definition of the schema, if this is one
 abbrev pub schema_of : Tree → List SchemaDefinition
 schema_of (tree.Schema definition) = definition ∷ []
 schema_of (tree.Operation operation) = []
@@ -63,7 +63,7 @@ schema_of (tree.Directive definition) = []
 schema_of (tree.SchemaExtension extension) = []
 schema_of (tree.TypeExtension extension) = []
 
--- as an extension of the schema
+-- the extension of the schema, if this is one
 abbrev pub schema_extension_of : Tree → List SchemaExtension
 schema_extension_of (tree.SchemaExtension extension) = extension ∷ []
 schema_extension_of (tree.Operation operation) = []
@@ -77,15 +77,19 @@ schema_extension_of (tree.TypeExtension extension) = []
 abbrev pub types : List (Sited Tree) → List (Sited TypeDefinition)
 types ds = within type_of ds
 
+-- the extensions of types
 abbrev pub type_extensions : List (Sited Tree) → List (Sited TypeExtension)
 type_extensions ds = within type_extension_of ds
 
+-- the definitions of directives
 abbrev pub directives : List (Sited Tree) → List (Sited DirectiveDefinition)
 directives ds = within directive_of ds
 
+-- the definitions of the schema
 abbrev pub schemas : List (Sited Tree) → List (Sited SchemaDefinition)
 schemas ds = within schema_of ds
 
+-- the extensions of the schema
 abbrev pub schema_extensions : List (Sited Tree) → List (Sited SchemaExtension)
 schema_extensions ds = within schema_extension_of ds
 

@@ -1,4 +1,4 @@
--- The references to types, where they stand (GraphQL specification, 3.3 to 3.13), by the role that the type has there.
+-- The references to types (GraphQL 3.3 to 3.13), by the role that the type has there.
 use Rattle.std.specs.Prelude.{List, ◌++◌, map}
 use Rattle.gql_ast.specs.declared.text.Name.{Name}
 use Rattle.gql_ast.specs.declared.type_system.FieldDefinition.{FieldDefinition}

@@ -1,4 +1,6 @@
--- S03: no name that a definition gives begins with two underscores (GraphQL specification, 3.3 to 3.13, after 4.1.1).
+-- S03, Reserved Names: a name that a schema file defines begins with two underscores (GraphQL
+-- 2.1.9).
+-- Reported at the name, about the name.
 use Rattle.std.specs.Prelude.{ℕ, List, [], Bool, codes, flat_map, if◌then◌else◌}
 use Rattle.std.specs.List.{starts_with}
 use Rattle.std.specs.Prelude.{eqb}
@@ -13,8 +15,10 @@ use Rattle.gql_node_rules.specs.Nodes.{AllNodes}
 abbrev pub is_reserved : List ℕ → Bool
 is_reserved name = starts_with eqb name (codes "__")
 
-abbrev pub fault_in : Sited Name → List Fault
-fault_in n = if is_reserved n.node.text then fault_of rule.S03 n else []
+-- the fault at a name
+abbrev pub fault_of_name : Sited Name → List Fault
+fault_of_name n = if is_reserved n.node.text then fault_of rule.S03 n else []
 
+-- the faults by S03
 abbrev pub faults : AllNodes → List Fault
-faults n = flat_map fault_in (defined_names n)
+faults n = flat_map fault_of_name (defined_names n)

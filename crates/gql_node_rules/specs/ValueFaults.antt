@@ -1,5 +1,5 @@
--- A value that does not fit the type of the argument or the input field that it is for (GraphQL specification, 5.6): at the start of the
--- value, about the argument's or the input field's name.
+-- A value that does not fit the type of its argument or input field (GraphQL 5.6): a fault at the
+-- start of the value, about the name of the argument or the input field.
 use Rattle.std.specs.Prelude.{List, [], if◌then◌else◌}
 use Rattle.gql_text.specs.declared.place.Place.{Place}
 use Rattle.gql_ast.specs.declared.fault.Fault.{Fault}

@@ -1,5 +1,5 @@
-//! The directives that are applied to nodes (GraphQL specification, 2.12), with the location of their node (3.13).
-ghost use Rattle.std.specs.Prelude.{◌≡◌, ◌++◌, List, IfOk, OnOk, map, flat_map};
+//! The directives that are applied to nodes (GraphQL 2.12), with the location of their node (3.13).
+ghost use Rattle.std.specs.Prelude.{◌≡◌, ◌++◌, List, IfOk, OnOk, map, flat_map, take};
 ghost use Rattle.gql_ast.specs.declared.literal.Directive.{Directive as TheDirective};
 ghost use Rattle.gql_faults.specs.Places.{spot};
 ghost use Rattle.gql_node_rules.specs.Applied as spec;
@@ -13,13 +13,14 @@ use gql_ast::{
     TypeParts,
 };
 use gql_faults::Spot;
+use gql_types::SchemaType;
 use std::alloc::{AllocError, Global};
 
 /// A node with the directives that are applied to it.
 #[derive(Clone, Copy)]
 pub struct Annotated<'t> {
     pub location: DirectiveLocation,
-    pub file: &'t FileName,
+    pub file: Option<&'t FileName>,
     pub directives: &'t [Directive],
 }
 
@@ -27,7 +28,7 @@ pub struct Annotated<'t> {
 #[derive(Clone, Copy)]
 pub struct Applied<'t> {
     pub location: DirectiveLocation,
-    pub file: &'t FileName,
+    pub file: Option<&'t FileName>,
     pub directive: &'t Directive,
 }
 
@@ -39,12 +40,12 @@ impl<'t> Applied<'t> {
         self.directive.name.as_str()
     }
 
-    /// Where it stands: at its `@`.
+    /// Its place, that of its `@`.
     pub fn spot(&self) -> Spot<'t>
         ensures { spot result ≡ spec.place_of (application self.now) }
     {
         Spot {
-            file: Some(self.file),
+            file: self.file,
             place: self.directive.place,
         }
     }
@@ -99,6 +100,7 @@ impl HasDirectives for EnumValueDefinition {
     }
 }
 
+// Adds nodes of one location.
 fn add_nodes<'t, T: HasDirectives>(
     location: DirectiveLocation,
     nodes: &[Node<'t, T>],
@@ -109,14 +111,14 @@ fn add_nodes<'t, T: HasDirectives>(
     for node in nodes {
         found.push(Annotated {
             location,
-            file: node.file,
+            file: Some(node.file),
             directives: node.node.directives().as_slice(),
         })?;
     }
     Ok(())
 }
 
-/// The location of a type, or of its extension.
+// The location of a type, or of its extension.
 fn location_of(parts: &TypeParts) -> DirectiveLocation
     ensures { result ≡ spec.location_of parts.now }
 {
@@ -130,6 +132,7 @@ fn location_of(parts: &TypeParts) -> DirectiveLocation
     }
 }
 
+// Adds types.
 fn add_types<'t>(
     types: &[Node<'t, TypeDefinition>],
     found: &mut Vec<Annotated<'t>>,
@@ -139,13 +142,14 @@ fn add_types<'t>(
     for definition in types {
         found.push(Annotated {
             location: location_of(&definition.node.parts),
-            file: definition.file,
+            file: Some(definition.file),
             directives: definition.node.directives.as_slice(),
         })?;
     }
     Ok(())
 }
 
+// Adds extensions of types.
 fn add_type_extensions<'t>(
     extensions: &[Node<'t, TypeExtension>],
     found: &mut Vec<Annotated<'t>>,
@@ -155,13 +159,14 @@ fn add_type_extensions<'t>(
     for extension in extensions {
         found.push(Annotated {
             location: location_of(&extension.node.parts),
-            file: extension.file,
+            file: Some(extension.file),
             directives: extension.node.directives.as_slice(),
         })?;
     }
     Ok(())
 }
 
+// Adds the schema and its extensions.
 fn add_schemas<'t>(nodes: &Nodes<'t>, found: &mut Vec<Annotated<'t>>) -> Result<(), AllocError>
     ensures { OnOk result (map annotations found.new.items ≡ map annotations found.old.items ++ spec.annotated_schemas (lists nodes.now)) }
 {
@@ -171,6 +176,7 @@ fn add_schemas<'t>(nodes: &Nodes<'t>, found: &mut Vec<Annotated<'t>>) -> Result<
     Ok(())
 }
 
+// Adds types and their extensions.
 fn add_all_types<'t>(nodes: &Nodes<'t>, found: &mut Vec<Annotated<'t>>) -> Result<(), AllocError>
     ensures { OnOk result (map annotations found.new.items ≡ map annotations found.old.items ++ spec.annotated_types (lists nodes.now)) }
 {
@@ -179,6 +185,7 @@ fn add_all_types<'t>(nodes: &Nodes<'t>, found: &mut Vec<Annotated<'t>>) -> Resul
     Ok(())
 }
 
+// Adds fields, arguments, input fields and enum values.
 fn add_parts<'t>(nodes: &Nodes<'t>, found: &mut Vec<Annotated<'t>>) -> Result<(), AllocError>
     ensures { OnOk result (map annotations found.new.items ≡ map annotations found.old.items ++ spec.annotated_parts (lists nodes.now)) }
 {
@@ -203,8 +210,8 @@ pub fn all_annotated<'t>(alloc: Global, nodes: &Nodes<'t>) -> Result<Vec<Annotat
     Ok(found)
 }
 
-/// Adds the directives of a node.
-pub fn add_applied<'t>(node: &Annotated<'t>, found: &mut Vec<Applied<'t>>) -> Result<(), AllocError>
+// Adds the directives of a node.
+fn add_applied<'t>(node: &Annotated<'t>, found: &mut Vec<Applied<'t>>) -> Result<(), AllocError>
     ensures { OnOk result (map application found.new.items ≡ map application found.old.items ++ spec.applied_at (annotations node.now)) }
 {
     for directive in node.directives {
@@ -228,5 +235,50 @@ pub fn all_applied<'t>(
     for node in nodes {
         add_applied(node, &mut found)?;
     }
+    Ok(found)
+}
+
+/// A type, which may be built in, and its extensions.
+pub fn type_and_extensions(
+    alloc: Global,
+    of_type: &SchemaType,
+) -> Result<Vec<Annotated<'_>>, AllocError>
+    ensures { IfOk result (λ found. map annotations found.items ≡ spec.type_and_extensions of_type.now) }
+{
+    let definition = of_type.definition.node.get();
+    let mut found = Vec::new(alloc);
+    found.push(Annotated {
+        location: location_of(&definition.parts),
+        file: of_type.definition.file.as_ref(),
+        directives: definition.directives.as_slice(),
+    })?;
+    for extension in of_type.extensions.as_slice() {
+        found.push(Annotated {
+            location: location_of(&extension.node.get().parts),
+            file: extension.file.as_ref(),
+            directives: extension.node.get().directives.as_slice(),
+        })?;
+    }
+    Ok(found)
+}
+
+// The first of these.
+fn first_alone<T>(items: &[T]) -> &[T]
+    ensures { result.now ≡ take 1 items.now }
+{
+    if items.is_empty() { items } else { &items[..1] }
+}
+
+/// The first definition of the schema, and all its extensions.
+pub fn schema_and_extensions<'t>(
+    alloc: Global,
+    nodes: &Nodes<'t>,
+) -> Result<Vec<Annotated<'t>>, AllocError>
+    ensures { IfOk result (λ found. map annotations found.items ≡ spec.schema_and_extensions (lists nodes.now)) }
+{
+    let location = DirectiveLocation::Schema;
+    let mut found = Vec::new(alloc);
+    add_nodes(location, first_alone(nodes.schemas.as_slice()), &mut found)?;
+    add_nodes(location, nodes.schema_extensions.as_slice(), &mut found)?;
     Ok(found)
 }

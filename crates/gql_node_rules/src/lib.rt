@@ -1,29 +1,34 @@
-//! The faults of the nodes of schema files, by the rules that look at each node alone: what its names, its types and its
-//! directives may be (GraphQL specification, 3.3 to 3.13). And the fault of a value that does not fit its type.
+//! The rules on the nodes of schema files: what their names, types and directives may be
+//! (GraphQL 3.3 to 3.13). The nodes themselves, and the fault of a value that does not fit its type.
+//!
+//! A function that adds to a list may have added a part where it fails for memory.
 #![tactic(auto)]
 
 mod applied;
 mod defined_names;
-mod faults;
 mod locations;
 mod node;
 mod nodes;
-mod p01_float;
+mod p01_float_references;
 mod references;
 mod rules;
 mod s03_reserved_names;
-mod s16_input_types;
-mod s20_known_types;
-mod s21_output_types;
-mod s22_union_members;
-mod s29_known_directives;
-mod s30_locations;
-mod s31_unique_directives;
-mod s32_arguments;
-mod s33_argument_values;
+mod s16_non_input_types;
+mod s20_unknown_types;
+mod s21_non_output_types;
+mod s22_non_object_members;
+mod s29_unknown_directives;
+mod s30_bad_locations;
+mod s31_repeated_directives;
+mod s32_bad_arguments;
+mod s33_bad_argument_values;
 mod signature;
 mod trees;
 mod value_faults;
 
+pub use defined_names::names_of;
+pub use node::Node;
+pub use nodes::{Nodes, nodes_in};
+pub use p01_float_references::is_float;
 pub use rules::node_faults;
 pub use value_faults::{ValuePlace, add_unless_fits};

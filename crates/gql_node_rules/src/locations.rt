@@ -1,4 +1,4 @@
-//! The locations that a directive lists (GraphQL specification, 3.13).
+//! The locations that a directive lists (GraphQL 3.13).
 ghost use Rattle.std.specs.Prelude.{◌≡◌, ◌||◌, IfOk, OnOk};
 ghost use Rattle.gql_ast.specs.declared.type_system.DirectiveLocation.{DirectiveLocation as TheLocation};
 ghost use Rattle.gql_node_rules.specs.Applied as spec;

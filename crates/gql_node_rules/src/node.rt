@@ -1,3 +1,4 @@
+//! Nodes of schema files, and the nodes that they hold.
 ghost use Rattle.std.specs.Prelude.{◌≡◌, ◌++◌, List, OnOk, map};
 ghost use Rattle.gql_types.specs.Parts.{sited};
 ghost use Rattle.gql_node_rules.specs.Borrowed.{one};
@@ -6,7 +7,7 @@ ghost use Rattle.gql_node_rules.specs.Nodes.{within};
 use gql_ast::FileName;
 use std::alloc::AllocError;
 
-/// A part of a schema file, where it stands.
+/// A definition, an extension or a part of one, and its file.
 #[derive(Drop)]
 pub struct Node<'t, T> {
     pub file: &'t FileName,

@@ -1,18 +1,21 @@
-//! The nodes of schema files, each form in a list (GraphQL specification, 3.3 to 3.13).
+//! The nodes of schema files, each form in a list (GraphQL 3.3 to 3.13).
 ghost use Rattle.std.specs.Prelude.{◌≡◌, ◌++◌, IfOk, OnOk, Some, map};
+ghost use Rattle.gql_types.specs.Definitions.{of_files};
 ghost use Rattle.gql_types.specs.Parts as parts_spec;
 ghost use Rattle.gql_types.specs.Parts.{sited};
 ghost use Rattle.gql_node_rules.specs.Borrowed.{one, lists};
 ghost use Rattle.gql_node_rules.specs.Nodes as spec;
 
 use crate::node::{Holds, Node, add_all};
+use crate::trees::trees;
 use gql_ast::{
-    DirectiveDefinition, EnumValueDefinition, FieldDefinition, FileName, InputValueDefinition,
-    SchemaDefinition, SchemaExtension, Shared, Tree, TypeDefinition, TypeExtension, TypeParts,
+    DirectiveDefinition, EnumValueDefinition, FieldDefinition, FileName, Files,
+    InputValueDefinition, SchemaDefinition, SchemaExtension, Shared, Tree, TypeDefinition,
+    TypeExtension, TypeParts,
 };
 use std::alloc::{AllocError, Global};
 
-/// The nodes of schema files: their definitions and extensions, the parts of types, and what these hold.
+/// The nodes of schema files: definitions and extensions, the parts of types, and what these hold.
 #[derive(Drop)]
 pub struct Nodes<'t> {
     pub types: Vec<Node<'t, TypeDefinition>>,
@@ -27,6 +30,7 @@ pub struct Nodes<'t> {
     pub arguments: Vec<Node<'t, InputValueDefinition>>,
 }
 
+// Adds these nodes of a file.
 fn add_shared<'t, T: Drop>(
     file: &'t FileName,
     nodes: &'t [Shared<T>],
@@ -111,6 +115,7 @@ impl Holds<InputValueDefinition> for DirectiveDefinition {
     }
 }
 
+// Adds the parts of types.
 fn add_parts_of_types<'t>(
     types: &[Node<'t, TypeDefinition>],
     found: &mut Vec<Node<'t, TypeParts>>,
@@ -126,6 +131,7 @@ fn add_parts_of_types<'t>(
     Ok(())
 }
 
+// Adds the parts of extensions of types.
 fn add_parts_of_extensions<'t>(
     extensions: &[Node<'t, TypeExtension>],
     found: &mut Vec<Node<'t, TypeParts>>,
@@ -141,6 +147,7 @@ fn add_parts_of_extensions<'t>(
     Ok(())
 }
 
+// The nodes that all of these hold.
 fn all_in<'t, A: Holds<T>, T: Drop>(
     alloc: Global,
     holders: &[Node<'t, A>],
@@ -152,6 +159,7 @@ fn all_in<'t, A: Holds<T>, T: Drop>(
     Ok(found)
 }
 
+// The parts of types and of their extensions.
 fn parts<'t>(
     alloc: Global,
     types: &[Node<'t, TypeDefinition>],
@@ -166,6 +174,7 @@ fn parts<'t>(
     Ok(found)
 }
 
+// The arguments of fields and of directives.
 fn arguments<'t>(
     alloc: Global,
     fields: &[Node<'t, FieldDefinition>],
@@ -180,8 +189,8 @@ fn arguments<'t>(
     Ok(found)
 }
 
-/// The nodes of these definitions.
-pub fn all_nodes<'t>(alloc: Global, trees: &[Node<'t, Tree>]) -> Result<Nodes<'t>, AllocError>
+// The nodes of these definitions.
+fn all_nodes<'t>(alloc: Global, trees: &[Node<'t, Tree>]) -> Result<Nodes<'t>, AllocError>
     ensures { IfOk result (λ nodes. lists nodes ≡ spec.nodes_of (map one trees.now)) }
 {
     let types = all_in(alloc, trees)?;
@@ -206,4 +215,13 @@ pub fn all_nodes<'t>(alloc: Global, trees: &[Node<'t, Tree>]) -> Result<Nodes<'t
         input_fields,
         arguments,
     })
+}
+
+/// The nodes of all schema files.
+pub fn nodes_in(alloc: Global, files: &Files) -> Result<Nodes<'_>, AllocError>
+    ensures { IfOk result (λ nodes. lists nodes ≡ spec.nodes_of (of_files files.now.schema)) }
+{
+    let trees = trees(alloc, files)?;
+    let nodes = all_nodes(alloc, trees.as_slice())?;
+    Ok(nodes)
 }

@@ -1,4 +1,4 @@
-//! The references to types, by the role that the type has (GraphQL specification, 3.3 to 3.13).
+//! The references to types, by the role that the type has (GraphQL 3.3 to 3.13).
 ghost use Rattle.std.specs.Prelude.{◌≡◌, ◌++◌, Some, IfOk, OnOk, map};
 ghost use Rattle.gql_ast.specs.declared.type_ref.TypeRef.{TypeRef as TheTypeRef};
 ghost use Rattle.gql_faults.specs.Places.{named};

@@ -1,37 +1,32 @@
-//! All rules that look at each node of schema files alone.
+//! The rules on the nodes of schema files together.
 ghost use Rattle.std.specs.Prelude.{◌≡◌, ◌++◌, IfOk, OnOk};
 ghost use Rattle.gql_node_rules.specs.Borrowed.{lists};
 ghost use Rattle.gql_node_rules.specs.NodeFaults as spec;
 
 use crate::applied::{all_annotated, all_applied};
 use crate::defined_names::defined_names;
-use crate::nodes::{Nodes, all_nodes};
-use crate::p01_float::check_float;
+use crate::nodes::Nodes;
 use crate::references::{all_references, inputs, members, outputs};
-use crate::s03_reserved_names::check_reserved_names;
-use crate::s16_input_types::check_input_types;
-use crate::s20_known_types::check_known_types;
-use crate::s21_output_types::check_output_types;
-use crate::s22_union_members::check_union_members;
-use crate::s29_known_directives::check_known_directives;
-use crate::s30_locations::check_locations;
-use crate::s31_unique_directives::check_unique_directives;
-use crate::s32_arguments::check_arguments;
-use crate::s33_argument_values::check_argument_values;
 use crate::signature::signatures;
-use crate::trees::trees;
-use gql_ast::{Fault, Files};
+use crate::{
+    p01_float_references, s03_reserved_names, s16_non_input_types, s20_unknown_types,
+    s21_non_output_types, s22_non_object_members, s29_unknown_directives, s30_bad_locations,
+    s31_repeated_directives, s32_bad_arguments, s33_bad_argument_values,
+};
+use gql_ast::Fault;
 use gql_types::Schema;
 use std::alloc::{AllocError, Global};
 
+// S03.
 fn check_names(alloc: Global, nodes: &Nodes<'_>, faults: &mut Vec<Fault>) -> Result<(), AllocError>
     ensures { OnOk result (faults.new.items ≡ faults.old.items ++ spec.name_faults (lists nodes.now)) }
 {
     let names = defined_names(alloc, nodes)?;
-    check_reserved_names(alloc, names.as_slice(), faults)?;
+    s03_reserved_names::check(alloc, names.as_slice(), faults)?;
     Ok(())
 }
 
+// S16, S21 and S22.
 fn check_roles(
     alloc: Global,
     schema: &Schema,
@@ -41,14 +36,15 @@ fn check_roles(
     ensures { OnOk result (faults.new.items ≡ faults.old.items ++ spec.role_faults (lists nodes.now) schema.now) }
 {
     let inputs = inputs(alloc, nodes)?;
-    check_input_types(alloc, schema, inputs.as_slice(), faults)?;
+    s16_non_input_types::check(alloc, schema, inputs.as_slice(), faults)?;
     let outputs = outputs(alloc, nodes)?;
-    check_output_types(alloc, schema, outputs.as_slice(), faults)?;
+    s21_non_output_types::check(alloc, schema, outputs.as_slice(), faults)?;
     let members = members(alloc, nodes)?;
-    check_union_members(alloc, schema, members.as_slice(), faults)?;
+    s22_non_object_members::check(alloc, schema, members.as_slice(), faults)?;
     Ok(())
 }
 
+// S20 and P01.
 fn check_references(
     alloc: Global,
     schema: &Schema,
@@ -58,11 +54,12 @@ fn check_references(
     ensures { OnOk result (faults.new.items ≡ faults.old.items ++ spec.reference_faults (lists nodes.now) schema.now) }
 {
     let references = all_references(alloc, nodes)?;
-    check_known_types(alloc, schema, references.as_slice(), faults)?;
-    check_float(alloc, references.as_slice(), faults)?;
+    s20_unknown_types::check(alloc, schema, references.as_slice(), faults)?;
+    p01_float_references::check(alloc, references.as_slice(), faults)?;
     Ok(())
 }
 
+// S29 to S33.
 fn check_directives(
     alloc: Global,
     schema: &Schema,
@@ -74,24 +71,26 @@ fn check_directives(
     let annotated = all_annotated(alloc, nodes)?;
     let applied = all_applied(alloc, annotated.as_slice())?;
     let signatures = signatures(alloc, schema)?;
-    check_known_directives(alloc, schema, applied.as_slice(), faults)?;
-    check_locations(alloc, &signatures, applied.as_slice(), faults)?;
-    check_unique_directives(alloc, schema, annotated.as_slice(), faults)?;
-    check_arguments(alloc, &signatures, applied.as_slice(), faults)?;
-    check_argument_values(alloc, schema, &signatures, applied.as_slice(), faults)?;
+    s29_unknown_directives::check(alloc, schema, applied.as_slice(), faults)?;
+    s30_bad_locations::check(alloc, &signatures, applied.as_slice(), faults)?;
+    s31_repeated_directives::check(alloc, schema, nodes, annotated.as_slice(), faults)?;
+    s32_bad_arguments::check(alloc, &signatures, applied.as_slice(), faults)?;
+    s33_bad_argument_values::check(alloc, schema, &signatures, applied.as_slice(), faults)?;
     Ok(())
 }
 
-/// The faults of the nodes of schema files by S03, S16, S20 to S22, S29 to S33 and P01.
-pub fn node_faults(alloc: Global, files: &Files, schema: &Schema) -> Result<Vec<Fault>, AllocError>
-    ensures { IfOk result (λ found. found.items ≡ spec.node_faults files.now schema.now) }
+/// The faults by S03, S16, S20 to S22, S29 to S33 and P01. The schema is that of the nodes' files.
+pub fn node_faults(
+    alloc: Global,
+    nodes: &Nodes<'_>,
+    schema: &Schema,
+) -> Result<Vec<Fault>, AllocError>
+    ensures { IfOk result (λ found. found.items ≡ spec.node_faults (lists nodes.now) schema.now) }
 {
-    let trees = trees(alloc, files)?;
-    let nodes = all_nodes(alloc, trees.as_slice())?;
     let mut faults = Vec::new(alloc);
-    check_names(alloc, &nodes, &mut faults)?;
-    check_roles(alloc, schema, &nodes, &mut faults)?;
-    check_references(alloc, schema, &nodes, &mut faults)?;
-    check_directives(alloc, schema, &nodes, &mut faults)?;
+    check_names(alloc, nodes, &mut faults)?;
+    check_roles(alloc, schema, nodes, &mut faults)?;
+    check_references(alloc, schema, nodes, &mut faults)?;
+    check_directives(alloc, schema, nodes, &mut faults)?;
     Ok(faults)
 }

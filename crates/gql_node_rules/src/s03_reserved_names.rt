@@ -1,11 +1,10 @@
-//! S03: no name that a definition gives begins with two underscores.
+//! S03, Reserved Names: a name that a schema file defines begins with two underscores.
 ghost use Rattle.std.specs.Prelude.{◌≡◌, ◌++◌, OnOk, map, flat_map};
 ghost use Rattle.gql_faults.specs.Places.{named};
 ghost use Rattle.gql_node_rules.specs.S03ReservedNames as spec;
 
-use crate::faults::add_fault_of;
 use gql_ast::{Fault, Rule};
-use gql_faults::NamePlace;
+use gql_faults::{NamePlace, add_fault_of};
 use std::alloc::{AllocError, Global};
 
 fn is_reserved(name: &str) -> bool
@@ -14,8 +13,12 @@ fn is_reserved(name: &str) -> bool
     name.as_bytes().starts_with(b"__")
 }
 
-fn check(alloc: Global, name: &NamePlace<'_>, faults: &mut Vec<Fault>) -> Result<(), AllocError>
-    ensures { OnOk result (faults.new.items ≡ faults.old.items ++ spec.fault_in (named name.now)) }
+fn check_name(
+    alloc: Global,
+    name: &NamePlace<'_>,
+    faults: &mut Vec<Fault>,
+) -> Result<(), AllocError>
+    ensures { OnOk result (faults.new.items ≡ faults.old.items ++ spec.fault_of_name (named name.now)) }
 {
     if is_reserved(name.name.as_str()) {
         add_fault_of(alloc, Rule::S03, name, faults)?;
@@ -24,15 +27,15 @@ fn check(alloc: Global, name: &NamePlace<'_>, faults: &mut Vec<Fault>) -> Result
 }
 
 /// Adds the faults of the names that definitions give.
-pub fn check_reserved_names(
+pub fn check(
     alloc: Global,
     names: &[NamePlace<'_>],
     faults: &mut Vec<Fault>,
 ) -> Result<(), AllocError>
-    ensures { OnOk result (faults.new.items ≡ faults.old.items ++ flat_map spec.fault_in (map named names.now)) }
+    ensures { OnOk result (faults.new.items ≡ faults.old.items ++ flat_map spec.fault_of_name (map named names.now)) }
 {
     for name in names {
-        check(alloc, name, faults)?;
+        check_name(alloc, name, faults)?;
     }
     Ok(())
 }

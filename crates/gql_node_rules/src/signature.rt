@@ -1,11 +1,11 @@
-//! The definitions of directives (GraphQL specification, 3.13), with look-up of their arguments and locations.
+//! The definitions of directives (GraphQL 3.13), with look-up of their arguments and locations.
 ghost use Rattle.std.specs.Prelude.{◌≡◌, ◌++◌, ◌∷◌, [], IfOk, OnOk, map, filter, find, bytes_eq, option_map, if◌then◌else◌};
 ghost use Rattle.std.specs.Option.{option_copied};
 ghost use Rattle.gql_ast.specs.declared.type_system.DirectiveLocation.{DirectiveLocation as TheLocation};
 ghost use Rattle.gql_faults.specs.TypeNames.{is_required};
 ghost use Rattle.gql_node_rules.specs.Applied.{is_listed};
-ghost use Rattle.gql_node_rules.specs.S32Arguments as spec;
-ghost use Rattle.gql_node_rules.specs.S33ArgumentValues.{argument_named};
+ghost use Rattle.gql_node_rules.specs.S32BadArguments as spec;
+ghost use Rattle.gql_node_rules.specs.S33BadArgumentValues.{argument_named};
 
 use crate::locations::{distinct, is_listed};
 use gql_ast::{DirectiveDefinition, DirectiveLocation, InputValueDefinition, Shared};

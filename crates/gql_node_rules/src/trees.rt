@@ -1,4 +1,4 @@
-//! The definitions of schema files, by their forms (GraphQL specification, 3.1).
+//! The definitions of schema files, by their forms (GraphQL 3).
 ghost use Rattle.std.specs.Prelude.{◌≡◌, ◌++◌, IfOk, OnOk, map};
 ghost use Rattle.gql_types.specs.Definitions.{of_files, in_order_of};
 ghost use Rattle.gql_node_rules.specs.Borrowed.{one};
@@ -11,6 +11,7 @@ use gql_ast::{
 };
 use std::alloc::{AllocError, Global};
 
+// Adds the definitions of a file.
 fn add_file<'t>(
     definitions: &'t [Definition],
     found: &mut Vec<Node<'t, Tree>>,

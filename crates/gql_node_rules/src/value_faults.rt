@@ -1,4 +1,4 @@
-//! A value that does not fit the type of the argument or the input field that it is for (GraphQL specification, 5.6).
+//! A value that does not fit the type of its argument or input field (GraphQL 5.6).
 ghost use Rattle.std.specs.Prelude.{◌≡◌, ◌++◌, OnOk};
 ghost use Rattle.gql_inputs.specs.BadValues.{looked};
 ghost use Rattle.gql_faults.specs.Places.{spot};
@@ -12,7 +12,7 @@ use gql_text::Place;
 use gql_types::Schema;
 use std::alloc::{AllocError, Global};
 
-/// A value where it stands; what is built in stands in no file.
+/// A value and its file. Built-in definitions are in no file.
 #[derive(Clone, Copy)]
 pub struct ValuePlace<'t> {
     pub file: Option<&'t FileName>,
@@ -48,7 +48,7 @@ impl<'t> ValuePlace<'t> {
     }
 }
 
-/// Adds a fault at the start of a value, about the argument or the input field that it is for, unless it fits the type of that.
+/// Adds a fault at the start of a value, about its argument or input field, unless it fits the type.
 pub fn add_unless_fits(
     alloc: Global,
     rule: Rule,

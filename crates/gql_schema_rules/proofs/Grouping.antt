@@ -10,8 +10,8 @@ use Rattle.gql_types.specs.declared.schema_type.SchemaType.{SchemaType}
 use Rattle.gql_types.specs.Kinds.{same_operation}
 use Rattle.gql_types.specs.Schemas.{type_named}
 use Rattle.gql_faults.specs.Faults.{where_known}
-use Rattle.gql_schema_rules.specs.S25SharedRoots.{shared, is_for, shared_as, shared_before, shared_with}
-use Rattle.gql_schema_rules.specs.Shared.{key, key_of, grouped_as, grouped_before, grouped_with}
+use Rattle.gql_schema_rules.specs.S25SharedRootTypes.{fault_with, is_for, faults_with_kind, faults_with_earlier, faults_of_root}
+use Rattle.gql_schema_rules.specs.RootGroups.{key, key_of, grouped_as, grouped_earlier, grouped_with}
 
 same_key : (k l : OperationKind) (name text : List ℕ) → bytes_eq (key_of k name) (key_of l text) ≡ (same_operation k l && bytes_eq name text)
 unfolding same_operation
@@ -30,19 +30,19 @@ same_filter p q same [] = refl
 same_filter p q same (x ∷ xs) = ap₂ (λ b rest. cond b (x ∷ rest) rest) (same x) (same_filter p q same xs)
 
 module _ (groups : List ℕ → List Root) (before : List Root) (held : (q : List ℕ) → groups q ≡ filter (λ (r : Root). bytes_eq q (key r)) before) where
-  as_kind : (r : Root) (k : OperationKind) → grouped_as groups r k ≡ shared_as r before k
-  as_kind r k = ap (λ rs. cond (same_operation k r.kind) [] (flat_map (shared r) rs))
+  as_kind : (r : Root) (k : OperationKind) → grouped_as groups r k ≡ faults_with_kind r before k
+  as_kind r k = ap (λ rs. cond (same_operation k r.kind) [] (flat_map (fault_with r) rs))
       (held (key_of k r.name.node.text) ∙ same_filter (λ q. bytes_eq (key_of k r.name.node.text) (key q)) (is_for k r.name.node.text) (λ q. same_key k q.kind r.name.node.text q.name.node.text) before)
 
-  all_kinds : (r : Root) → grouped_before groups r ≡ shared_before r before
+  all_kinds : (r : Root) → grouped_earlier groups r ≡ faults_with_earlier r before
   all_kinds r = ap₂ (λ a b. a ++ b) (as_kind r Query) (ap₂ (λ a b. a ++ b) (as_kind r Mutation) (as_kind r Subscription))
 
-  known : (r : Root) (t : Option SchemaType) → where_known t (λ (k : SchemaType). grouped_before groups r) ≡ where_known t (λ (k : SchemaType). shared_before r before)
+  known : (r : Root) (t : Option SchemaType) → where_known t (λ (k : SchemaType). grouped_earlier groups r) ≡ where_known t (λ (k : SchemaType). faults_with_earlier r before)
   known r None = refl
   known r (Some t) = all_kinds r
 
-  pub shared_by_groups : (s : Schema) (r : Root) → grouped_with s groups r ≡ shared_with s before r
-  shared_by_groups s r = known r (type_named s r.name.node.text)
+  pub faults_by_groups : (s : Schema) (r : Root) → grouped_with s groups r ≡ faults_of_root s before r
+  faults_by_groups s r = known r (type_named s r.name.node.text)
 
 filter_more : (p : Root → Bool) (xs : List Root) (x : Root) → filter p (xs ++ x ∷ []) ≡ filter p xs ++ cond (p x) (x ∷ []) []
 filter_more p [] x = refl

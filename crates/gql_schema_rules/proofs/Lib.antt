@@ -1,5 +1,4 @@
-pub mod Applying
-pub mod Behind
+pub mod Earlier
 pub mod Grouping
 pub mod SeenKinds
 pub mod Together

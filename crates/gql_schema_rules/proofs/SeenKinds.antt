@@ -4,7 +4,7 @@ use Rattle.gql_ast.specs.declared.executable.OperationKind.{OperationKind}
 use Rattle.gql_ast.specs.declared.executable.OperationKind.TheVariants.{Query, Mutation, Subscription}
 use Rattle.gql_types.specs.Kinds.{same_operation}
 use Rattle.gql_schema_rules.specs.KindsSeen.{has}
-use Rattle.gql_schema_rules.specs.declared.s34_schema_twice.KindsSeen.{KindsSeen}
+use Rattle.gql_schema_rules.specs.declared.s34_duplicate_schemas.KindsSeen.{KindsSeen}
 
 or_true : (b : Bool) → true ≡ (b || true)
 or_true true = refl

@@ -1,23 +1,13 @@
-//! S05: a type without the parts that it needs.
+//! S05, Empty Types: a type that needs fields, enum values or members has none.
 ghost use Rattle.std.specs.Prelude.{◌≡◌, ◌++◌, OnOk};
-ghost use Rattle.gql_faults.specs.Places.{named};
 ghost use Rattle.gql_schema_rules.specs.S05EmptyTypes as spec;
 
 use gql_ast::{Fault, Rule};
-use gql_faults::{NamePlace, add_fault};
-use gql_types::{SchemaType, TypeKind};
+use gql_faults::{NamePlace, add_fault_of};
+use gql_types::{Schema, SchemaType, TypeKind};
 use std::alloc::{AllocError, Global};
 
-/// The name of a type in its first definition.
-fn defined_name(of_type: &SchemaType) -> NamePlace<'_>
-    ensures { named result ≡ spec.defined_name of_type.now }
-{
-    NamePlace {
-        file: of_type.definition.file.as_ref(),
-        name: &of_type.definition.node.get().name,
-    }
-}
-
+// Whether a type has none of the parts that its kind needs.
 fn is_empty(of_type: &SchemaType) -> bool
     ensures { result ≡ spec.is_empty of_type.now.kind of_type.now }
 {
@@ -30,30 +20,31 @@ fn is_empty(of_type: &SchemaType) -> bool
     }
 }
 
-fn add_empty_type(
+// Adds the fault of a type.
+fn check_type(
     alloc: Global,
     of_type: &SchemaType,
     faults: &mut Vec<Fault>,
 ) -> Result<(), AllocError>
-    ensures { OnOk result (faults.new.items ≡ faults.old.items ++ spec.empty_type of_type.now) }
+    ensures { OnOk result (faults.new.items ≡ faults.old.items ++ spec.fault_of_type of_type.now) }
 {
     if is_empty(of_type) {
-        let name = defined_name(of_type);
-        add_fault(alloc, Rule::S05, name.name.as_str(), &name.spot(), faults)?;
+        add_fault_of(
+            alloc,
+            Rule::S05,
+            &NamePlace::of_node(&of_type.definition),
+            faults,
+        )?;
     }
     Ok(())
 }
 
-/// Adds a fault at the name of each type without parts.
-pub fn add_empty_types(
-    alloc: Global,
-    types: &[SchemaType],
-    faults: &mut Vec<Fault>,
-) -> Result<(), AllocError>
-    ensures { OnOk result (faults.new.items ≡ faults.old.items ++ spec.empty_types types.now) }
+/// Adds the faults by S05.
+pub fn check(alloc: Global, schema: &Schema, faults: &mut Vec<Fault>) -> Result<(), AllocError>
+    ensures { OnOk result (faults.new.items ≡ faults.old.items ++ spec.faults schema.now) }
 {
-    for of_type in types {
-        add_empty_type(alloc, of_type, faults)?;
+    for of_type in schema.types() {
+        check_type(alloc, of_type, faults)?;
     }
     Ok(())
 }

@@ -1,7 +1,7 @@
 //! Names and places that lead to one another, and which lead back to themselves.
 use crate::inputs::json_in;
 use crate::joined::join;
-use gql_circles::{Row, circles, circles_of_places};
+use gql_cycles::{Row, names_on_cycles, nodes_on_cycles};
 use serde_json::Value;
 use std::alloc::{AllocError, Global};
 
@@ -40,7 +40,7 @@ fn joined(alloc: Global, names: &[&str]) -> Result<String, AllocError> {
 /// The names that lead back to themselves, in the order of their bytes: `NAME -> NAME NAME, NAME -> NAME`.
 pub fn circles_answer(alloc: Global, question: &str) -> Option<String> {
     let rows = rows_in(alloc, question)?;
-    let mut names = circles(alloc, rows.as_slice()).ok()?;
+    let mut names = names_on_cycles(alloc, rows.as_slice()).ok()?;
     names.sort().ok()?;
     joined(alloc, names.as_slice()).ok()
 }
@@ -64,6 +64,6 @@ fn edges_in(alloc: Global, value: &Value) -> Option<Vec<Vec<usize>>> {
 /// The places that lead back to themselves, in their order, of a list of JSON with the list of the places to which each leads.
 pub fn places_answer(alloc: Global, question: &str) -> Option<String> {
     let edges = edges_in(alloc, &json_in(alloc, question)?)?;
-    let places = circles_of_places(alloc, edges.as_slice()).ok()?;
+    let places = nodes_on_cycles(alloc, edges.as_slice()).ok()?;
     format!(in alloc; "{places:?}").ok()
 }

@@ -1,5 +1,5 @@
 use Rattle.std.proofs.Common.{◌≡◌, map, take}
-use Rattle.gql_iface_rules.specs.S19DefaultCircles.{input_objects, fields_of, objects_from}
+use Rattle.gql_iface_rules.specs.S19DefaultValueCycles.{input_objects, fields_of, objects_from}
 use Rattle.gql_iface_rules.specs.S19Inputs.{object}
 use Rattle.gql_iface_rules.proofs.s19_inputs.all_inputs.Given as goal
 

@@ -1,5 +1,5 @@
 use Rattle.std.proofs.Common.{◌≡◌, ◌+◌, ◌++◌, map, take, length}
-use Rattle.gql_iface_rules.specs.S19DefaultCircles.{numbered_from}
+use Rattle.gql_iface_rules.specs.S19DefaultValueCycles.{numbered_from}
 use Rattle.gql_iface_rules.specs.S19Inputs.{numbered}
 use Rattle.gql_iface_rules.proofs.s19_inputs.numbered_inputs.Given as goal
 

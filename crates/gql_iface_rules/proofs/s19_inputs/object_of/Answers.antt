@@ -1,5 +1,5 @@
 use Rattle.std.proofs.Common.{◌∙◌, ap, sym, map, option_map, bytes_eq}
-use Rattle.gql_iface_rules.specs.S19DefaultCircles.{NumberedObject, object_named}
+use Rattle.gql_iface_rules.specs.S19DefaultValueCycles.{NumberedObject, object_named}
 use Rattle.gql_iface_rules.specs.S19Inputs.{object}
 use Rattle.gql_types.specs.Possible.{name_of}
 use Rattle.gql_iface_rules.proofs.S19Steps.{find-map}

@@ -1,9 +1,9 @@
 use Rattle.std.proofs.Common.{map, length, subst, sym, ap, ◌∙◌, arith}
 use Rattle.std.proofs.lemmas.List.{map_push, length-map, length_push}
-use Rattle.gql_circles.proofs.Members.{read_at}
-use Rattle.gql_iface_rules.specs.S19DefaultCircles.{default_standings}
+use Rattle.gql_cycles.proofs.Members.{read_at}
+use Rattle.gql_iface_rules.specs.S19DefaultValueCycles.{default_values}
 use Rattle.gql_iface_rules.specs.S19Inputs.{object}
-use Rattle.gql_iface_rules.specs.S19Ranges.{Lack}
+use Rattle.gql_iface_rules.specs.S19Ranges.{AreMissing}
 use Rattle.gql_iface_rules.proofs.S19Gaps.{ranges_more}
 use Rattle.gql_iface_rules.proofs.s19_ranges.all_ranges.Goals as goal
 
@@ -13,7 +13,7 @@ loop-field-preserved c = record {
   ranges = ranges_more (map object c.args.objects.now) (map (λ f. f.now) c.args.fields.now) (map (λ v. v.items) c.loop-field.ranges.items) (map (λ v. v.items) c.push.new.self.items) c.in_ok-default_ranges.field-0.items c.loop-field.field-index
       (omega (arith, length-map c.loop-field.ranges.items (λ v. v.items), c.loop-field.invariant.count))
       (ap (map (λ v. v.items)) c.in_ok-push.ensures.items ∙ map_push (λ v. v.items) c.loop-field.ranges.items c.in_ok-default_ranges.field-0) c.loop-field.invariant.ranges
-      (λ d. subst (λ f. Lack (default_standings (map object c.args.objects.now) f) c.in_ok-default_ranges.field-0.items)
+      (λ d. subst (λ f. AreMissing (default_values (map object c.args.objects.now) f) c.in_ok-default_ranges.field-0.items)
       (sym (read_at (λ f. f.now) c.args.fields.now c.loop-field.field-index c.field-item.result d c.loop-field-test.true c.field-item.is)) c.in_ok-default_ranges.ensures);
 }
 

@@ -1,5 +1,5 @@
 use Rattle.std.proofs.Common.{◌≡◌, ◌++◌, take}
-use Rattle.gql_iface_rules.specs.S26DirectiveCircles.{on_extensions}
+use Rattle.gql_iface_rules.specs.S26DirectiveCycles.{on_extensions}
 use Rattle.gql_iface_rules.proofs.s26_parts.add_extensions.Given as goal
 
 abbrev pub invariant-loop-extension : goal.invariant-loop-extension

@@ -1,5 +1,5 @@
 use Rattle.std.proofs.Common.{◌≡◌, ◌++◌, take}
-use Rattle.gql_iface_rules.specs.S26DirectiveCircles.{from_fields}
+use Rattle.gql_iface_rules.specs.S26DirectiveCycles.{from_fields}
 use Rattle.gql_iface_rules.proofs.s26_parts.add_fields.Given as goal
 
 abbrev pub invariant-loop-field : goal.invariant-loop-field

@@ -1,5 +1,5 @@
 use Rattle.std.proofs.Common.{◌≡◌, ◌++◌, take}
-use Rattle.gql_iface_rules.specs.S26DirectiveCircles.{on_values}
+use Rattle.gql_iface_rules.specs.S26DirectiveCycles.{on_values}
 use Rattle.gql_iface_rules.proofs.s26_parts.add_values.Given as goal
 
 abbrev pub invariant-loop-value : goal.invariant-loop-value

@@ -1,6 +1,6 @@
 use Rattle.std.proofs.Common.{◌≡◌, ◌++◌, map, take}
-use Rattle.gql_iface_rules.specs.Leading.{steps}
-use Rattle.gql_iface_rules.specs.S26DirectiveCircles.{directive_row}
+use Rattle.gql_iface_rules.specs.Borrowed.{steps}
+use Rattle.gql_iface_rules.specs.S26DirectiveCycles.{directive_row}
 use Rattle.gql_iface_rules.proofs.s26_rows.add_directive_rows.Given as goal
 
 abbrev pub invariant-loop-directive : goal.invariant-loop-directive

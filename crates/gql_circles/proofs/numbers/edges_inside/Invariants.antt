@@ -1,6 +1,0 @@
-use Rattle.std.proofs.Common.{◌≡◌, map, take}
-use Rattle.gql_circles.specs.Inside.{ends_inside}
-use Rattle.gql_circles.proofs.numbers.edges_inside.Given as goal
-
-abbrev pub invariant-loop-ends : goal.invariant-loop-ends
-invariant-loop-ends l = map (λ v. v.items) l.found.items ≡ map (ends_inside l.count) (map (λ v. v.items) (take l.ends-index l.edges))

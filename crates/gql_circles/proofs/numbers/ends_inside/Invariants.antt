@@ -1,6 +1,0 @@
-use Rattle.std.proofs.Common.{◌≡◌, take}
-use Rattle.gql_circles.specs.Inside.{ends_inside}
-use Rattle.gql_circles.proofs.numbers.ends_inside.Given as goal
-
-abbrev pub invariant-loop-end : goal.invariant-loop-end
-invariant-loop-end l = l.found.items ≡ ends_inside l.count (take l.end-index l.ends)

@@ -1,5 +1,0 @@
-use Rattle.std.proofs.Common.{◌≡◌, [], map, replicate}
-use Rattle.gql_circles.proofs.places.no_edges.Given as goal
-
-abbrev pub invariant-loop : goal.invariant-loop
-invariant-loop l = map (λ v. v.items) l.edges.items ≡ replicate l.counter []

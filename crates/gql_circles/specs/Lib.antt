@@ -1,5 +1,0 @@
-pub mod Circles
-pub mod Graph
-pub mod Inside
-pub mod Path
-pub mod Places

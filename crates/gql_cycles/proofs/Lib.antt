@@ -1,0 +1,14 @@
+pub mod Closed
+pub mod Covering
+pub mod Inside
+pub mod Joining
+pub mod Leading
+pub mod Leaving
+pub mod Members
+pub mod Placing
+pub mod RangeTrails
+pub mod Rising
+pub mod Rowing
+pub mod Steps
+pub mod Trails
+pub mod Walking

@@ -1,0 +1,21 @@
+-- Names that lead to names.
+use Rattle.std.specs.Prelude.{◌≡◌, ℕ, List, map, Contains}
+use Rattle.gql_cycles.specs.declared.names.Row.{Row}
+
+-- a name, and the names to which it leads
+pub record Steps : Type 0 where
+  pub name : List ℕ
+  pub leads : List (List ℕ)
+
+-- one step
+abbrev pub IsStep : List Steps → List ℕ → List ℕ → Type 0
+IsStep rows a b = (r : Steps) × Contains rows r × (r.name ≡ a) × Contains r.leads b
+
+-- the least transitive relation over the steps
+pub data Leads (rows : List Steps) : List ℕ → List ℕ → Type 0 where
+  one : {a b : List ℕ} → IsStep rows a b → Leads rows a b
+  more : {a b c : List ℕ} → IsStep rows a b → Leads rows b c → Leads rows a c
+
+-- what a row says
+abbrev pub row_of : Row → Steps
+row_of r = record { name = r.name.now; leads = map (λ b. b.now) r.leads.items }

@@ -1,0 +1,21 @@
+-- Graphs of numbers: at each node the nodes to which it has an edge.
+use Rattle.std.specs.Prelude.{◌≡◌, ℕ, ◌<◌, List, [], Bool, true, false, length, slice_index_or, Contains}
+
+-- an edge
+abbrev pub IsEdge : List (List ℕ) → ℕ → ℕ → Type 0
+IsEdge graph i j = Contains (slice_index_or graph i []) j
+
+-- the edges stay within the graph
+abbrev pub IsGraph : List (List ℕ) → Type 0
+IsGraph graph = (i j : ℕ) → IsEdge graph i j → j < length graph
+
+-- the least transitive relation over the edges
+pub data Trail (graph : List (List ℕ)) : ℕ → ℕ → Type 0 where
+  edge : {i j : ℕ} → IsEdge graph i j → Trail graph i j
+  next : {i j k : ℕ} → IsEdge graph i j → Trail graph j k → Trail graph i k
+
+-- marks just the nodes from which a trail leads back
+pub record MarksCycles (graph : List (List ℕ)) (marks : List Bool) : Type 0 where
+  pub length_is : length marks ≡ length graph
+  pub sound : (i : ℕ) → slice_index_or marks i false ≡ true → Trail graph i i
+  pub complete : (i : ℕ) → Trail graph i i → slice_index_or marks i false ≡ true

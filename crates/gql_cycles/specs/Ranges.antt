@@ -1,0 +1,19 @@
+-- Nodes that lead to ranges of numbers, and numbers that lead to nodes.
+use Rattle.std.specs.Prelude.{ℕ, List, [], slice_index_or, Contains}
+use Rattle.gql_cycles.specs.Cover.{IsWithinAny}
+use Rattle.gql_cycles.specs.declared.cover.Range.{Range}
+
+-- a node leads to another by a number that is within one of its ranges and leads there
+abbrev pub LeadsBy : List (List Range) → List (List ℕ) → ℕ → ℕ → ℕ → Type 0
+LeadsBy ranges ends i p j =
+    IsWithinAny (slice_index_or ranges i []) p × Contains (slice_index_or ends p []) j
+
+-- a node leads to another by some number
+abbrev pub IsRangeEdge : List (List Range) → List (List ℕ) → ℕ → ℕ → Type 0
+IsRangeEdge ranges ends i j = (p : ℕ) × LeadsBy ranges ends i p j
+
+-- the least transitive relation over these edges
+pub data RangeTrail (ranges : List (List Range)) (ends : List (List ℕ)) : ℕ → ℕ → Type 0 where
+  range_edge : {i j : ℕ} → IsRangeEdge ranges ends i j → RangeTrail ranges ends i j
+  range_next : {i j k : ℕ} → IsRangeEdge ranges ends i j → RangeTrail ranges ends j k
+      → RangeTrail ranges ends i k

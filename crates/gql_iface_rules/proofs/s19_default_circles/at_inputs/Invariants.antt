@@ -1,6 +1,0 @@
-use Rattle.std.proofs.Common.{◌≡◌, map, flat_map, take}
-use Rattle.gql_iface_rules.specs.S19DefaultCircles.{at_number}
-use Rattle.gql_iface_rules.proofs.s19_default_circles.at_inputs.Given as goal
-
-abbrev pub invariant-loop-number : goal.invariant-loop-number
-invariant-loop-number l = l.faults.items ≡ flat_map (at_number (map (λ f. f.now) l.fields)) (take l.number-index l.numbers)

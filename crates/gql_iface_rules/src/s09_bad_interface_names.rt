@@ -1,0 +1,85 @@
+//! S09, Bad Interface Names: a type lists a type that is no interface, or lists a name twice.
+ghost use Rattle.std.specs.Prelude.{◌≡◌, ◌++◌, OnOk, flat_map};
+ghost use Rattle.gql_faults.specs.Names.{repeated_faults};
+ghost use Rattle.gql_iface_rules.specs.S09BadInterfaceNames as spec;
+
+use gql_ast::{Fault, Name, Rule};
+use gql_built_in::Sited;
+use gql_faults::{NamePlace, add_fault_of, add_repeated, name_places};
+use gql_types::{Schema, SchemaType, TypeKind};
+use std::alloc::{AllocError, Global};
+
+// Adds the fault at a name that is known and not that of an interface.
+fn check_name(
+    alloc: Global,
+    schema: &Schema,
+    name: &Sited<Name>,
+    faults: &mut Vec<Fault>,
+) -> Result<(), AllocError>
+    ensures { OnOk result (faults.new.items
+        ≡ faults.old.items ++ spec.unless_interface schema.now name.now) }
+{
+    match schema.kind(name.node.as_str()) {
+        Some(kind) => {
+            if kind.is(TypeKind::Interface) {
+                Ok(())
+            } else {
+                add_fault_of(alloc, Rule::S09, &NamePlace::of(name), faults)
+            }
+        }
+        None => Ok(()),
+    }
+}
+
+// Adds the faults at these names.
+fn check_names(
+    alloc: Global,
+    schema: &Schema,
+    names: &[Sited<Name>],
+    faults: &mut Vec<Fault>,
+) -> Result<(), AllocError>
+    ensures { OnOk result (faults.new.items
+        ≡ faults.old.items ++ flat_map (spec.unless_interface schema.now) names.now) }
+{
+    for name in names {
+        check_name(alloc, schema, name, faults)?;
+    }
+    Ok(())
+}
+
+// Adds the faults at names that occur more than once.
+fn add_repeated_names(
+    alloc: Global,
+    names: &[Sited<Name>],
+    faults: &mut Vec<Fault>,
+) -> Result<(), AllocError>
+    ensures { OnOk result (faults.new.items
+        ≡ faults.old.items ++ repeated_faults Rule.S09 names.now) }
+{
+    let places = name_places(alloc, names)?;
+    add_repeated(alloc, Rule::S09, places.as_slice(), faults)
+}
+
+// Adds the faults of a type.
+fn check_type(
+    alloc: Global,
+    schema: &Schema,
+    of_type: &SchemaType,
+    faults: &mut Vec<Fault>,
+) -> Result<(), AllocError>
+    ensures { OnOk result (faults.new.items
+        ≡ faults.old.items ++ spec.bad_interface_names schema.now of_type.now) }
+{
+    check_names(alloc, schema, of_type.interfaces.as_slice(), faults)?;
+    add_repeated_names(alloc, of_type.interfaces.as_slice(), faults)
+}
+
+/// Adds the faults by S09.
+pub fn check(alloc: Global, schema: &Schema, faults: &mut Vec<Fault>) -> Result<(), AllocError>
+    ensures { OnOk result (faults.new.items ≡ faults.old.items ++ spec.faults schema.now) }
+{
+    for of_type in schema.types() {
+        check_type(alloc, schema, of_type, faults)?;
+    }
+    Ok(())
+}

@@ -1,0 +1,97 @@
+//! S11, Undeclared Interfaces: a type does not declare an interface that one of its own declares.
+ghost use Rattle.std.specs.Prelude.{◌≡◌, ◌++◌, OnOk, map, flat_map};
+ghost use Rattle.gql_iface_rules.specs.Borrowed.{implements};
+ghost use Rattle.gql_iface_rules.specs.S11UndeclaredInterfaces as spec;
+
+use crate::implementing::{Implementation, add_implementations, interface_named};
+use crate::name_set::NameSet;
+use gql_ast::{Fault, Name, Rule};
+use gql_built_in::Sited;
+use gql_faults::{NamePlace, add_fault};
+use gql_types::{Schema, SchemaType};
+use std::alloc::{AllocError, Global};
+
+// Adds the fault for an interface, unless it is among these names.
+fn check_declared(
+    alloc: Global,
+    schema: &Schema,
+    names: &NameSet<'_>,
+    at: &Sited<Name>,
+    name: &Sited<Name>,
+    faults: &mut Vec<Fault>,
+) -> Result<(), AllocError>
+    ensures { OnOk result (faults.new.items
+        ≡ faults.old.items ++ spec.unless_declared schema.now names.now at.now name.now) }
+{
+    match interface_named(schema, name.node.as_str()) {
+        Some(_interface) => {
+            if names.has(name.node.as_str()) {
+                Ok(())
+            } else {
+                let spot = NamePlace::of(at).spot();
+                add_fault(alloc, Rule::S11, name.node.as_str(), &spot, faults)
+            }
+        }
+        None => Ok(()),
+    }
+}
+
+// Adds the faults for one interface that a type implements.
+fn check_implementation(
+    alloc: Global,
+    schema: &Schema,
+    names: &NameSet<'_>,
+    implementation: &Implementation<'_>,
+    faults: &mut Vec<Fault>,
+) -> Result<(), AllocError>
+    ensures { OnOk result (faults.new.items ≡ faults.old.items
+        ++ spec.undeclared_interfaces schema.now names.now (implements implementation.now)) }
+{
+    for name in implementation.interface.interfaces.as_slice() {
+        check_declared(alloc, schema, names, implementation.name, name, faults)?;
+    }
+    Ok(())
+}
+
+// Adds the faults for these interfaces.
+fn check_implementations(
+    alloc: Global,
+    schema: &Schema,
+    names: &NameSet<'_>,
+    implementations: &[Implementation<'_>],
+    faults: &mut Vec<Fault>,
+) -> Result<(), AllocError>
+    ensures { OnOk result (faults.new.items ≡ faults.old.items
+        ++ flat_map (spec.undeclared_interfaces schema.now names.now) (map implements implementations.now)) }
+{
+    for implementation in implementations {
+        check_implementation(alloc, schema, names, implementation, faults)?;
+    }
+    Ok(())
+}
+
+// Adds the faults of a type.
+fn check_type(
+    alloc: Global,
+    schema: &Schema,
+    of_type: &SchemaType,
+    faults: &mut Vec<Fault>,
+) -> Result<(), AllocError>
+    ensures { OnOk result (faults.new.items
+        ≡ faults.old.items ++ spec.faults_of_type schema.now of_type.now) }
+{
+    let names = NameSet::new(alloc, of_type.interfaces.as_slice())?;
+    let mut found = Vec::new(alloc);
+    add_implementations(schema, of_type, &mut found)?;
+    check_implementations(alloc, schema, &names, found.as_slice(), faults)
+}
+
+/// Adds the faults by S11.
+pub fn check(alloc: Global, schema: &Schema, faults: &mut Vec<Fault>) -> Result<(), AllocError>
+    ensures { OnOk result (faults.new.items ≡ faults.old.items ++ spec.faults schema.now) }
+{
+    for of_type in schema.types() {
+        check_type(alloc, schema, of_type, faults)?;
+    }
+    Ok(())
+}

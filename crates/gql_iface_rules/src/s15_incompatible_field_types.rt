@@ -1,0 +1,57 @@
+//! S15, Incompatible Field Types: a field's type is not covariant with the interface's.
+ghost use Rattle.std.specs.Prelude.{◌≡◌, ◌++◌, OnOk, map, flat_map};
+ghost use Rattle.gql_iface_rules.specs.Borrowed.{pair};
+ghost use Rattle.gql_iface_rules.specs.S15IncompatibleFieldTypes as spec;
+
+use crate::implementing::FieldPair;
+use gql_ast::{Fault, Rule};
+use gql_faults::{NamePlace, add_fault_between};
+use gql_types::{HasName, Schema};
+use std::alloc::{AllocError, Global};
+
+// Whether the answer is no.
+fn is_no(answer: Option<bool>) -> bool
+    ensures { result ≡ spec.is_no answer }
+{
+    match answer {
+        Some(answer) => !answer,
+        None => false,
+    }
+}
+
+// Adds the fault of two fields.
+fn check_pair(
+    alloc: Global,
+    schema: &Schema,
+    fields: &FieldPair<'_>,
+    faults: &mut Vec<Fault>,
+) -> Result<(), AllocError>
+    ensures { OnOk result (faults.new.items
+        ≡ faults.old.items ++ spec.incompatible_field_type schema.now (pair fields.now)) }
+{
+    let own = &fields.own.node.get().of_type;
+    let expected = &fields.expected.node.get().of_type;
+    if !is_no(schema.is_covariant(own, expected)) {
+        return Ok(());
+    }
+    let first = NamePlace::of_node(fields.own).spot();
+    let second = NamePlace::of_node(fields.expected).spot();
+    let name = fields.expected.name();
+    add_fault_between(alloc, Rule::S15, name, &first, &second, faults)
+}
+
+/// Adds the faults by S15, of these pairs of fields.
+pub fn check(
+    alloc: Global,
+    schema: &Schema,
+    pairs: &[FieldPair<'_>],
+    faults: &mut Vec<Fault>,
+) -> Result<(), AllocError>
+    ensures { OnOk result (faults.new.items ≡ faults.old.items
+        ++ flat_map (spec.incompatible_field_type schema.now) (map pair pairs.now)) }
+{
+    for fields in pairs {
+        check_pair(alloc, schema, fields, faults)?;
+    }
+    Ok(())
+}

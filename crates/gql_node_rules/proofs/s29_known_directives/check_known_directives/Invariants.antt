@@ -1,7 +1,0 @@
-use Rattle.std.proofs.Common.{◌≡◌, ◌++◌, map, flat_map, take}
-use Rattle.gql_node_rules.specs.Borrowed.{application}
-use Rattle.gql_node_rules.specs.S29KnownDirectives.{fault_in}
-use Rattle.gql_node_rules.proofs.s29_known_directives.check_known_directives.Given as goal
-
-abbrev pub invariant-loop-applied : goal.invariant-loop-applied
-invariant-loop-applied l = l.faults.items ≡ l.initial.faults.items ++ flat_map (fault_in l.schema) (map application (take l.applied-index l.all))

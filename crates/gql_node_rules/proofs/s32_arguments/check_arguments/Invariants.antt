@@ -1,9 +1,0 @@
-use Rattle.std.proofs.Common.{◌≡◌, ◌++◌, map, flat_map, take, find, bytes_eq}
-use Rattle.gql_node_rules.specs.Applied.{name_of}
-use Rattle.gql_node_rules.specs.Borrowed.{application}
-use Rattle.gql_node_rules.specs.S32Arguments.{faults_by}
-use Rattle.gql_node_rules.proofs.s32_arguments.check_arguments.Given as goal
-
-abbrev pub invariant-loop-applied : goal.invariant-loop-applied
-invariant-loop-applied l = l.faults.items ≡ l.initial.faults.items
-    ++ flat_map (λ a. faults_by (find (λ d. bytes_eq (name_of a) d.node.name.text) (map (λ g. g.definition.now) l.signatures)) a) (map application (take l.applied-index l.all))

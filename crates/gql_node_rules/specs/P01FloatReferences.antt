@@ -1,0 +1,22 @@
+-- P01, Float References: a schema file refers to Float, which this registry does not serve (this
+-- registry's own rule).
+-- Reported at the name, about `Float`.
+use Rattle.std.specs.Prelude.{ℕ, List, [], Bool, codes, bytes_eq, flat_map, if◌then◌else◌}
+use Rattle.gql_ast.specs.declared.fault.Fault.{Fault}
+use Rattle.gql_ast.specs.declared.rule.Rule.TheVariants as rule
+use Rattle.gql_ast.specs.declared.text.Name.{Name}
+use Rattle.gql_built_in.specs.declared.sited.Sited.{Sited}
+use Rattle.gql_faults.specs.Faults.{fault_of}
+use Rattle.gql_node_rules.specs.Nodes.{AllNodes}
+use Rattle.gql_node_rules.specs.References.{references}
+
+abbrev pub is_float : List ℕ → Bool
+is_float name = bytes_eq name (codes "Float")
+
+-- the fault at a name
+abbrev pub fault_of_name : Sited Name → List Fault
+fault_of_name n = if is_float n.node.text then fault_of rule.P01 n else []
+
+-- the faults by P01
+abbrev pub faults : AllNodes → List Fault
+faults n = flat_map fault_of_name (references n)

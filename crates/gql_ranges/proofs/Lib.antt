@@ -1,3 +1,0 @@
-pub mod Circling
-pub mod Covering
-pub mod Rowing

@@ -1,9 +1,0 @@
-use Rattle.gql_ranges.proofs.Covering.{Covering}
-use Rattle.gql_ranges.proofs.cover.add_cover.Given as goal
-
--- a level of the tree
-abbrev pub invariant-levels : goal.invariant-levels
-invariant-levels l = Covering l.count l.initial.nodes.items l.initial.left l.initial.right l.nodes.items l.left l.right
-
-abbrev pub decreases-levels : goal.decreases-levels
-decreases-levels l = l.right

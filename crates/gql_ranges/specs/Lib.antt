@@ -1,3 +1,0 @@
-pub mod Cover
-pub mod Ranges
-pub mod Rows

@@ -1,7 +1,0 @@
-use Rattle.std.proofs.Common.{◌≡◌, ◌++◌, map, flat_map, take}
-use Rattle.gql_faults.specs.Places.{named}
-use Rattle.gql_schema_rules.specs.S04BuiltInDefined.{directive_defined}
-use Rattle.gql_schema_rules.proofs.s04_built_in_defined.add_directives_defined.Given as goal
-
-abbrev pub invariant-loop-name : goal.invariant-loop-name
-invariant-loop-name l = l.faults.items ≡ l.initial.faults.items ++ flat_map directive_defined (map named (take l.name-index l.directives))

@@ -1,0 +1,7 @@
+use Rattle.std.proofs.Common.{◌≡◌, ◌++◌, map, flat_map, take}
+use Rattle.gql_schema_rules.specs.S18BadDefaultValues.{faults_of_type}
+use Rattle.gql_schema_rules.proofs.s18_bad_default_values.check_types.Given as goal
+
+abbrev pub invariant-loop-of_type : goal.invariant-loop-of_type
+invariant-loop-of_type l = l.faults.items
+    ≡ l.initial.faults.items ++ flat_map (faults_of_type l.schema) (take l.of_type-index l.types)

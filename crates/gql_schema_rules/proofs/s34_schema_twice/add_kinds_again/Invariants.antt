@@ -1,9 +1,0 @@
-use Rattle.std.proofs.Common.{◌≡◌, ◌++◌, take}
-use Rattle.gql_ast.specs.declared.executable.OperationKind.{OperationKind}
-use Rattle.gql_schema_rules.specs.KindsSeen.{has}
-use Rattle.gql_schema_rules.specs.S34SchemaTwice.{has_kind, kinds_again}
-use Rattle.gql_schema_rules.proofs.s34_schema_twice.add_kinds_again.Given as goal
-
-abbrev pub invariant-loop-root : goal.invariant-loop-root
-invariant-loop-root l = ((k : OperationKind) → has l.seen k ≡ has_kind (take l.root-index l.roots) k)
-    × (l.faults.items ≡ l.initial.faults.items ++ kinds_again (take l.root-index l.roots))

@@ -1,0 +1,33 @@
+//! S07, Duplicate Values: an enum has two values, or a union two members, of the same name.
+ghost use Rattle.std.specs.Prelude.{◌≡◌, ◌++◌, OnOk};
+ghost use Rattle.gql_schema_rules.specs.S07DuplicateValues as spec;
+
+use gql_ast::{Fault, Rule};
+use gql_faults::{add_repeated, name_places, own_names};
+use gql_types::{Schema, SchemaType};
+use std::alloc::{AllocError, Global};
+
+// Adds the faults of a type.
+fn check_type(
+    alloc: Global,
+    of_type: &SchemaType,
+    faults: &mut Vec<Fault>,
+) -> Result<(), AllocError>
+    ensures { OnOk result (faults.new.items ≡ faults.old.items ++ spec.faults_of_type of_type.now) }
+{
+    let names = own_names(alloc, of_type.values.as_slice())?;
+    add_repeated(alloc, Rule::S07, names.as_slice(), faults)?;
+    let names = name_places(alloc, of_type.members.as_slice())?;
+    add_repeated(alloc, Rule::S07, names.as_slice(), faults)?;
+    Ok(())
+}
+
+/// Adds the faults by S07.
+pub fn check(alloc: Global, schema: &Schema, faults: &mut Vec<Fault>) -> Result<(), AllocError>
+    ensures { OnOk result (faults.new.items ≡ faults.old.items ++ spec.faults schema.now) }
+{
+    for of_type in schema.types() {
+        check_type(alloc, of_type, faults)?;
+    }
+    Ok(())
+}
