@@ -1,5 +1,5 @@
 -- The directives of a schema, each by its first definition (GraphQL 3.13).
-use Rattle.std.specs.Prelude.{List, [], ◌∷◌, Bool, not, filter, bytes_eq}
+use Rattle.std.specs.Prelude.{List, [], ◌∷◌, not, filter, bytes_eq}
 use Rattle.gql_ast.specs.declared.type_system.DirectiveDefinition.{DirectiveDefinition}
 use Rattle.gql_built_in.specs.declared.sited.Sited.{Sited}
 
