@@ -1,5 +1,5 @@
 -- What the calls of a hub do, as events.
-use Rattle.std.proofs.Common.{◌≡◌, ◌<◌, ℕ, List, [], ◌++◌, length, Bool, true, false, cond, Option, Some, None, IsSome, get_or, refl, sym, ap, ◌∙◌, subst}
+use Rattle.std.proofs.Common.{◌≡◌, ◌<◌, ℕ, List, [], ◌++◌, length, true, Option, Some, None, IsSome, get_or, refl, sym, ap, ◌∙◌, subst}
 use Rattle.std.specs.Prelude.{slice_set}
 use Rattle.std.proofs.Common.{length-set}
 use Rattle.gql_registry.specs.State.{State}
@@ -7,7 +7,7 @@ use Rattle.gql_http.specs.Connections.{Serves, Breaks}
 use Rattle.gql_http.specs.Events.{Event, opens, feeds, breaks, closes, Connections, with_connection, Does, does_open, does_feed, does_break, does_close}
 use Rattle.gql_http.specs.Hubs.{IsFeedOf}
 use Rattle.gql_http.specs.declared.hub.TheConstants.{CONNECTIONS}
-use Rattle.gql_http.proofs.Framers.{framer_set, changed, changed_twice, open_within, no_some}
+use Rattle.gql_http.proofs.Framers.{framer_set, changed_twice, open_within, no_some}
 
 abbrev held_by : List (Option (List ℕ)) → Connections
 held_by framers = λ c. get_or framers c None

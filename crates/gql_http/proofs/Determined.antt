@@ -1,19 +1,19 @@
 -- A request has one answer and leaves one state, and so have many, and events.
-use Rattle.std.proofs.Common.{◌≡◌, ℕ, List, [], ◌∷◌, ◌++◌, take, Option, Some, None, IsSome, Result, Ok, Err, refl, sym, ap, ap₂, ◌∙◌, subst}
+use Rattle.std.proofs.Common.{◌≡◌, ℕ, List, ◌∷◌, ◌++◌, take, Option, Some, None, IsSome, Result, refl, sym, ap, ap₂, ◌∙◌, subst}
 use Rattle.gql_registry.specs.Edits as edit
 use Rattle.gql_registry.specs.Laws.{OneEdit, OneReport, WasMade}
 use Rattle.gql_registry.specs.State.{State}
 use Rattle.gql_registry.specs.declared.refusal.Refusal.{Refusal}
 use Rattle.gql_registry.specs.declared.registry.Edited.{Edited}
 use Rattle.gql_wire.specs.Head.{is_head}
-use Rattle.gql_wire.specs.Stream.{Req, request, refused as refused_head, Placed}
+use Rattle.gql_wire.specs.Stream.{request, refused as refused_head}
 use Rattle.gql_wire.specs.Laws.{OneSplit}
 use Rattle.gql_http.specs.Answers.{Said, answer_bytes, edit_said, report_said}
 use Rattle.gql_http.specs.Connections.{requests_of, joined, held_after, Serves, Breaks}
-use Rattle.gql_http.specs.Events.{Event, feeds, breaks, Connections, with_connection, Does, does_open, does_feed, does_break, does_close, ignores}
+use Rattle.gql_http.specs.Events.{with_connection, does_open, does_feed, does_break, does_close, ignores}
 use Rattle.gql_http.specs.Laws.{OneStep, OneRun, OneDeed}
 use Rattle.gql_http.specs.Routes.{Call, report, put_schema, remove_schema, refused, call_of}
-use Rattle.gql_http.specs.Service.{Step, Calls, Edits, Run, done, more}
+use Rattle.gql_http.specs.Service.{Calls, Edits, Run, done, more}
 use Rattle.gql_http.proofs.Joining.{some_same}
 
 pub said_made : (r : Result Edited Refusal) (a : Said) → edit_said r ≡ Some a → WasMade r

@@ -1,7 +1,6 @@
 -- What a pipe did to the service: requests, one after the other.
-use Rattle.std.proofs.Common.{◌≡◌, ◌⊎◌, inl, inr, ℕ, List, [], ◌++◌, take, Option, Result, Ok, Err, refl}
+use Rattle.std.proofs.Common.{inl, inr, ℕ, List, [], ◌++◌, take, Option, Result, Ok, Err}
 use Rattle.gql_registry.specs.State.{State}
-use Rattle.gql_wire.specs.Peer.{Passage}
 use Rattle.gql_wire.specs.Stream.{Req}
 use Rattle.gql_http.specs.Connections.{requests_of, Serves, Breaks}
 use Rattle.gql_http.specs.Pipes.{Exchange, Sends}

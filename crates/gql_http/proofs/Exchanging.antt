@@ -1,22 +1,22 @@
 -- A pipe's pieces, one after the other.
-use Rattle.std.proofs.Common.{◌≡◌, ◌≢◌, ◌⊎◌, inl, inr, ℕ, ◌+◌, List, [], ◌∷◌, ◌++◌, length, map, take, Bool, true, false, cond, Option, Some, None, IsSome, Result, Ok, Err, refl, sym, ap, ap₂, ◌∙◌, subst, append_assoc, append-nil, zero-add, add-suc, suc-add}
+use Rattle.std.proofs.Common.{◌≡◌, ◌≢◌, ◌⊎◌, inl, inr, ℕ, ◌+◌, List, [], ◌∷◌, ◌++◌, length, map, take, Bool, true, false, cond, Option, Some, None, Ok, Err, refl, sym, ap, ap₂, ◌∙◌, subst, append_assoc, append-nil, zero-add, suc-add}
 use Rattle.std.specs.Prelude.{is_none}
 use Rattle.std.specs.List.{concat}
 use Rattle.gql_registry.specs.State.{State}
 use Rattle.gql_wire.specs.Peer.{Passage, received, sent, received_in, sent_in, Adds, SendsAll, SendsFront}
-use Rattle.gql_wire.specs.Stream.{Req, Placed, Splits, StaysOpen}
+use Rattle.gql_wire.specs.Stream.{Placed, Splits}
 use Rattle.gql_wire.specs.Laws.{MoreBytes, SomeSplit, OneSplit, NothingUnfinished}
 use Rattle.gql_http.specs.Connections.{requests_of, joined, is_closed, Serves, Breaks}
-use Rattle.gql_http.specs.Events.{Event, feeds, breaks, connection_of, Connections, with_connection, Does, does_open, does_feed, does_break, does_close, ignores}
+use Rattle.gql_http.specs.Events.{Event, feeds, breaks, connection_of, Connections, Does, does_open, does_feed, does_break, does_close, ignores}
 use Rattle.gql_http.specs.Hubs.{is_unfinished, IsFeedOf}
-use Rattle.gql_http.specs.Pipes.{Exchange, IsPrompt, IsExchange}
+use Rattle.gql_http.specs.Pipes.{IsPrompt, IsExchange}
 use Rattle.gql_http.specs.declared.piping.PipeEnd.{PipeEnd}
 use Rattle.gql_http.specs.declared.piping.PipeEnd.TheVariants as ends
 use Rattle.gql_http.specs.declared.piping.PipeFault.{PipeFault}
 use Rattle.gql_http.specs.declared.piping.PipeFault.TheVariants as faults
 use Rattle.gql_http.specs.Service.{Run}
-use Rattle.gql_http.proofs.Framers.{changed, unchanged, some_none}
-use Rattle.gql_http.proofs.Joining.{serves_join, serves_nothing, stays_open, run_append, requests_append, joined_append, whole, some_same}
+use Rattle.gql_http.proofs.Framers.{changed, unchanged}
+use Rattle.gql_http.proofs.Joining.{serves_join, serves_nothing, stays_open, run_append, joined_append, whole, some_same}
 
 -- what was received so far is answered, and the connection is open
 pub record Exchanged (s : State) (old new : Option (List Passage)) (u : State) (rest : Option (List ℕ)) : Type 0 where

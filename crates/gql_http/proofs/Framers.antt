@@ -1,6 +1,6 @@
 -- The framers of a hub as its connections.
-use Rattle.std.proofs.Common.{◌≡◌, ◌≢◌, ◌<◌, ◌≤◌, ◌⊎◌, inl, inr, ℕ, List, length, Bool, true, false, cond, Option, Some, None, IsSome, get_or, refl, sym, ap, ◌∙◌, subst, arith, eqb-true}
-use Rattle.std.specs.Prelude.{◌==◌, slice_set, is_none}
+use Rattle.std.proofs.Common.{◌≡◌, ◌≢◌, ◌<◌, inl, inr, ℕ, List, length, Bool, true, false, cond, Option, Some, None, IsSome, get_or, refl, ap, ◌∙◌, arith, eqb-true}
+use Rattle.std.specs.Prelude.{◌==◌, slice_set}
 use Rattle.std.proofs.lemmas.List.{get_or-set_same, get_or-set_other, get_or_past}
 use Rattle.std.proofs.lemmas.Bool.Decides.{nat_tests, leb_tells}
 use Rattle.gql_http.specs.Events.{Connections, with_connection}

@@ -1,13 +1,12 @@
 -- Pieces of a connection's bytes, one after the other.
-use Rattle.std.proofs.Common.{◌≡◌, ℕ, ◌+◌, ◌-◌, ◌<◌, ◌≤◌, List, [], ◌∷◌, ◌++◌, length, map, take, filter, All, Bool, true, false, cond, Option, Some, None, nat_lt, refl, sym, ap, ◌∙◌, subst, arith, append_assoc, add_assoc, zero-add}
+use Rattle.std.proofs.Common.{◌≡◌, ℕ, ◌+◌, ◌-◌, ◌<◌, ◌≤◌, List, [], ◌∷◌, ◌++◌, length, map, filter, All, Bool, true, false, cond, Option, Some, None, nat_lt, refl, sym, ap, ◌∙◌, subst, arith, append_assoc, add_assoc, zero-add}
 use Rattle.std.proofs.lemmas.Bool.Decides.{nat_tests}
-use Rattle.std.proofs.lemmas.Grind.{common_steps}
 use Rattle.std.proofs.lemmas.List.Elements.{All-head, All-tail}
 use Rattle.gql_registry.specs.State.{State}
 use Rattle.gql_wire.specs.Stream.{Req, Placed, Splits, unfinished, last, next, closes, StaysOpen}
-use Rattle.gql_wire.specs.Laws.{Feeding, MoreBytes, SomeSplit, OneSplit, NothingUnfinished, EndsWithinFirst, EndsAfterFirst}
+use Rattle.gql_wire.specs.Laws.{MoreBytes, SomeSplit, OneSplit, NothingUnfinished, EndsWithinFirst, EndsAfterFirst}
 use Rattle.gql_http.specs.Service.{Run, done, more}
-use Rattle.gql_http.specs.Connections.{requests_of, joined, is_closed, held_after, Serves, Breaks}
+use Rattle.gql_http.specs.Connections.{requests_of, joined, is_closed, Serves}
 use Rattle.gql_http.specs.Order.{completed_after}
 
 -- the requests, this many bytes later

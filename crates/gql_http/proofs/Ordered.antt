@@ -1,18 +1,18 @@
 -- The requests of all connections, run in the order in which they are complete.
-use Rattle.std.proofs.Common.{◌≡◌, ◌≢◌, ◌<◌, ◌≤◌, ◌⊎◌, inl, inr, ℕ, suc, List, [], ◌∷◌, ◌++◌, length, map, take, Bool, true, false, cond, Option, Some, None, IsSome, refl, sym, ap, ap₂, ◌∙◌, subst, arith}
+use Rattle.std.proofs.Common.{◌≡◌, ◌<◌, ◌⊎◌, inl, inr, ℕ, suc, List, [], ◌∷◌, ◌++◌, length, take, Bool, true, false, cond, Option, Some, None, IsSome, refl, sym, ap, ap₂, ◌∙◌, subst, arith}
 use Rattle.std.specs.Prelude.{◌==◌}
 use Rattle.std.proofs.lemmas.Bool.Decides.{leb_tells}
 use Rattle.gql_registry.specs.State.{State}
-use Rattle.gql_wire.specs.Stream.{Req, Placed, Splits, Requests, unfinished, StaysOpen}
+use Rattle.gql_wire.specs.Stream.{Req, Placed, Requests, unfinished, StaysOpen}
 use Rattle.gql_wire.specs.Laws.{MoreBytes, SomeSplit, OneSplit, NothingUnfinished}
-use Rattle.gql_http.specs.Connections.{requests_of, joined, is_closed, held_after, Serves, Breaks}
+use Rattle.gql_http.specs.Connections.{requests_of, joined, is_closed, held_after}
 use Rattle.gql_http.specs.Events.{Event, opens, feeds, breaks, closes, connection_of, Connections, all_closed, with_connection, IsAllowed, Does, does_open, does_feed, does_break, does_close, ignores, Behaves, does_nothing, does_first}
 use Rattle.gql_http.specs.Laws.{SomeOrder, OneOrder, InOrder}
-use Rattle.gql_http.specs.Order.{completed_after, Completes, by_open, by_feed, by_break, by_close, by_none, Order, no_events, first, on, SameLengths, Answers}
+use Rattle.gql_http.specs.Order.{completed_after, Completes, by_open, by_feed, by_break, by_close, by_none, Order, no_events, first, on, Answers}
 use Rattle.gql_http.specs.Service.{Run, done, more}
 use Rattle.gql_http.specs.declared.hub.TheConstants.{CONNECTIONS}
-use Rattle.gql_http.proofs.Framers.{some_none, no_some}
-use Rattle.gql_http.proofs.Joining.{run_append, joined_append, stays_open, not_closed, closed_by_more, later_ones, Whole, whole, some_same}
+use Rattle.gql_http.proofs.Framers.{some_none}
+use Rattle.gql_http.proofs.Joining.{run_append, joined_append, stays_open, closed_by_more, later_ones, whole, some_same}
 
 is_open : (o : Option (List ℕ)) (a : List ℕ) → o ≡ Some a → IsSome o
 is_open o a is = rw is refl

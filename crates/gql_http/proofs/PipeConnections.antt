@@ -1,14 +1,13 @@
 -- The connections of a pipe's hub, before and after.
-use Rattle.std.proofs.Common.{◌≡◌, ◌≢◌, ◌⊎◌, inl, inr, ℕ, List, [], Bool, true, false, Option, Some, None, IsSome, refl, sym, ap, ◌∙◌, eqb-true, arith, subst, Result}
+use Rattle.std.proofs.Common.{◌≡◌, ◌≢◌, ℕ, List, [], Bool, true, false, Option, Some, None, refl, sym, ap, ◌∙◌, eqb-true, arith, subst, Result}
 use Rattle.std.specs.Prelude.{◌==◌}
 use Rattle.std.proofs.lemmas.Bool.Decides.{nat_tests}
 use Rattle.gql_registry.specs.State.{State}
 use Rattle.gql_wire.specs.Peer.{Passage, Adds}
-use Rattle.gql_http.specs.Pipes.{Exchange, IsExchange}
+use Rattle.gql_http.specs.Pipes.{IsExchange}
 use Rattle.gql_http.specs.declared.piping.PipeEnd.{PipeEnd}
 use Rattle.gql_http.specs.declared.piping.PipeFault.{PipeFault}
 use Rattle.gql_http.specs.Events.{opens, closes, Connections, IsAllowed, Does, does_open, does_close, ignores}
-use Rattle.gql_http.proofs.Exchanging.{does_others}
 use Rattle.gql_http.proofs.Framers.{changed, no_some}
 
 -- a connection that was opened holds no bytes, and the service is as it was

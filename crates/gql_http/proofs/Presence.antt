@@ -1,5 +1,5 @@
 -- Files then present: what each name holds after requests.
-use Rattle.std.proofs.Common.{◌≡◌, ◌⊎◌, inl, inr, ℕ, List, [], ◌∷◌, ◌++◌, Bool, Option, Some, None, Result, Ok, Err, refl, sym, ap, ◌∙◌, subst}
+use Rattle.std.proofs.Common.{◌≡◌, ℕ, List, [], ◌∷◌, ◌++◌, Bool, Option, Some, Result, Ok, Err, refl, sym, ap, ◌∙◌, subst}
 use Rattle.gql_ast.specs.FileMaps.{file_named}
 use Rattle.gql_ast.specs.declared.fault.Fault.{Fault}
 use Rattle.gql_registry.specs.Edits as edit

@@ -7,7 +7,7 @@ use Rattle.gql_registry.specs.State.{State}
 use Rattle.gql_wire.specs.Stream.{Req, IsRequest, IsUnfinished, Placed, Splits, unfinished, last, next, closes, skip_blank}
 use Rattle.gql_wire.specs.Laws.{SomeSplit}
 use Rattle.gql_http.specs.Service.{Step, Run, done, more}
-use Rattle.gql_http.specs.Connections.{requests_of, joined, is_closed, held_after, Serves, Breaks}
+use Rattle.gql_http.specs.Connections.{requests_of, joined, is_closed, Serves, Breaks}
 
 -- the requests so far were made, and these bytes are left
 pub record Served (s : State) (whole rest : List ℕ) (u : State) (out : List ℕ) : Type 0 where

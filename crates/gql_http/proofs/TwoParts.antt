@@ -1,9 +1,9 @@
 -- A piece that is fed in two parts.
-use Rattle.std.proofs.Common.{◌≡◌, ℕ, List, ◌++◌, Option, Some, IsSome, refl, sym, ap, ◌∙◌, subst, append_assoc}
+use Rattle.std.proofs.Common.{◌≡◌, ℕ, List, ◌++◌, Option, Some, IsSome, refl, sym, ◌∙◌, subst, append_assoc}
 use Rattle.gql_registry.specs.State.{State}
 use Rattle.gql_wire.specs.Laws.{MoreBytes, SomeSplit, OneSplit}
 use Rattle.gql_http.specs.Connections.{Serves}
-use Rattle.gql_http.specs.Events.{Event, feeds, Connections, with_connection, Does, does_feed, ignores}
+use Rattle.gql_http.specs.Events.{feeds, Connections, with_connection, Does, does_feed, ignores}
 use Rattle.gql_http.specs.Laws.{TwoParts}
 use Rattle.gql_http.proofs.Framers.{changed, changed_twice}
 use Rattle.gql_http.proofs.Joining.{serves_join, some_same}

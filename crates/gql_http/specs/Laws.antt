@@ -1,5 +1,5 @@
 -- Laws of the service and its hub.
-use Rattle.std.specs.Prelude.{ℕ, ◌≡◌, ◌<◌, List, [], ◌∷◌, ◌++◌, Bool, Option, Some, None, ◌⊎◌}
+use Rattle.std.specs.Prelude.{ℕ, ◌≡◌, List, [], ◌∷◌, ◌++◌, Bool, Some, None}
 use Rattle.gql_ast.specs.FileMaps.{file_named}
 use Rattle.gql_ast.specs.declared.fault.Fault.{Fault}
 use Rattle.gql_registry.specs.Report.{IsReport}
@@ -8,7 +8,7 @@ use Rattle.gql_wire.specs.Head.{is_head}
 use Rattle.gql_wire.specs.Stream.{Req, request, Placed, Requests}
 use Rattle.gql_http.specs.Answers.{answer_bytes, report_said}
 use Rattle.gql_http.specs.Connections.{requests_of, joined}
-use Rattle.gql_http.specs.Events.{Event, opens, feeds, breaks, closes, connection_of, Connections, all_closed, Does, Behaves}
+use Rattle.gql_http.specs.Events.{Event, opens, feeds, breaks, closes, Connections, all_closed, Does, Behaves}
 use Rattle.gql_http.specs.History.{Holds}
 use Rattle.gql_http.specs.Order.{Order, Answers, on}
 use Rattle.gql_http.specs.Routes.{report, call_of}

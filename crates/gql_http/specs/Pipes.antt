@@ -1,5 +1,5 @@
 -- What a pipe does: the requests that it reads from its peer, answered on the same connection.
-use Rattle.std.specs.Prelude.{ℕ, ◌≡◌, List, [], ◌∷◌, ◌++◌, Bool, true, false, Option, Some, None, Result, Ok, Err, ◌⊎◌}
+use Rattle.std.specs.Prelude.{ℕ, ◌≡◌, List, ◌∷◌, ◌++◌, Bool, true, false, Option, Some, None, Result, Ok, Err, ◌⊎◌}
 use Rattle.gql_registry.specs.State.{State}
 use Rattle.gql_wire.specs.Peer.{Passage, received, received_in, sent_in}
 use Rattle.gql_http.specs.Connections.{Serves, Breaks}

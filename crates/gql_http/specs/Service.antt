@@ -1,5 +1,5 @@
 -- The service as a machine: what each request answers, and the state that it leaves.
-use Rattle.std.specs.Prelude.{ℕ, ◌≡◌, List, [], ◌∷◌, Bool, true, Option, Some, Result}
+use Rattle.std.specs.Prelude.{ℕ, ◌≡◌, List, [], ◌∷◌, true, Option, Some, Result}
 use Rattle.gql_ast.specs.declared.fault.Fault.{Fault}
 use Rattle.gql_registry.specs.Edits.{Edit, Makes}
 use Rattle.gql_registry.specs.Edits as edit

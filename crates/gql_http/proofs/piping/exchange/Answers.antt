@@ -1,5 +1,4 @@
-use Rattle.std.proofs.Common.{rules, arith, refl, sym, inl, inr, ◌∙◌, ap}
-use Rattle.gql_http.specs.Hubs.{rests_of, is_unfinished}
+use Rattle.std.proofs.Common.{rules, arith, refl, sym, inl, inr, ◌∙◌}
 use Rattle.gql_http.proofs.Exchanging.{adds_nil, exchanged_init, exchanged_more, at_end, write_failed, memory_failed, closed_by, no_more, fed_serves, fed_breaks, fed_either, does_others, feed_connection, none_of, some_of}
 use Rattle.gql_http.proofs.piping.exchange.Goals as goal
 

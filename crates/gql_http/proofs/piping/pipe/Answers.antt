@@ -1,4 +1,4 @@
-use Rattle.std.proofs.Common.{rules, refl, sym, ◌∙◌}
+use Rattle.std.proofs.Common.{rules, sym, ◌∙◌}
 use Rattle.gql_http.proofs.Exchanging.{does_others}
 use Rattle.gql_http.proofs.PipeConnections.{opened_empty, closed_after, same_connections, between}
 use Rattle.gql_http.proofs.piping.pipe.Goals as goal

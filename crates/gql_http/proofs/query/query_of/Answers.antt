@@ -1,4 +1,4 @@
-use Rattle.std.proofs.Common.{rules, arith}
+use Rattle.std.proofs.Common.{rules}
 use Rattle.gql_http.proofs.Queries.{path_within}
 use Rattle.gql_http.proofs.query.query_of.Goals as goal
 
