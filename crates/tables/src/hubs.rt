@@ -39,9 +39,7 @@ fn byte_by_byte(alloc: Global, bytes: &[u8]) -> Option<Vec<u8>> {
 }
 
 /// The answers to a stream, which are the same whole, byte by byte and cut at each place.
-pub fn answers_answer(alloc: Global, text: &str) -> Option<String> {
-    let bytes = bytes_in(alloc, text)?;
-    let bytes = bytes.as_slice();
+fn in_any_pieces(alloc: Global, bytes: &[u8]) -> Option<String> {
     let whole = answered(alloc, bytes, 0)?;
     for place in 1..bytes.len() {
         if answered(alloc, bytes, place)?.as_slice() != whole.as_slice() {
@@ -52,4 +50,15 @@ pub fn answers_answer(alloc: Global, text: &str) -> Option<String> {
         return String::from_str(alloc, "another byte by byte").ok();
     }
     quoted_bytes(alloc, whole.as_slice()).ok()
+}
+
+/// The answers to a stream, in any pieces, or where it is cut at one place: `cut at PLACE`.
+pub fn answers_answer(alloc: Global, text: &str, question: &str) -> Option<String> {
+    let bytes = bytes_in(alloc, text)?;
+    if question.is_empty() {
+        return in_any_pieces(alloc, bytes.as_slice());
+    }
+    let place = question.strip_prefix("cut at ")?.parse::<usize>().ok()?;
+    let answers = answered(alloc, bytes.as_slice(), place)?;
+    quoted_bytes(alloc, answers.as_slice()).ok()
 }

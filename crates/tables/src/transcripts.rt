@@ -63,7 +63,11 @@ impl Transcript {
                 self.hub.close(connection);
                 Some("closed")
             }
-            "is-open" => Some(if self.hub.is_open(connection) { "yes" } else { "no" }),
+            "is-open" => Some(if self.hub.is_open(connection) {
+                "yes"
+            } else {
+                "no"
+            }),
             _ => None,
         }
     }

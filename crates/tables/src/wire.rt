@@ -15,7 +15,7 @@ pub fn wire_answer(alloc: Global, text: &str, question: &str) -> Option<String> 
     let (word, rest) = question.split_once(" ").unwrap_or((question, ""));
     match word {
         "requests" => requests_answer(alloc, text, rest),
-        "answers" => answers_answer(alloc, text),
+        "answers" => answers_answer(alloc, text, rest),
         "connections" => connections_answer(alloc, rest),
         "interleaved" => interleaved_answer(alloc, rest),
         "pipe" => pipe_answer(alloc, text, rest),
