@@ -1,5 +1,5 @@
 -- The faults by all rules, from the lists that the code joins.
-use Rattle.std.proofs.Common.{◌≡◌, ◌↔◌, ◌⊎◌, inl, inr, sym, subst, List, ◌++◌, Contains}
+use Rattle.std.proofs.Common.{◌≡◌, ◌↔◌, inl, inr, sym, subst, List, ◌++◌, Contains}
 use Rattle.std.proofs.lemmas.List.Elements.{Contains-append_left, Contains-append_right, Contains-append_cases}
 use Rattle.gql_ast.specs.declared.fault.Fault.{Fault}
 use Rattle.gql_ast.specs.declared.files.Files.{Files}

@@ -1,4 +1,4 @@
-use Rattle.std.proofs.Common.{◌≡◌, ◌++◌, map, flat_map, take}
+use Rattle.std.proofs.Common.{◌≡◌, ◌++◌, flat_map, take}
 use Rattle.gql_iface_rules.specs.S09BadInterfaceNames.{bad_interface_names}
 use Rattle.gql_iface_rules.proofs.s09_bad_interface_names.check.Given as goal
 

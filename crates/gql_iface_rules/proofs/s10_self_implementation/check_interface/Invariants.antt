@@ -1,4 +1,4 @@
-use Rattle.std.proofs.Common.{◌≡◌, ◌++◌, map, flat_map, take}
+use Rattle.std.proofs.Common.{◌≡◌, ◌++◌, flat_map, take}
 use Rattle.gql_iface_rules.specs.S10SelfImplementation.{if_own_name}
 use Rattle.gql_iface_rules.proofs.s10_self_implementation.check_interface.Given as goal
 

@@ -1,4 +1,4 @@
-use Rattle.std.proofs.Common.{◌≡◌, ◌++◌, map, flat_map, take}
+use Rattle.std.proofs.Common.{◌≡◌, ◌++◌, flat_map, take}
 use Rattle.gql_iface_rules.specs.S11UndeclaredInterfaces.{faults_of_type}
 use Rattle.gql_iface_rules.proofs.s11_undeclared_interfaces.check.Given as goal
 

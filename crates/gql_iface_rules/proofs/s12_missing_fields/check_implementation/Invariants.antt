@@ -1,4 +1,4 @@
-use Rattle.std.proofs.Common.{◌≡◌, ◌++◌, map, flat_map, take}
+use Rattle.std.proofs.Common.{◌≡◌, ◌++◌, flat_map, take}
 use Rattle.gql_iface_rules.specs.Borrowed.{implements}
 use Rattle.gql_iface_rules.specs.S12MissingFields.{missing_field}
 use Rattle.gql_iface_rules.proofs.s12_missing_fields.check_implementation.Given as goal

@@ -1,4 +1,4 @@
-use Rattle.std.proofs.Common.{◌≡◌, ◌++◌, map, flat_map, take}
+use Rattle.std.proofs.Common.{◌≡◌, ◌++◌, flat_map, take}
 use Rattle.gql_iface_rules.specs.Borrowed.{pair}
 use Rattle.gql_iface_rules.specs.S13MissingArguments.{missing_argument}
 use Rattle.gql_iface_rules.proofs.s13_missing_arguments.check_arguments.Given as goal

@@ -1,4 +1,4 @@
-use Rattle.std.proofs.Common.{◌≡◌, ◌++◌, map, flat_map, take}
+use Rattle.std.proofs.Common.{◌≡◌, ◌++◌, flat_map, take}
 use Rattle.gql_iface_rules.specs.Borrowed.{pair}
 use Rattle.gql_iface_rules.specs.S14ExtraRequiredArguments.{extra_required_argument}
 use Rattle.gql_iface_rules.proofs.s14_extra_required_arguments.check_arguments.Given as goal

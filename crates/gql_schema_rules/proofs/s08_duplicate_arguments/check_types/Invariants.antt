@@ -1,4 +1,4 @@
-use Rattle.std.proofs.Common.{◌≡◌, ◌++◌, map, flat_map, take}
+use Rattle.std.proofs.Common.{◌≡◌, ◌++◌, flat_map, take}
 use Rattle.gql_schema_rules.specs.S08DuplicateArguments.{faults_of_type}
 use Rattle.gql_schema_rules.proofs.s08_duplicate_arguments.check_types.Given as goal
 

@@ -1,4 +1,4 @@
-use Rattle.std.proofs.Common.{◌≡◌, ◌++◌, map, flat_map, take}
+use Rattle.std.proofs.Common.{◌≡◌, ◌++◌, flat_map, take}
 use Rattle.gql_schema_rules.specs.S18BadDefaultValues.{fault_of_input_field}
 use Rattle.gql_schema_rules.proofs.s18_bad_default_values.check_input_fields.Given as goal
 

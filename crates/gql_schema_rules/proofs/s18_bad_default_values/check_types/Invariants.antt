@@ -1,4 +1,4 @@
-use Rattle.std.proofs.Common.{◌≡◌, ◌++◌, map, flat_map, take}
+use Rattle.std.proofs.Common.{◌≡◌, ◌++◌, flat_map, take}
 use Rattle.gql_schema_rules.specs.S18BadDefaultValues.{faults_of_type}
 use Rattle.gql_schema_rules.proofs.s18_bad_default_values.check_types.Given as goal
 
