@@ -127,9 +127,7 @@ impl Registry {
             return Err(Refusal::FilesFull);
         }
         let mut files = self.files.copy()?;
-        files
-            .schema
-            .put(name, Shared::new(self.alloc, document)?)?;
+        files.schema.put(name, Shared::new(self.alloc, document)?)?;
         Ok(self.accept(files, revision)?)
     }
 

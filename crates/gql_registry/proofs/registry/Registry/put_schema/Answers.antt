@@ -19,14 +19,14 @@ returns-in_err-document c =
 pub returns-then-not-has_room : goal.returns-then-not-has_room
 returns-then-not-has_room c = (
   first_files_full _ _ _ _ c.in_ok-revision.ensures.expected c.in_ok-revision.ensures.left c.if-bytes-gt-MAX_FILE_BYTES.false (search rules)
-  (λ f bad. c.one_answer.ensures.apart _ _ _ f c.in_ok-document.ensures.accepted (rw (c.copy.ensures, c.in-Ok.ensures.cases.0) bad)) (search rules) (search rules),
+      (λ f bad. c.one_answer.ensures.apart _ _ _ f c.in_ok-document.ensures.accepted (rw (c.copy.ensures, c.in-Ok.ensures.cases.0) bad)) (search rules) (search rules),
   refl,
 )
 
 pub returns : goal.returns
 returns c = (
   put_accepted _ _ _ _ c.in_ok-revision.ensures.expected c.in_ok-revision.ensures.left c.if-bytes-gt-MAX_FILE_BYTES.false (search rules)
-  (λ f bad. c.one_answer.ensures.apart _ _ _ f c.in_ok-document.ensures.accepted (rw (c.copy.ensures, c.in-Ok.ensures.cases.0) bad)) (search rules),
+      (λ f bad. c.one_answer.ensures.apart _ _ _ f c.in_ok-document.ensures.accepted (rw (c.copy.ensures, c.in-Ok.ensures.cases.0) bad)) (search rules),
   search rules,
   search rules,
 )
