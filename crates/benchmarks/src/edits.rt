@@ -1,5 +1,5 @@
-//! How long an edit takes: one schema file of many is put again, and the report of all is made anew, with 12, 48 and 192
-//! files.
+//! How long an edit takes: one schema file of many is put again, and the report of all is made
+//! anew, with 12, 48 and 192 files.
 use crate::speed::micros;
 use anyhow::Result;
 use gql_ast::FileName;
@@ -13,7 +13,7 @@ const TYPES: u64 = 100;
 /// How often a file is put again.
 const ROUNDS: u64 = 5;
 
-/// What the types of all files stand on.
+/// The file on which the types of all others depend.
 const ROOTS: &str = "type Query { node(id: ID!): Node } interface Node { id: ID! }\n";
 
 /// A file of types that no other file has.

@@ -1,12 +1,13 @@
-//! How fast a document of 64 KiB is split into tokens, and how fast a plain loop reads the same bytes.
+//! How fast a document of 64 KiB is split into tokens, and how fast a plain loop reads the same
+//! bytes.
 use crate::speed::{document, speed, token_count};
 use anyhow::Result;
 use std::time::Instant;
 
 const ROUNDS: u64 = 400;
 
-/// A count, and one more for each byte that is a letter: a plain scan. Each round counts on from the one before, so that no
-/// compiler makes one of them all.
+/// A count, and one more for each byte that is a letter: a plain scan. Each round counts on from
+/// the one before, so that no compiler makes one of them all.
 #[inline(never)]
 fn letters(bytes: &[u8], before: u64) -> u64 {
     let mut count = before;

@@ -1,5 +1,5 @@
-//! Measures the registry and the crates below it. With the argument `run` it prints a line for each figure; with no argument
-//! it prints nothing.
+//! Measures the registry and the crates below it. With the argument `run` it prints a line for each
+//! figure; with no argument it prints nothing.
 #![tactic(auto)]
 
 use anyhow::Result;
@@ -7,6 +7,7 @@ use std::env;
 
 mod documents;
 mod edits;
+mod facts;
 mod lexer;
 mod schemas;
 mod speed;
@@ -27,6 +28,7 @@ fn main(rt: HostRuntime) -> Result<()> {
         lexer::measure(&rt)?;
         documents::measure(&rt)?;
         schemas::measure(&rt)?;
+        facts::measure(&rt)?;
         edits::measure(&rt)?;
         values::measure(&rt)?;
     }

@@ -1,5 +1,5 @@
-//! How fast a schema file of 64 KiB is parsed and split into tokens, and how long schemas of more and more types take to be
-//! put together: the time for each type of schemas of up to 10,000 types.
+//! How fast a schema file of 64 KiB is parsed and split into tokens, and how long schemas of more
+//! and more types take to be put together: the time for each type of schemas of up to 10,000 types.
 use crate::speed::{nanos_each, speed, token_count};
 use anyhow::Result;
 use gql_ast::{FileName, Files, Shared};
@@ -71,7 +71,7 @@ fn files(alloc: Global, count: usize) -> Result<Files> {
     Ok(files)
 }
 
-/// How many types the schema of the files has, or 0 for want of memory.
+/// How many types the schema of the files has, or 0 if an allocation fails.
 #[inline(never)]
 fn type_count(alloc: Global, files: &Files) -> u64 {
     match assemble(alloc, files) {

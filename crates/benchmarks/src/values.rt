@@ -1,5 +1,6 @@
-//! How long the values of variables take to be coerced (GraphQL specification, 6.1.2): the time for each input of lists of up
-//! to 20,000 inputs of JSON, and of literals of up to 700, which fill a document.
+//! How long the values of variables take to be coerced (GraphQL specification, 6.1.2): the time for
+//! each input of lists of up to 20,000 inputs of JSON, and of literals of up to 700, which fill a
+//! document.
 use crate::speed::nanos_each;
 use anyhow::Result;
 use gql_ast::{Document, FileName, Files, Shared, Tree, VariableDefinition};

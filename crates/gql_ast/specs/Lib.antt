@@ -1,4 +1,5 @@
 pub mod FileMaps
 pub mod FileNames
 pub mod Rules
+pub mod Texts
 pub mod Trees

@@ -71,7 +71,7 @@ impl Fault {
     {
         Ok(Fault {
             rule: self.rule,
-            about: self.about.copy(alloc)?,
+            about: self.about.copy()?,
             places: copy_places(alloc, self.places.as_slice())?,
             owner: copy_owner(&self.owner),
         })

@@ -6,24 +6,29 @@ ghost use Rattle.std.specs.Cmp.{partial_equiv_from_equiv};
 ghost use Rattle.std.specs.Cmp.Lexicographic.{slice_cmp, nat_list_eq_equiv, nat_list_cmp_total, texts_ties, texts_po};
 ghost use Rattle.std.specs.Cmp.Rules.{hashing};
 
+use arrayvec::ArrayString;
 use gql_text::Place;
 use std::alloc::{AllocError, Global};
 use std::cmp::Ordering;
 use std::hash::{Hash, Hasher};
 use std::marker::Model;
 
-/// A text that a tree owns, which contracts see as the list of its bytes.
+/// A text that a tree owns, which contracts see as the list of its bytes. A text of at most 24 bytes
+/// is held in place, so that it takes no memory of its own and its copy takes none either.
 #[derive(Debug, Drop)]
 pub struct Text {
-    text: String,
+    short: ArrayString<24>,
+    /// The text, where it is longer; else empty.
+    long: String,
 }
 
 impl Model for Text {
     ghost use Rattle.std.specs.Prelude.{List, ℕ, string_bytes};
+    ghost use Rattle.gql_ast.specs.Texts.{whole};
 
     ghost Value = { List ℕ };
 
-    ghost view = { λ n. string_bytes n.text };
+    ghost view = { λ text. whole text.short.bytes (string_bytes text.long) };
 }
 
 impl Text {
@@ -31,22 +36,32 @@ impl Text {
     pub fn from_str(alloc: Global, text: &str) -> Result<Text, AllocError>
         ensures { IfOk result (λ n. n ≡ text.now) }
     {
-        let text = String::from_str(alloc, text)?;
-        Ok(Text { text })
+        let (short, long) = match ArrayString::try_from(text) {
+            Ok(short) => (short, String::new(alloc)),
+            Err(_) => (ArrayString::new(), String::from_str(alloc, text)?),
+        };
+        Ok(Text { short, long })
     }
 
     /// The text.
     pub fn as_str(&self) -> &str
         ensures { result.now ≡ self.now }
     {
-        self.text.as_str()
+        if self.long.is_empty() {
+            self.short.as_str()
+        } else {
+            self.long.as_str()
+        }
     }
 
     /// An equal text.
-    pub fn copy(&self, alloc: Global) -> Result<Text, AllocError>
+    pub fn copy(&self) -> Result<Text, AllocError>
         ensures { IfOk result (λ n. n ≡ self.now) }
     {
-        Text::from_str(alloc, self.as_str())
+        Ok(Text {
+            short: self.short,
+            long: self.long.clone()?,
+        })
     }
 }
 
@@ -114,12 +129,12 @@ impl Name {
     }
 
     /// An equal name, at the same place.
-    pub fn copy(&self, alloc: Global) -> Result<Name, AllocError>
+    pub fn copy(&self) -> Result<Name, AllocError>
         ensures { IfOk result (λ n. n ≡ self.now) }
     {
         Ok(Name {
             place: self.place,
-            text: self.text.copy(alloc)?,
+            text: self.text.copy()?,
         })
     }
 }

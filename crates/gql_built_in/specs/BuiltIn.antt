@@ -105,7 +105,7 @@ type_kinds = enum_type (codes "__TypeKind")
     ∷ codes "NON_NULL"
     ∷ [])
 
--- where a directive may stand (4.2.6)
+-- the locations of directives (4.2.6)
 unfoldable pub directive_locations : TypeDefinition
 directive_locations = enum_type (codes "__DirectiveLocation")
     (codes "QUERY"
@@ -161,7 +161,8 @@ include = directive (codes "include") condition selections
 unfoldable pub reason : List InputValueDefinition
 reason = argument (codes "reason") string (Some (string_value (codes "No longer supported"))) ∷ []
 
--- directive @deprecated(reason: String = "No longer supported") on FIELD_DEFINITION | ENUM_VALUE (3.13.3)
+-- directive @deprecated(reason: String = "No longer supported") on FIELD_DEFINITION | ENUM_VALUE
+-- (3.13.3)
 unfoldable pub deprecated : DirectiveDefinition
 deprecated = directive (codes "deprecated") reason (l.FieldDefinition ∷ l.EnumValue ∷ [])
 

@@ -18,4 +18,5 @@ type_of_word (w.RequiredList name) = required_list_of (named name.now)
 -- the field of a row
 abbrev pub field_of_row : FieldRow → FieldDefinition
 field_of_row (f.Plain name word) = field name.now (type_of_word word)
-field_of_row (f.ShowsDeprecated name word) = field_with name.now include_deprecated (type_of_word word)
+field_of_row (f.ShowsDeprecated name word) = field_with name.now include_deprecated
+    (type_of_word word)

@@ -86,7 +86,8 @@ abbrev pub enum_type : List ℕ → List (List ℕ) → TypeDefinition
 enum_type name values = type_of name (p.Enum (map enum_value values))
 
 -- DirectiveDefinition, not repeatable: name, arguments and locations (3.13)
-unfoldable pub directive : List ℕ → List InputValueDefinition → List DirectiveLocation → DirectiveDefinition
+unfoldable pub directive : List ℕ → List InputValueDefinition → List DirectiveLocation
+    → DirectiveDefinition
 directive name arguments locations = record { place = nowhere; description = None; name = word name; arguments = arguments; is_repeatable = false; locations = locations }
 
 -- a definition of no file

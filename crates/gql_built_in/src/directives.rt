@@ -8,7 +8,7 @@ use crate::words::{a_directive, directive, named, one_argument, required_named, 
 use gql_ast::{DirectiveDefinition, DirectiveLocation, InputValueDefinition, Items, Shared, Tree};
 use std::alloc::{AllocError, Global};
 
-/// Where a selection stands.
+/// The locations of selections.
 const SELECTIONS: [DirectiveLocation; 3] = [
     DirectiveLocation::Field,
     DirectiveLocation::FragmentSpread,

@@ -1,5 +1,5 @@
-//! What every schema has: scalars (GraphQL specification, 3.5), the types of introspection (4.2) and directives
-//! (3.13). Their definitions stand in no file.
+//! What every schema has: scalars (GraphQL specification, 3.5), the types of introspection (4.2)
+//! and directives (3.13). Their definitions are in no file.
 #![tactic(auto)]
 
 ghost use Rattle.std.specs.Prelude.{◌≡◌, map, IfOk};
@@ -19,7 +19,8 @@ use gql_ast::{Items, Tree};
 pub use sited::Sited;
 use std::alloc::{AllocError, Global};
 
-/// The scalars of every schema (GraphQL specification, 3.5), but for Float, which this registry doesn't serve.
+/// The scalars of every schema (GraphQL specification, 3.5), but for Float, which this registry
+/// doesn't serve.
 #[tactic(auto, unfolding(crate::specs::BuiltIn::scalars))]
 fn scalars(alloc: Global) -> Result<Items<Sited<Tree>>, AllocError>
     ensures { IfOk result (λ ds. ds ≡ map a_type_of spec.scalars) }

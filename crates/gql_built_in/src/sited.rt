@@ -1,6 +1,6 @@
 use gql_ast::FileName;
 
-/// A part of a schema where it stands: in a file, or in none where it is built in.
+/// A part of a schema with its file, or with none if it is built in.
 #[derive(Drop)]
 pub struct Sited<T> {
     pub file: Option<FileName>,

@@ -47,7 +47,7 @@ fn list(alloc: Global, item: TypeRef) -> Result<TypeRef, AllocError>
     })
 }
 
-/// The type with `!` behind it (GraphQL specification, 2.11).
+/// The type with `!` after it (GraphQL specification, 2.11).
 #[tactic(auto, unfolding(crate::specs::BuiltInWords::required))]
 fn required(alloc: Global, nullable: TypeRef) -> Result<TypeRef, AllocError>
     ensures { IfOk result (λ x. x ≡ spec.required nullable) }
@@ -129,7 +129,8 @@ pub fn field_with(
     arguments: Items<Shared<InputValueDefinition>>,
     of_type: TypeRef,
 ) -> Result<(), AllocError>
-    ensures { OnOk result (fields.new ≡ fields.old ++ spec.field_with name.now arguments of_type ∷ []) }
+    ensures { OnOk result (fields.new ≡ fields.old ++ spec.field_with name.now arguments of_type
+        ∷ []) }
 {
     let field = FieldDefinition {
         description: None,
@@ -266,7 +267,8 @@ pub fn object(
     name: &str,
     fields: Items<Shared<FieldDefinition>>,
 ) -> Result<(), AllocError>
-    ensures { OnOk result (definitions.new ≡ definitions.old ++ spec.a_type (spec.object_type name.now fields) ∷ []) }
+    ensures { OnOk result (definitions.new ≡ definitions.old
+        ++ spec.a_type (spec.object_type name.now fields) ∷ []) }
 {
     a_type(alloc, definitions, object_type(alloc, name, fields)?)
 }

@@ -12,8 +12,8 @@ use Rattle.serde_json.specs.declared.value.Value.{Value, Null, Bool as Truth, Nu
 use Rattle.gql_coerce.specs.Coercion.{coerced, at_level, once, single_at, null_at, list_by, items_expected, object_at, entries_for}
 use Rattle.gql_coerce.specs.Inputs.{Input, all_inputs, json_input, json_inputs, truth, json_text, of_number, may_be_list}
 use Rattle.gql_coerce.specs.JsonEntries.{fields_in}
-use Rattle.gql_coerce.specs.Outcomes.{Outcome, value, refused, too_deep, some}
-use Rattle.gql_coerce.specs.Reading.{level, no_level}
+use Rattle.gql_coerce.specs.Outcomes.{Reached, value, refused, too_deep, some}
+use Rattle.gql_coerce.proofs.Reading.{level, no_level}
 use Rattle.std.specs.Prelude.{Option, Some, None}
 
 is_null : view Null ≡ json.null
@@ -71,25 +71,25 @@ may_object m = ap (λ d. may_be_list (json_input d)) (view-Object m)
 
 -- ---- a value of JSON is always there
 
-abbrev pub is_nothing : Outcome (Option Data) → Bool
+abbrev pub is_nothing : Reached (Option Data) → Bool
 is_nothing (value None) = true
 is_nothing (value (Some d)) = false
 is_nothing (refused r path) = false
 is_nothing too_deep = false
 
-some_is : (o : Outcome Data) → is_nothing (some o) ≡ false
+some_is : (o : Reached Data) → is_nothing (some o) ≡ false
 some_is (value d) = refl
 some_is (refused r path) = refl
 some_is too_deep = refl
 
-once_is : (e : Option Written) (o : Outcome Data) → is_nothing (once e (some o)) ≡ false
+once_is : (e : Option Written) (o : Reached Data) → is_nothing (once e (some o)) ≡ false
 once_is None o = some_is o
 once_is (Some t) (value d) = refl
 once_is (Some t) (refused r path) = refl
 once_is (Some t) too_deep = refl
 
 module _ (s : Schema) (e : Option Written) where
-  by_level : (inner : Input → Option Written → Outcome (Option Data)) (d : Data) → is_nothing (at_level inner s (json_input d) e) ≡ false
+  by_level : (inner : Input → Option Written → Reached (Option Data)) (d : Data) → is_nothing (at_level inner s (json_input d) e) ≡ false
   by_level inner json.null = some_is (null_at e)
   by_level inner (json.boolean b) = once_is e _
   by_level inner (json.number n) = once_is e _

@@ -1,7 +1,15 @@
 pub mod Firsts
 pub mod Found
+pub mod Containing
 pub mod LiteralFields
-pub mod Lists
+pub mod Reading
+pub mod ListSteps
+pub mod ObjectSteps
+pub mod Walking
+pub mod Deeper
+pub mod InTime
+pub mod Settling
+pub mod Ending
 pub mod Inserted
 pub mod JsonFields
 pub mod JsonForms

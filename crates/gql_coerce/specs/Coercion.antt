@@ -5,8 +5,7 @@ use Rattle.std.specs.Prelude.{◌&&◌, ℕ, zero, suc, List, [], ◌∷◌, Boo
 use Rattle.gql_ast.specs.declared.literal.Literal.{Literal}
 use Rattle.gql_ast.specs.declared.type_system.InputValueDefinition.{InputValueDefinition}
 use Rattle.gql_built_in.specs.declared.sited.Sited.{Sited}
-use Rattle.gql_inputs.specs.BadValues.{is_custom_scalar}
-use Rattle.gql_inputs.specs.InputTypes.{item_of, is_list, is_non_null, input_type}
+use Rattle.gql_inputs.specs.InputTypes.{item_of, is_custom_scalar, is_list, is_non_null, input_type}
 use Rattle.gql_types.specs.Written.{Written, named, listed, required, written}
 use Rattle.gql_types.specs.declared.kind.TypeKind.{TypeKind}
 use Rattle.gql_types.specs.declared.kind.TypeKind.TheVariants as kind
@@ -19,77 +18,97 @@ use Rattle.serde_json.specs.View.{items_of}
 use Rattle.gql_coerce.specs.declared.refusal.Reason.TheVariants as reason
 use Rattle.gql_coerce.specs.declared.refusal.Segment.TheVariants as segment
 use Rattle.gql_coerce.specs.Inputs.{Single, Input, Field, absent, given, null, single, list, object, all_inputs, all_fields, literal, may_be_list}
-use Rattle.gql_coerce.specs.Outcomes.{Outcome, value, refused, too_deep, after, within, all, some}
+use Rattle.gql_coerce.specs.Outcomes.{Reached, value, refused, too_deep, after, within, all, some}
 use Rattle.gql_coerce.specs.Scalars.{as_kind, as_custom, wrong_kind}
 
 -- ---- null, and the values of variables, which were coerced before
 
-abbrev pub null_at : Option Written → Outcome Data
+-- null, at a type or within a custom scalar
+abbrev pub null_at : Option Written → Reached Data
 null_at None = value json.null
 null_at (Some t) = if is_non_null t then refused reason.NullForNonNull [] else value json.null
 
-abbrev pub given_at : Option Written → Data → Outcome Data
+-- the value of a variable
+abbrev pub given_at : Option Written → Data → Reached Data
 given_at e d = if is_some (as_null d) then null_at e else value d
 
 -- ---- lists of one (3.11)
 
+-- a value as a list of one, where the type is a list, and as one of one where that is a list of lists
 abbrev pub one_in : Written → Data → Data
 one_in (named n) d = d
 one_in (listed t) d = json.array (json.item (one_in t d) json.no_items)
 one_in (required t) d = one_in t d
 
-abbrev pub once : Option Written → Outcome (Option Data) → Outcome (Option Data)
+-- the same, of what comes to a value
+abbrev pub once : Option Written → Reached (Option Data) → Reached (Option Data)
 once None o = o
 once (Some t) o = after o (λ v. value (option_map (one_in t) v))
 
 -- ---- values without parts (3.5, 3.9)
 
-abbrev pub as_type : Option SchemaType → Single → Outcome Data
+-- a value without parts, at a type that is known or is not
+abbrev pub as_type : Option SchemaType → Single → Reached Data
 as_type None x = wrong_kind
 as_type (Some t) x = as_kind t t.kind x
 
-abbrev pub single_at : Schema → Option Written → Single → Outcome Data
+-- a value without parts, at a type or within a custom scalar
+abbrev pub single_at : Schema → Option Written → Single → Reached Data
 single_at s None x = as_custom x
 single_at s (Some t) x = as_type (input_type s t) x
 
 -- ---- lists (3.11)
 
+-- a custom scalar takes lists, too
 abbrev pub takes_all : Option SchemaType → Bool
 takes_all None = false
 takes_all (Some t) = is_custom_scalar t
 
--- what is expected of each item of a list: of a list type its item type, and nothing within a custom scalar
-abbrev pub item_expected : Option SchemaType → Option Written → Option (Option Written)
-item_expected u (Some t) = Some (Some t)
-item_expected u None = if takes_all u then Some None else None
+-- what is expected of the items of a list: no list is taken here, or anything is, or values of this
+-- type
+pub data Expected : Type 0 where
+  nothing : Expected
+  anything : Expected
+  this : Written → Expected
 
-abbrev pub items_expected : Schema → Option Written → Option (Option Written)
-items_expected s None = Some None
+-- of a list type its item type, and nothing particular within a custom scalar
+abbrev pub item_expected : Option SchemaType → Option Written → Expected
+item_expected u (Some t) = this t
+item_expected u None = if takes_all u then anything else nothing
+
+-- what is expected of the items of a list that is given for a type
+abbrev pub items_expected : Schema → Option Written → Expected
+items_expected s None = anything
 items_expected s (Some t) = item_expected (input_type s t) (item_of t)
 
 -- an item that is not given is null
-abbrev pub or_null : Option Written → Option Data → Outcome Data
+abbrev pub or_null : Option Written → Option Data → Reached Data
 or_null e None = null_at e
 or_null e (Some d) = value d
 
+-- whether a list is expected
 abbrev pub is_list_expected : Option Written → Bool
 is_list_expected None = false
 is_list_expected (Some t) = is_list t
 
 -- an item of a list that is given is not made a list of one
-abbrev pub item_at : (Input → Option Written → Outcome (Option Data)) → Option Written → Input → Outcome Data
+abbrev pub item_at : (Input → Option Written → Reached (Option Data)) → Option Written → Input → Reached Data
 item_at inner e x = if is_list_expected e && not (may_be_list x) then wrong_kind else after (inner x e) (or_null e)
 
-abbrev pub items_from : (Input → Outcome Data) → ℕ → List Input → List (Outcome Data)
+-- what the items of a list come to, each at its index, from one on
+abbrev pub items_from : (Input → Reached Data) → ℕ → List Input → List (Reached Data)
 items_from f n [] = []
 items_from f n (x ∷ xs) = within (segment.Index n) (f x) ∷ items_from f (suc n) xs
 
-abbrev pub array_of : (Input → Outcome Data) → List Input → Outcome Data
+-- what a list comes to, by what its items come to
+abbrev pub array_of : (Input → Reached Data) → List Input → Reached Data
 array_of f xs = after (all (items_from f 0 xs)) (λ ds. value (json.array (items_of ds)))
 
-abbrev pub list_by : (Input → Option Written → Outcome (Option Data)) → List Input → Option (Option Written) → Outcome Data
-list_by inner xs None = wrong_kind
-list_by inner xs (Some e) = array_of (item_at inner e) xs
+-- what a list comes to, by what is expected of its items
+abbrev pub list_by : (Input → Option Written → Reached (Option Data)) → List Input → Expected → Reached Data
+list_by inner xs nothing = wrong_kind
+list_by inner xs anything = array_of (item_at inner None) xs
+list_by inner xs (this t) = array_of (item_at inner (Some t)) xs
 
 -- ---- objects (3.10)
 
@@ -105,6 +124,7 @@ pub data Entries : Type 0 where
   unknown : List ℕ → Entries
   no_object : Entries
 
+-- a member of an object within a custom scalar
 abbrev pub any_entry : Field → Entry
 any_entry f = record { name = f.name; definition = None; given = Some f.value }
 
@@ -112,15 +132,19 @@ any_entry f = record { name = f.name; definition = None; given = Some f.value }
 abbrev pub any_entries : List Field → Entries
 any_entries fs = are (map any_entry fs)
 
+-- the input that is given for a name
 abbrev pub given_as : List ℕ → List Field → Option Input
 given_as n fs = option_map (λ (f : Field). f.value) (find (λ (f : Field). bytes_eq n f.name) fs)
 
+-- a member of an object at an input object type
 abbrev pub defined_entry : List Field → Sited InputValueDefinition → Entry
 defined_entry fs d = record { name = d.node.name.text; definition = Some d.node; given = given_as d.node.name.text fs }
 
+-- whether the type defines a field
 abbrev pub is_defined : List (Sited InputValueDefinition) → Field → Bool
 is_defined ds f = is_some (find (λ (d : Sited InputValueDefinition). bytes_eq f.name d.node.name.text) ds)
 
+-- a field that is not known comes first
 abbrev pub unless_unknown : Option Field → Entries → Entries
 unless_unknown (Some f) es = unknown f.name
 unless_unknown None es = es
@@ -129,6 +153,7 @@ unless_unknown None es = es
 abbrev pub defined_entries : List Field → List (Sited InputValueDefinition) → Entries
 defined_entries fs ds = unless_unknown (find (λ (f : Field). not (is_defined ds f)) fs) (are (map (defined_entry fs) ds))
 
+-- what an object is made of, by the kind of its type
 abbrev pub entries_at_kind : List Field → SchemaType → TypeKind → Entries
 entries_at_kind fs t kind.InputObject = defined_entries fs t.input_fields
 entries_at_kind fs t kind.Scalar = if is_custom_scalar t then any_entries fs else no_object
@@ -137,51 +162,60 @@ entries_at_kind fs t kind.Object = no_object
 entries_at_kind fs t kind.Interface = no_object
 entries_at_kind fs t kind.Union = no_object
 
+-- at a type that is known or is not
 abbrev pub entries_by : List Field → Option SchemaType → Entries
 entries_by fs None = no_object
 entries_by fs (Some t) = entries_at_kind fs t t.kind
 
+-- at a type or within a custom scalar
 abbrev pub entries_for : Schema → List Field → Option Written → Entries
 entries_for s fs None = any_entries fs
 entries_for s fs (Some t) = entries_by fs (input_type s t)
 
 -- a field that is not given takes its default, in which no variable stands; without one it is left out, where it may
-abbrev pub default_of : (Input → Option Written → Outcome (Option Data)) → List ℕ → Written → Option Literal → Outcome (Option Data)
+abbrev pub default_of : (Input → Option Written → Reached (Option Data)) → List ℕ → Written → Option Literal → Reached (Option Data)
 default_of inner n t None = if is_non_null t then refused reason.MissingField (segment.Key n ∷ []) else value None
 default_of inner n t (Some x) = within (segment.Key n) (inner (literal json.null x) (Some t))
 
-abbrev pub or_default : (Input → Option Written → Outcome (Option Data)) → List ℕ → Option InputValueDefinition → Option Data → Outcome (Option Data)
+-- what is given for a field, or else its default
+abbrev pub or_default : (Input → Option Written → Reached (Option Data)) → List ℕ → Option InputValueDefinition → Option Data → Reached (Option Data)
 or_default inner n None v = value v
 or_default inner n (Some d) (Some v) = value (Some v)
 or_default inner n (Some d) None = default_of inner n (written d.of_type) d.default
 
-abbrev pub if_given : (Input → Option Written → Outcome (Option Data)) → List ℕ → Option InputValueDefinition → Option Input → Outcome (Option Data)
+-- what is given for a field, if something is, at the field's type
+abbrev pub if_given : (Input → Option Written → Reached (Option Data)) → List ℕ → Option InputValueDefinition → Option Input → Reached (Option Data)
 if_given inner n d None = value None
 if_given inner n d (Some x) = within (segment.Key n) (inner x (option_map (λ (v : InputValueDefinition). written v.of_type) d))
 
-abbrev pub entry_at : (Input → Option Written → Outcome (Option Data)) → Entry → Outcome (Option Data)
+-- the value of a member, which may have none
+abbrev pub entry_at : (Input → Option Written → Reached (Option Data)) → Entry → Reached (Option Data)
 entry_at inner e = after (if_given inner e.name e.definition e.given) (or_default inner e.name e.definition)
 
 -- a value under its name
 abbrev pub under : List ℕ → Option Data → Option (List ℕ × Data)
 under n v = option_map (λ d. (n, d)) v
 
-abbrev pub member_at : (Input → Option Written → Outcome (Option Data)) → Entry → Outcome (Option (List ℕ × Data))
+-- the same, under its name
+abbrev pub member_at : (Input → Option Written → Reached (Option Data)) → Entry → Reached (Option (List ℕ × Data))
 member_at inner e = after (entry_at inner e) (λ v. value (under e.name v))
 
--- the members of an object, one after the other; what has no value is left out
+-- a member more; what has no value is left out
 abbrev pub put_if : Option (List ℕ × Data) → Members → Members
 put_if None ms = ms
 put_if (Some m) ms = put m.0 m.1 ms
 
+-- the members of an object, one after the other
 abbrev pub put_all : List (Option (List ℕ × Data)) → Members → Members
 put_all [] ms = ms
 put_all (m ∷ more) ms = put_all more (put_if m ms)
 
-abbrev pub object_of : List (Outcome (Option (List ℕ × Data))) → Members → Outcome Data
+-- what an object comes to, by what its members come to
+abbrev pub object_of : List (Reached (Option (List ℕ × Data))) → Members → Reached Data
 object_of os ms = after (all os) (λ more. value (json.object (put_all more ms)))
 
-abbrev pub object_at : (Input → Option Written → Outcome (Option Data)) → Entries → Outcome Data
+-- what an object comes to, by what it is made of
+abbrev pub object_at : (Input → Option Written → Reached (Option Data)) → Entries → Reached Data
 object_at inner (are es) = object_of (map (member_at inner) es) json.no_members
 object_at inner (unknown n) = refused reason.UnknownField (segment.Key n ∷ [])
 object_at inner no_object = wrong_kind
@@ -189,11 +223,12 @@ object_at inner no_object = wrong_kind
 -- ---- all inputs
 
 -- the value of a variable, which may have none
-abbrev pub variable_at : Option Written → Option Data → Outcome (Option Data)
+abbrev pub variable_at : Option Written → Option Data → Reached (Option Data)
 variable_at e None = value None
 variable_at e (Some d) = some (given_at e d)
 
-abbrev pub at_level : (Input → Option Written → Outcome (Option Data)) → Schema → Input → Option Written → Outcome (Option Data)
+-- what an input comes to, by what its parts come to
+abbrev pub at_level : (Input → Option Written → Reached (Option Data)) → Schema → Input → Option Written → Reached (Option Data)
 at_level inner s absent e = variable_at e None
 at_level inner s (given d) e = variable_at e (Some d)
 at_level inner s null e = some (null_at e)
@@ -201,7 +236,8 @@ at_level inner s (single x) e = once e (some (single_at s e x))
 at_level inner s (list xs) e = some (list_by inner (all_inputs xs) (items_expected s e))
 at_level inner s (object fs) e = once e (some (object_at inner (entries_for s (all_fields fs) e)))
 
--- with so many levels of lists, objects and defaults
-unfoldable pub coerced : ℕ → Schema → Input → Option Written → Outcome (Option Data)
+-- with so many levels of lists, objects and defaults, one for the input itself; Comes, in
+-- specs/Comes.antt, is the coercion with as many as it needs
+unfoldable pub coerced : ℕ → Schema → Input → Option Written → Reached (Option Data)
 coerced zero s x e = too_deep
 coerced (suc n) s x e = at_level (coerced n s) s x e

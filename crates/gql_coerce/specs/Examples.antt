@@ -5,7 +5,7 @@ use Rattle.serde_json.specs.Data as json
 use Rattle.serde_json.specs.Data.{Data, Num}
 use Rattle.gql_coerce.specs.Coercion.{one_in, item_at, array_of, null_at, object_at, unknown}
 use Rattle.gql_coerce.specs.Inputs.{Input, whole, fraction, single, null}
-use Rattle.gql_coerce.specs.Outcomes.{Outcome, value, refused, some}
+use Rattle.gql_coerce.specs.Outcomes.{Reached, value, refused, some}
 use Rattle.gql_coerce.specs.Paths.{path_text}
 use Rattle.gql_coerce.specs.Scalars.{as_int, as_custom}
 use Rattle.gql_coerce.specs.declared.refusal.Reason.TheVariants as reason
@@ -29,16 +29,16 @@ one_of_one : (n : Num) → one_in (listed (required (listed (required (named (co
 one_of_one n = refl
 
 -- `[1, null]` at `[Int!]`, where the items come to this
-items : (inner : Input → Option Written → Outcome (Option Data)) → inner (single (whole (pos 1))) (Some (required (named (codes "Int")))) ≡ value (Some json.null) → inner null (Some (required (named (codes "Int")))) ≡ some (null_at (Some (required (named (codes "Int")))))
+items : (inner : Input → Option Written → Reached (Option Data)) → inner (single (whole (pos 1))) (Some (required (named (codes "Int")))) ≡ value (Some json.null) → inner null (Some (required (named (codes "Int")))) ≡ some (null_at (Some (required (named (codes "Int")))))
     → array_of (item_at inner (Some (required (named (codes "Int"))))) (single (whole (pos 1)) ∷ null ∷ []) ≡ refused reason.NullForNonNull (segment.Index 1 ∷ [])
 items inner one none = rw (one, none) refl
 
 -- an item that is no list where a list is expected
-no_list : (inner : Input → Option Written → Outcome (Option Data)) → array_of (item_at inner (Some (listed (named (codes "Int"))))) (single (whole (pos 1)) ∷ []) ≡ refused reason.WrongKind (segment.Index 0 ∷ [])
+no_list : (inner : Input → Option Written → Reached (Option Data)) → array_of (item_at inner (Some (listed (named (codes "Int"))))) (single (whole (pos 1)) ∷ []) ≡ refused reason.WrongKind (segment.Index 0 ∷ [])
 no_list inner = refl
 
 -- a field that is not known
-not_known : (inner : Input → Option Written → Outcome (Option Data)) → object_at inner (unknown (codes "z")) ≡ refused reason.UnknownField (segment.Key (codes "z") ∷ [])
+not_known : (inner : Input → Option Written → Reached (Option Data)) → object_at inner (unknown (codes "z")) ≡ refused reason.UnknownField (segment.Key (codes "z") ∷ [])
 not_known inner = refl
 
 a_path : path_text (segment.Key (codes "point") ∷ segment.Key (codes "x") ∷ []) ≡ codes "point.x"

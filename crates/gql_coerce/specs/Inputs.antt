@@ -23,6 +23,7 @@ pub data Single : Type 0 where
   -- an enum literal
   name : List ℕ → Single
 
+-- an input, the items of a list, and the fields of an object
 mutual
   pub data Input : Type 0 where
     -- a variable without a value, and one with it
@@ -46,18 +47,22 @@ pub record Field : Type 0 where
   pub name : List ℕ
   pub value : Input
 
+-- the items, as a list
 abbrev pub all_inputs : Inputs → List Input
 all_inputs no_inputs = []
 all_inputs (input x xs) = x ∷ all_inputs xs
 
+-- the fields, as a list
 abbrev pub all_fields : Fields → List Field
 all_fields no_fields = []
 all_fields (field n x fs) = record { name = n; value = x } ∷ all_fields fs
 
+-- a list as items
 abbrev pub inputs_of : List Input → Inputs
 inputs_of [] = no_inputs
 inputs_of (x ∷ xs) = input x (inputs_of xs)
 
+-- a list as fields
 abbrev pub fields_of : List Field → Fields
 fields_of [] = no_fields
 fields_of (f ∷ fs) = field f.name f.value (fields_of fs)
@@ -73,14 +78,17 @@ firsts_by called (x ∷ xs) = x ∷ filter (λ y. not (bytes_eq (called x) (call
 abbrev pub firsts : List Field → List Field
 firsts fs = firsts_by (λ (f : Field). f.name) fs
 
+-- a variable, by its value
 abbrev pub of_variable : Option Data → Input
 of_variable None = absent
 of_variable (Some d) = given d
 
+-- a literal integer, if it has 64 bits
 abbrev pub of_whole : Option ℤ → Single
 of_whole None = out_of_range
 of_whole (Some z) = whole z
 
+-- a literal, by its form and its parts as inputs
 abbrev pub literal_at : Data → Literal-F Input Field → Input
 literal_at vs (Literal-F.Variable place n) = of_variable (get n vs)
 literal_at vs (Literal-F.Null place) = null
@@ -92,6 +100,7 @@ literal_at vs (Literal-F.Enum place n) = single (name n)
 literal_at vs (Literal-F.List place xs) = list (inputs_of xs)
 literal_at vs (Literal-F.Object place fs) = object (fields_of (firsts fs))
 
+-- a field, by its value as an input
 abbrev pub field_in : ObjectField-F Input Field → Field
 field_in f = record { name = f.name.text; value = f.value }
 
@@ -99,15 +108,18 @@ field_in f = record { name = f.name.text; value = f.value }
 unfoldable pub literal : Data → Literal → Input
 literal vs = fold-Literal Input Field (literal_at vs) field_in
 
+-- a field of an object literal
 abbrev pub literal_field : Data → ObjectField → Field
 literal_field vs f = record { name = f.name.text; value = literal vs f.value }
 
 -- ---- the values of JSON
 
+-- a number of JSON, if it is an integer of 64 bits
 abbrev pub of_number : Option ℤ → Single
 of_number None = fraction
 of_number (Some z) = whole z
 
+-- a value of JSON, its items, and its members
 abbrev mutual
   pub json_input : Data → Input
   json_input json.null = null

@@ -11,9 +11,11 @@ use Rattle.gql_coerce.specs.declared.json_entries.JsonEntry.{JsonEntry}
 use Rattle.gql_coerce.specs.declared.json_entries.JsonEntries.{JsonEntries}
 use Rattle.gql_coerce.specs.declared.json_entries.JsonEntries.TheVariants as entries
 
+-- a member of an object to be
 abbrev pub entry_of : JsonEntry → Entry
 entry_of e = record { name = e.name.now; definition = option_map (λ d. d.now) e.definition; given = option_map (λ v. json_input (view v.now)) e.given }
 
+-- what an object is made of
 abbrev pub entries_of : JsonEntries → Entries
 entries_of (entries.Are es) = are (map entry_of es.items)
 entries_of (entries.Unknown n) = unknown n.now

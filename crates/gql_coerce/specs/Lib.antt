@@ -4,10 +4,15 @@ pub mod Inputs
 pub mod Scalars
 pub mod Singles
 pub mod Coercion
-pub mod Reading
+pub mod Comes
+pub mod Expecting
 pub mod LiteralEntries
 pub mod Scopes
 pub mod JsonEntries
+pub mod Parts
+pub mod Frames
 pub mod Requests
+pub mod Defaults
+pub mod Laws
 pub mod Paths
 pub mod Examples

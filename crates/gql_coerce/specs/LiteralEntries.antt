@@ -10,14 +10,17 @@ use Rattle.gql_coerce.specs.declared.literal_entries.LiteralEntry.{LiteralEntry}
 use Rattle.gql_coerce.specs.declared.literal_entries.LiteralEntries.{LiteralEntries}
 use Rattle.gql_coerce.specs.declared.literal_entries.LiteralEntries.TheVariants as entries
 
+-- a member of an object to be
 abbrev pub entry_of : Data → LiteralEntry → Entry
 entry_of vs e = record { name = e.name.now; definition = option_map (λ d. d.now) e.definition; given = option_map (λ x. literal vs x.now) e.given }
 
+-- what an object is made of
 abbrev pub entries_of : Data → LiteralEntries → Entries
 entries_of vs (entries.Are es) = are (map (entry_of vs) es.items)
 entries_of vs (entries.Unknown n) = unknown n.now
 entries_of vs entries.NoObject = no_object
 
+-- the name of a field
 abbrev pub name_of : ObjectField → List ℕ
 name_of f = f.name.text
 

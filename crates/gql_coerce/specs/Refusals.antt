@@ -3,6 +3,7 @@ use Rattle.std.specs.Prelude.{ℕ, List, codes}
 use Rattle.gql_coerce.specs.declared.refusal.Reason.{Reason}
 use Rattle.gql_coerce.specs.declared.refusal.Reason.TheVariants as reason
 
+-- the number of a refusal
 abbrev pub number : Reason → ℕ
 number reason.NullForNonNull = 121
 number reason.WrongKind = 122
@@ -11,6 +12,7 @@ number reason.NotInEnum = 124
 number reason.UnknownField = 125
 number reason.MissingField = 126
 
+-- what is said of it
 abbrev pub text : Reason → List ℕ
 text reason.NullForNonNull = codes "null for a Non-Null type"
 text reason.WrongKind = codes "wrong kind of value"

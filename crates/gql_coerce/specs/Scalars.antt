@@ -3,8 +3,7 @@ use Rattle.std.specs.Prelude.{◌^◌, ◌&&◌, ℕ, ℤ, pos, neg_ℤ, int_le,
 use Rattle.std.specs.Fmt.{signed_decimal}
 use Rattle.gql_ast.specs.declared.type_system.EnumValueDefinition.{EnumValueDefinition}
 use Rattle.gql_built_in.specs.declared.sited.Sited.{Sited}
-use Rattle.gql_inputs.specs.BadValues.{name_of}
-use Rattle.gql_inputs.specs.InputTypes.{scalar_named}
+use Rattle.gql_inputs.specs.InputTypes.{name_of, scalar_named}
 use Rattle.gql_inputs.specs.declared.scalar.Scalar.{Scalar}
 use Rattle.gql_inputs.specs.declared.scalar.Scalar.TheVariants as scalar
 use Rattle.gql_types.specs.declared.kind.TypeKind.{TypeKind}
@@ -15,19 +14,22 @@ use Rattle.serde_json.specs.Data.{Data}
 use Rattle.serde_json.specs.Find.{of_integer}
 use Rattle.gql_coerce.specs.declared.refusal.Reason.TheVariants as reason
 use Rattle.gql_coerce.specs.Inputs.{Single, whole, out_of_range, fraction, text, json_text, truth, name}
-use Rattle.gql_coerce.specs.Outcomes.{Outcome, value, refused}
+use Rattle.gql_coerce.specs.Outcomes.{Reached, value, refused}
 
-abbrev pub wrong_kind : {A : Type 0} → Outcome A
+-- an input of another kind than the type takes
+abbrev pub wrong_kind : {A : Type 0} → Reached A
 wrong_kind = refused reason.WrongKind []
 
-abbrev pub past_range : {A : Type 0} → Outcome A
+-- an integer of more bits than the type takes
+abbrev pub past_range : {A : Type 0} → Reached A
 past_range = refused reason.OutOfRange []
 
 -- from -2^31 to 2^31 - 1
 abbrev pub is_of_32_bits : ℤ → Bool
 is_of_32_bits z = int_le (neg_ℤ (pos (2 ^ 31))) z && int_lt z (pos (2 ^ 31))
 
-abbrev pub as_int : Single → Outcome Data
+-- an Int takes integers of 32 bits
+abbrev pub as_int : Single → Reached Data
 as_int (whole z) = if is_of_32_bits z then value (json.number (of_integer z)) else past_range
 as_int out_of_range = past_range
 as_int fraction = wrong_kind
@@ -36,7 +38,8 @@ as_int (json_text t) = wrong_kind
 as_int (truth b) = wrong_kind
 as_int (name n) = wrong_kind
 
-abbrev pub as_id : Single → Outcome Data
+-- an ID takes strings, and integers of 64 bits as their text
+abbrev pub as_id : Single → Reached Data
 as_id (whole z) = value (json.string (signed_decimal z))
 as_id out_of_range = past_range
 as_id fraction = wrong_kind
@@ -45,7 +48,8 @@ as_id (json_text t) = value (json.string t)
 as_id (truth b) = wrong_kind
 as_id (name n) = wrong_kind
 
-abbrev pub as_string : Single → Outcome Data
+-- a String takes strings
+abbrev pub as_string : Single → Reached Data
 as_string (whole z) = wrong_kind
 as_string out_of_range = wrong_kind
 as_string fraction = wrong_kind
@@ -54,7 +58,8 @@ as_string (json_text t) = value (json.string t)
 as_string (truth b) = wrong_kind
 as_string (name n) = wrong_kind
 
-abbrev pub as_boolean : Single → Outcome Data
+-- a Boolean takes true and false
+abbrev pub as_boolean : Single → Reached Data
 as_boolean (whole z) = wrong_kind
 as_boolean out_of_range = wrong_kind
 as_boolean fraction = wrong_kind
@@ -64,7 +69,7 @@ as_boolean (truth b) = value (json.boolean b)
 as_boolean (name n) = wrong_kind
 
 -- a custom scalar takes all but numbers that are no integers of 64 bits, and enum literals as their text
-abbrev pub as_custom : Single → Outcome Data
+abbrev pub as_custom : Single → Reached Data
 as_custom (whole z) = value (json.number (of_integer z))
 as_custom out_of_range = past_range
 as_custom fraction = wrong_kind
@@ -73,21 +78,24 @@ as_custom (json_text t) = value (json.string t)
 as_custom (truth b) = value (json.boolean b)
 as_custom (name n) = value (json.string n)
 
-abbrev pub as_scalar : Scalar → Single → Outcome Data
+-- a scalar, by which it is
+abbrev pub as_scalar : Scalar → Single → Reached Data
 as_scalar scalar.Int x = as_int x
 as_scalar scalar.Id x = as_id x
 as_scalar scalar.String x = as_string x
 as_scalar scalar.Boolean x = as_boolean x
 as_scalar scalar.Custom x = as_custom x
 
+-- whether an enum has a value of this name
 abbrev pub is_value_of : SchemaType → List ℕ → Bool
 is_value_of t n = is_some (find (λ (v : Sited EnumValueDefinition). bytes_eq n v.node.name.text) t.values)
 
-abbrev pub of_enum : SchemaType → List ℕ → Outcome Data
+-- a name, where an enum is expected
+abbrev pub of_enum : SchemaType → List ℕ → Reached Data
 of_enum t n = if is_value_of t n then value (json.string n) else refused reason.NotInEnum []
 
 -- an enum takes an enum literal, or a string of JSON, that is one of its values
-abbrev pub as_enum : SchemaType → Single → Outcome Data
+abbrev pub as_enum : SchemaType → Single → Reached Data
 as_enum t (whole z) = wrong_kind
 as_enum t out_of_range = wrong_kind
 as_enum t fraction = wrong_kind
@@ -96,7 +104,8 @@ as_enum t (json_text n) = of_enum t n
 as_enum t (truth b) = wrong_kind
 as_enum t (name n) = of_enum t n
 
-abbrev pub as_kind : SchemaType → TypeKind → Single → Outcome Data
+-- a value without parts, by the kind of its type
+abbrev pub as_kind : SchemaType → TypeKind → Single → Reached Data
 as_kind t kind.Scalar x = as_scalar (scalar_named (name_of t)) x
 as_kind t kind.Enum x = as_enum t x
 as_kind t kind.InputObject x = wrong_kind

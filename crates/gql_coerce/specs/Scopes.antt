@@ -1,13 +1,15 @@
--- The values of variables within which a literal is coerced.
+-- The values of the variables with which a literal is coerced.
 use Rattle.std.specs.Prelude.{Option, Some, None, option_map}
 use Rattle.serde_json.specs.Data as json
 use Rattle.serde_json.specs.Data.{Data}
 use Rattle.serde_json.specs.View.{view}
-use Rattle.gql_coerce.specs.declared.literals.Scope.{Scope}
+use Rattle.gql_coerce.specs.declared.requests.Scope.{Scope}
 
+-- no variable has a value where there is no object of them
 abbrev pub values_in : Option Data → Data
 values_in None = json.null
 values_in (Some d) = d
 
+-- the values of variables
 abbrev pub variables_of : Scope → Data
 variables_of s = values_in (option_map (λ v. view v.now) s.variables)

@@ -3,6 +3,7 @@ use Rattle.gql_coerce.specs.Inputs.{Single, whole, out_of_range, fraction, text,
 use Rattle.gql_coerce.specs.declared.single.Single.{Single as ASingle}
 use Rattle.gql_coerce.specs.declared.single.Single.TheVariants as single
 
+-- a value without parts
 abbrev pub single_of : ASingle → Single
 single_of (single.Whole z) = whole z
 single_of single.OutOfRange = out_of_range

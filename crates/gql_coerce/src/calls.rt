@@ -2,20 +2,17 @@
 ghost use Rattle.std.specs.Prelude.{◌≡◌, Some, option_map, IfOk, IfErr};
 ghost use Rattle.gql_types.specs.Written.{written};
 ghost use Rattle.serde_json.specs.View.{view};
+ghost use Rattle.gql_coerce.specs.Comes.{Comes, value as comes_to};
 ghost use Rattle.gql_coerce.specs.Inputs.{literal, json_input};
-ghost use Rattle.gql_coerce.specs.Outcomes.{value as comes_to};
-ghost use Rattle.gql_coerce.specs.Requests.{coercion, Tells};
+ghost use Rattle.gql_coerce.specs.Requests.{Tells};
 
 use crate::fault::{CoerceFault, result_of};
-use crate::json;
-use crate::literals::{self, Scope};
+use crate::part::Part;
+use crate::walk;
 use gql_ast::{Literal, TypeRef};
 use gql_types::Schema;
 use serde_json::Value;
 use std::alloc::Global;
-
-/// So many lists, objects and defaults may stand within one another.
-pub const LEVELS: usize = 1000;
 
 /// The value of a literal at a type (GraphQL specification, 3.5 to 3.12), or the first refusal: of items by their order, of the
 /// fields of an object first those that are not known, then those that the type defines, in their order. `variables` is an object
@@ -27,14 +24,11 @@ pub fn coerce_literal(
     of_type: &TypeRef,
     variables: &Value,
 ) -> Result<Option<Value>, CoerceFault>
-    ensures ok { IfOk result (λ v. coercion schema.now (literal (view variables.now) value.now) (written of_type.now) ≡ comes_to (option_map view v)) }
-    ensures err { IfErr result (λ e. Tells e (coercion schema.now (literal (view variables.now) value.now) (written of_type.now))) }
+    ensures ok { IfOk result (λ v. Comes schema.now (literal (view variables.now) value.now) (written of_type.now) (comes_to (option_map view v))) }
+    ensures err { IfErr result (λ e. Tells e (Comes schema.now (literal (view variables.now) value.now) (written of_type.now))) }
 {
-    let scope = Scope {
-        schema,
-        variables: Some(variables),
-    };
-    let coerced = literals::coerce(alloc, value, &scope, Some(of_type), LEVELS)?;
+    let part = Part::Literal(value, Some(variables));
+    let coerced = walk::coerce(alloc, schema, part, Some(of_type))?;
     result_of(coerced)
 }
 
@@ -46,10 +40,10 @@ pub fn coerce_json(
     value: &Value,
     of_type: &TypeRef,
 ) -> Result<Value, CoerceFault>
-    ensures ok { IfOk result (λ v. coercion schema.now (json_input (view value.now)) (written of_type.now) ≡ comes_to (Some (view v))) }
-    ensures err { IfErr result (λ e. Tells e (coercion schema.now (json_input (view value.now)) (written of_type.now))) }
+    ensures ok { IfOk result (λ v. Comes schema.now (json_input (view value.now)) (written of_type.now) (comes_to (Some (view v)))) }
+    ensures err { IfErr result (λ e. Tells e (Comes schema.now (json_input (view value.now)) (written of_type.now))) }
 {
-    let coerced = json::coerce(alloc, value, schema, Some(of_type), LEVELS)?;
+    let coerced = walk::coerce(alloc, schema, Part::Json(value), Some(of_type))?;
     match result_of(coerced)? {
         Some(value) => Ok(value),
         None => Ok(Value::Null),

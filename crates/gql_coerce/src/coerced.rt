@@ -1,5 +1,5 @@
 //! What the coercion of an input comes to.
-ghost use Rattle.std.specs.Prelude.{◌≡◌, ◌∷◌, [], Some, None, IfOk};
+ghost use Rattle.std.specs.Prelude.{◌≡◌, ◌∷◌, [], Some, None, IfOk, reverse};
 ghost use Rattle.serde_json.specs.View.{view};
 ghost use Rattle.gql_coerce.specs.Outcomes.{said, value, refused as is_refused, within};
 ghost use Rattle.gql_coerce.specs.declared.refusal.Segment.TheVariants.{Key, Index};
@@ -15,53 +15,69 @@ pub enum Coerced {
     Given(Value),
     /// The input is a variable without a value.
     Absent,
-    Refused(Refusal),
-    /// Lists, objects and defaults nest deeper than is looked.
-    TooDeep,
+    Refused(Stop),
+}
+
+/// Why an input is refused, and the steps that lead to where, the last one first.
+#[derive(Drop)]
+pub struct Stop {
+    pub reason: Reason,
+    pub steps: Vec<Segment>,
+}
+
+/// The refusal that users see.
+pub fn refusal_of(stop: Stop) -> Refusal
+    ensures { (result.reason ≡ stop.reason) × (result.path ≡ reverse stop.steps.items) }
+{
+    let Stop { reason, mut steps } = stop;
+    steps.reverse();
+    Refusal {
+        reason,
+        path: Items::from_vec(steps),
+    }
 }
 
 /// The input itself is refused.
 pub fn refused(alloc: Global, reason: Reason) -> Coerced
     ensures { said result ≡ is_refused reason [] }
 {
-    Coerced::Refused(Refusal {
+    Coerced::Refused(Stop {
         reason,
-        path: Items::new(alloc),
+        steps: Vec::new(alloc),
     })
 }
 
-fn behind(alloc: Global, segment: Segment, refusal: Refusal) -> Result<Refusal, AllocError>
-    ensures { IfOk result (λ r. (r.reason ≡ refusal.reason) × (r.path ≡ segment ∷ refusal.path)) }
+// The refusal, of a part at this segment.
+fn behind(segment: Segment, stop: Stop) -> Result<Stop, AllocError>
+    ensures { IfOk result (λ r. (r.reason ≡ stop.reason) × (reverse r.steps.items ≡ segment ∷ reverse stop.steps.items)) }
 {
-    let Refusal { reason, path: rest } = refusal;
-    let mut path = Items::new(alloc);
-    path.push(segment)?;
-    path.append(rest)?;
-    Ok(Refusal { reason, path })
+    let Stop { reason, mut steps } = stop;
+    steps.push(segment)?;
+    Ok(Stop { reason, steps })
 }
 
-/// What a field of that name comes to, where it comes to this.
+/// What a field of that name comes to, where its value comes to this.
 pub fn at_key(alloc: Global, name: &str, coerced: Coerced) -> Result<Coerced, AllocError>
     ensures { IfOk result (λ c. said c ≡ within (Key name.now) (said coerced)) }
 {
     match coerced {
-        Coerced::Refused(refusal) => {
+        Coerced::Refused(stop) => {
             let segment = Segment::Key(Text::from_str(alloc, name)?);
-            Ok(Coerced::Refused(behind(alloc, segment, refusal)?))
+            Ok(Coerced::Refused(behind(segment, stop)?))
         }
-        Coerced::Given(_) | Coerced::Absent | Coerced::TooDeep => Ok(coerced),
+        Coerced::Given(_) | Coerced::Absent => Ok(coerced),
     }
 }
 
-/// What the item at that index comes to, where it comes to this.
-pub fn at_index(alloc: Global, index: usize, coerced: Coerced) -> Result<Coerced, AllocError>
+/// What the item at that index comes to, where its value comes to this.
+pub fn at_index(index: usize, coerced: Coerced) -> Result<Coerced, AllocError>
     ensures { IfOk result (λ c. said c ≡ within (Index index) (said coerced)) }
 {
     match coerced {
-        Coerced::Refused(refusal) => {
+        Coerced::Refused(stop) => {
             let segment = Segment::Index(index);
-            Ok(Coerced::Refused(behind(alloc, segment, refusal)?))
+            Ok(Coerced::Refused(behind(segment, stop)?))
         }
-        Coerced::Given(_) | Coerced::Absent | Coerced::TooDeep => Ok(coerced),
+        Coerced::Given(_) | Coerced::Absent => Ok(coerced),
     }
 }

@@ -1,9 +1,10 @@
 //! What is expected of an input and of its parts (GraphQL specification, 3.11 and 3.12): a type, or none within a custom scalar.
-ghost use Rattle.std.specs.Prelude.{◌≡◌, option_map, IfOk};
+ghost use Rattle.std.specs.Prelude.{◌≡◌, None, option_map, IfOk};
 ghost use Rattle.std.specs.Option.{option_copied};
 ghost use Rattle.gql_types.specs.Written.{written};
 ghost use Rattle.serde_json.specs.View.{view};
 ghost use Rattle.gql_coerce.specs.Coercion as spec;
+ghost use Rattle.gql_coerce.specs.Expecting.{expected_of};
 ghost use Rattle.gql_coerce.specs.Outcomes.{said, some, after};
 ghost use Rattle.gql_coerce.specs.Singles.{single_of};
 
@@ -13,7 +14,7 @@ use crate::refusal::Reason;
 use crate::single::{Single, as_custom, as_type};
 use gql_ast::{InputValueDefinition, TypeRef};
 use gql_inputs::{input_type, is_custom_scalar, is_list, is_non_null, item_of};
-use gql_types::Schema;
+use gql_types::{Schema, SchemaType};
 use serde_json::Value;
 use std::alloc::{AllocError, Global};
 
@@ -39,7 +40,7 @@ pub fn or_null(alloc: Global, expected: Option<&TypeRef>, coerced: Coerced) -> C
 {
     match coerced {
         Coerced::Absent => coerce_null(alloc, expected),
-        Coerced::Given(_) | Coerced::Refused(_) | Coerced::TooDeep => coerced,
+        Coerced::Given(_) | Coerced::Refused(_) => coerced,
     }
 }
 
@@ -104,28 +105,41 @@ pub fn expects_list(expected: Option<&TypeRef>) -> bool
     }
 }
 
-/// What is expected of the items of a list, where one may stand.
-pub fn items_expected<'t>(
-    schema: &Schema,
-    expected: Option<&'t TypeRef>,
-) -> Option<Option<&'t TypeRef>>
-    ensures { option_map (λ e. option_map written (option_copied e)) result
+/// What is expected of the items of a list.
+#[derive(Clone, Copy)]
+pub enum Expected<'t> {
+    /// No list is taken here.
+    Nothing,
+    /// The list is within a custom scalar.
+    Anything,
+    Type(&'t TypeRef),
+}
+
+fn by_scalar<'t>(found: Option<&SchemaType>) -> Expected<'t>
+    ensures { expected_of result ≡ spec.item_expected (option_copied found.entry) None }
+{
+    match found {
+        Some(found) => {
+            if is_custom_scalar(found) {
+                Expected::Anything
+            } else {
+                Expected::Nothing
+            }
+        }
+        None => Expected::Nothing,
+    }
+}
+
+/// What is expected of the items of a list that is given for this type.
+pub fn items_expected<'t>(schema: &Schema, expected: Option<&'t TypeRef>) -> Expected<'t>
+    ensures { expected_of result
         ≡ spec.items_expected schema.now (option_map written (option_copied expected.entry)) }
 {
     match expected {
-        None => Some(None),
+        None => Expected::Anything,
         Some(of_type) => match item_of(of_type) {
-            Some(item) => Some(Some(item)),
-            None => match input_type(schema, of_type) {
-                Some(found) => {
-                    if is_custom_scalar(found) {
-                        Some(None)
-                    } else {
-                        None
-                    }
-                }
-                None => None,
-            },
+            Some(item) => Expected::Type(item),
+            None => by_scalar(input_type(schema, of_type)),
         },
     }
 }

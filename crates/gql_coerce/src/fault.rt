@@ -1,10 +1,12 @@
-ghost use Rattle.std.specs.Prelude.{◌≡◌, Some, option_map, IfOk, IfErr};
+ghost use Rattle.std.specs.Prelude.{◌≡◌, Option, Some, option_map, IfOk, IfErr};
+ghost use Rattle.serde_json.specs.Data.{Data};
 ghost use Rattle.serde_json.specs.View.{view};
+ghost use Rattle.gql_coerce.specs.Comes.{Outcome as AnOutcome, reached};
 ghost use Rattle.gql_coerce.specs.Outcomes.{said, value};
 ghost use Rattle.gql_coerce.specs.Requests.{Tells};
 ghost use Rattle.gql_coerce.specs.declared.fault.CoerceFault.TheVariants.{Memory};
 
-use crate::coerced::Coerced;
+use crate::coerced::{Coerced, refusal_of};
 use crate::refusal::Refusal;
 use serde_json::Value;
 use std::alloc::AllocError;
@@ -16,7 +18,7 @@ pub enum CoerceFault {
     /// The input is refused.
     #[error("the input is refused")]
     Refused(Refusal),
-    /// Memory was wanting; so it is where more than a thousand lists, objects and defaults stand within one another.
+    /// An allocation failed.
     #[error("out of memory")]
     Memory,
 }
@@ -32,12 +34,11 @@ impl From<AllocError> for CoerceFault {
 /// What an input comes to, as a result.
 pub fn result_of(coerced: Coerced) -> Result<Option<Value>, CoerceFault>
     ensures ok { IfOk result (λ v. said coerced ≡ value (option_map view v)) }
-    ensures err { IfErr result (λ e. Tells e (said coerced)) }
+    ensures err { IfErr result (λ e. Tells e (λ (o : AnOutcome (Option Data)). said coerced ≡ reached o)) }
 {
     match coerced {
         Coerced::Given(value) => Ok(Some(value)),
         Coerced::Absent => Ok(None),
-        Coerced::Refused(refusal) => Err(CoerceFault::Refused(refusal)),
-        Coerced::TooDeep => Err(CoerceFault::Memory),
+        Coerced::Refused(stop) => Err(CoerceFault::Refused(refusal_of(stop))),
     }
 }

@@ -4,18 +4,26 @@
 
 mod calls;
 mod coerced;
+mod entry;
 mod expected;
 mod fault;
+mod frame;
 mod json;
 mod json_entries;
+pub mod laws;
+mod leaves;
+mod lists;
 mod literal_entries;
 mod literals;
 mod members;
+mod objects;
 mod ones;
+mod part;
 mod path;
 mod refusal;
 mod requests;
 mod single;
+mod walk;
 
 pub use calls::{coerce_json, coerce_literal};
 pub use fault::CoerceFault;

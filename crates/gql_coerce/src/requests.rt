@@ -4,24 +4,31 @@ ghost use Rattle.std.specs.Option.{option_copied};
 ghost use Rattle.gql_types.specs.Written.{written};
 ghost use Rattle.serde_json.specs.Data.{Data};
 ghost use Rattle.serde_json.specs.View.{view};
-ghost use Rattle.gql_coerce.specs.Inputs.{literal};
-ghost use Rattle.gql_coerce.specs.Outcomes.{Outcome as AnOutcome, said, some, value, after};
+ghost use Rattle.gql_coerce.specs.Comes.{Outcome as AnOutcome, Eventually, reached, value};
+ghost use Rattle.gql_coerce.specs.Inputs.{literal, json_input};
+ghost use Rattle.gql_coerce.specs.Outcomes.{Reached, said, some, after};
 ghost use Rattle.gql_coerce.specs.Scopes.{variables_of};
 ghost use Rattle.gql_coerce.specs.Requests as spec;
 ghost use Rattle.gql_coerce.specs.Requests.{Tells};
 
-use crate::calls::LEVELS;
-use crate::coerced::{Coerced, at_key, refused};
+use crate::coerced::{Coerced, at_key, refusal_of, refused};
 use crate::fault::CoerceFault;
-use crate::json;
-use crate::literals::{self, Scope};
 use crate::members::add_member;
+use crate::part::Part;
 use crate::refusal::Reason;
+use crate::walk;
 use gql_ast::{Argument, InputValueDefinition, Literal, Shared, TypeRef, VariableDefinition};
 use gql_inputs::is_non_null;
 use gql_types::{HasName, Named, Schema};
 use serde_json::{Map, Value};
 use std::alloc::{AllocError, Global};
+
+/// The schema, and the object that has the values of the variables, if there may be some.
+#[derive(Clone, Copy)]
+pub struct Scope<'a> {
+    pub schema: &'a Schema,
+    pub variables: Option<&'a Value>,
+}
 
 fn default_at(
     alloc: Global,
@@ -29,16 +36,10 @@ fn default_at(
     of_type: &TypeRef,
     default: Option<&Literal>,
 ) -> Result<Coerced, AllocError>
-    ensures { IfOk result (λ c. said c ≡ spec.default_at schema.now (written of_type.now) (option_copied default.entry)) }
+    ensures { IfOk result (λ c. Eventually (λ n. spec.default_at n schema.now (written of_type.now) (option_copied default.entry) ≡ said c)) }
 {
     match default {
-        Some(value) => {
-            let scope = Scope {
-                schema,
-                variables: None,
-            };
-            literals::coerce(alloc, value, &scope, Some(of_type), LEVELS)
-        }
+        Some(value) => { walk::coerce(alloc, schema, Part::Literal(value, None), Some(of_type)) }
         None => {
             if is_non_null(of_type) {
                 Ok(refused(alloc, Reason::NullForNonNull))
@@ -56,11 +57,26 @@ fn or_default_at(
     default: Option<&Literal>,
     given: Coerced,
 ) -> Result<Coerced, AllocError>
-    ensures { IfOk result (λ c. said c ≡ after (said given) (spec.or_default_at schema.now (written of_type.now) (option_copied default.entry))) }
+    ensures { IfOk result (λ c. Eventually (λ n. after (said given) (spec.or_default_at n schema.now (written of_type.now) (option_copied default.entry)) ≡ said c)) }
 {
     match given {
         Coerced::Absent => default_at(alloc, schema, of_type, default),
-        Coerced::Given(_) | Coerced::Refused(_) | Coerced::TooDeep => Ok(given),
+        Coerced::Given(_) | Coerced::Refused(_) => Ok(given),
+    }
+}
+
+fn coerce_value(
+    alloc: Global,
+    schema: &Schema,
+    of_type: &TypeRef,
+    given: Option<&Value>,
+) -> Result<Coerced, AllocError>
+    ensures { IfOk result (λ c. Eventually (λ n. spec.given_at n schema.now (written of_type.now)
+        (option_map json_input (option_map (λ v. view v.now) given.entry)) ≡ said c)) }
+{
+    match given {
+        Some(value) => walk::coerce(alloc, schema, Part::Json(value), Some(of_type)),
+        None => Ok(Coerced::Absent),
     }
 }
 
@@ -70,16 +86,15 @@ fn coerce_variable(
     definition: &VariableDefinition,
     values: &Value,
 ) -> Result<Coerced, AllocError>
-    ensures { IfOk result (λ c. said c ≡ spec.variable_value schema.now (view values.now) definition.now) }
+    ensures { IfOk result (λ c. Eventually (λ n. spec.variable_value n schema.now (view values.now) definition.now ≡ said c)) }
 {
     let of_type = &definition.of_type;
     let name = definition.name.as_str();
-    let given = match values.get(name) {
-        Some(value) => json::coerce(alloc, value, schema, Some(of_type), LEVELS)?,
-        None => Coerced::Absent,
-    };
-    let coerced = or_default_at(alloc, schema, of_type, definition.default.as_ref(), given)?;
-    at_key(alloc, name, coerced)
+    let given = coerce_value(alloc, schema, of_type, values.get(name))?;
+    let default = definition.default.as_ref();
+    let coerced = or_default_at(alloc, schema, of_type, default, given)?;
+    let placed = at_key(alloc, name, coerced)?;
+    Ok(placed)
 }
 
 fn variables(
@@ -88,7 +103,7 @@ fn variables(
     definitions: &[VariableDefinition],
     values: &Value,
 ) -> Result<Coerced, AllocError>
-    ensures { IfOk result (λ c. said c ≡ some (spec.variables schema.now definitions.now (view values.now))) }
+    ensures { IfOk result (λ c. Eventually (λ n. some (spec.variables n schema.now definitions.now (view values.now)) ≡ said c)) }
 {
     let mut members = Map::new(alloc);
     for definition in definitions {
@@ -98,21 +113,20 @@ fn variables(
             }
             Coerced::Absent => {}
             Coerced::Refused(refusal) => return Ok(Coerced::Refused(refusal)),
-            Coerced::TooDeep => return Ok(Coerced::TooDeep),
         }
     }
     Ok(Coerced::Given(Value::from(members)))
 }
 
+// What an object comes to, as a result.
 fn of_object(coerced: Coerced) -> Result<Value, CoerceFault>
-    ensures ok { IfOk result (λ v. (o : AnOutcome Data) → said coerced ≡ some o → o ≡ value (view v)) }
-    ensures err { IfErr result (λ e. (o : AnOutcome Data) → said coerced ≡ some o → Tells e o) }
+    ensures ok { IfOk result (λ v. (o : Reached Data) → some o ≡ said coerced → o ≡ reached (value (view v))) }
+    ensures err { IfErr result (λ e. (o : Reached Data) → some o ≡ said coerced → Tells e (λ (p : AnOutcome Data). o ≡ reached p)) }
 {
     match coerced {
         Coerced::Given(value) => Ok(value),
         Coerced::Absent => Ok(Value::Null),
-        Coerced::Refused(refusal) => Err(CoerceFault::Refused(refusal)),
-        Coerced::TooDeep => Err(CoerceFault::Memory),
+        Coerced::Refused(stop) => Err(CoerceFault::Refused(refusal_of(stop))),
     }
 }
 
@@ -126,8 +140,8 @@ pub fn coerce_variables(
     definitions: &[VariableDefinition],
     values: &Value,
 ) -> Result<Value, CoerceFault>
-    ensures ok { IfOk result (λ v. spec.variables schema.now definitions.now (view values.now) ≡ value (view v)) }
-    ensures err { IfErr result (λ e. Tells e (spec.variables schema.now definitions.now (view values.now))) }
+    ensures ok { IfOk result (λ v. spec.VariablesCome schema.now definitions.now (view values.now) (value (view v))) }
+    ensures err { IfErr result (λ e. Tells e (spec.VariablesCome schema.now definitions.now (view values.now))) }
 {
     let coerced = variables(alloc, schema, definitions, values)?;
     of_object(coerced)
@@ -175,11 +189,14 @@ fn coerce_given(
     of_type: &TypeRef,
     given: Option<&Argument>,
 ) -> Result<Coerced, AllocError>
-    ensures { IfOk result (λ c. said c ≡ spec.given_at scope.now.schema.now (written of_type.now)
-        (option_map (λ a. literal (variables_of scope.now) a.value) (option_copied given.entry))) }
+    ensures { IfOk result (λ c. Eventually (λ n. spec.given_at n scope.now.schema.now (written of_type.now)
+        (option_map (λ a. literal (variables_of scope.now) a.value) (option_copied given.entry)) ≡ said c)) }
 {
     match given {
-        Some(argument) => literals::coerce(alloc, &argument.value, scope, Some(of_type), LEVELS),
+        Some(argument) => {
+            let part = Part::Literal(&argument.value, scope.variables);
+            walk::coerce(alloc, scope.schema, part, Some(of_type))
+        }
         None => Ok(Coerced::Absent),
     }
 }
@@ -190,7 +207,7 @@ fn coerce_argument(
     definition: &InputValueDefinition,
     given: &Named<GivenArgument<'_>>,
 ) -> Result<Coerced, AllocError>
-    ensures { IfOk result (λ c. said c ≡ spec.argument_value scope.now.schema.now (variables_of scope.now) (map (λ g. g.argument.now) given.now) definition.now) }
+    ensures { IfOk result (λ c. Eventually (λ n. spec.argument_value n scope.now.schema.now (variables_of scope.now) (map (λ g. g.argument.now) given.now) definition.now ≡ said c)) }
 {
     let of_type = &definition.of_type;
     let name = definition.name.as_str();
@@ -207,7 +224,7 @@ fn arguments(
     definitions: &[Shared<InputValueDefinition>],
     given: &Named<GivenArgument<'_>>,
 ) -> Result<Coerced, AllocError>
-    ensures { IfOk result (λ c. said c ≡ some (spec.arguments scope.now.schema.now definitions.now (map (λ g. g.argument.now) given.now) (variables_of scope.now))) }
+    ensures { IfOk result (λ c. Eventually (λ n. some (spec.arguments n scope.now.schema.now definitions.now (map (λ g. g.argument.now) given.now) (variables_of scope.now)) ≡ said c)) }
 {
     let mut members = Map::new(alloc);
     for definition in definitions {
@@ -218,7 +235,6 @@ fn arguments(
             }
             Coerced::Absent => {}
             Coerced::Refused(refusal) => return Ok(Coerced::Refused(refusal)),
-            Coerced::TooDeep => return Ok(Coerced::TooDeep),
         }
     }
     Ok(Coerced::Given(Value::from(members)))
@@ -230,7 +246,7 @@ fn all_arguments(
     definitions: &[Shared<InputValueDefinition>],
     given: &[Argument],
 ) -> Result<Coerced, AllocError>
-    ensures { IfOk result (λ c. said c ≡ some (spec.arguments scope.now.schema.now definitions.now given.now (variables_of scope.now))) }
+    ensures { IfOk result (λ c. Eventually (λ n. some (spec.arguments n scope.now.schema.now definitions.now given.now (variables_of scope.now)) ≡ said c)) }
 {
     let found = Named::new(alloc, given_arguments(alloc, given)?)?;
     let coerced = arguments(alloc, scope, definitions, &found)?;
@@ -248,8 +264,8 @@ pub fn coerce_arguments(
     given: &[Argument],
     values: &Value,
 ) -> Result<Value, CoerceFault>
-    ensures ok { IfOk result (λ v. spec.arguments schema.now definitions.now given.now (view values.now) ≡ value (view v)) }
-    ensures err { IfErr result (λ e. Tells e (spec.arguments schema.now definitions.now given.now (view values.now))) }
+    ensures ok { IfOk result (λ v. spec.ArgumentsCome schema.now definitions.now given.now (view values.now) (value (view v))) }
+    ensures err { IfErr result (λ e. Tells e (spec.ArgumentsCome schema.now definitions.now given.now (view values.now))) }
 {
     let scope = Scope {
         schema,

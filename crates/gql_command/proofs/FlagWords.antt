@@ -1,4 +1,5 @@
--- What clap makes of the first word of a level whose flags are its own, for help and for the version.
+-- What clap makes of the first word of a level whose flags are its own, for help and for the
+-- version.
 use Rattle.std.proofs.Common.{◌≡◌, ◌⊎◌, ◌∙◌, ◌==◌, ◌||◌, ◌+◌, ℕ, Bool, true, false, zero, suc, List, [], ◌∷◌, Option, Some, None, refl, sym, ap, subst, inl, inr, arith, cond, codes, length, drop}
 use Rattle.std.specs.Prelude.{encode_utf8, slice_get, unwrap_or, if◌then◌else◌}
 use Rattle.std.specs.List.{list_any, before_first, position_or_len}

@@ -286,7 +286,7 @@ help_flag_faults words asks = elim asks.3 [
   | inr (inr e) ↦ rw e (enters_serve (asks.0 ∷ asks.1) ∙ serve_first asks.0 asks.1 (first_help_flag serve [] asks.0 (refl, refl) refl asks.2))
 ]
 
--- and so have words with a flag for the version
+-- the same for words with a flag for the version
 pub version_flag_faults : (words : List Text) → LineVersion words → line_faults words ≡ DisplayVersion ∷ []
 version_flag_faults words asks = rw asks.3 (first_version asks.0 asks.1 asks.2)
 

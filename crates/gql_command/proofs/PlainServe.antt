@@ -1,4 +1,5 @@
--- The words `serve --port P --connections N`, with numbers in decimal digits: they have no fault, and give these numbers.
+-- The words `serve --port P --connections N`, with numbers in decimal digits: they have no fault,
+-- and give these numbers.
 use Rattle.std.proofs.Common.{◌≡◌, ◌∙◌, ◌==◌, ◌<◌, ◌≤◌, ◌^◌, ℕ, Bool, true, false, cond, List, [], ◌∷◌, Some, None, refl, sym, ap, subst, arith, codes, drop}
 use Rattle.std.specs.Prelude.{decimal, if◌then◌else◌, pos}
 use Rattle.std.specs.Str.{bytes_eq}

@@ -1,4 +1,5 @@
--- What clap makes of the words after `serve`: a call for help is among the errors only where a word is a flag for help.
+-- What clap makes of the words after `serve`: a call for help is among the errors only where a word
+-- is a flag for help.
 use Rattle.std.proofs.Common.{◌≡◌, ◌⊎◌, ◌∙◌, ◌==◌, ◌||◌, ◌&&◌, not, ℕ, Bool, true, false, zero, suc, List, [], ◌∷◌, ◌++◌, Option, Some, None, refl, sym, ap, subst, inl, inr, cond, codes, length}
 use Rattle.std.specs.Prelude.{fold, slice_get, if◌then◌else◌, encode_utf8, drop, pos}
 use Rattle.std.specs.List.{list_any, slice_index_or}
@@ -391,7 +392,8 @@ then_none : (words : List Text) (a b : Kinds) → HelpsOnly words a → NoReques
 then_none words a b (inl p) none = inl (p.0, rw p.1 refl)
 then_none words a b (inr n) none = inr (either_none a b n none)
 
--- of the words after `serve` the one error is a call for help, by a flag among them, or there is no such error
+-- of the words after `serve` the one error is a call for help, by a flag among them, or there is no
+-- such error
 pub serve_helps : (words : List Text) → HelpsOnly words (serve_faults words)
 serve_helps words =
     let start : IsWalk (walk_from nothing_held) = ((tt, refl), tt, refl) in

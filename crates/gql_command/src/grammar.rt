@@ -8,6 +8,17 @@ ghost use Rattle.gql_command.specs.Grammar.{serve as serve_shape};
 use clap::{Arg, Command, value_parser};
 use std::alloc::{AllocError, Global};
 
+/// The end of the program's help.
+const AFTER_HELP: &str = "\
+Requests:
+  PUT /schema/NAME     puts the body as the schema file of this name
+  DELETE /schema/NAME  removes it
+  GET /report          reports the faults of all files
+PUT and DELETE may expect a revision, as in /schema/NAME?revision=3.
+
+Status: 0 all requests are answered, 1 a read, a write or the network failed,
+2 a bad command line, 3 the input ended within a request, 4 out of memory";
+
 fn port<'a>(alloc: Global) -> Arg<'a>
     ensures option { rule_of result ≡ port_option }
     ensures local { result.global ≡ false }
@@ -51,7 +62,8 @@ pub fn grammar<'a>(alloc: Global) -> Result<Command<'a>, AllocError>
     );
     Command::new(alloc, "gqlreg")
         .version("1.0.0")
-        .about("A GraphQL schema registry with persisted operations")
+        .about("Keeps GraphQL schema files and reports their faults, over HTTP/1.1")
+        .after_help(AFTER_HELP)
         .subcommand_required(true)
         .subcommand(pipe)?
         .subcommand(serve(alloc)?)

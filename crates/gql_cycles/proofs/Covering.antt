@@ -1,4 +1,4 @@
--- The segments that stand for a range, level by level.
+-- The segments that cover a range, level by level.
 use Rattle.std.proofs.Common.{◌≡◌, ℕ, ◌+◌, ◌-◌, ◌*◌, ◌/◌, ◌%◌, ◌<◌, ◌≤◌, ◌⊎◌, ◌↔◌, inl, inr, List, [], ◌∷◌, ◌++◌, Bool, true, false, cond, nat_eq, Contains, length, get_or, take, min, sym, ap, ◌∙◌, subst, refl, arith}
 use Rattle.std.proofs.lemmas.Bool.{cases_eq}
 use Rattle.std.proofs.lemmas.Bool.Decides.{nat_tests}
@@ -32,7 +32,8 @@ below_leaf le b = elim (below_cases b) [ inl h ↦ h | inr h ↦ absurd (omega (
 abbrev pub IsHeld : ℕ → List ℕ → ℕ → ℕ → ℕ → Type 0
 IsHeld count segments start end p = IsAbove count segments p ⊎ ((u : ℕ) × (start ≤ u) × (u < end) × Below count u p)
 
--- a level of the tree on which the segments from `start` on that are less than `end` are still to be added
+-- a level of the tree on which the segments from `start` on that are less than `end` are still to
+-- be added
 pub record Covering (count : ℕ) (old : List ℕ) (first last : ℕ) (segments : List ℕ) (start end : ℕ) : Type 0 where
   pub within : (v : ℕ) → Contains segments v → Contains old v ⊎ (v < 2 * count)
   pub top : end ≤ 2 * count

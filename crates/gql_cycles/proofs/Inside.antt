@@ -1,4 +1,4 @@
--- Circles are inside a graph, and marked nodes one by one.
+-- Cycles are inside a graph, and marked nodes one by one.
 use Rattle.std.proofs.Common.{◌≡◌, ℕ, ◌+◌, ◌<◌, ◌≤◌, inl, inr, ◌↔◌, List, [], ◌∷◌, ◌++◌, map, length, get_or, Contains, Bool, true, false, cond, nat_lt, sym, ◌∙◌, ap, subst, refl, arith}
 use Rattle.std.proofs.lemmas.Bool.{cases_eq, cases_lt, lt-ltb}
 use Rattle.std.proofs.lemmas.Bool.Decides.{nat_tests}

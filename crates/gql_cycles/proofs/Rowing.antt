@@ -55,7 +55,7 @@ row_has first nodes ends w = (
   λ h. subst (λ x. Contains (flat_map (node_row first nodes) ends) x) (sym h.1) (Contains-flat_map (node_row first nodes) ends h.0 (first + h.0) h.3 (kept first nodes h.0 h.2)),
 )
 
--- the nodes behind the segments
+-- the nodes after the segments
 behind_is : (first number i : ℕ) (b : Bool) → nat_le first number ≡ b → Contains (cond b ((number - first) ∷ []) []) i → number ≡ first + i
 behind_is first number i true e h = elim (Contains-cases i (number - first) [] h) [
   | inl s ↦ let le : first ≤ number = grind (arith, nat_tests, e) in omega (arith, le, s)

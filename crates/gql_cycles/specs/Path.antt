@@ -30,7 +30,8 @@ IsSeen bounds i s = IsClosed s
 abbrev pub end_of : List (List ℕ) → ℕ → ℕ → ℕ
 end_of graph v k = slice_index_or (slice_index_or graph v []) k 0
 
--- a path of `size` nodes; `bounds` has where its components begin, and `calls` what is still followed
+-- a path of `size` nodes; `bounds` has where its components begin, and `calls` what is still
+-- followed
 pub record Path (graph : List (List ℕ)) (state : ℕ → State) (next_edges : ℕ
     → ℕ) (size : ℕ) (path : ℕ → ℕ) (bounds calls : List ℕ) : Type 0 where
   -- a node whose state says so is on the path
@@ -49,7 +50,8 @@ pub record Path (graph : List (List ℕ)) (state : ℕ → State) (next_edges : 
   pub finished : (i : ℕ) → i < size → Contains calls i
       ⊎ (length (slice_index_or graph (path i) []) ≤ next_edges (path i))
   pub fresh : (v : ℕ) → state v ≡ New → next_edges v ≡ 0
-  -- both lists rise, the first node of each component is still followed, and the first component begins at 0
+  -- both lists rise, the first node of each component is still followed, and the first component
+  -- begins at 0
   pub calls_within : (c : ℕ) → Contains calls c → c < size
   pub calls_rise : Rises calls
   pub bounds_called : (b : ℕ) → Contains bounds b → Contains calls b

@@ -26,11 +26,13 @@ pub record IsCover (count : ℕ) (ranges : List Range) (segments : List ℕ) : T
   pub above : (p : ℕ) → IsAbove count segments p ↔ ((p < count) × IsWithinAny ranges p)
 
 -- the segments that have others below them, those of the numbers, and the nodes
-pub record IsTree (ranges : List (List Range)) (ends : List (List ℕ)) (graph : List (List ℕ)) : Type 0 where
+pub record IsTree (ranges : List (List Range)) (ends : List (List ℕ))
+    (graph : List (List ℕ)) : Type 0 where
   pub inner : (v w : ℕ) → v < length ends → IsEdge graph v w ↔ ((w ≡ 2 * v) ⊎ (w ≡ 2 * v + 1))
   pub leaves : (p w : ℕ) → p < length ends → IsEdge graph (length ends + p) w
       ↔ ((j : ℕ) × (w ≡ 2 * length ends + j) × (j < length ranges)
       × Contains (slice_index_or ends p []) j)
   pub nodes : (i : ℕ) → i < length ranges
-      → IsCover (length ends) (slice_index_or ranges i []) (slice_index_or graph (2 * length ends + i) [])
+      → IsCover (length ends) (slice_index_or ranges i [])
+      (slice_index_or graph (2 * length ends + i) [])
   pub length_is : length graph ≡ 2 * length ends + length ranges

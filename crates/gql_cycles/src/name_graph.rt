@@ -39,7 +39,8 @@ fn add_leads(
     found: &mut Vec<usize>,
 ) -> Result<(), AllocError>
     ensures { OnOk result (found.new.items ≡ found.old.items
-        ++ flat_map (λ b. option_to_list (hash.get_by (λ k. bytes_eq b.now k.now) nodes.now)) leads.now) }
+        ++ flat_map (λ b. option_to_list
+        (hash.get_by (λ k. bytes_eq b.now k.now) nodes.now)) leads.now) }
 {
     for lead in leads {
         if let Some(node) = nodes.get(*lead) {
@@ -79,7 +80,8 @@ pub fn edges_of(
     ensures length { IfOk result (λ edges. length edges.items ≡ length rows.now) }
     ensures joins { IfOk result
         (λ edges. Joins
-        (λ q. hash.get_by (λ k. bytes_eq q k.now) nodes.now) (map row_of rows.now) (map (λ v. v.items) edges.items)) }
+        (λ q. hash.get_by (λ k. bytes_eq q k.now) nodes.now) (map row_of rows.now)
+        (map (λ v. v.items) edges.items)) }
 {
     let mut edges = no_edges(alloc, rows.len())?;
     for row in rows {

@@ -1,6 +1,7 @@
 //! Nodes that lead to ranges of numbers, and numbers that lead to nodes, as one graph.
 //!
-//! Over `count` numbers the segments of the tree come first, 2 * `count` of them, and then the nodes.
+//! Over `count` numbers the segments of the tree come first, 2 * `count` of them, and then the
+//! nodes.
 ghost use Rattle.std.specs.Prelude.{◌≡◌, ◌<◌, ◌*◌, ◌+◌, ◌^◌, ◌++◌, ◌↔◌, ℕ, List, map, flat_map, length, IfOk, OnOk, Contains, slice_index_or, []};
 ghost use Rattle.gql_cycles.specs.Ranges.{RangeTrail};
 ghost use Rattle.gql_cycles.specs.SegmentTree.{IsCover, IsTree, node_row, node_rows, inner_rows, node_at};
@@ -76,7 +77,8 @@ fn covers(alloc: Global, count: usize, ranges: &[Vec<Range>]) -> Result<Vec<Vec<
     requires { 2 * count < 2 ^ 64 }
     ensures length { IfOk result (λ rows. length rows.items ≡ length ranges.now) }
     ensures rows { IfOk result (λ rows. (i : ℕ) → i < length ranges.now
-        → IsCover count (slice_index_or (map (λ v. v.items) ranges.now) i []) (slice_index_or (map (λ v. v.items) rows.items) i [])) }
+        → IsCover count (slice_index_or (map (λ v. v.items) ranges.now) i [])
+        (slice_index_or (map (λ v. v.items) rows.items) i [])) }
 {
     let mut rows = Vec::new(alloc);
     for ranges_there in ranges {
@@ -92,7 +94,8 @@ fn tree(
     ends: &[Vec<usize>],
 ) -> Result<Vec<Vec<usize>>, AllocError>
     ensures { IfOk result
-        (λ graph. IsTree (map (λ v. v.items) ranges.now) (map (λ v. v.items) ends.now) (map (λ v. v.items) graph.items)) }
+        (λ graph. IsTree (map (λ v. v.items) ranges.now) (map (λ v. v.items) ends.now)
+        (map (λ v. v.items) graph.items)) }
 {
     let count = ends.len();
     let mut graph = inner_rows(alloc, count)?;
@@ -124,8 +127,9 @@ fn nodes_at(alloc: Global, first: usize, numbers: &[usize]) -> Result<Vec<usize>
     Ok(nodes)
 }
 
-/// The nodes that lead back to themselves. `ranges` has for each node the ranges of numbers to which
-/// it leads, and `ends` for each number the nodes to which it leads; other numbers are ignored.
+/// The nodes that lead back to themselves. `ranges` has for each node the ranges of numbers to
+/// which it leads, and `ends` for each number the nodes to which it leads; other numbers are
+/// ignored.
 pub fn nodes_on_cycles_over_ranges(
     alloc: Global,
     ranges: &[Vec<Range>],

@@ -100,7 +100,8 @@ fn enter(walk: &mut Walk, node: usize) -> Result<(), AllocError>
     Ok(())
 }
 
-// Takes away the bounds above a position: the components that begin there become one with the component below.
+// Takes away the bounds above a position: the components that begin there become one with the
+// component below.
 fn keep_up_to(bounds: &mut Vec<usize>, position: usize)
     requires { Rises bounds.old.items }
     ensures { KeepsUpTo position bounds.old.items bounds.new.items }
@@ -117,7 +118,8 @@ fn meet(edges: &[Vec<usize>], walk: &mut Walk, at: usize, end: usize) -> Result<
     requires walk { IsWalk (map (λ v. v.items) edges.now) walk.old }
     requires at { Ends walk.old.calls.items at }
     requires end { end < length edges.now }
-    requires edge { IsEdge (map (λ v. v.items) edges.now) (slice_index_or walk.old.path.items at 0) end }
+    requires edge { IsEdge (map (λ v. v.items) edges.now)
+        (slice_index_or walk.old.path.items at 0) end }
     ensures { OnOk result (Meets (map (λ v. v.items) edges.now) at end walk.old walk.new) }
 {
     match walk.states[end] {
@@ -173,7 +175,8 @@ fn follow_edge(edges: &[Vec<usize>], walk: &mut Walk, at: usize) -> Result<(), A
     requires graph { IsGraph (map (λ v. v.items) edges.now) }
     requires walk { IsWalk (map (λ v. v.items) edges.now) walk.old }
     requires at { Ends walk.old.calls.items at }
-    requires more { slice_index_or walk.old.next_edges.items (slice_index_or walk.old.path.items at 0) 0
+    requires more { slice_index_or walk.old.next_edges.items
+        (slice_index_or walk.old.path.items at 0) 0
         < length (slice_index_or (map (λ v. v.items) edges.now) (slice_index_or walk.old.path.items at 0) []) }
     ensures { OnOk result (Advances (map (λ v. v.items) edges.now) walk.old walk.new) }
 {
@@ -189,7 +192,8 @@ fn follow_edge(edges: &[Vec<usize>], walk: &mut Walk, at: usize) -> Result<(), A
 fn leave(edges: &[Vec<usize>], walk: &mut Walk, at: usize)
     requires walk { IsWalk (map (λ v. v.items) edges.now) walk.old }
     requires at { Ends walk.old.calls.items at }
-    requires done { length (slice_index_or (map (λ v. v.items) edges.now) (slice_index_or walk.old.path.items at 0) [])
+    requires done { length (slice_index_or (map (λ v. v.items) edges.now)
+        (slice_index_or walk.old.path.items at 0) [])
         ≤ slice_index_or walk.old.next_edges.items (slice_index_or walk.old.path.items at 0) 0 }
     ensures { Advances (map (λ v. v.items) edges.now) walk.old walk.new }
 {

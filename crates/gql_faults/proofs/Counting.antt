@@ -1,4 +1,4 @@
--- Counting names among those that the code borrows, and keeping those that stand more than once.
+-- Counting names among those that the code borrows, and keeping those that occur more than once.
 use Rattle.std.proofs.Common.{◌≡◌, ◌<◌, ℕ, length, get_or, take, ◌+◌, List, [], ◌∷◌, ◌++◌, map, bytes_eq, Bool, refl, sym, ap, ◌∙◌, arith, filter, cond}
 use Rattle.std.specs.List.{sum_by}
 use Rattle.std.proofs.lemmas.List.Sums.{sum_by-cons}

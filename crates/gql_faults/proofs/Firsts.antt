@@ -16,7 +16,7 @@ pub first_more : (ds : List (Sited DirectiveDefinition)) (x : Sited DirectiveDef
 first_more [] x = refl
 first_more (d ∷ ds) x = grind (arith, common_steps, bytes_eq-Decides d.node.name.text x.node.name.text, bytes_eq-Decides x.node.name.text d.node.name.text, first_more ds x)
 
--- a definition more was looked at
+-- one more definition was checked
 pub seen_step : (q : List ℕ) (ds : List (Sited DirectiveDefinition)) (i : ℕ) (x : Sited DirectiveDefinition) (old new : Bool) → i < length ds → get_or ds i x ≡ x
     → old ≡ list_any (λ (d : Sited DirectiveDefinition). bytes_eq q d.node.name.text) (take i ds)
     → new ≡ (old || bytes_eq q x.node.name.text)

@@ -23,15 +23,18 @@ name_in = fold-TypeRef Name name_at
 -- its equations
 pub name_in_named : (n : Name) → name_in (t.Named n) ≡ n
 unfolding name_in
-name_in_named n = ap name_in (sym (t.rolls-Named n)) ∙ fold-roll-TypeRef Name name_at (TypeRef-F.Named n)
+name_in_named n = ap name_in (sym (t.rolls-Named n))
+    ∙ fold-roll-TypeRef Name name_at (TypeRef-F.Named n)
 
 pub name_in_list : (p : Place) (x : TypeRef) → name_in (t.List p x) ≡ name_in x
 unfolding name_in
-name_in_list p x = ap name_in (sym (t.rolls-List p x)) ∙ fold-roll-TypeRef Name name_at (TypeRef-F.List p x)
+name_in_list p x = ap name_in (sym (t.rolls-List p x))
+    ∙ fold-roll-TypeRef Name name_at (TypeRef-F.List p x)
 
 pub name_in_non_null : (x : TypeRef) → name_in (t.NonNull x) ≡ name_in x
 unfolding name_in
-name_in_non_null x = ap name_in (sym (t.rolls-NonNull x)) ∙ fold-roll-TypeRef Name name_at (TypeRef-F.NonNull x)
+name_in_non_null x = ap name_in (sym (t.rolls-NonNull x))
+    ∙ fold-roll-TypeRef Name name_at (TypeRef-F.NonNull x)
 
 -- a Non-Null type
 abbrev pub is_non_null : Written → Bool

@@ -1,5 +1,5 @@
-//! What the rules on schemas have in common: faults at places of schema files, names that occur more
-//! than once, first definitions of directives, and the name within a type.
+//! What the rules on schemas have in common: faults at places of schema files, names that occur
+//! more than once, first definitions of directives, and the name within a type.
 //!
 //! A function that adds to a list may have added a part where it fails for memory.
 #![tactic(auto)]

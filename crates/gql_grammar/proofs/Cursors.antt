@@ -4,7 +4,7 @@ use Rattle.std.proofs.lemmas.List.{length-map, drop-map}
 use Rattle.gql_text.specs.Lexeme.{lexeme}
 use Rattle.gql_text.specs.declared.token.Token.{Token}
 use Rattle.gql_text.specs.declared.place.Place.{Place}
-use Rattle.gql_grammar.specs.Files.{first_place, place_left}
+use Rattle.gql_grammar.specs.Files.{last_place}
 
 pub left_lem : (ts : List Token) (i : ℕ) → length (map lexeme (drop i ts)) ≡ length ts - i
 left_lem ts i = simp (length-map, length-drop)
@@ -18,12 +18,9 @@ at_end [] (suc i) h = refl
 at_end (t ∷ ts) zero h = absurd (omega arith)
 at_end (t ∷ ts) (suc i) h = at_end ts i (omega arith)
 
-pub place_at : (end : Place) (ts : List Token) (i : ℕ) (d : Token) → i < length ts → first_place end (map lexeme (drop i ts)) ≡ (get_or ts i d).place
-place_at end ts i d h = rw (at_token ts i d h) refl
+-- the place of the last token
+pub place_back : (end : Place) (ts : List Token) (i : ℕ) (d : Token) → i ≡ length ts - 1 → i < length ts → last_place end (map lexeme ts) ≡ (get_or ts i d).place
+place_back end ts i d is h = rw (length-map, ← is, drop-map, at_token ts i d h) refl
 
--- the token from which k tokens are left
-pub place_back : (end : Place) (ts : List Token) (k i : ℕ) (d : Token) → i ≡ length ts - k → i < length ts → place_left end (map lexeme ts) k ≡ (get_or ts i d).place
-place_back end ts k i d is h = rw (length-map, ← is, drop-map, at_token ts i d h) refl
-
-pub place_end : (end : Place) (ts : List Token) (k i : ℕ) → i ≡ length ts - k → length ts ≤ i → place_left end (map lexeme ts) k ≡ end
-place_end end ts k i is h = rw (length-map, ← is, drop-map, at_end ts i h) refl
+pub place_end : (end : Place) (ts : List Token) (i : ℕ) → i ≡ length ts - 1 → length ts ≤ i → last_place end (map lexeme ts) ≡ end
+place_end end ts i is h = rw (length-map, ← is, drop-map, at_end ts i h) refl

@@ -105,7 +105,7 @@ module _ {A : Type 0} {s : Bool} (p : Symbol (λ n. n) s A) (end_place : Place) 
   some_answer over = answered (p.read (looked_at ts)) refl (over (looked_at ts))
 
 -- a fault with its place is that of the tokens
-pub placed_parsed : {A : Type 0} {s : Bool} (p : Symbol (λ n. n) s A) (end_place : Place) (ts : List Lexeme) (x : ParseError) → ((k : ℕ) → x ≡ e.Unexpected k → p.read (looked_at ts) ≡ Err k)
-    → (fault : SyntaxFault) → fault ≡ placed end_place ts x → fault ≢ Memory → (k : ℕ) × (p.read (looked_at ts) ≡ Err k) × (fault_by end_place ts k ≡ fault)
-placed_parsed p end_place ts e.Memory h fault is other = absurd (other is)
-placed_parsed p end_place ts (e.Unexpected k) h fault is other = (k, h k refl, sym is)
+pub placed_parsed : {A : Type 0} {s : Bool} (p : Symbol (λ n. n) s A) (end_place : Place) (ts left : List Lexeme) (x : ParseError) → (x ≡ e.Unexpected → p.read (looked_at ts) ≡ Err left)
+    → (fault : SyntaxFault) → fault ≡ placed end_place ts left x → fault ≢ Memory → (at : List Lexeme) × (p.read (looked_at ts) ≡ Err at) × (fault_by end_place ts at ≡ fault)
+placed_parsed p end_place ts left e.Memory h fault is other = absurd (other is)
+placed_parsed p end_place ts left e.Unexpected h fault is other = (left, h refl, sym is)

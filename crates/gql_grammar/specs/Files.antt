@@ -1,5 +1,5 @@
 -- Whole texts: which are accepted, and where the others are refused.
-use Rattle.std.specs.Prelude.{◌≡◌, ◌≢◌, ◌⊎◌, ℕ, zero, suc, ◌≤◌, ◌-◌, Bool, List, [], ◌∷◌, length, drop, if◌then◌else◌, Result, Ok, Err}
+use Rattle.std.specs.Prelude.{◌≡◌, ◌≢◌, ◌⊎◌, ℕ, ◌≤◌, ◌-◌, Bool, List, [], ◌∷◌, length, drop, if◌then◌else◌, Result, Ok, Err}
 use lib.Dec.{leb}
 use Rattle.gql_text.specs.Lexeme.{Lexeme}
 use Rattle.gql_text.specs.declared.place.Place.{Place}
@@ -44,34 +44,35 @@ fault_of lexed.Memory = Memory
 abbrev pub Accepts : {A : Type 0} {d : ℕ → ℕ} {s : Bool} → Symbol d s A → List Lexeme → A → Type 0
 Accepts p ts a = Derives p ts a [] × (depth ts ≤ most_levels)
 
--- where the first of the tokens stands, or the end of the text where there is none
+-- the place of the first of the tokens, or the end of the text if there is none
 abbrev pub first_place : Place → List Lexeme → Place
 first_place end [] = end
 first_place end (t ∷ ts) = t.place
 
--- where the token stands from which k of the tokens are left
-abbrev pub place_left : Place → List Lexeme → ℕ → Place
-place_left end ts k = first_place end (drop (length ts - k) ts)
+-- the place of the last of the tokens, or the end of the text if there is none
+abbrev pub last_place : Place → List Lexeme → Place
+last_place end ts = first_place end (drop (length ts - 1) ts)
 
--- The fault of tokens of which those that are looked at fail with k of them left: the token that cannot stand there, or
--- the end of the text. Where they fail at their end and too many levels are open, it is the last that is looked at.
-abbrev pub fault_by : Place → List Lexeme → ℕ → SyntaxFault
-fault_by end ts zero = if leb (depth ts) most_levels then At r.Unexpected end else At r.TooDeep (place_left end (looked_at ts) 1)
-fault_by end ts (suc k) = At r.Unexpected (place_left end (looked_at ts) (suc k))
+-- The fault of tokens of which those that are looked at fail at the first of the tokens left: the token that cannot
+-- appear there, or the end of the text. If they fail at their end and too many levels are open, it is the last token
+-- that is looked at.
+abbrev pub fault_by : Place → List Lexeme → List Lexeme → SyntaxFault
+fault_by end ts [] = if leb (depth ts) most_levels then At r.Unexpected end else At r.TooDeep (last_place end (looked_at ts))
+fault_by end ts (t ∷ rest) = At r.Unexpected t.place
 
 -- where tokens are refused: those that are looked at fail
 abbrev pub Refuses : {A : Type 0} {d : ℕ → ℕ} {s : Bool} → Symbol d s A → Place → List Lexeme → SyntaxFault → Type 0
-Refuses p end ts fault = (k : ℕ) × Fails p (looked_at ts) k × (fault_by end ts k ≡ fault)
+Refuses p end ts fault = (at : List Lexeme) × Fails p (looked_at ts) at × (fault_by end ts at ≡ fault)
 
 -- What a function that parses whole texts answers: as the tokens that are looked at are read, unless memory runs out.
 abbrev pub Parses : {A : Type 0} {d : ℕ → ℕ} {s : Bool} → Symbol d s A → Place → List Lexeme → Result A SyntaxFault → Type 0
 Parses p end ts (Ok a) = p.read (looked_at ts) ≡ Ok (a, [])
-Parses p end ts (Err fault) = fault ≢ Memory → (k : ℕ) × (p.read (looked_at ts) ≡ Err k) × (fault_by end ts k ≡ fault)
+Parses p end ts (Err fault) = fault ≢ Memory → (at : List Lexeme) × (p.read (looked_at ts) ≡ Err at) × (fault_by end ts at ≡ fault)
 
--- A fault with its place, where the tokens that are looked at were read.
-abbrev pub placed : Place → List Lexeme → ParseError → SyntaxFault
-placed end ts e.Memory = Memory
-placed end ts (e.Unexpected k) = fault_by end ts k
+-- A fault with its place, where these of the tokens that are looked at were left.
+abbrev pub placed : Place → List Lexeme → List Lexeme → ParseError → SyntaxFault
+placed end ts left e.Memory = Memory
+placed end ts left e.Unexpected = fault_by end ts left
 
 -- this answer, unless memory runs out
 abbrev pub OrMemory : {A : Type 0} → Result A SyntaxFault → Result A SyntaxFault → Type 0

@@ -7,7 +7,7 @@ use Rattle.gql_grammar.specs.Symbol.{Phrase, Part, Outcome, Reader, Rule, Takes,
 
 -- The number bounds the turns. Each takes a token, so more than the count of the tokens is enough.
 unfoldable pub while_from : {A : Type 0} → (List Lexeme → Bool) → Reader A → ℕ → List A → Reader (List A)
-while_from test item zero found = λ ts. Err (length ts)
+while_from test item zero found = λ ts. Err ts
 while_from test item (suc n) found = λ ts.
     if test ts then and_then (item ts) (λ x. while_from test item n (found ++ x ∷ [])) else Ok (found, ts)
 
@@ -77,7 +77,7 @@ unfolding while_from
 end_read test item zero found ts enough is = absurd (omega arith)
 end_read test item (suc n) found ts enough is = rw is
 
-fault_read : {A : Type 0} (test : List Lexeme → Bool) (item : Phrase A) (n : ℕ) (found : List A) (ts : List Lexeme) (e : ℕ) → length ts < n → test ts ≡ true → item.Allows ts (Err e)
+fault_read : {A : Type 0} (test : List Lexeme → Bool) (item : Phrase A) (n : ℕ) (found : List A) (ts e : List Lexeme) → length ts < n → test ts ≡ true → item.Allows ts (Err e)
     → while_from test item.read n found ts ≡ Err e
 unfolding while_from
 fault_read test item zero found ts e enough more h = absurd (omega arith)

@@ -1,17 +1,19 @@
 -- A grammar symbol: what it derives, where it fails, and how it is read.
-use Rattle.std.specs.Prelude.{◌≡◌, ℕ, ◌<◌, ◌≤◌, ◌⊎◌, ◌||◌, ◌&&◌, not, bytes_eq, Bool, true, false, if◌then◌else◌, List, [], ◌∷◌, length, Result, Ok, Err, refl}
+use Rattle.std.specs.Prelude.{◌≡◌, ℕ, ◌<◌, ◌≤◌, ◌⊎◌, ◌||◌, ◌&&◌, not, bytes_eq, Bool, true, false, if◌then◌else◌, List, [], ◌∷◌, ◌++◌, length, Result, Ok, Err, Option, Some, None, refl}
 use Rattle.std.proofs.Common.{inl, inr, arith, ap, ap₂, ◌∙◌, cond}
 use Rattle.gql_text.specs.Kinds.{same_kind, same_kind_true}
 use Rattle.gql_text.specs.Lexeme.{Lexeme}
+use Rattle.gql_text.specs.declared.place.Place.{Place}
 use Rattle.gql_text.specs.declared.token.Kind.{Kind}
 use Rattle.gql_text.specs.declared.token.Kind.TheVariants.{EndOfText, Name}
 use Rattle.gql_grammar.specs.Levels.{shift, level}
 use Rattle.gql_grammar.specs.declared.error.ParseError.{ParseError}
-use Rattle.gql_grammar.specs.declared.error.ParseError.TheVariants.{Unexpected}
+use Rattle.gql_grammar.specs.declared.error.ParseError.TheVariants as errors
+use Rattle.gql_grammar.specs.declared.error.Unexpected.{Unexpected}
 
--- a value and the tokens behind it; or a fault, as the number of tokens left from it on
+-- a value and the tokens after it; or a fault, as the tokens left from it on
 abbrev pub Outcome : Type 0 → Type 0
-Outcome A = Result (A × List Lexeme) ℕ
+Outcome A = Result (A × List Lexeme) (List Lexeme)
 
 abbrev pub Reader : Type 0 → Type 0
 Reader A = List Lexeme → Outcome A
@@ -74,7 +76,7 @@ and_then (Err e) f = Err e
 
 -- the first part fails, or it derives some tokens and the second part goes on from there
 abbrev pub Then : {A B : Type 0} → Rule A → (A → Rule B) → Rule B
-Then {A = A} p q ts o = ((k : ℕ) × p ts (Err k) × (Err k ≡ o)) ⊎ ((a : A) × (middle : List Lexeme) × p ts (Ok (a, middle)) × q a middle o)
+Then {A = A} p q ts o = ((at : List Lexeme) × p ts (Err at) × (Err at ≡ o)) ⊎ ((a : A) × (middle : List Lexeme) × p ts (Ok (a, middle)) × q a middle o)
 
 pub then_holds : {A B : Type 0} (p : Rule A) (q : A → Rule B) (o : Outcome A) (f : A → Reader B) (ts : List Lexeme) → p ts o → ((a : A) (middle : List Lexeme) → q a middle (f a middle)) → Then p q ts (and_then o f)
 then_holds p q (Ok r) f ts h g = inr (r.0, r.1, h, g r.0 r.1)
@@ -125,8 +127,8 @@ p >> q = p >>= (λ _. q)
 
 abbrev pub refuse : {A : Type 0} {d : ℕ → ℕ} → Symbol d true A
 refuse = record {
-  read = λ ts. Err (length ts);
-  Allows = λ ts o. Err (length ts) ≡ o;
+  read = λ ts. Err ts;
+  Allows = λ ts o. Err ts ≡ o;
   holds = λ ts. refl;
   only = λ ts o h. h;
   takes = λ ts. tt;
@@ -144,6 +146,11 @@ kind_of (t ∷ ts) = t.kind
 abbrev pub text_of : List Lexeme → List ℕ
 text_of [] = []
 text_of (t ∷ ts) = t.text
+
+-- its place, if one is left
+abbrev pub place_of : List Lexeme → Option Place
+place_of [] = None
+place_of (t ∷ ts) = Some t.place
 
 -- whether a token of this kind stands next
 unfoldable pub sees : Kind → List Lexeme → Bool
@@ -165,16 +172,16 @@ sees_word word = sees_name (λ text. bytes_eq text word)
 
 -- the next token, where it passes
 abbrev pub take_if : Bool → Reader Lexeme
-take_if pass [] = Err 0
-take_if pass (t ∷ ts) = if pass then Ok (t, ts) else Err (length (t ∷ ts))
+take_if pass [] = Err []
+take_if pass (t ∷ ts) = if pass then Ok (t, ts) else Err (t ∷ ts)
 
 -- the next token is one that passes; else the symbol fails there, or at the end
 abbrev pub IsToken : (List Lexeme → Bool) → Rule Lexeme
-IsToken test [] o = Err 0 ≡ o
+IsToken test [] o = Err [] ≡ o
 IsToken test (t ∷ ts) (Ok r) = (test (t ∷ ts) ≡ true) × (t ≡ r.0) × (ts ≡ r.1)
-IsToken test (t ∷ ts) (Err e) = (test (t ∷ ts) ≡ false) × (length (t ∷ ts) ≡ e)
+IsToken test (t ∷ ts) (Err at) = (test (t ∷ ts) ≡ false) × (t ∷ ts ≡ at)
 
-token_holds_by : (pass : Bool) (test : List Lexeme → Bool) (t : Lexeme) (ts : List Lexeme) → test (t ∷ ts) ≡ pass → IsToken test (t ∷ ts) (cond pass (Ok (t, ts)) (Err (length (t ∷ ts))))
+token_holds_by : (pass : Bool) (test : List Lexeme → Bool) (t : Lexeme) (ts : List Lexeme) → test (t ∷ ts) ≡ pass → IsToken test (t ∷ ts) (cond pass (Ok (t, ts)) (Err (t ∷ ts)))
 token_holds_by true test t ts h = (h, refl, refl)
 token_holds_by false test t ts h = (h, refl)
 
@@ -187,7 +194,7 @@ token_only test [] o h = h
 token_only test (t ∷ ts) (Ok r) h = rw h.0 (ap₂ (λ a b. Ok (a, b)) h.1 h.2)
 token_only test (t ∷ ts) (Err e) h = rw h.0 (ap Err h.1)
 
-token_takes_by : (pass : Bool) (t : Lexeme) (ts : List Lexeme) → Takes true (t ∷ ts) (cond pass (Ok (t, ts)) (Err (length (t ∷ ts))))
+token_takes_by : (pass : Bool) (t : Lexeme) (ts : List Lexeme) → Takes true (t ∷ ts) (cond pass (Ok (t, ts)) (Err (t ∷ ts)))
 token_takes_by true t ts = omega arith
 token_takes_by false t ts = tt
 
@@ -195,7 +202,7 @@ pub token_takes : (pass : Bool) (ts : List Lexeme) → Takes true ts (take_if pa
 token_takes pass [] = tt
 token_takes pass (t ∷ ts) = token_takes_by pass t ts
 
-token_shifts_by : (pass : Bool) (d : ℕ → ℕ) (t : Lexeme) (ts : List Lexeme) → (pass ≡ true → (n : ℕ) → shift t.kind n ≡ d n) → Shifts d (t ∷ ts) (cond pass (Ok (t, ts)) (Err (length (t ∷ ts))))
+token_shifts_by : (pass : Bool) (d : ℕ → ℕ) (t : Lexeme) (ts : List Lexeme) → (pass ≡ true → (n : ℕ) → shift t.kind n ≡ d n) → Shifts d (t ∷ ts) (cond pass (Ok (t, ts)) (Err (t ∷ ts)))
 token_shifts_by true d t ts h = λ n. ap (λ m. level m ts) (h refl n)
 token_shifts_by false d t ts h = tt
 
@@ -294,7 +301,7 @@ optional begins absent p = by_test begins (relaxed p) (pure absent)
 
 abbrev pub end_read_at : Reader (Unit {0})
 end_read_at [] = Ok (tt, [])
-end_read_at (t ∷ ts) = Err (length (t ∷ ts))
+end_read_at (t ∷ ts) = Err (t ∷ ts)
 
 pub end_takes : (ts : List Lexeme) → Takes false ts (end_read_at ts)
 end_takes [] = omega arith
@@ -328,16 +335,30 @@ whole p = do
 abbrev pub Derives : {A : Type 0} {d : ℕ → ℕ} {s : Bool} → Symbol d s A → List Lexeme → A → List Lexeme → Type 0
 Derives p ts a rest = p.Allows ts (Ok (a, rest))
 
--- the symbol fails at the token from which k tokens are left; at the end of the tokens where k is 0
-abbrev pub Fails : {A : Type 0} {d : ℕ → ℕ} {s : Bool} → Symbol d s A → List Lexeme → ℕ → Type 0
-Fails p ts k = p.Allows ts (Err k)
+-- the symbol fails at the first of these tokens, which are left; at the end of the tokens where none are
+abbrev pub Fails : {A : Type 0} {d : ℕ → ℕ} {s : Bool} → Symbol d s A → List Lexeme → List Lexeme → Type 0
+Fails p ts at = p.Allows ts (Err at)
 
--- ---- what a function that reads ensures: the outcome, unless memory runs out
+-- ---- what a function that reads ensures of its result and of the tokens that it leaves
 
-abbrev pub Gives : {X A : Type 0} → (X → A) → Outcome A → Result X ParseError → List Lexeme → Type 0
+-- The last tokens of a list.
+pub record IsRest (rest ts : List Lexeme) : Type 0 where
+  pub front : List Lexeme
+  pub parts : front ++ rest ≡ ts
+
+-- a function that allocates nothing: the outcome
+abbrev pub Gives : {X A : Type 0} → (X → A) → Outcome A → Result X Unexpected → List Lexeme → Type 0
 Gives view outcome (Ok x) new = outcome ≡ Ok (view x, new)
-Gives view outcome (Err e) new = (k : ℕ) → e ≡ Unexpected k → outcome ≡ Err k
+Gives view outcome (Err e) new = outcome ≡ Err new
 
+-- a function that allocates: the outcome, unless an allocation fails
 abbrev pub Reads : {A : Type 0} → Outcome A → Result A ParseError → List Lexeme → Type 0
 Reads outcome (Ok a) new = outcome ≡ Ok (a, new)
-Reads outcome (Err e) new = (k : ℕ) → e ≡ Unexpected k → outcome ≡ Err k
+Reads outcome (Err e) new = e ≡ errors.Unexpected → outcome ≡ Err new
+
+-- What a call that reads by a symbol answers: the value that the symbol derives, with the tokens after it left. Or
+-- `Unexpected`: the symbol fails at the first of the tokens left. Or `Memory`: an allocation failed on the way.
+abbrev pub Answers : {A : Type 0} {d : ℕ → ℕ} {s : Bool} → Symbol d s A → List Lexeme → Result A ParseError → List Lexeme → Type 0
+Answers p old (Ok a) new = Derives p old a new
+Answers p old (Err errors.Unexpected) new = Fails p old new
+Answers p old (Err errors.Memory) new = IsRest new old

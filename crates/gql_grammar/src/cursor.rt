@@ -1,9 +1,9 @@
 ghost use Rattle.std.specs.Prelude.{◌≡◌, ◌+◌, ◌<◌, [], ◌∷◌, length, map, drop, OnErr, OnOk, OnSome, MatchOption};
 ghost use Rattle.gql_text.specs.Lexeme.{lexeme};
-ghost use Rattle.gql_grammar.specs.Symbol.{Gives, Reads, before, end as no_tokens, kind_of, sees, sees_word, take_if, text_of, token, word};
+ghost use Rattle.gql_grammar.specs.Symbol.{Gives, IsRest, before, end as no_tokens, kind_of, place_of, sees, sees_word, take_if, text_of, token, word};
 
-use crate::error::ParseError;
-use gql_text::{Kind, Token};
+use crate::error::Unexpected;
+use gql_text::{Kind, Place, Token};
 use std::marker::Model;
 
 /// The tokens that are still to be read. Contracts see it as the list of them.
@@ -84,27 +84,40 @@ impl<'a> Cursor<'a> {
         self.sees(Kind::Name) && self.text() == word
     }
 
-    /// Takes the next token, where the caller has found that it passes.
-    pub fn take_if(&mut self, pass: bool) -> Result<Token<'a>, ParseError>
+    /// The place of the next token, if one is left.
+    pub fn place(&self) -> Option<Place>
+        ensures { result ≡ place_of self.now }
+    {
+        match token_at(self.tokens, self.at) {
+            Some(token) => Some(token.place),
+            None => None,
+        }
+    }
+
+    /// Takes the next token, if the caller has found that it passes.
+    #[tactic(auto, using(crate::proofs::Rests::rest_after, crate::proofs::Rests::same_rest))]
+    pub fn take_if(&mut self, pass: bool) -> Result<Token<'a>, Unexpected>
         ensures value { Gives lexeme (take_if pass self.old) result self.new }
         ensures shorter { OnOk result (length self.new < length self.old) }
         ensures kept { OnErr result (self.new ≡ self.old) }
+        ensures rest { IsRest self.new self.old }
     {
         match token_at(self.tokens, self.at) {
             Some(token) if pass => {
                 self.at += 1;
                 Ok(token)
             }
-            _ => Err(self.refuse()),
+            _ => Err(Unexpected),
         }
     }
 
     /// Takes a token of this kind.
     #[tactic(auto, unfolding(crate::specs::Symbol::token))]
-    pub fn expect(&mut self, kind: Kind) -> Result<Token<'a>, ParseError>
+    pub fn expect(&mut self, kind: Kind) -> Result<Token<'a>, Unexpected>
         ensures value { Gives lexeme ((token kind).read self.old) result self.new }
         ensures shorter { OnOk result (length self.new < length self.old) }
         ensures kept { OnErr result (self.new ≡ self.old) }
+        ensures rest { IsRest self.new self.old }
     {
         let pass = self.sees(kind);
         self.take_if(pass)
@@ -112,32 +125,26 @@ impl<'a> Cursor<'a> {
 
     /// Takes this keyword, which is a name of that text.
     #[tactic(auto, unfolding(crate::specs::Symbol::name_where))]
-    pub fn expect_word(&mut self, spelling: &str) -> Result<Token<'a>, ParseError>
+    pub fn expect_word(&mut self, spelling: &str) -> Result<Token<'a>, Unexpected>
         ensures value { Gives lexeme ((word spelling.now).read self.old) result self.new }
         ensures shorter { OnOk result (length self.new < length self.old) }
         ensures kept { OnErr result (self.new ≡ self.old) }
+        ensures rest { IsRest self.new self.old }
     {
         let pass = self.sees_word(spelling);
         self.take_if(pass)
     }
 
-    /// The fault at the next token, or at the end where none is left.
-    pub fn refuse(&self) -> ParseError
-        ensures { result ≡ ParseError.Unexpected (length self.now) }
-    {
-        ParseError::Unexpected(self.left())
-    }
-
     /// That no token is left.
     #[tactic(auto, using(crate::proofs::Outcomes::end_none, crate::proofs::Outcomes::end_some))]
-    pub fn end(&self) -> Result<(), ParseError>
-        ensures value { Reads (no_tokens.read self.now) result self.now }
+    pub fn end(&self) -> Result<(), Unexpected>
+        ensures value { Gives (λ u. u) (no_tokens.read self.now) result self.now }
         ensures none { OnOk result (self.now ≡ []) }
     {
         if self.left() == 0 {
             Ok(())
         } else {
-            Err(self.refuse())
+            Err(Unexpected)
         }
     }
 }

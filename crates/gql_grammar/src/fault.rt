@@ -8,17 +8,17 @@ use gql_text::{LexFault, LexRefusal, Place};
 pub enum SyntaxRefusal {
     /// 101: no token and nothing ignored begins with this character, or it is no source character.
     BadCharacter,
-    /// 102: a number that isn't finished, or that runs into a name, a digit or a dot.
+    /// 102: a number that is not finished, or that runs into a name, a digit or a dot.
     BadNumber,
     /// 103: a string that ends with its line or with the text, or a block string that ends with the text.
     UnfinishedText,
-    /// 104: an escape that isn't one of those of the specification.
+    /// 104: an escape that is not one of those of the specification.
     BadEscape,
     /// 105: an escape for one half of a surrogate pair, without the other.
     LoneSurrogate,
     /// 106: the text has more than 65,536 bytes.
     TooLong,
-    /// 111: a token that cannot stand where it stands, or a text that ends early.
+    /// 111: a token that cannot appear where it does, or a text that ends early.
     Unexpected,
     /// 112: the brace or bracket that would be the 101st open at one time.
     TooDeep,
@@ -56,7 +56,7 @@ impl SyntaxRefusal {
     }
 }
 
-/// Why a text has no tree and where, or want of memory.
+/// Why a text has no tree, and where; or that an allocation failed.
 #[derive(Clone, Copy, Debug, PartialEq, Eq)]
 pub enum SyntaxFault {
     At { number: SyntaxRefusal, place: Place },

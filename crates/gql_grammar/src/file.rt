@@ -3,8 +3,9 @@ ghost use Rattle.std.specs.Prelude.{◌≡◌, ◌≤◌, ◌<◌, ◌++◌, Lis
 ghost use Rattle.gql_text.specs.Lexeme.{Lexeme, lexeme};
 ghost use Rattle.gql_grammar.specs.Levels.{depth, level, looked_at as the_looked_at, most_levels, shift};
 ghost use lib.Dec.{leb};
-ghost use Rattle.gql_grammar.specs.Files.{place_left as the_place_left, placed as the_placed};
+ghost use Rattle.gql_grammar.specs.Files.{fault_by, last_place as the_last_place, placed as the_placed};
 
+use crate::cursor::Cursor;
 use crate::error::ParseError;
 use crate::fault::{SyntaxFault, SyntaxRefusal};
 use gql_text::{Kind, Place, Token};
@@ -12,7 +13,7 @@ use gql_text::{Kind, Place, Token};
 /// How many `{` and `[` may be open at one time.
 pub const MAX_LEVELS: usize = 100;
 
-// How many are open behind a token of this kind.
+// How many are open after a token of this kind.
 fn shifted(level: usize, kind: Kind) -> usize
     requires { level ≤ 100 }
     ensures { result ≡ shift kind level }
@@ -49,12 +50,12 @@ pub fn looked_at(tokens: &[Token<'_>]) -> usize
     look(tokens).0
 }
 
-// The place of the token from which `left` tokens are left, or the end's.
+// The place of the last token, or the end if there is none.
 #[tactic(auto, using(crate::proofs::Cursors::place_back, crate::proofs::Cursors::place_end))]
-fn place_left(tokens: &[Token<'_>], left: usize, end: Place) -> Place
-    ensures { result ≡ the_place_left end (map lexeme tokens.now) left }
+fn last_place(tokens: &[Token<'_>], end: Place) -> Place
+    ensures { result ≡ the_last_place end (map lexeme tokens.now) }
 {
-    let at = tokens.len().saturating_sub(left);
+    let at = tokens.len().saturating_sub(1);
     if at < tokens.len() {
         tokens[at].place
     } else {
@@ -62,26 +63,40 @@ fn place_left(tokens: &[Token<'_>], left: usize, end: Place) -> Place
     }
 }
 
-/// A fault that was met in reading those of the tokens that are looked at, with its place.
-pub fn placed(error: ParseError, tokens: &[Token<'_>], end: Place) -> SyntaxFault
-    ensures { result ≡ the_placed end (map lexeme tokens.now) error }
+// The fault of tokens of which those that are looked at end too early.
+fn placed_at_end(tokens: &[Token<'_>], end: Place) -> SyntaxFault
+    ensures { result ≡ fault_by end (map lexeme tokens.now) [] }
 {
     let (count, shallow) = look(tokens);
-    let looked = &tokens[..count];
-    match error {
-        ParseError::Memory => SyntaxFault::Memory,
-        ParseError::Unexpected(0) if shallow => SyntaxFault::At {
+    if shallow {
+        return SyntaxFault::At {
             number: SyntaxRefusal::Unexpected,
             place: end,
-        },
-        ParseError::Unexpected(0) => SyntaxFault::At {
-            number: SyntaxRefusal::TooDeep,
-            place: place_left(looked, 1, end),
-        },
-        ParseError::Unexpected(left) => SyntaxFault::At {
+        };
+    }
+    SyntaxFault::At {
+        number: SyntaxRefusal::TooDeep,
+        place: last_place(&tokens[..count], end),
+    }
+}
+
+/// The fault of a text, from the error that reading its tokens gave. The cursor that read them, up to the first that
+/// opens level 101, is at the token that cannot appear there, or at the end.
+pub fn placed(
+    error: ParseError,
+    cursor: &Cursor<'_>,
+    tokens: &[Token<'_>],
+    end: Place,
+) -> SyntaxFault
+    ensures { result ≡ the_placed end (map lexeme tokens.now) cursor.now error }
+{
+    match (error, cursor.place()) {
+        (ParseError::Memory, _) => SyntaxFault::Memory,
+        (ParseError::Unexpected, Some(place)) => SyntaxFault::At {
             number: SyntaxRefusal::Unexpected,
-            place: place_left(looked, left, end),
+            place,
         },
+        (ParseError::Unexpected, None) => placed_at_end(tokens, end),
     }
 }
 

@@ -5,8 +5,9 @@ mod cursor;
 mod error;
 mod fault;
 mod file;
+pub mod laws;
 
 pub use cursor::Cursor;
-pub use error::ParseError;
+pub use error::{ParseError, Unexpected};
 pub use fault::{SyntaxFault, SyntaxRefusal};
 pub use file::{MAX_LEVELS, levels_law, looked_at, placed};

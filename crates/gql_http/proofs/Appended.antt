@@ -1,4 +1,4 @@
--- Parts written one behind another.
+-- Parts written one after another.
 use Rattle.std.proofs.Common.{◌≡◌, ℕ, List, ◌++◌, append_assoc}
 
 pub five_parts : (out a b c d e p q r s t : List ℕ) → p ≡ out ++ a → q ≡ p ++ b → r ≡ q ++ c → s ≡ r ++ d → t ≡ s ++ e → t ≡ out ++ (a ++ b ++ c ++ d ++ e)

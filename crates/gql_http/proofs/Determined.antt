@@ -1,4 +1,4 @@
--- A request has one answer and leaves one state, and so have many, and events.
+-- A request, a list of requests and an event each have one answer and leave one state.
 use Rattle.std.proofs.Common.{◌≡◌, ℕ, List, ◌∷◌, ◌++◌, take, Option, Some, None, IsSome, Result, refl, sym, ap, ap₂, ◌∙◌, subst}
 use Rattle.gql_registry.specs.Edits as edit
 use Rattle.gql_registry.specs.Laws.{OneEdit, OneReport, WasMade}

@@ -30,6 +30,6 @@ by_test : (bs : List ℕ) (t : Bool) → is_file_name bs ≡ t → (IsUtf8 bs �
 by_test bs true h no_text = absurd (no_text (name_is_text bs h))
 by_test bs false h no_text = h
 
--- what is no text is no name
+-- bytes that are no text are no name
 pub no_text_no_name : (bs : List ℕ) → (IsUtf8 bs → ⊥) → is_file_name bs ≡ false
 no_text_no_name bs no_text = by_test bs (is_file_name bs) refl no_text

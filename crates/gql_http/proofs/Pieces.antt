@@ -1,4 +1,5 @@
--- In any pieces: the requests that the feeds of a connection complete are those of all bytes that they feed.
+-- In any pieces: the requests that the feeds of a connection complete are those of all bytes that
+-- they feed.
 use Rattle.std.proofs.Common.{◌≡◌, ◌≢◌, ℕ, List, [], ◌∷◌, ◌++◌, length, Bool, true, false, cond, Option, Some, None, IsSome, refl, sym, ap, ◌∙◌, subst, append_assoc, append-nil, eqb-true, arith}
 use Rattle.std.specs.Prelude.{◌==◌}
 use Rattle.std.proofs.lemmas.Bool.Decides.{nat_tests}

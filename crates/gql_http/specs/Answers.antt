@@ -27,13 +27,15 @@ said status body = record { status = status; allow = None; body = body }
 
 -- the bytes of an answer: its head, and its body unless it is left off
 unfoldable pub answer_bytes : Bool → Bool → Said → List ℕ
-answer_bytes closing bodiless a = answer_head_of a.status a.allow (length a.body) closing ++ (if bodiless then [] else a.body)
+answer_bytes closing bodiless a = answer_head_of a.status a.allow (length a.body) closing
+    ++ (if bodiless then [] else a.body)
 
 -- ---- the bodies of refusals
 
 -- a refusal with its message and number
 unfoldable pub error_text : List ℕ → ℕ → List ℕ
-error_text message number = codes "{\"errors\":[{\"message\":" ++ quoted message ++ codes ",\"extensions\":{\"code\":" ++ decimal number ++ codes "}}]}"
+error_text message number = codes "{\"errors\":[{\"message\":" ++ quoted message
+    ++ codes ",\"extensions\":{\"code\":" ++ decimal number ++ codes "}}]}"
 
 -- what a syntax refusal says
 abbrev pub syntax_message : SyntaxRefusal → List ℕ
@@ -48,12 +50,15 @@ syntax_message syntax.TooDeep = codes "syntax: too deep"
 
 -- what, and where
 unfoldable pub located_text : List ℕ → Place → List ℕ
-located_text message place = codes "{\"errors\":[{\"message\":" ++ quoted message ++ codes ",\"locations\":[{\"line\":" ++ decimal place.line
+located_text message place = codes "{\"errors\":[{\"message\":" ++ quoted message
+    ++ codes ",\"locations\":[{\"line\":" ++ decimal place.line
     ++ codes ",\"column\":" ++ decimal place.column ++ codes "}]"
 
 -- a syntax refusal with its place and its own number
 unfoldable pub syntax_text : SyntaxRefusal → Place → List ℕ
-syntax_text number place = located_text (syntax_message number) place ++ codes ",\"extensions\":{\"code\":201,\"syntax\":" ++ decimal (number_of number) ++ codes "}}]}"
+syntax_text number place = located_text (syntax_message number) place
+    ++ codes ",\"extensions\":{\"code\":201,\"syntax\":" ++ decimal (number_of number)
+    ++ codes "}}]}"
 
 -- a stale edit, with the present revision
 unfoldable pub stale_text : ℕ → List ℕ
@@ -65,7 +70,7 @@ faulty_text faults = codes "{\"errors\":[{\"message\":\"operation is faulty\",\"
 
 -- ---- which answer
 
--- the answer to a refusal of the registry; none for want of memory
+-- the answer to a refusal of the registry; none if an allocation failed
 abbrev pub refusal_said : Refusal → Option Said
 refusal_said (refusal.Syntax number place) = Some (said 400 (syntax_text number place))
 refusal_said refusal.NotText = Some (said 400 (error_text (codes "body is not UTF-8") 202))
@@ -103,7 +108,8 @@ head_message head.BadLength = codes "bad content length"
 
 -- the answer to a refused head, with the refusal's number
 abbrev pub head_said : HeadRefusal → Said
-head_said refusal = said (head_status refusal) (error_text (head_message refusal) (head_number refusal))
+head_said refusal = said (head_status refusal)
+    (error_text (head_message refusal) (head_number refusal))
 
 -- no resource has the target
 abbrev pub no_route : Said

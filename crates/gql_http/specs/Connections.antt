@@ -22,9 +22,11 @@ is_closed (r ∷ rs) = if closes r then true else is_closed rs
 abbrev pub held_after : List Req → List ℕ → Option (List ℕ)
 held_after requests bytes = if is_closed requests then None else Some bytes
 
--- The bytes are these requests and an unfinished rest. Made one after the other in the state s, the requests are answered
--- with these bytes and leave the state t. The rest is held unless a request closes the connection.
-pub record Serves (s : State) (bytes out : List ℕ) (t : State) (held : Option (List ℕ)) : Type 0 where
+-- The bytes are these requests and an unfinished rest. Made one after the other in the state s, the
+-- requests are answered with these bytes and leave the state t. The rest is held unless a request
+-- closes the connection.
+pub record Serves (s : State) (bytes out : List ℕ) (t : State)
+    (held : Option (List ℕ)) : Type 0 where
   pub requests : List Placed
   pub rest : List ℕ
   pub answers : List (List ℕ)
@@ -33,7 +35,8 @@ pub record Serves (s : State) (bytes out : List ℕ) (t : State) (held : Option 
   pub written : out ≡ joined answers
   pub left : held ≡ held_after (requests_of requests) rest
 
--- An allocation failed: of the requests of the bytes, the first `made` were made and answered, and no other.
+-- An allocation failed: of the requests of the bytes, the first `made` were made and answered, and
+-- no other.
 pub record Breaks (s : State) (bytes out : List ℕ) (t : State) (made : ℕ) : Type 0 where
   pub requests : List Placed
   pub rest : List ℕ

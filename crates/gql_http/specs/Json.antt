@@ -20,7 +20,8 @@ side_text Documents = codes "documents/"
 
 -- a place in a file
 unfoldable pub place_text : FilePlace → List ℕ
-place_text p = codes "{\"file\":" ++ quoted (side_text p.side ++ p.file) ++ codes ",\"line\":" ++ decimal p.place.line
+place_text p = codes "{\"file\":" ++ quoted (side_text p.side ++ p.file) ++ codes ",\"line\":"
+    ++ decimal p.place.line
     ++ codes ",\"column\":" ++ decimal p.place.column ++ codes "}"
 
 -- the definition that owns a fault, or null
@@ -37,7 +38,8 @@ what_text f = codes "{\"rule\":" ++ quoted (name_of f.rule) ++ codes ",\"about\"
 
 -- where it is, and whose
 unfoldable pub where_text : Fault → List ℕ
-where_text f = codes ",\"places\":[" ++ places_text f.places ++ codes "],\"owner\":" ++ owner_text f.owner ++ codes "}"
+where_text f = codes ",\"places\":[" ++ places_text f.places ++ codes "],\"owner\":"
+    ++ owner_text f.owner ++ codes "}"
 
 unfoldable pub fault_text : Fault → List ℕ
 fault_text f = what_text f ++ where_text f
@@ -47,8 +49,10 @@ faults_text = comma_list fault_text
 
 -- the body of a report
 unfoldable pub report_text : ℕ → List Fault → List ℕ
-report_text revision faults = codes "{\"revision\":" ++ decimal revision ++ codes ",\"faults\":[" ++ faults_text faults ++ codes "]}"
+report_text revision faults = codes "{\"revision\":" ++ decimal revision ++ codes ",\"faults\":["
+    ++ faults_text faults ++ codes "]}"
 
 -- the body of the answer to an edit
 unfoldable pub edited_text : ℕ → ℕ → List ℕ
-edited_text revision faults = codes "{\"revision\":" ++ decimal revision ++ codes ",\"faults\":" ++ decimal faults ++ codes "}"
+edited_text revision faults = codes "{\"revision\":" ++ decimal revision ++ codes ",\"faults\":"
+    ++ decimal faults ++ codes "}"

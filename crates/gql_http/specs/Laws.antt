@@ -20,26 +20,33 @@ OneStep = (s t u : State) (r : Req) (a b : List ℕ) → Step s r a t → Step s
 
 -- requests one after the other have one list of answers, and leave one state
 abbrev pub OneRun : Type 0
-OneRun = (s t u : State) (rs : List Req) (ls ms : List (List ℕ)) → Run s rs ls t → Run s rs ms u → (ls ≡ ms) × (t ≡ u)
+OneRun = (s t u : State) (rs : List Req) (ls ms : List (List ℕ)) → Run s rs ls t → Run s rs ms u
+    → (ls ≡ ms) × (t ≡ u)
 
 -- an event has one answer, and leaves one state and the same unfinished bytes
 abbrev pub OneDeed : Type 0
-OneDeed = (s t u : State) (rests p q : Connections) (e : Event) (a b : List ℕ) → Does s rests e a t p → Does s rests e b u q
+OneDeed = (s t u : State) (rests p q : Connections) (e : Event) (a b : List ℕ)
+    → Does s rests e a t p → Does s rests e b u q
     → (a ≡ b) × (t ≡ u) × (p ≡ q)
 
 -- Every list of events has an order of requests, and one only.
 abbrev pub SomeOrder : Type 0
-SomeOrder = (fed : Connections) (events : List Event) → (groups : List (List Req)) × (last : Connections) × Order fed events groups last
+SomeOrder = (fed : Connections) (events : List Event)
+    → (groups : List (List Req)) × (last : Connections) × Order fed events groups last
 
 abbrev pub OneOrder : Type 0
-OneOrder = (fed p q : Connections) (events : List Event) (groups others : List (List Req)) → Order fed events groups p
+OneOrder = (fed p q : Connections) (events : List Event) (groups others : List (List Req))
+    → Order fed events groups p
     → Order fed events others q → (groups ≡ others) × (p ≡ q)
 
--- Whatever the events on connections that are all closed at first, the hub answers each event with the answers to the requests that it
--- completes, and all requests are run one after the other, in the order in which they are complete.
+-- Whatever the events on connections that are all closed at first, the hub answers each event with
+-- the answers to the requests that it completes, and all requests are run one after the other, in
+-- the order in which they are complete.
 abbrev pub InOrder : Type 0
-InOrder = (s t : State) (events : List Event) (outs : List (List ℕ)) (rests : Connections) → Behaves s all_closed events outs t rests
-    → (groups : List (List Req)) × (fed : Connections) × Order all_closed events groups fed × Answers s events groups outs t
+InOrder = (s t : State) (events : List Event) (outs : List (List ℕ)) (rests : Connections)
+    → Behaves s all_closed events outs t rests
+    → (groups : List (List Req)) × (fed : Connections) × Order all_closed events groups fed
+    × Answers s events groups outs t
 
 -- the event is a feed of this connection, or one on another connection
 abbrev pub FeedsOnly : ℕ → Event → Type 0
@@ -65,26 +72,38 @@ abbrev pub pieces_of : List Event → List (List ℕ)
 pieces_of [] = []
 pieces_of (e ∷ events) = piece_of e ∷ pieces_of events
 
--- In any pieces: the requests that the feeds after an opening complete are those of all bytes that they feed, however these are cut.
+-- In any pieces: the requests that the feeds after an opening complete are those of all bytes that
+-- they feed, however these are cut.
 abbrev pub AnyPieces : Type 0
-AnyPieces = (fed last : Connections) (c : ℕ) (events : List Event) (groups : List (List Req)) (requests : List Placed) (rest : List ℕ)
-    → fed c ≡ Some [] → AllFeed c events → Order fed events groups last → Requests (joined (on c events (pieces_of events))) requests rest
+AnyPieces = (fed last : Connections) (c : ℕ) (events : List Event) (groups : List (List Req))
+    (requests : List Placed) (rest : List ℕ)
+    → fed c ≡ Some [] → AllFeed c events → Order fed events groups last
+    → Requests (joined (on c events (pieces_of events))) requests rest
     → joined (on c events groups) ≡ requests_of requests
 
--- A piece that is fed in two parts, of which the first leaves the connection open, does what the whole does.
+-- A piece that is fed in two parts, of which the first leaves the connection open, does what the
+-- whole does.
 abbrev pub TwoParts : Type 0
-TwoParts = (s t u : State) (rests between last : Connections) (c : ℕ) (first second half a b : List ℕ) → Does s rests (feeds c first) a t between
-    → between c ≡ Some half → Does t between (feeds c second) b u last → Does s rests (feeds c (first ++ second)) (a ++ b) u last
+TwoParts = (s t u : State) (rests between last : Connections) (c : ℕ)
+    (first second half a b : List ℕ) → Does s rests (feeds c first) a t between
+    → between c ≡ Some half → Does t between (feeds c second) b u last
+    → Does s rests (feeds c (first ++ second)) (a ++ b) u last
 
--- Files then present: after requests that began with no files, a name holds the document of its last accepted edit, and no other name
--- holds one.
+-- Files then present: after requests that began with no files, a name holds the document of its
+-- last accepted edit, and no other name holds one.
 abbrev pub FilesPresent : Type 0
-FilesPresent = (t : State) (rs : List Req) (answers : List (List ℕ)) (name : List ℕ) → Run empty rs answers t
+FilesPresent = (t : State) (rs : List Req) (answers : List (List ℕ)) (name : List ℕ)
+    → Run empty rs answers t
     → Holds name empty None rs (file_named t.files.schema name)
 
--- A request for the report among others is answered with the report of the files that are present after those before it.
+-- A request for the report among others is answered with the report of the files that are present
+-- after those before it.
 abbrev pub ReportThen : Type 0
-ReportThen = (s u : State) (front rest : List Req) (method target body : List ℕ) (closing : Bool) (answers : List (List ℕ))
-    → call_of method target ≡ report → Run s (front ++ (request method target body closing ∷ rest)) answers u
-    → (before after : List (List ℕ)) × (t : State) × (faults : List Fault) × Run s front before t × IsReport t.files faults
-    × (answers ≡ before ++ (answer_bytes closing (is_head method) (report_said t.revision faults) ∷ after)) × Run t rest after u
+ReportThen = (s u : State) (front rest : List Req) (method target body : List ℕ) (closing : Bool)
+    (answers : List (List ℕ))
+    → call_of method target ≡ report
+    → Run s (front ++ (request method target body closing ∷ rest)) answers u
+    → (before after : List (List ℕ)) × (t : State) × (faults : List Fault) × Run s front before t
+    × IsReport t.files faults
+    × (answers ≡ before ++ (answer_bytes closing (is_head method) (report_said t.revision faults)
+    ∷ after)) × Run t rest after u

@@ -8,27 +8,37 @@ use Rattle.gql_http.specs.Service.{Run}
 
 -- of a connection's requests, those that are complete after this offset only
 abbrev pub completed_after : ℕ → List Placed → List Req
-completed_after offset requests = requests_of (filter (λ (p : Placed). nat_lt offset p.end) requests)
+completed_after offset requests =
+    requests_of (filter (λ (p : Placed). nat_lt offset p.end) requests)
 
--- The requests that an event completes, where `fed` has all bytes that each open connection was fed since it was opened.
--- They are those of the whole bytes that end in the event's piece. If an allocation fails, the first of them alone count.
--- A connection is closed by a request that closes it, by a failed allocation and by an event; an opening begins its bytes anew.
+-- The requests that an event completes, where `fed` has all bytes that each open connection was fed
+-- since it was opened. They are those of the whole bytes that end in the event's piece. If an
+-- allocation fails, the first of them alone count. A connection is closed by a request that closes
+-- it, by a failed allocation and by an event; an opening begins its bytes anew.
 pub data Completes : Connections → Event → List Req → Connections → Type 0 where
-  by_open : {fed : Connections} {c : ℕ} → IsAllowed fed (opens c) → Completes fed (opens c) [] (with_connection fed c (Some []))
-  by_feed : {fed : Connections} {c : ℕ} {piece bytes rest : List ℕ} {requests : List Placed} → fed c ≡ Some bytes
-      → Requests (bytes ++ piece) requests rest → Completes fed (feeds c piece) (completed_after (length bytes) requests)
-      (with_connection fed c (held_after (requests_of requests) (bytes ++ piece)))
-  by_break : {fed : Connections} {c made : ℕ} {piece bytes rest : List ℕ} {requests : List Placed} → fed c ≡ Some bytes
+  by_open : {fed : Connections} {c : ℕ} → IsAllowed fed (opens c)
+      → Completes fed (opens c) [] (with_connection fed c (Some []))
+  by_feed : {fed : Connections} {c : ℕ} {piece bytes rest : List ℕ} {requests : List Placed}
+      → fed c ≡ Some bytes
       → Requests (bytes ++ piece) requests rest
-      → Completes fed (breaks c piece made) (take made (completed_after (length bytes) requests)) (with_connection fed c None)
-  by_close : {fed : Connections} {c : ℕ} → IsAllowed fed (closes c) → Completes fed (closes c) [] (with_connection fed c None)
+      → Completes fed (feeds c piece) (completed_after (length bytes) requests)
+      (with_connection fed c (held_after (requests_of requests) (bytes ++ piece)))
+  by_break : {fed : Connections} {c made : ℕ} {piece bytes rest : List ℕ} {requests : List Placed}
+      → fed c ≡ Some bytes
+      → Requests (bytes ++ piece) requests rest
+      → Completes fed (breaks c piece made) (take made (completed_after (length bytes) requests))
+      (with_connection fed c None)
+  by_close : {fed : Connections} {c : ℕ} → IsAllowed fed (closes c)
+      → Completes fed (closes c) [] (with_connection fed c None)
   by_none : {fed : Connections} {e : Event} → (IsAllowed fed e → ⊥) → Completes fed e [] fed
 
 -- the requests that each of the events completes
 pub data Order : Connections → List Event → List (List Req) → Connections → Type 0 where
   no_events : {fed : Connections} → Order fed [] [] fed
-  first : {fed between last : Connections} {e : Event} {group : List Req} {events : List Event} {groups : List (List Req)}
-      → Completes fed e group between → Order between events groups last → Order fed (e ∷ events) (group ∷ groups) last
+  first : {fed between last : Connections} {e : Event} {group : List Req} {events : List Event}
+      {groups : List (List Req)}
+      → Completes fed e group between → Order between events groups last
+      → Order fed (e ∷ events) (group ∷ groups) last
 
 -- the items of the events on one connection
 abbrev pub on : {A : Type 0} → ℕ → List Event → List A → List A
@@ -43,9 +53,11 @@ SameLengths [] (a ∷ answers) = ⊥
 SameLengths (g ∷ groups) [] = ⊥
 SameLengths (g ∷ groups) (a ∷ answers) = (length g ≡ length a) × SameLengths groups answers
 
--- The answers to the requests of these groups, which are run one after the other, and what of them is given out: at each event the
--- answers to the requests that it completes, so on each connection the answers to its requests.
-pub record Answers (s : State) (events : List Event) (groups : List (List Req)) (outs : List (List ℕ)) (t : State) : Type 0 where
+-- The answers to the requests of these groups, which are run one after the other, and what of them
+-- is given out: at each event the answers to the requests that it completes, so on each connection
+-- the answers to its requests.
+pub record Answers (s : State) (events : List Event) (groups : List (List Req))
+    (outs : List (List ℕ)) (t : State) : Type 0 where
   pub answers : List (List (List ℕ))
   pub run : Run s (joined groups) (joined answers) t
   pub each : SameLengths groups answers

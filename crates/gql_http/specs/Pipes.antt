@@ -13,8 +13,8 @@ use Rattle.gql_http.specs.declared.piping.PipeFault.TheVariants.{ReadFailed, Wri
 abbrev pub most_reads : ℕ
 most_reads = 1048576
 
--- What a pipe did: the state of the service before and after it, what passed between it and its peer, whether the peer's input is at
--- its end then, and how the pipe ended.
+-- What a pipe did: the state of the service before and after it, what passed between it and its
+-- peer, whether the peer's input is at its end then, and how the pipe ended.
 pub record Exchange : Type 0 where
   pub before : State
   pub after : State
@@ -22,10 +22,11 @@ pub record Exchange : Type 0 where
   pub ended : Bool
   pub result : Result PipeEnd PipeFault
 
--- Each read comes when everything due is written: what was sent before it are the answers to all requests of what was received before it,
--- and none of these closed the connection.
+-- Each read comes when everything due is written: what was sent before it are the answers to all
+-- requests of what was received before it, and none of these closed the connection.
 abbrev pub IsPrompt : State → List Passage → Type 0
-IsPrompt s passed = (front after : List Passage) (piece : List ℕ) → passed ≡ front ++ (received piece ∷ after)
+IsPrompt s passed = (front after : List Passage) (piece : List ℕ)
+    → passed ≡ front ++ (received piece ∷ after)
     → (t : State) × (held : List ℕ) × Serves s (received_in front) (sent_in front) t (Some held)
 
 -- All that was received is answered, and this is held then.
@@ -36,14 +37,17 @@ IsAnswered x held = Serves x.before (received_in x.passed) (sent_in x.passed) x.
 abbrev pub IsOver : Exchange → Option (List ℕ) → Type 0
 IsOver x held = (held ≡ None) ⊎ (x.ended ≡ true)
 
--- What was sent at the end: all answers; up to the request that was being made when an allocation failed; or the first bytes of the
--- answers, where a write failed.
+-- What was sent at the end: all answers; up to the request that was being made when an allocation
+-- failed; or the first bytes of the answers, where a write failed.
 abbrev pub Sends : Result PipeEnd PipeFault → Exchange → Type 0
-Sends (Ok Whole) x = (held : Option (List ℕ)) × IsAnswered x held × IsOver x held × (is_unfinished held ≡ false)
-Sends (Ok Rest) x = (held : Option (List ℕ)) × IsAnswered x held × IsOver x held × (is_unfinished held ≡ true)
+Sends (Ok Whole) x = (held : Option (List ℕ)) × IsAnswered x held × IsOver x held
+    × (is_unfinished held ≡ false)
+Sends (Ok Rest) x = (held : Option (List ℕ)) × IsAnswered x held × IsOver x held
+    × (is_unfinished held ≡ true)
 Sends (Err ReadFailed) x = (held : Option (List ℕ)) × IsAnswered x held
 Sends (Err TooManyReads) x = (held : Option (List ℕ)) × IsAnswered x held
-Sends (Err Memory) x = (made : ℕ) × Breaks x.before (received_in x.passed) (sent_in x.passed) x.after made
+Sends (Err Memory) x = (made : ℕ)
+    × Breaks x.before (received_in x.passed) (sent_in x.passed) x.after made
 Sends (Err WriteFailed) x = (out unsent : List ℕ) × (out ≡ sent_in x.passed ++ unsent)
     × (((held : Option (List ℕ)) × Serves x.before (received_in x.passed) out x.after held)
     ⊎ ((made : ℕ) × Breaks x.before (received_in x.passed) out x.after made))

@@ -39,11 +39,13 @@ numbered (Some n) = Revision n
 
 -- what the bytes of a query ask for: `revision=N`, where N is 1 to 18 digits, or something else
 abbrev pub query_in : List ℕ → Query
-query_in bytes = if starts_with nat_eq bytes (codes "revision=") then numbered (number_in (drop 9 bytes)) else Other
+query_in bytes = if starts_with nat_eq bytes (codes "revision=")
+    then numbered (number_in (drop 9 bytes)) else Other
 
 -- the query after the first `?` of a target, if there is one
 abbrev pub query_of : List ℕ → Query
-query_of target = if has_query target then query_in (drop (length (path_of target) + 1) target) else Absent
+query_of target = if has_query target then query_in (drop (length (path_of target) + 1) target)
+    else Absent
 
 abbrev pub schema_prefix : List ℕ
 schema_prefix = codes "/schema/"
@@ -77,13 +79,14 @@ removing Other name = refused bad_query
 -- the call on a resource by a method
 abbrev pub call_on : Resource → List ℕ → Query → Call
 call_on nothing method query = refused no_route
-call_on the_report method query = if bytes_eq method (codes "GET") then without_query query report else refused (not_allowed Get)
+call_on the_report method query = if bytes_eq method (codes "GET") then without_query query report
+    else refused (not_allowed Get)
 call_on (schema_file name) method query =
     if bytes_eq method (codes "PUT") then putting query name
     else if bytes_eq method (codes "DELETE") then removing query name
     else refused (not_allowed PutDelete)
 
--- The call that a request's method and target are. The checks are made in this order: the path (305), the method (306), the
--- query (308).
+-- The call that a request's method and target are. The checks are made in this order: the path
+-- (305), the method (306), the query (308).
 abbrev pub call_of : List ℕ → List ℕ → Call
 call_of method target = call_on (resource_of (path_of target)) method (query_of target)

@@ -14,11 +14,13 @@ use Rattle.gql_http.specs.Routes.{Call, report, put_schema, remove_schema, refus
 
 -- what an edit is answered, and the state that it leaves; unless an allocation fails
 abbrev pub Edits : State → Option ℕ → Edit → Said → State → Type 0
-Edits s expected e a t = (r : Result Edited Refusal) × (edit_said r ≡ Some a) × Makes s expected e r t
+Edits s expected e a t = (r : Result Edited Refusal) × (edit_said r ≡ Some a)
+    × Makes s expected e r t
 
 -- what a call with this body is answered in the state s, and the state t that it leaves
 abbrev pub Calls : State → Call → List ℕ → Said → State → Type 0
-Calls s report body a t = ((faults : List Fault) × IsReport s.files faults × (a ≡ report_said s.revision faults)) × (t ≡ s)
+Calls s report body a t = ((faults : List Fault) × IsReport s.files faults
+    × (a ≡ report_said s.revision faults)) × (t ≡ s)
 Calls s (put_schema name expected) body a t = Edits s expected (edit.put_schema name body) a t
 Calls s (remove_schema name expected) body a t = Edits s expected (edit.remove_schema name) a t
 Calls s (refused said) body a t = (a ≡ said) × (t ≡ s)
@@ -26,11 +28,14 @@ Calls s (refused said) body a t = (a ≡ said) × (t ≡ s)
 -- one step: a request in the state s is answered with these bytes, and leaves the state t
 abbrev pub Step : State → Req → List ℕ → State → Type 0
 Step s (request method target body closing) bytes t =
-    (a : Said) × Calls s (call_of method target) body a t × (bytes ≡ answer_bytes closing (is_head method) a)
-Step s (refused_head refusal bodiless) bytes t = (bytes ≡ answer_bytes true bodiless (head_said refusal)) × (t ≡ s)
+    (a : Said) × Calls s (call_of method target) body a t
+    × (bytes ≡ answer_bytes closing (is_head method) a)
+Step s (refused_head refusal bodiless) bytes t =
+    (bytes ≡ answer_bytes true bodiless (head_said refusal)) × (t ≡ s)
 
 -- requests one after the other, with the answer to each
 pub data Run : State → List Req → List (List ℕ) → State → Type 0 where
   done : {s : State} → Run s [] [] s
-  more : {s t u : State} {r : Req} {rs : List Req} {bytes : List ℕ} {answers : List (List ℕ)} → Step s r bytes t → Run t rs answers u
+  more : {s t u : State} {r : Req} {rs : List Req} {bytes : List ℕ} {answers : List (List ℕ)}
+      → Step s r bytes t → Run t rs answers u
       → Run s (r ∷ rs) (bytes ∷ answers) u

@@ -16,14 +16,15 @@ pub struct Answer {
     ghost answered: { IsTrue (is_answered status) },
 }
 
-/// How an answer ends: whether the connection closes behind it, and whether its body is left off.
+/// How an answer ends: whether the connection closes after it, and whether its body is left off.
 #[derive(Clone, Copy)]
 pub struct Ending {
     pub closing: bool,
     pub bodiless: bool,
 }
 
-/// Writes an answer of these parts. Where memory is wanting nothing is written; where there is room none is.
+/// Writes an answer of these parts. If an allocation fails, nothing is written; where there is
+/// room, none fails.
 #[tactic(auto, unfolding(crate::specs::Answers::answer_bytes))]
 pub fn write_parts(
     out: &mut Vec<u8>,
@@ -35,7 +36,8 @@ pub fn write_parts(
     requires answered { IsTrue (is_answered status) }
     requires short { length body.now < 2 ^ 63 }
     ensures ok { OnOk result (out.new.items ≡ out.old.items
-        ++ answer_bytes ending.closing ending.bodiless (record { status = status; allow = allow; body = body.now })) }
+        ++ answer_bytes ending.closing ending.bodiless
+        (record { status = status; allow = allow; body = body.now })) }
     ensures err { OnErr result (out.new.items ≡ out.old.items) }
     ensures room { vec_len out.old + (160 + length body.now) ≤ vec_capacity out.old → IsOk result }
 {

@@ -82,7 +82,8 @@ impl Hub {
 
     /// Opens a connection: its bytes begin anew. Every other connection is as it was.
     pub fn open(&mut self, connection: u8) -> Result<(), OpenRefusal>
-        ensures does { Does (service_of self.old) (rests_of self.old) (opens connection) [] (service_of self.new) (rests_of self.new) }
+        ensures does { Does (service_of self.old) (rests_of self.old) (opens connection) []
+            (service_of self.new) (rests_of self.new) }
         ensures no_such { IsErrOf result NoSuch ↔ (CONNECTIONS ≤ connection) }
         ensures already { IsErrOf result AlreadyOpen ↔ IsSome (rests_of self.old connection) }
         ensures err { OnErr result (self.new ≡ self.old) }
@@ -97,22 +98,24 @@ impl Hub {
         Ok(())
     }
 
-    /// Closes a connection and drops its unfinished bytes. One that is not open stays so. Every other connection is as it
-    /// was.
+    /// Closes a connection and drops its unfinished bytes. One that is not open stays so. Every
+    /// other connection is as it was.
     pub fn close(&mut self, connection: u8)
-        ensures { Does (service_of self.old) (rests_of self.old) (closes connection) [] (service_of self.new) (rests_of self.new) }
+        ensures { Does (service_of self.old) (rests_of self.old) (closes connection) []
+            (service_of self.new) (rests_of self.new) }
     {
         if self.is_open(connection) {
             self.framers[usize::from(connection)] = None;
         }
     }
 
-    /// Takes the next bytes of an open connection. Each request that they complete is made before the call returns, and
-    /// its answer is in `out`. Every other connection is as it was.
+    /// Takes the next bytes of an open connection. Each request that they complete is made before
+    /// the call returns, and its answer is in `out`. Every other connection is as it was.
     pub fn feed(&mut self, connection: u8, piece: &[u8]) -> Fed
         requires open { IsSome (rests_of self.old connection) }
         ensures does { (e : Event) × IsFeedOf connection piece.now result.memory e
-            × Does (service_of self.old) (rests_of self.old) e result.out.items (service_of self.new) (rests_of self.new) }
+            × Does (service_of self.old) (rests_of self.old) e result.out.items
+            (service_of self.new) (rests_of self.new) }
         ensures closed { result.closed ≡ is_none (rests_of self.new connection) }
     {
         let mut out = Vec::new(self.alloc);

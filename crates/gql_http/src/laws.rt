@@ -32,8 +32,8 @@ pub fn one_order()
     gql_wire::laws::one_split();
 }
 
-/// Whatever the events, the hub answers each with the answers to the requests that it completes, and all requests are run
-/// one after the other in the order in which they are complete.
+/// Whatever the events, the hub answers each with the answers to the requests that it completes,
+/// and all requests are run one after the other in the order in which they are complete.
 pub fn in_order()
     ensures { InOrder }
 {
@@ -43,7 +43,8 @@ pub fn in_order()
     gql_wire::laws::more_bytes();
 }
 
-/// In any pieces: what the feeds after an opening complete are the requests of all bytes that they feed.
+/// In any pieces: what the feeds after an opening complete are the requests of all bytes that they
+/// feed.
 pub fn any_pieces()
     ensures { AnyPieces }
 {
@@ -53,7 +54,8 @@ pub fn any_pieces()
     gql_wire::laws::closed_drops();
 }
 
-/// A piece that is fed in two parts, of which the first leaves the connection open, does what the whole does.
+/// A piece that is fed in two parts, of which the first leaves the connection open, does what the
+/// whole does.
 pub fn two_parts()
     ensures { TwoParts }
 {
@@ -62,15 +64,16 @@ pub fn two_parts()
     gql_wire::laws::more_bytes();
 }
 
-/// Files then present: after requests that began with no files, each name holds the document of its last accepted edit, and
-/// no other name holds one.
+/// Files then present: after requests that began with no files, each name holds the document of its
+/// last accepted edit, and no other name holds one.
 pub fn files_present()
     ensures { FilesPresent }
 {
     gql_registry::laws::holds_after();
 }
 
-/// A request for the report is answered with the report of the files that are present after the requests before it.
+/// A request for the report is answered with the report of the files that are present after the
+/// requests before it.
 pub fn report_then()
     ensures { ReportThen }
 {}

@@ -42,8 +42,9 @@ pub enum PipeFault {
     Memory,
 }
 
-/// The status of a program that runs a pipe: 0 where every request was answered or one closed the connection, 3 where the
-/// input ended within a request, 4 if an allocation failed, 1 for another fault.
+/// The status of a program that runs a pipe: 0 where every request was answered or one closed the
+/// connection, 3 where the input ended within a request, 4 if an allocation failed, 1 for another
+/// fault.
 pub fn status_of(ended: &Result<PipeEnd, PipeFault>) -> u8
     ensures { result ≡ status ended.now }
 {
@@ -57,7 +58,8 @@ pub fn status_of(ended: &Result<PipeEnd, PipeFault>) -> u8
 
 /// How the input ends on connection 0.
 fn end_of(hub: &Hub) -> PipeEnd
-    ensures { result ≡ (if is_unfinished (rests_of hub.now 0) then PipeEnd.Rest else PipeEnd.Whole) }
+    ensures { result ≡ (if is_unfinished (rests_of hub.now 0) then PipeEnd.Rest
+        else PipeEnd.Whole) }
 {
     if hub.has_rest(0) {
         PipeEnd::Rest
@@ -71,12 +73,16 @@ fn exchange<P: Peer>(hub: &mut Hub, peer: &mut P) -> Result<PipeEnd, PipeFault>
     requires open { rests_of hub.old 0 ≡ Some [] }
     requires readable { P.read_failures peer.old < 2 ^ 64 - 1 }
     requires writable { P.write_failures peer.old < 2 ^ 64 - 1 }
-    ensures exchange { (passed : List Passage) × Adds (P.transcript peer.old) (P.transcript peer.new) passed
+    ensures exchange { (passed : List Passage)
+        × Adds (P.transcript peer.old) (P.transcript peer.new) passed
         × IsExchange (record { before = service_of hub.old; after = service_of hub.new; passed = passed; ended = P.ended peer.new; result = result }) }
     ensures others { (c : ℕ) → c ≢ 0 → rests_of hub.new c ≡ rests_of hub.old c }
-    ensures read_failures { P.read_failures peer.new ≡ P.read_failures peer.old + failed_reads result }
-    ensures write_failures { P.write_failures peer.new ≡ P.write_failures peer.old + failed_writes result }
-    ensures too_many { IsErrOf result PipeFault.TooManyReads → P.reads peer.new ≡ min (P.reads peer.old + most_reads) (2 ^ 64 - 1) }
+    ensures read_failures { P.read_failures peer.new
+        ≡ P.read_failures peer.old + failed_reads result }
+    ensures write_failures { P.write_failures peer.new
+        ≡ P.write_failures peer.old + failed_writes result }
+    ensures too_many { IsErrOf result PipeFault.TooManyReads
+        → P.reads peer.new ≡ min (P.reads peer.old + most_reads) (2 ^ 64 - 1) }
 {
     // The laws by which pieces of a stream are joined.
     nothing_is_unfinished();
@@ -105,19 +111,24 @@ fn exchange<P: Peer>(hub: &mut Hub, peer: &mut P) -> Result<PipeEnd, PipeFault>
     Err(PipeFault::TooManyReads)
 }
 
-/// Reads pieces of at most 4,096 bytes from the peer, feeds them to connection 0 and writes the answers to each piece before
-/// the next read, up to the end of the input or to a request that closes the connection. Connection 0 is closed before and
-/// after, on every way out, and every other connection is as it was.
+/// Reads pieces of at most 4,096 bytes from the peer, feeds them to connection 0 and writes the
+/// answers to each piece before the next read, up to the end of the input or to a request that
+/// closes the connection. Connection 0 is closed before and after, on every way out, and every
+/// other connection is as it was.
 pub fn pipe<P: Peer>(hub: &mut Hub, peer: &mut P) -> Result<PipeEnd, PipeFault>
     requires closed { rests_of hub.old 0 ≡ None }
     requires readable { P.read_failures peer.old < 2 ^ 64 - 1 }
     requires writable { P.write_failures peer.old < 2 ^ 64 - 1 }
-    ensures exchange { (passed : List Passage) × Adds (P.transcript peer.old) (P.transcript peer.new) passed
+    ensures exchange { (passed : List Passage)
+        × Adds (P.transcript peer.old) (P.transcript peer.new) passed
         × IsExchange (record { before = service_of hub.old; after = service_of hub.new; passed = passed; ended = P.ended peer.new; result = result }) }
     ensures connections { rests_of hub.new ≡ rests_of hub.old }
-    ensures read_failures { P.read_failures peer.new ≡ P.read_failures peer.old + failed_reads result }
-    ensures write_failures { P.write_failures peer.new ≡ P.write_failures peer.old + failed_writes result }
-    ensures too_many { IsErrOf result PipeFault.TooManyReads → P.reads peer.new ≡ min (P.reads peer.old + most_reads) (2 ^ 64 - 1) }
+    ensures read_failures { P.read_failures peer.new
+        ≡ P.read_failures peer.old + failed_reads result }
+    ensures write_failures { P.write_failures peer.new
+        ≡ P.write_failures peer.old + failed_writes result }
+    ensures too_many { IsErrOf result PipeFault.TooManyReads
+        → P.reads peer.new ≡ min (P.reads peer.old + most_reads) (2 ^ 64 - 1) }
 {
     let Ok(()) = hub.open(0) else {
         unreachable!();

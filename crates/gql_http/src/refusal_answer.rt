@@ -87,7 +87,7 @@ fn with_body(status: StatusCode, body: Vec<u8>) -> Answer
     }
 }
 
-/// The answer to a refusal of the registry. For want of memory there is none.
+/// The answer to a refusal of the registry. There is none if an allocation failed.
 pub fn refusal_answer(alloc: Global, refusal: &Refusal) -> Result<Answer, AllocError>
     ensures { IfOk result (λ a. refusal_said refusal.now ≡ Some (answer_said a)) }
 {

@@ -27,9 +27,10 @@ fn rest_from(piece: &[u8], at: usize) -> &[u8]
     &piece[at..]
 }
 
-/// Takes a piece of a connection's bytes, makes the requests that it completes and writes their answers. Returns whether a
-/// request closes the connection; later bytes are then dropped. If an allocation fails, the requests before have been made
-/// and answered, and the current one changes nothing.
+/// Takes a piece of a connection's bytes, makes the requests that it completes and writes their
+/// answers. Returns whether a request closes the connection; later bytes are then dropped. If an
+/// allocation fails, the requests before have been made and answered, and the current one changes
+/// nothing.
 pub fn serve(
     alloc: Global,
     registry: &mut Registry,
@@ -38,9 +39,12 @@ pub fn serve(
     out: &mut Vec<u8>,
 ) -> Result<bool, AllocError>
     requires { out.old.items ≡ [] }
-    ensures ok { IfOk result (λ closed. Serves (state_of registry.old) (framer.old ++ piece.now) out.new.items (state_of registry.new)
+    ensures ok { IfOk result (λ closed. Serves (state_of registry.old)
+        (framer.old ++ piece.now) out.new.items (state_of registry.new)
         (if closed then None else Some framer.new)) }
-    ensures err { OnErr result ((made : ℕ) × Breaks (state_of registry.old) (framer.old ++ piece.now) out.new.items (state_of registry.new) made) }
+    ensures err { OnErr result ((made : ℕ)
+        × Breaks (state_of registry.old) (framer.old ++ piece.now) out.new.items
+        (state_of registry.new) made) }
 {
     // The law that the bytes after the current request are requests, too.
     some_split();

@@ -22,19 +22,22 @@ pub enum ServeFault {
 fn serve_one(hub: &mut Hub, stream: &TcpStream)
     requires closed { rests_of hub.old 0 ≡ None }
     ensures connections { rests_of hub.new ≡ rests_of hub.old }
-    ensures requests { (requests : List Req) × (answers : List (List ℕ)) × Run (service_of hub.old) requests answers (service_of hub.new) }
+    ensures requests { (requests : List Req) × (answers : List (List ℕ))
+        × Run (service_of hub.old) requests answers (service_of hub.new) }
 {
     let mut peer = DevicePeer::new(stream, stream);
     let _ended = pipe(hub, &mut peer);
 }
 
-/// Serves this many connections of a listener, one after the other: on each it answers the requests that come, with at most
-/// 1,048,576 reads. A connection that fails is closed and counts. What the connections did to the service is one request
-/// after the other, and every connection of the hub is closed or open as before.
+/// Serves this many connections of a listener, one after the other: on each it answers the requests
+/// that come, with at most 1,048,576 reads. A connection that fails is closed and counts. What the
+/// connections did to the service is one request after the other, and every connection of the hub
+/// is closed or open as before.
 pub fn serve_on(listener: &TcpListener, hub: &mut Hub, connections: u32) -> Result<(), ServeFault>
     requires closed { rests_of hub.old 0 ≡ None }
     ensures connections { rests_of hub.new ≡ rests_of hub.old }
-    ensures requests { (requests : List Req) × (answers : List (List ℕ)) × Run (service_of hub.old) requests answers (service_of hub.new) }
+    ensures requests { (requests : List Req) × (answers : List (List ℕ))
+        × Run (service_of hub.old) requests answers (service_of hub.new) }
 {
     for _connection in 0..connections {
         let Ok((stream, _address)) = listener.accept() else {

@@ -23,7 +23,9 @@ use http::StatusCode;
 use std::alloc::{AllocError, Global};
 
 fn report_answer(alloc: Global, registry: &Registry) -> Result<Answer, AllocError>
-    ensures { IfOk result (λ a. (faults : List Fault) × IsReport (state_of registry.now).files faults × (answer_said a ≡ report_said (state_of registry.now).revision faults)) }
+    ensures { IfOk result (λ a. (faults : List Fault)
+        × IsReport (state_of registry.now).files faults
+        × (answer_said a ≡ report_said (state_of registry.now).revision faults)) }
 {
     let faults = registry.report()?;
     Ok(Answer {
@@ -41,7 +43,8 @@ fn write_edit(
     ending: Ending,
 ) -> Result<(), AllocError>
     requires { vec_len out.old + EDIT_ROOM ≤ vec_capacity out.old }
-    ensures ok { OnOk result ((a : Said) × (edit_said edited ≡ Some a) × (out.new.items ≡ out.old.items ++ ended_bytes ending a)) }
+    ensures ok { OnOk result ((a : Said) × (edit_said edited ≡ Some a)
+        × (out.new.items ≡ out.old.items ++ ended_bytes ending a)) }
     ensures err { OnErr result (IsErr edited × (out.new.items ≡ out.old.items)) }
 {
     match edited {
@@ -62,9 +65,12 @@ fn put_schema(
     body: &[u8],
     ending: Ending,
 ) -> Result<(), AllocError>
-    ensures ok { OnOk result ((a : Said) × Calls (state_of registry.old) (routes.put_schema name expected) body.now a (state_of registry.new)
+    ensures ok { OnOk result ((a : Said)
+        × Calls (state_of registry.old) (routes.put_schema name expected) body.now a
+        (state_of registry.new)
         × (out.new.items ≡ out.old.items ++ ended_bytes ending a)) }
-    ensures err { OnErr result ((state_of registry.new ≡ state_of registry.old) × (out.new.items ≡ out.old.items)) }
+    ensures err { OnErr result ((state_of registry.new ≡ state_of registry.old)
+        × (out.new.items ≡ out.old.items)) }
 {
     out.reserve(EDIT_ROOM)?;
     let edited = registry.put_schema(name, body, expected);
@@ -79,9 +85,12 @@ fn remove_schema(
     expected: Option<u64>,
     ending: Ending,
 ) -> Result<(), AllocError>
-    ensures ok { OnOk result ((a : Said) × Calls (state_of registry.old) (routes.remove_schema name expected) [] a (state_of registry.new)
+    ensures ok { OnOk result ((a : Said)
+        × Calls (state_of registry.old) (routes.remove_schema name expected) [] a
+        (state_of registry.new)
         × (out.new.items ≡ out.old.items ++ ended_bytes ending a)) }
-    ensures err { OnErr result ((state_of registry.new ≡ state_of registry.old) × (out.new.items ≡ out.old.items)) }
+    ensures err { OnErr result ((state_of registry.new ≡ state_of registry.old)
+        × (out.new.items ≡ out.old.items)) }
 {
     out.reserve(EDIT_ROOM)?;
     let edited = registry.remove_schema(name, expected);
@@ -96,9 +105,11 @@ fn make_call(
     body: &[u8],
     ending: Ending,
 ) -> Result<(), AllocError>
-    ensures ok { OnOk result ((a : Said) × Calls (state_of registry.old) (call_said call) body.now a (state_of registry.new)
+    ensures ok { OnOk result ((a : Said)
+        × Calls (state_of registry.old) (call_said call) body.now a (state_of registry.new)
         × (out.new.items ≡ out.old.items ++ ended_bytes ending a)) }
-    ensures err { OnErr result ((state_of registry.new ≡ state_of registry.old) × (out.new.items ≡ out.old.items)) }
+    ensures err { OnErr result ((state_of registry.new ≡ state_of registry.old)
+        × (out.new.items ≡ out.old.items)) }
 {
     match call {
         Call::Report => write_answer(out, &report_answer(alloc, registry)?, ending),
@@ -112,17 +123,19 @@ fn make_call(
     }
 }
 
-/// Makes a request on the registry and writes its answer. Where memory is wanting, the request isn't made and nothing
-/// is written.
+/// Makes a request on the registry and writes its answer. If an allocation fails, the request is
+/// not made and nothing is written.
 pub fn step(
     alloc: Global,
     registry: &mut Registry,
     out: &mut Vec<u8>,
     framed: &Framed,
 ) -> Result<(), AllocError>
-    ensures ok { OnOk result ((bytes : List ℕ) × Step (state_of registry.old) (req framed.now) bytes (state_of registry.new)
+    ensures ok { OnOk result ((bytes : List ℕ)
+        × Step (state_of registry.old) (req framed.now) bytes (state_of registry.new)
         × (out.new.items ≡ out.old.items ++ bytes)) }
-    ensures err { OnErr result ((state_of registry.new ≡ state_of registry.old) × (out.new.items ≡ out.old.items)) }
+    ensures err { OnErr result ((state_of registry.new ≡ state_of registry.old)
+        × (out.new.items ≡ out.old.items)) }
 {
     match framed {
         Framed::Request {

@@ -1,4 +1,4 @@
-//! Strings and numbers of JSON, written behind what a vector holds.
+//! Strings and numbers of JSON, written to the end of a vector.
 ghost use Rattle.std.specs.Prelude.{◌≡◌, ◌++◌, OnOk, decimal};
 ghost use Rattle.json.specs.Print.{quoted};
 

@@ -14,9 +14,10 @@ use std::alloc::AllocError;
 /// The room that the answer to an accepted edit needs at most.
 pub const EDIT_ROOM: usize = 224;
 
-/// Writes an answer, or nothing where memory is wanting.
+/// Writes an answer, or nothing if an allocation fails.
 pub fn write_answer(out: &mut Vec<u8>, answer: &Answer, ending: Ending) -> Result<(), AllocError>
-    ensures ok { OnOk result (out.new.items ≡ out.old.items ++ ended_bytes ending (answer_said answer.now)) }
+    ensures ok { OnOk result (out.new.items ≡ out.old.items
+        ++ ended_bytes ending (answer_said answer.now)) }
     ensures err { OnErr result (out.new.items ≡ out.old.items) }
 {
     write_parts(
@@ -46,7 +47,8 @@ fn edited_body(edited: Edited) -> ArrayString<64>
 /// Writes the answer to an accepted edit, for which there is room.
 pub fn write_edited(out: &mut Vec<u8>, edited: Edited, ending: Ending)
     requires { vec_len out.old + EDIT_ROOM ≤ vec_capacity out.old }
-    ensures { out.new.items ≡ out.old.items ++ ended_bytes ending (said 200 (edited_text edited.revision edited.faults)) }
+    ensures { out.new.items ≡ out.old.items ++ ended_bytes ending
+        (said 200 (edited_text edited.revision edited.faults)) }
 {
     let body = edited_body(edited);
     let Ok(()) = write_parts(out, StatusCode::OK, None, body.as_str().as_bytes(), ending) else {

@@ -52,7 +52,7 @@ missing_default_has names x l =
     let other = l.other in
     rw (some, other) (Contains-here x.number [])
 
--- a field with a default stands at the first field of its name
+-- a field with a default is at the first field of its name
 end_is : (o : NumberedObject) (x : Numbered) (e : End) (a : Bool) → is_some x.field.node.default ≡ a → Contains (cond a (map (λ n. record { first = n; number = x.number }) (first_number o.inputs x.field.node.name.text)) []) e →
     (is_some x.field.node.default ≡ true) × Contains (first_number o.inputs x.field.node.name.text) e.first × (e.number ≡ x.number)
 end_is o x e true some h =

@@ -1,4 +1,4 @@
--- The first field of a name, and the fields that stand there.
+-- The first field of a name, and the fields that are there.
 use Rattle.std.proofs.Common.{◌≡◌, ℕ, ◌+◌, ◌<◌, ◌≤◌, ◌⊎◌, ◌++◌, inl, inr, List, [], ◌∷◌, Bool, true, false, cond, nat_lt, Some, None, is_some, find, bytes_eq, map, option_map, Contains, length, get_or, set, take, replicate, sym, ap, ◌∙◌, subst, refl, arith, append-nil}
 use Rattle.std.specs.Option.{option_map_or}
 use Rattle.std.proofs.Math.ListN.{length-set}

@@ -118,7 +118,7 @@ first_has inputs name p h = first_is inputs name p (find (is_named name) inputs)
 pub first_of : (inputs : List Numbered) (name : List ℕ) (y : Numbered) → find (is_named name) inputs ≡ Some y → Contains (first_number inputs name) y.number
 first_of inputs name y e = subst (λ o. Contains (option_map_or (λ (i : Numbered). i.number ∷ []) o []) y.number) (sym e) (Contains-here y.number [])
 
--- ---- the objects within a value stand at objects of the schema
+-- ---- the objects within a value are at objects of the schema
 
 module _ (all : List NumberedObject) where
   abbrev Stands : Literal → Type 0

@@ -28,7 +28,8 @@ is_same_type (required t) (listed u) = false
 -- one of these arguments has the argument's name, and the first of them has its type
 abbrev pub has_argument : List (Sited InputValueDefinition) → Sited InputValueDefinition → Bool
 has_argument own a = option_map_or
-    (λ (b : Sited InputValueDefinition). is_same_type (written b.node.of_type) (written a.node.of_type))
+    (λ (b : Sited InputValueDefinition). is_same_type (written b.node.of_type)
+    (written a.node.of_type))
     (argument_in own a.node.name.text) false
 
 -- the fault for an argument of the interface's field, unless the type's field has it

@@ -1,5 +1,5 @@
--- Helper definitions for private contracts: the default values that are needed when fields of a name
--- are not given.
+-- Helper definitions for private contracts: the default values that are needed when fields of a
+-- name are not given.
 use Rattle.std.specs.Prelude.{◌≡◌, ◌<◌, ◌↔◌, ◌++◌, ℕ, List, [], ◌∷◌, is_some, map, flat_map, length, nat_lt, slice_set, slice_index_or, Contains, if◌then◌else◌}
 use Rattle.gql_iface_rules.specs.S19DefaultValueCycles.{Numbered, NumberedObject}
 use Rattle.gql_iface_rules.specs.S19Ranges.{first_number}

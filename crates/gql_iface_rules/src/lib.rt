@@ -1,6 +1,6 @@
-//! The rules on what types and the interfaces that they implement have (GraphQL 3.6 and 3.7), and the
-//! three rules on cycles: of input objects and of their default values (3.10), and of directives
-//! (3.13).
+//! The rules on what types and the interfaces that they implement have (GraphQL 3.6 and 3.7), and
+//! the three rules on cycles: of input objects and of their default values (3.10), and of
+//! directives (3.13).
 //!
 //! A function that adds to a list may have added a part where it fails for memory.
 #![tactic(auto)]

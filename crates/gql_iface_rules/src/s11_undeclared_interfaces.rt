@@ -62,7 +62,8 @@ fn check_implementations(
     faults: &mut Vec<Fault>,
 ) -> Result<(), AllocError>
     ensures { OnOk result (faults.new.items ≡ faults.old.items
-        ++ flat_map (spec.undeclared_interfaces schema.now names.now) (map implements implementations.now)) }
+        ++ flat_map (spec.undeclared_interfaces schema.now names.now)
+        (map implements implementations.now)) }
 {
     for implementation in implementations {
         check_implementation(alloc, schema, names, implementation, faults)?;

@@ -67,7 +67,8 @@ fn add_list<'a, 's>(
 ) -> Result<(), AllocError>
     ensures { OnOk result (map object_value object_values.new.items
         ≡ map object_value object_values.old.items
-        ++ spec.list_at (map (spec.object_values (map object objects.now)) items.now) (written of_type.now)) }
+        ++ spec.list_at (map (spec.object_values (map object objects.now)) items.now)
+        (written of_type.now)) }
 {
     match item_of(of_type) {
         Some(item_type) => add_items(alloc, items, item_type, objects, object_values)?,
@@ -86,7 +87,8 @@ fn add_items<'a, 's>(
 ) -> Result<(), AllocError>
     ensures { OnOk result (map object_value object_values.new.items
         ≡ map object_value object_values.old.items
-        ++ flat_map (λ x. x true (written of_type.now)) (map (spec.object_values (map object objects.now)) items.now)) }
+        ++ flat_map (λ x. x true (written of_type.now))
+        (map (spec.object_values (map object objects.now)) items.now)) }
 {
     for item in items {
         add_object_values(alloc, item, true, of_type, objects, object_values)?;
@@ -105,7 +107,8 @@ fn add_object<'a, 's>(
 ) -> Result<(), AllocError>
     ensures { OnOk result (map object_value object_values.new.items
         ≡ map object_value object_values.old.items
-        ++ spec.object_at (map object objects.now) (map (spec.given (map object objects.now)) fields.now) is_item (written of_type.now)) }
+        ++ spec.object_at (map object objects.now)
+        (map (spec.given (map object objects.now)) fields.now) is_item (written of_type.now)) }
 {
     if !(is_item && is_list(of_type)) {
         if let Some(found) = object_of(objects, of_type) {
@@ -125,7 +128,8 @@ fn add_values_of_object<'a, 's>(
 ) -> Result<(), AllocError>
     ensures { OnOk result (map object_value object_values.new.items
         ≡ map object_value object_values.old.items
-        ++ spec.values_of_object (map (spec.given (map object objects.now)) fields.now) (object found.now)) }
+        ++ spec.values_of_object (map (spec.given (map object objects.now)) fields.now)
+        (object found.now)) }
 {
     add_fields(alloc, fields, found.of_type, objects, object_values)?;
     object_values.push(ObjectValue {
@@ -145,7 +149,8 @@ fn add_fields<'a, 's>(
 ) -> Result<(), AllocError>
     ensures { OnOk result (map object_value object_values.new.items
         ≡ map object_value object_values.old.items
-        ++ flat_map (spec.values_in_field of_type.now) (map (spec.given (map object objects.now)) fields.now)) }
+        ++ flat_map (spec.values_in_field of_type.now)
+        (map (spec.given (map object objects.now)) fields.now)) }
 {
     for field in fields {
         add_field(alloc, field, of_type, objects, object_values)?;

@@ -123,7 +123,8 @@ fn default_ranges(
     objects: &Named<InputObject<'_>>,
 ) -> Result<Vec<Range>, AllocError>
     ensures { IfOk result
-        (λ ranges. spec.AreMissing (default_values (map object objects.now) field.now) ranges.items) }
+        (λ ranges. spec.AreMissing (default_values
+        (map object objects.now) field.now) ranges.items) }
 {
     let all = default_values(alloc, field, objects)?;
     let ranges = missing(alloc, all.as_slice())?;
@@ -139,7 +140,9 @@ pub fn all_ranges(
     ensures length { IfOk result (λ ranges. length ranges.items ≡ length fields.now) }
     ensures ranges { IfOk result
         (λ ranges. (i : ℕ) (d : Sited InputValueDefinition) → i < length fields.now
-        → spec.AreMissing (default_values (map object objects.now) (slice_index_or (map (λ f. f.now) fields.now) i d)) (slice_index_or (map (λ v. v.items) ranges.items) i [])) }
+        → spec.AreMissing (default_values (map object objects.now)
+        (slice_index_or (map (λ f. f.now) fields.now) i d))
+        (slice_index_or (map (λ v. v.items) ranges.items) i [])) }
 {
     let mut ranges = Vec::new(alloc);
     for field in fields {

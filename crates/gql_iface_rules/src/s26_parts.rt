@@ -42,7 +42,7 @@ fn add_input(
     ensures { OnOk result (names.new ≡ names.old ++ spec.from_input input.now) }
 {
     add_applied(alloc, input.directives.as_slice(), names)?;
-    names.push(named_type(&input.of_type).text.copy(alloc)?)?;
+    names.push(named_type(&input.of_type).text.copy()?)?;
     Ok(())
 }
 

@@ -31,7 +31,7 @@ fn type_row(alloc: Global, of_type: &SchemaType) -> Result<OwnedRow, AllocError>
     add_fields(alloc, of_type.fields.as_slice(), &mut leads)?;
     add_values(alloc, of_type.values.as_slice(), &mut leads)?;
     add_input_fields(alloc, of_type.input_fields.as_slice(), &mut leads)?;
-    let name = definition.name.text.copy(alloc)?;
+    let name = definition.name.text.copy()?;
     Ok(OwnedRow { name, leads })
 }
 

@@ -6,25 +6,26 @@ use Rattle.gql_ast.specs.declared.literal.Literal.TheVariants as l
 use Rattle.gql_ast.specs.declared.literal.ObjectField.{ObjectField}
 use Rattle.gql_ast.specs.declared.text.Name.{Name}
 use Rattle.gql_types.specs.Written.{Written}
-use Rattle.gql_types.specs.declared.schema.Schema.{Schema}
-use Rattle.gql_inputs.specs.BadValues.{LookedField, looked_field, within, repeats, misfits}
+use Rattle.gql_inputs.specs.BadValues.{within, repeats, misfits}
+use Rattle.gql_inputs.specs.Lookups.{InputLookup}
 use Rattle.gql_inputs.specs.Numbers.{is_whole}
-use Rattle.gql_inputs.specs.Within.{within_int}
+use Rattle.gql_inputs.specs.Values.{GivenField, given_field, value_of}
 use Rattle.gql_inputs.specs.declared.bad_value.BadValue.{BadValue}
+use Rattle.gql_inputs.proofs.Inside.{within_int}
 
-pub nothing : (xs : List BadValue) (name : List ℕ) (x : Literal) → within name x ≡ [] → xs ≡ xs ++ within name x
+pub nothing : (xs : List BadValue) (name : List ℕ) (x : Literal) → within name (value_of x) ≡ [] → xs ≡ xs ++ within name (value_of x)
 nothing xs name x is = rw is (sym (append-nil xs))
 
-pub nothing_in_range : (xs : List BadValue) (name : List ℕ) (place : Place) (text : List ℕ) → is_whole 63 text ≡ true → xs ≡ xs ++ within name (l.Int place text)
+pub nothing_in_range : (xs : List BadValue) (name : List ℕ) (place : Place) (text : List ℕ) → is_whole 63 text ≡ true → xs ≡ xs ++ within name (value_of (l.Int place text))
 nothing_in_range xs name place text is = nothing xs name (l.Int place text) (within_int name place text ∙ rw is refl)
 
-pub no_repeats : (xs : List BadValue) (x : Literal) → repeats x ≡ [] → xs ≡ xs ++ repeats x
+pub no_repeats : (xs : List BadValue) (x : Literal) → repeats (value_of x) ≡ [] → xs ≡ xs ++ repeats (value_of x)
 no_repeats xs x is = rw is (sym (append-nil xs))
 
-pub no_misfits : (xs : List BadValue) (s : Schema) (of_type : Written) (x : Literal) → misfits s of_type x ≡ [] → xs ≡ xs ++ misfits s of_type x
-no_misfits xs s of_type x is = rw is (sym (append-nil xs))
+pub no_misfits : (xs : List BadValue) (look : InputLookup) (t : Written) (x : Literal) → misfits look t (value_of x) ≡ [] → xs ≡ xs ++ misfits look t (value_of x)
+no_misfits xs look t x is = rw is (sym (append-nil xs))
 
--- what was looked at has its names
-pub names_of : (fields : List ObjectField) → map (λ (f : LookedField). f.name) (map looked_field fields) ≡ map (λ (f : ObjectField). f.name) fields
+-- the fields that a literal gives have its names
+pub names_of : (fields : List ObjectField) → map (λ (g : GivenField). g.name) (map given_field fields) ≡ map (λ (f : ObjectField). f.name) fields
 names_of [] = refl
 names_of (f ∷ fields) = ap (λ (ns : List Name). f.name ∷ ns) (names_of fields)

@@ -1,4 +1,9 @@
+pub mod ValueForms
+pub mod Inside
+pub mod Repeating
+pub mod Judged
 pub mod Empties
 pub mod Finding
-pub mod Lacks
+pub mod MissingFields
 pub mod Wholes
+pub mod Agreement

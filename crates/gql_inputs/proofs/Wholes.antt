@@ -1,13 +1,13 @@
 -- Parsing succeeds at just the whole numbers in range.
-use Rattle.std.proofs.Common.{true≢false, Option, Some, None, if◌then◌else◌, ◌≡◌, ◌≢◌, ◌^◌, ◌<◌, ◌≤◌, ◌==◌, ◌&&◌, ℕ, ℤ, List, length, drop, Bool, true, false, refl, sym, ap, ◌∙◌, arith, Ok, Err, Result, nat_lt, nat_le, slice_index, w32, w64}
+use Rattle.std.proofs.Common.{true≢false, Some, None, if◌then◌else◌, ◌≡◌, ◌^◌, ◌<◌, ◌≤◌, ◌==◌, ◌&&◌, ℕ, ℤ, List, length, drop, Bool, true, false, refl, sym, ap, ◌∙◌, arith, Ok, Err, Result, nat_lt, nat_le, slice_index}
 use Rattle.std.specs.Int.{Width}
 use mir.Val.{hbits}
 use Rattle.std.specs.Result.{OkIff, is_ok, result_ok}
 use Rattle.std.specs.Str.{all_ascii_digits}
-use Rattle.std.specs.Str.Parse.{digits_value, ParsesSigned, starts_with_minus, without_leading_sign, without_leading_plus}
+use Rattle.std.specs.Str.Parse.{digits_value, ParsesSigned}
 use Rattle.std.proofs.lemmas.Bool.Decides.{nat_tests}
-use Rattle.std.proofs.lemmas.Str.Parse.{IsNumeralModel, numerals_by_value, tells_all_ascii_digits, parse_signed_minus, parse_signed_plain, parse_signed_plus, without_leading_plus_none, without_leading_plus_plus}
-use Rattle.gql_inputs.specs.Numbers.{is_within, is_whole}
+use Rattle.std.proofs.lemmas.Str.Parse.{IsNumeralModel, numerals_by_value, tells_all_ascii_digits, parse_signed_minus, parse_signed_plain, parse_signed_plus}
+use Rattle.gql_inputs.specs.Numbers.{is_whole}
 
 own : IsNumeralModel (λ ds. all_ascii_digits ds ≡ true) (digits_value 10)
 own = numerals_by_value _ tells_all_ascii_digits

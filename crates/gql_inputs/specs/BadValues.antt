@@ -1,250 +1,297 @@
--- What of a value does not fit its type (GraphQL specification, 5.6): values of correct type (V18), input object field names (V19),
--- their uniqueness (V20), and required fields (V21).
-use Rattle.std.specs.Prelude.{ℕ, List, [], ◌∷◌, ◌++◌, ◌&&◌, ◌||◌, Bool, true, false, not, map, flat_map, find, bytes_eq, Option, Some, None, is_some, nat_eq, length, if◌then◌else◌}
+-- What of a value does not fit its type (GraphQL specification, 5.6): values of correct type (V18),
+-- input object field names (V19), their uniqueness (V20), and required fields (V21). Types are
+-- asked of a look-up, so that a schema and all else that knows input types judge alike.
+use Rattle.std.specs.Prelude.{ℕ, List, [], ◌∷◌, ◌++◌, ◌&&◌, ◌||◌, Bool, true, false, not, map, flat_map, bytes_eq, Option, Some, None, nat_eq, length, if◌then◌else◌}
 use Rattle.std.specs.List.{list_any}
 use Rattle.gql_text.specs.declared.place.Place.{Place}
-use Rattle.gql_ast.specs.declared.literal.Literal.{Literal, fold-Literal}
-use Rattle.gql_ast.specs.declared.literal.ObjectField.{ObjectField}
-use Rattle.gql_ast.specs.declared.literal.Literal.TheOpen.{Literal-F, ObjectField-F}
+use Rattle.gql_ast.specs.declared.literal.Literal.{Literal}
 use Rattle.gql_ast.specs.declared.rule.Rule.{Rule}
 use Rattle.gql_ast.specs.declared.rule.Rule.TheVariants as rule
 use Rattle.gql_ast.specs.declared.text.Name.{Name}
-use Rattle.gql_ast.specs.declared.type_system.InputValueDefinition.{InputValueDefinition}
-use Rattle.gql_ast.specs.declared.type_system.EnumValueDefinition.{EnumValueDefinition}
 use Rattle.gql_built_in.specs.declared.sited.Sited.{Sited}
 use Rattle.gql_faults.specs.Names.{repeated}
-use Rattle.gql_faults.specs.TypeNames.{is_required}
 use Rattle.gql_types.specs.Parts.{sited}
-use Rattle.gql_types.specs.Written.{Written, written}
-use Rattle.gql_types.specs.declared.kind.TypeKind.{TypeKind}
-use Rattle.gql_types.specs.declared.kind.TypeKind.TheVariants as kind
+use Rattle.gql_types.specs.Written.{Written}
 use Rattle.gql_types.specs.declared.schema.Schema.{Schema}
-use Rattle.gql_types.specs.declared.schema_type.SchemaType.{SchemaType}
-use Rattle.gql_inputs.specs.InputTypes.{scalar_named, name_in, item_of, is_list, is_non_null, one_of, text_of, where_input}
+use Rattle.gql_inputs.specs.InputTypes.{name_in, item_of, is_custom, is_list, is_non_null, one_of, text_of}
+use Rattle.gql_inputs.specs.Lookups.{InputForm, scalar, enumeration, input_object, FieldForm, InputLookup, field_named, is_required, in_schema}
 use Rattle.gql_inputs.specs.Numbers.{is_whole}
+use Rattle.gql_inputs.specs.Values.{Value, variable, null, int, float, string, boolean, enum, list, object, Values, no_values, value, Fields, no_fields, field, GivenField, all_fields, value_of, place_of, is_null, may_be_list}
 use Rattle.gql_inputs.specs.declared.bad_value.BadValue.{BadValue}
 use Rattle.gql_inputs.specs.declared.scalar.Scalar.{Scalar}
-use Rattle.gql_inputs.specs.declared.scalar.Scalar.TheVariants as scalar
+use Rattle.gql_inputs.specs.declared.scalar.Scalar.TheVariants as scalars
 
+-- one fault: its rule, its place, and what it is about
 abbrev pub bad : Rule → Place → List ℕ → List BadValue
 bad r place about = record { rule = r; place = place; about = about } ∷ []
 
--- ---- which single values a type takes (3.5, 3.9)
+-- ---- which values without parts an input type takes (3.5, 3.9)
 
+-- Int takes integers of 32 bits, ID and custom scalars those of 64
 abbrev pub scalar_takes_int : List ℕ → Scalar → Bool
-scalar_takes_int text scalar.Int = is_whole 31 text
-scalar_takes_int text scalar.Id = is_whole 63 text
-scalar_takes_int text scalar.Custom = is_whole 63 text
-scalar_takes_int text scalar.String = false
-scalar_takes_int text scalar.Boolean = false
+scalar_takes_int text scalars.Int = is_whole 31 text
+scalar_takes_int text scalars.Id = is_whole 63 text
+scalar_takes_int text scalars.Custom = is_whole 63 text
+scalar_takes_int text scalars.String = false
+scalar_takes_int text scalars.Boolean = false
 
+-- String, ID and custom scalars take strings
 abbrev pub scalar_takes_string : Scalar → Bool
-scalar_takes_string scalar.String = true
-scalar_takes_string scalar.Id = true
-scalar_takes_string scalar.Custom = true
-scalar_takes_string scalar.Int = false
-scalar_takes_string scalar.Boolean = false
+scalar_takes_string scalars.String = true
+scalar_takes_string scalars.Id = true
+scalar_takes_string scalars.Custom = true
+scalar_takes_string scalars.Int = false
+scalar_takes_string scalars.Boolean = false
 
+-- Boolean and custom scalars take true and false
 abbrev pub scalar_takes_boolean : Scalar → Bool
-scalar_takes_boolean scalar.Boolean = true
-scalar_takes_boolean scalar.Custom = true
-scalar_takes_boolean scalar.Int = false
-scalar_takes_boolean scalar.String = false
-scalar_takes_boolean scalar.Id = false
+scalar_takes_boolean scalars.Boolean = true
+scalar_takes_boolean scalars.Custom = true
+scalar_takes_boolean scalars.Int = false
+scalar_takes_boolean scalars.String = false
+scalar_takes_boolean scalars.Id = false
 
-abbrev pub is_custom : Scalar → Bool
-is_custom scalar.Custom = true
-is_custom scalar.Int = false
-is_custom scalar.String = false
-is_custom scalar.Boolean = false
-is_custom scalar.Id = false
+-- a scalar by this, and no other type
+abbrev pub takes_as_scalar : (Scalar → Bool) → InputForm → Bool
+takes_as_scalar takes (scalar s) = takes s
+takes_as_scalar takes (enumeration values) = false
+takes_as_scalar takes (input_object fields) = false
 
-abbrev pub name_of : SchemaType → List ℕ
-name_of t = t.definition.node.name.text
+-- a custom scalar takes any name, and an enum its values
+abbrev pub takes_name : List ℕ → InputForm → Bool
+takes_name name (scalar s) = is_custom s
+takes_name name (enumeration values) = list_any (bytes_eq name) values
+takes_name name (input_object fields) = false
 
--- of a scalar by this, and of other types never
-abbrev pub scalar_takes : (Scalar → Bool) → SchemaType → TypeKind → Bool
-scalar_takes takes t kind.Scalar = takes (scalar_named (name_of t))
-scalar_takes takes t kind.Enum = false
-scalar_takes takes t kind.InputObject = false
-scalar_takes takes t kind.Object = false
-scalar_takes takes t kind.Interface = false
-scalar_takes takes t kind.Union = false
+-- A value without parts. No type takes a number with a fraction or an exponent, since Float is not
+-- built in (this registry's own rule).
+abbrev pub takes : Value → InputForm → Bool
+takes (int p text) i = takes_as_scalar (scalar_takes_int text) i
+takes (float p) i = false
+takes (string p) i = takes_as_scalar scalar_takes_string i
+takes (boolean p) i = takes_as_scalar scalar_takes_boolean i
+takes (enum p name) i = takes_name name i
+takes _ i = true
 
-abbrev pub is_custom_scalar : SchemaType → Bool
-is_custom_scalar t = scalar_takes is_custom t t.kind
+-- a scalar of a schema file
+abbrev pub is_custom_form : InputForm → Bool
+is_custom_form i = takes_as_scalar is_custom i
 
--- an enum takes its values, and a custom scalar any name
-abbrev pub takes_name : List ℕ → SchemaType → TypeKind → Bool
-takes_name name t kind.Enum = list_any (λ (v : Sited EnumValueDefinition). bytes_eq name v.node.name.text) t.values
-takes_name name t kind.Scalar = is_custom (scalar_named (name_of t))
-takes_name name t kind.InputObject = false
-takes_name name t kind.Object = false
-takes_name name t kind.Interface = false
-takes_name name t kind.Union = false
+-- ---- V18: values of correct type
 
--- ---- V18
+-- what is found by the input type that a type names: nothing where that is not known
+abbrev pub of_known : (InputForm → List BadValue) → Option InputForm → List BadValue
+of_known f None = []
+of_known f (Some i) = f i
 
--- the type that is told of: a custom scalar by its name, and others as they are written
-abbrev pub told : SchemaType → Written → List ℕ
-told t of_type = if is_custom_scalar t then name_of t else text_of (one_of of_type)
+-- the same, by a look-up
+abbrev pub where_known : InputLookup → Written → (InputForm → List BadValue) → List BadValue
+where_known look t f = of_known f (look (name_in t))
 
--- a value that is no list, unless the type takes it
-abbrev pub single : Schema → Place → (SchemaType → Bool) → Written → List BadValue
-single s place takes of_type = where_input s of_type (λ (t : SchemaType). if takes t then [] else bad rule.V18 place (told t of_type))
+-- a value that does not fit, where the type is known
+abbrev pub never_fits : InputLookup → Place → Written → List BadValue
+never_fits look p t = where_known look t (λ i. bad rule.V18 p (text_of t))
 
--- null, where it is not taken
-abbrev pub null : Schema → Place → Written → List BadValue
-null s place of_type = where_input s of_type (λ (t : SchemaType). if is_non_null of_type then bad rule.V18 place (text_of of_type) else [])
+-- the type that a fault is about: a custom scalar by its name, another type as it is written for
+-- one value
+abbrev pub expected : Written → InputForm → List ℕ
+expected t i = if is_custom_form i then name_in t else text_of (one_of t)
 
--- ---- a value, as what holds it asks of it
+-- V18 of a value without parts, unless this type takes it
+abbrev pub single_at : Written → Value → InputForm → List BadValue
+single_at t x i = if takes x i then [] else bad rule.V18 (place_of x) (expected t i)
 
-pub record Looked : Type 0 where
-  pub place : Place
-  pub is_null : Bool
-  -- a list, null or a variable, which may stand for a list within a list
-  pub may_be_list : Bool
-  -- V18, V19 and V21 in a schema by the type that is expected
-  pub misfits : Schema → Written → List BadValue
-  -- V18 within a custom scalar of that name
-  pub within_scalar : List ℕ → List BadValue
-  -- V20
-  pub repeats : List BadValue
+-- the same, where the type is known
+abbrev pub single_misfits : InputLookup → Written → Value → List BadValue
+single_misfits look t x = where_known look t (single_at t x)
 
-pub record LookedField : Type 0 where
-  pub name : Name
-  pub value : Looked
+-- null at a Non-Null type
+abbrev pub null_misfits : InputLookup → Place → Written → List BadValue
+null_misfits look p t = if is_non_null t then never_fits look p t else []
 
-abbrev pub leaf : Place → (Schema → Written → List BadValue) → (List ℕ → List BadValue) → Looked
-leaf place misfits within = record { place = place; is_null = false; may_be_list = false; misfits = misfits; within_scalar = within; repeats = [] }
+-- ---- V18 within a custom scalar, by its name: it takes integers of 64 bits and no other numbers
+-- (this registry's own rule)
+
+abbrev mutual
+  -- in a value
+  pub within : List ℕ → Value → List BadValue
+  within name (variable p) = []
+  within name (null p) = []
+  within name (int p text) = if is_whole 63 text then [] else bad rule.V18 p name
+  within name (float p) = bad rule.V18 p name
+  within name (string p) = []
+  within name (boolean p) = []
+  within name (enum p n) = []
+  within name (list p xs) = within_values name xs
+  within name (object p fs) = within_fields name fs
+
+  -- in the items of a list
+  pub within_values : List ℕ → Values → List BadValue
+  within_values name no_values = []
+  within_values name (value x xs) = within name x ++ within_values name xs
+
+  -- in the fields of an object
+  pub within_fields : List ℕ → Fields → List BadValue
+  within_fields name no_fields = []
+  within_fields name (field n x fs) = within name x ++ within_fields name fs
+
+-- a list or an object where another value is expected, about the type of that value
+abbrev pub at_one : Place → Written → List BadValue
+at_one p t = bad rule.V18 p (text_of (one_of t))
 
 -- ---- lists (3.11)
 
--- where one value is expected, about the type of that
-abbrev pub at_one : Place → Written → List BadValue
-at_one place of_type = bad rule.V18 place (text_of (one_of of_type))
+-- a list where none is expected: a custom scalar takes one, by what it holds
+abbrev pub list_at_one : Place → Written → (List ℕ → List BadValue) → InputForm → List BadValue
+list_at_one p t inside i = if is_custom_form i then inside (name_in t) else at_one p t
 
--- no list where a list is expected
-abbrev pub no_list : Schema → Written → Looked → List BadValue
-no_list s item x = where_input s item (λ (t : SchemaType). bad rule.V18 x.place (text_of item))
+-- a list, by the item type of its type, where that is a list type
+abbrev pub list_by : InputLookup → Place → Written → (List ℕ → List BadValue)
+    → (Written → List BadValue) → Option Written → List BadValue
+list_by look p t inside items None = where_known look t (list_at_one p t inside)
+list_by look p t inside items (Some item) = items item
 
 -- an item of a list that is given is not made a list of one
-abbrev pub item_misfits : Schema → Written → Looked → List BadValue
-item_misfits s item x = if is_list item && not x.may_be_list then no_list s item x else x.misfits s item
-
-abbrev pub within_all : List Looked → List ℕ → List BadValue
-within_all items name = flat_map (λ (x : Looked). x.within_scalar name) items
-
--- a list where no list is expected
-abbrev pub list_at_one : List Looked → Place → Written → SchemaType → List BadValue
-list_at_one items place of_type t = if is_custom_scalar t then within_all items (name_of t) else at_one place of_type
-
-abbrev pub list_by : Schema → Place → List Looked → Written → Option Written → List BadValue
-list_by s place items of_type None = where_input s of_type (list_at_one items place of_type)
-list_by s place items of_type (Some item) = flat_map (item_misfits s item) items
+abbrev pub item_by : InputLookup → Written → Value → List BadValue → List BadValue
+item_by look item x misfits =
+    if is_list item && not (may_be_list x) then never_fits look (place_of x) item else misfits
 
 -- ---- input objects (3.10)
 
-abbrev pub by_definition : Schema → LookedField → Option (Sited InputValueDefinition) → List BadValue
-by_definition s f None = bad rule.V19 f.name.place f.name.text
-by_definition s f (Some d) = if f.value.is_null && is_required d.node then [] else f.value.misfits s (written d.node.of_type)
+-- V19 of a field that the type does not have, and else what of the value does not fit the field's
+-- type; null at a required field is reported by V21 alone
+abbrev pub field_by : Name → Value → (Written → List BadValue) → Option FieldForm → List BadValue
+field_by n x misfits None = bad rule.V19 n.place n.text
+field_by n x misfits (Some f) = if is_null x && is_required f then [] else misfits f.of_type
 
-abbrev pub field_misfits : Schema → SchemaType → LookedField → List BadValue
-field_misfits s t f = by_definition s f (find (λ (d : Sited InputValueDefinition). bytes_eq f.name.text d.node.name.text) t.input_fields)
+-- a field of this name is given
+abbrev pub is_given : List GivenField → List ℕ → Bool
+is_given given name = list_any (λ (g : GivenField). bytes_eq name g.name.text) given
 
-abbrev pub is_given : List LookedField → List ℕ → Bool
-is_given fields name = list_any (λ (f : LookedField). bytes_eq name f.name.text) fields
-
-abbrev pub is_null_given : List LookedField → List ℕ → Bool
-is_null_given fields name = list_any (λ (f : LookedField). bytes_eq name f.name.text && f.value.is_null) fields
+-- a field of this name is given as null
+abbrev pub is_null_given : List GivenField → List ℕ → Bool
+is_null_given given name =
+    list_any (λ (g : GivenField). bytes_eq name g.name.text && is_null g.value) given
 
 -- not given, or given as null
 abbrev pub lacks : Bool → Bool → Bool
 lacks is_there is_null = not is_there || is_null
 
-abbrev pub is_lacking : List LookedField → List ℕ → Bool
-is_lacking fields name = lacks (is_given fields name) (is_null_given fields name)
+-- V21 of a field, if it is required and missing
+abbrev pub missing_if : Bool → Place → FieldForm → List BadValue
+missing_if is_missing p f = if is_required f && is_missing then bad rule.V21 p f.name else []
 
-abbrev pub lacking_if : Bool → Place → Sited InputValueDefinition → List BadValue
-lacking_if is_lacked place d = if is_required d.node && is_lacked then bad rule.V21 place d.node.name.text else []
+-- V21 of one field of the type, by what an object gives
+abbrev pub missing : Place → List GivenField → FieldForm → List BadValue
+missing p given f = missing_if (lacks (is_given given f.name) (is_null_given given f.name)) p f
 
-abbrev pub lacking : Place → List LookedField → Sited InputValueDefinition → List BadValue
-lacking place fields d = lacking_if (is_lacking fields d.node.name.text) place d
+-- an object where a scalar is expected: a custom one takes it, by what it holds
+abbrev pub object_at_scalar : Place → Written → (List ℕ → List BadValue) → Scalar → List BadValue
+object_at_scalar p t inside s = if is_custom s then inside (name_in t) else at_one p t
 
--- a custom scalar takes an object, by what it holds
-abbrev pub object_at_scalar : Place → List LookedField → Written → SchemaType → List BadValue
-object_at_scalar place fields of_type t = if is_custom_scalar t then flat_map (λ (f : LookedField). f.value.within_scalar (name_of t)) fields else at_one place of_type
+-- an object, by what its type is
+abbrev pub object_by : Place → Written → List GivenField → (List ℕ → List BadValue)
+    → (List FieldForm → List BadValue) → InputForm → List BadValue
+object_by p t given inside misfits (scalar s) = object_at_scalar p t inside s
+object_by p t given inside misfits (enumeration values) = at_one p t
+object_by p t given inside misfits (input_object fields) =
+    misfits fields ++ flat_map (missing p given) fields
 
-abbrev pub object_by : Schema → Place → List LookedField → Written → SchemaType → TypeKind → List BadValue
-object_by s place fields of_type t kind.InputObject = flat_map (field_misfits s t) fields ++ flat_map (lacking place fields) t.input_fields
-object_by s place fields of_type t kind.Scalar = object_at_scalar place fields of_type t
-object_by s place fields of_type t kind.Enum = at_one place of_type
-object_by s place fields of_type t kind.Object = []
-object_by s place fields of_type t kind.Interface = []
-object_by s place fields of_type t kind.Union = []
+-- ---- V18, V19 and V21 of a value, by the type that is expected
 
--- ---- V20, in every object
+abbrev mutual
+  -- of a value; a variable is judged by its own type elsewhere
+  pub misfits : InputLookup → Written → Value → List BadValue
+  misfits look t (variable p) = []
+  misfits look t (null p) = null_misfits look p t
+  misfits look t (int p text) = single_misfits look t (int p text)
+  misfits look t (float p) = single_misfits look t (float p)
+  misfits look t (string p) = single_misfits look t (string p)
+  misfits look t (boolean p) = single_misfits look t (boolean p)
+  misfits look t (enum p name) = single_misfits look t (enum p name)
+  misfits look t (list p xs) = list_by look p t (λ name. within_values name xs)
+      (λ item. items_misfits look item xs) (item_of t)
+  misfits look t (object p fs) = where_known look t
+      (object_by p t (all_fields fs) (λ name. within_fields name fs)
+      (λ fields. fields_misfits look fields fs))
 
+  -- of the items of a list, by their type
+  pub items_misfits : InputLookup → Written → Values → List BadValue
+  items_misfits look item no_values = []
+  items_misfits look item (value x xs) =
+      item_by look item x (misfits look item x) ++ items_misfits look item xs
+
+  -- of the fields of an object, by the fields of its type
+  pub fields_misfits : InputLookup → List FieldForm → Fields → List BadValue
+  fields_misfits look fields no_fields = []
+  fields_misfits look fields (field n x fs) =
+      field_by n x (λ t. misfits look t x) (field_named fields n.text)
+      ++ fields_misfits look fields fs
+
+-- of a list
+abbrev pub list_misfits : InputLookup → Place → Written → Values → List BadValue
+list_misfits look p t xs = list_by look p t (λ name. within_values name xs)
+    (λ item. items_misfits look item xs) (item_of t)
+
+-- of an object
+abbrev pub object_misfits : InputLookup → Place → Written → Fields → List BadValue
+object_misfits look p t fs = where_known look t
+    (object_by p t (all_fields fs) (λ name. within_fields name fs)
+    (λ fields. fields_misfits look fields fs))
+
+-- of one item of a list
+abbrev pub item_misfits : InputLookup → Written → Value → List BadValue
+item_misfits look item x = item_by look item x (misfits look item x)
+
+-- of one field of an object
+abbrev pub field_misfits : InputLookup → List FieldForm → GivenField → List BadValue
+field_misfits look fields g =
+    field_by g.name g.value (λ t. misfits look t g.value) (field_named fields g.name.text)
+
+-- ---- V20, in every object, whatever is expected
+
+-- one of the fields of one name
 abbrev pub repeat : Sited Name → List BadValue
 repeat n = bad rule.V20 n.node.place n.node.text
 
-abbrev pub field_repeats : List LookedField → List BadValue
-field_repeats fields = flat_map repeat (repeated (sited None (map (λ (f : LookedField). f.name) fields)))
+-- the fields of one object whose name another one has too
+abbrev pub field_repeats : List GivenField → List BadValue
+field_repeats given =
+    flat_map repeat (repeated (sited None (map (λ (g : GivenField). g.name) given)))
 
--- ---- each form of a value
+abbrev mutual
+  -- in a value: an object's own come before those within its fields
+  pub repeats : Value → List BadValue
+  repeats (variable p) = []
+  repeats (null p) = []
+  repeats (int p text) = []
+  repeats (float p) = []
+  repeats (string p) = []
+  repeats (boolean p) = []
+  repeats (enum p name) = []
+  repeats (list p xs) = repeats_in_values xs
+  repeats (object p fs) = field_repeats (all_fields fs) ++ repeats_in_fields fs
 
-abbrev pub looked_at : Literal-F Looked LookedField → Looked
-looked_at (Literal-F.Variable place name) = record { place = place; is_null = false; may_be_list = true; misfits = λ s t. []; within_scalar = λ n. []; repeats = [] }
-looked_at (Literal-F.Null place) = record { place = place; is_null = true; may_be_list = true; misfits = λ s. null s place; within_scalar = λ n. []; repeats = [] }
-looked_at (Literal-F.Int place text) = leaf place (λ s. single s place (λ (t : SchemaType). scalar_takes (scalar_takes_int text) t t.kind))
-    (λ n. if is_whole 63 text then [] else bad rule.V18 place n)
-looked_at (Literal-F.Float place text) = leaf place (λ s. single s place (λ t. false)) (λ n. bad rule.V18 place n)
-looked_at (Literal-F.String place value) = leaf place (λ s. single s place (λ (t : SchemaType). scalar_takes scalar_takes_string t t.kind)) (λ n. [])
-looked_at (Literal-F.Boolean place value) = leaf place (λ s. single s place (λ (t : SchemaType). scalar_takes scalar_takes_boolean t t.kind)) (λ n. [])
-looked_at (Literal-F.Enum place name) = leaf place (λ s. single s place (λ (t : SchemaType). takes_name name t t.kind)) (λ n. [])
-looked_at (Literal-F.List place items) = record {
-  place = place;
-  is_null = false;
-  may_be_list = true;
-  misfits = λ s t. list_by s place items t (item_of t);
-  within_scalar = within_all items;
-  repeats = flat_map (λ (x : Looked). x.repeats) items;
-}
-looked_at (Literal-F.Object place fields) = record {
-  place = place;
-  is_null = false;
-  may_be_list = false;
-  misfits = λ s of_type. where_input s of_type (λ (t : SchemaType). object_by s place fields of_type t t.kind);
-  within_scalar = λ n. flat_map (λ (f : LookedField). f.value.within_scalar n) fields;
-  repeats = field_repeats fields ++ flat_map (λ (f : LookedField). f.value.repeats) fields;
-}
+  -- in the items of a list
+  pub repeats_in_values : Values → List BadValue
+  repeats_in_values no_values = []
+  repeats_in_values (value x xs) = repeats x ++ repeats_in_values xs
 
-abbrev pub looked_in : ObjectField-F Looked LookedField → LookedField
-looked_in f = record { name = f.name; value = f.value }
-
-unfoldable pub looked : Literal → Looked
-looked = fold-Literal Looked LookedField looked_at looked_in
-
-abbrev pub looked_field : ObjectField → LookedField
-looked_field f = record { name = f.name; value = looked f.value }
+  -- in the fields of an object
+  pub repeats_in_fields : Fields → List BadValue
+  repeats_in_fields no_fields = []
+  repeats_in_fields (field n x fs) = repeats x ++ repeats_in_fields fs
 
 -- ---- what does not fit
 
--- within a custom scalar of that name
-abbrev pub within : List ℕ → Literal → List BadValue
-within name x = (looked x).within_scalar name
+-- what of a value does not fit a type, by a look-up of input types
+abbrev pub bad_values_by : InputLookup → Value → Written → List BadValue
+bad_values_by look x t = misfits look t x ++ repeats x
 
--- fields that stand more than once in an object, each time
-abbrev pub repeats : Literal → List BadValue
-repeats x = (looked x).repeats
-
--- all other values, by the type that is expected
-abbrev pub misfits : Schema → Written → Literal → List BadValue
-misfits s of_type x = (looked x).misfits s of_type
-
+-- what of a literal does not fit a type of a schema
 abbrev pub bad_values : Schema → Literal → Written → List BadValue
-bad_values s x of_type = misfits s of_type x ++ repeats x
+bad_values s x t = bad_values_by (in_schema s) (value_of x) t
 
--- nothing of it does not fit
+-- a literal fits a type of a schema where nothing of it is bad
 abbrev pub fits : Schema → Literal → Written → Bool
-fits s x of_type = nat_eq (length (bad_values s x of_type)) 0
+fits s x t = nat_eq (length (bad_values s x t)) 0

@@ -1,5 +1,5 @@
 -- What a type asks of an input (GraphQL specification, 3.5, 3.9 to 3.12).
-use Rattle.std.specs.Prelude.{ℕ, List, [], ◌∷◌, ◌++◌, Bool, true, false, codes, bytes_eq, Option, Some, None, option_and_then, if◌then◌else◌}
+use Rattle.std.specs.Prelude.{ℕ, List, ◌++◌, Bool, true, false, codes, bytes_eq, Option, Some, None, option_and_then, if◌then◌else◌}
 use Rattle.gql_types.specs.Schemas.{type_named}
 use Rattle.gql_types.specs.Written.{Written, named, listed, required}
 use Rattle.gql_types.specs.declared.kind.TypeKind.{TypeKind}
@@ -9,7 +9,7 @@ use Rattle.gql_types.specs.declared.schema_type.SchemaType.{SchemaType}
 use Rattle.gql_inputs.specs.declared.scalar.Scalar.{Scalar}
 use Rattle.gql_inputs.specs.declared.scalar.Scalar.TheVariants as scalar
 
--- which scalar a name names: one that is built in, or a custom one
+-- the scalar of a name: one that is built in, or a custom one
 abbrev pub scalar_named : List ℕ → Scalar
 scalar_named name = if bytes_eq name (codes "Int") then scalar.Int
     else if bytes_eq name (codes "String") then scalar.String
@@ -35,17 +35,20 @@ is_list (named n) = false
 is_list (listed t) = true
 is_list (required t) = is_list t
 
+-- a Non-Null type
 abbrev pub is_non_null : Written → Bool
 is_non_null (required t) = true
 is_non_null (listed t) = false
 is_non_null (named n) = false
 
--- the type that is expected of a value that is no list: of a list of one, and of a list of one in it, that of the item
+-- the same, where Non-Null marks were passed last or were not
 abbrev pub one_of_from : Bool → Written → Written
 one_of_from marked (named n) = if marked then required (named n) else named n
 one_of_from marked (listed t) = one_of_from false t
 one_of_from marked (required t) = one_of_from true t
 
+-- the type that is expected of a single value: where it is made a list, the type of the item,
+-- however many lists there are (3.11)
 abbrev pub one_of : Written → Written
 one_of = one_of_from false
 
@@ -64,6 +67,7 @@ is_input kind.Object = false
 is_input kind.Interface = false
 is_input kind.Union = false
 
+-- a type, if it is an input type
 abbrev pub if_input : SchemaType → Option SchemaType
 if_input t = if is_input t.kind then Some t else None
 
@@ -71,10 +75,27 @@ if_input t = if is_input t.kind then Some t else None
 abbrev pub input_type : Schema → Written → Option SchemaType
 input_type s of_type = option_and_then if_input (type_named s (name_in of_type))
 
--- what is told of a type that is known, and nothing of others
-abbrev pub of_known : {A : Type 0} → (SchemaType → List A) → Option SchemaType → List A
-of_known f None = []
-of_known f (Some t) = f t
+-- the name of a type
+abbrev pub name_of : SchemaType → List ℕ
+name_of t = t.definition.node.name.text
 
-abbrev pub where_input : {A : Type 0} → Schema → Written → (SchemaType → List A) → List A
-where_input s of_type f = of_known f (input_type s of_type)
+-- a scalar of a schema file, not one that is built in
+abbrev pub is_custom : Scalar → Bool
+is_custom scalar.Custom = true
+is_custom scalar.Int = false
+is_custom scalar.String = false
+is_custom scalar.Boolean = false
+is_custom scalar.Id = false
+
+-- by a type's name, where its kind is Scalar
+abbrev pub is_custom_at : List ℕ → TypeKind → Bool
+is_custom_at name kind.Scalar = is_custom (scalar_named name)
+is_custom_at name kind.Enum = false
+is_custom_at name kind.InputObject = false
+is_custom_at name kind.Object = false
+is_custom_at name kind.Interface = false
+is_custom_at name kind.Union = false
+
+-- a type that is a scalar of a schema file
+abbrev pub is_custom_scalar : SchemaType → Bool
+is_custom_scalar t = is_custom_at (name_of t) t.kind

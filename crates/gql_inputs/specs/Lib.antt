@@ -1,6 +1,6 @@
-pub mod InputTypes
 pub mod Numbers
+pub mod InputTypes
+pub mod Values
+pub mod Lookups
 pub mod BadValues
-pub mod Looking
-pub mod Within
-pub mod Misfits
+pub mod Agreement

@@ -1,18 +1,39 @@
 //! Whether a value fits a type, and what of it does not (GraphQL specification, 5.6).
-ghost use Rattle.std.specs.Prelude.{◌≡◌, IfOk};
+ghost use Rattle.std.specs.Prelude.{◌≡◌, ◌++◌, IfOk, OnOk};
 ghost use Rattle.gql_types.specs.Written.{written};
 ghost use Rattle.gql_inputs.specs.BadValues as spec;
+ghost use Rattle.gql_inputs.specs.Values.{value_of};
 
 use crate::bad_value::BadValue;
+use crate::input_types::InputTypes;
 use crate::misfits::add_misfits;
+use crate::of_schema::OfSchema;
 use crate::repeats::add_repeats;
 use gql_ast::{Literal, TypeRef};
 use gql_types::Schema;
 use std::alloc::{AllocError, Global};
 
-/// What of a value does not fit the type that is expected (GraphQL specification, 5.6): values of another type (V18), fields that
-/// are not known (V19), that stand more than once (V20), and required fields that are not given (V21). Under a type that is not
-/// known, V20 alone is found.
+/// Adds what of a value does not fit the type that is expected (GraphQL specification, 5.6), where
+/// `types` says what input types are: values of another type (V18), fields that are not known (V19),
+/// that occur more than once (V20), and required fields that are not given (V21). Under a type that
+/// is not known, V20 alone is found. If the call fails, `found` may hold a part of them.
+pub fn add_bad_values<A: InputTypes>(
+    alloc: Global,
+    types: &mut A,
+    value: &Literal,
+    of_type: &TypeRef,
+    found: &mut Vec<BadValue>,
+) -> Result<(), AllocError>
+    ensures look { A.look types.new ≡ A.look types.old }
+    ensures kept { A.kept types.new ≡ A.kept types.old }
+    ensures found { OnOk result (found.new.items ≡ found.old.items
+        ++ spec.bad_values_by (A.look types.old) (value_of value.now) (written of_type.now)) }
+{
+    add_misfits(alloc, value, types, of_type, found)?;
+    add_repeats(alloc, value, found)
+}
+
+/// What of a value does not fit a type of a schema, as `add_bad_values` finds it.
 pub fn bad_values(
     alloc: Global,
     schema: &Schema,
@@ -22,12 +43,12 @@ pub fn bad_values(
     ensures { IfOk result (λ found. found.items ≡ spec.bad_values schema.now value.now (written of_type.now)) }
 {
     let mut found = Vec::new(alloc);
-    add_misfits(alloc, value, schema, of_type, &mut found)?;
-    add_repeats(alloc, value, &mut found)?;
+    let mut types = OfSchema { schema };
+    add_bad_values(alloc, &mut types, value, of_type, &mut found)?;
     Ok(found)
 }
 
-/// Whether a value fits the type that is expected: whether nothing of it does not.
+/// Whether a value fits a type of a schema: whether nothing of it does not.
 pub fn fits(
     alloc: Global,
     schema: &Schema,

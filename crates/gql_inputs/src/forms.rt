@@ -1,14 +1,14 @@
 //! What a value is, whatever is expected of it.
 ghost use Rattle.std.specs.Prelude.{◌≡◌};
-ghost use Rattle.gql_inputs.specs.BadValues as spec;
+ghost use Rattle.gql_inputs.specs.Values as spec;
 
 use gql_ast::Literal;
 use gql_text::Place;
 
 /// Where a value starts.
-#[tactic(auto, using(crate::specs::Looking::looked_variable, crate::specs::Looking::looked_int, crate::specs::Looking::looked_float, crate::specs::Looking::looked_string, crate::specs::Looking::looked_boolean, crate::specs::Looking::looked_null, crate::specs::Looking::looked_enum, crate::specs::Looking::looked_list, crate::specs::Looking::looked_object))]
+#[tactic(auto, using(crate::proofs::ValueForms::value_variable, crate::proofs::ValueForms::value_int, crate::proofs::ValueForms::value_float, crate::proofs::ValueForms::value_string, crate::proofs::ValueForms::value_boolean, crate::proofs::ValueForms::value_null, crate::proofs::ValueForms::value_enum, crate::proofs::ValueForms::value_list, crate::proofs::ValueForms::value_object))]
 pub fn place_of(value: &Literal) -> Place
-    ensures { result ≡ (spec.looked value.now).place }
+    ensures { result ≡ spec.place_of (spec.value_of value.now) }
 {
     match value {
         Literal::Variable { place, .. }
@@ -24,9 +24,9 @@ pub fn place_of(value: &Literal) -> Place
 }
 
 /// Whether a value is `null`.
-#[tactic(auto, using(crate::specs::Looking::looked_variable, crate::specs::Looking::looked_int, crate::specs::Looking::looked_float, crate::specs::Looking::looked_string, crate::specs::Looking::looked_boolean, crate::specs::Looking::looked_null, crate::specs::Looking::looked_enum, crate::specs::Looking::looked_list, crate::specs::Looking::looked_object))]
+#[tactic(auto, using(crate::proofs::ValueForms::value_variable, crate::proofs::ValueForms::value_int, crate::proofs::ValueForms::value_float, crate::proofs::ValueForms::value_string, crate::proofs::ValueForms::value_boolean, crate::proofs::ValueForms::value_null, crate::proofs::ValueForms::value_enum, crate::proofs::ValueForms::value_list, crate::proofs::ValueForms::value_object))]
 pub fn is_null(value: &Literal) -> bool
-    ensures { result ≡ (spec.looked value.now).is_null }
+    ensures { result ≡ spec.is_null (spec.value_of value.now) }
 {
     match value {
         Literal::Null { .. } => true,
@@ -41,10 +41,10 @@ pub fn is_null(value: &Literal) -> bool
     }
 }
 
-/// Whether a value may stand for a list within a list: a list, `null` or a variable.
-#[tactic(auto, using(crate::specs::Looking::looked_variable, crate::specs::Looking::looked_int, crate::specs::Looking::looked_float, crate::specs::Looking::looked_string, crate::specs::Looking::looked_boolean, crate::specs::Looking::looked_null, crate::specs::Looking::looked_enum, crate::specs::Looking::looked_list, crate::specs::Looking::looked_object))]
+/// Whether a value may stand for a list within a list: a list, `null` or a variable (3.11).
+#[tactic(auto, using(crate::proofs::ValueForms::value_variable, crate::proofs::ValueForms::value_int, crate::proofs::ValueForms::value_float, crate::proofs::ValueForms::value_string, crate::proofs::ValueForms::value_boolean, crate::proofs::ValueForms::value_null, crate::proofs::ValueForms::value_enum, crate::proofs::ValueForms::value_list, crate::proofs::ValueForms::value_object))]
 pub fn may_be_list(value: &Literal) -> bool
-    ensures { result ≡ (spec.looked value.now).may_be_list }
+    ensures { result ≡ spec.may_be_list (spec.value_of value.now) }
 {
     match value {
         Literal::List { .. } | Literal::Null { .. } | Literal::Variable { .. } => true,

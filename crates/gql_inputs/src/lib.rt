@@ -1,12 +1,16 @@
-//! What of a literal does not fit a type of a schema, and where it stands (GraphQL specification, 5.6).
+//! What of a literal does not fit a type, and where it is (GraphQL specification, 5.6). Types are
+//! asked of a schema, or of anything else that knows input types.
 #![tactic(auto)]
 
 mod bad_value;
 mod fitting;
 mod forms;
-mod lacking;
+mod input_types;
+pub mod laws;
 mod misfits;
+mod missing;
 mod numbers;
+mod of_schema;
 mod repeats;
 mod scalar;
 mod singles;
@@ -15,8 +19,10 @@ mod types;
 mod within;
 
 pub use bad_value::BadValue;
-pub use fitting::{bad_values, fits};
+pub use fitting::{add_bad_values, bad_values, fits};
+pub use forms::place_of;
+pub use input_types::{InputField, InputKind, InputType, InputTypes};
 pub use numbers::whole_number;
+pub use of_schema::{OfSchema, SchemaInputType};
 pub use scalar::{Scalar, scalar_named};
-pub use singles::is_custom_scalar;
-pub use types::{input_type, is_list, is_non_null, item_of, name_in};
+pub use types::{input_type, is_custom_scalar, is_list, is_non_null, item_of, name_in};

@@ -1,43 +1,64 @@
 //! Values that do not fit the type that is expected (GraphQL specification, 5.6.1, 5.6.2 and 5.6.4).
-ghost use Rattle.std.specs.Prelude.{◌≡◌, ◌++◌, map, flat_map, OnOk};
-ghost use Rattle.gql_types.specs.Written.{written};
-ghost use Rattle.gql_types.specs.declared.schema_type.SchemaType.{SchemaType as AType};
+ghost use Rattle.std.specs.Prelude.{◌≡◌, ◌++◌, ℕ, List, is_some, map, flat_map, IfOk, OnOk};
+ghost use Rattle.gql_ast.specs.declared.literal.Literal.{Literal as AValue};
+ghost use Rattle.gql_types.specs.Written.{Written, written};
 ghost use Rattle.gql_inputs.specs.BadValues as spec;
-ghost use Rattle.gql_inputs.specs.InputTypes.{item_of as item_of_type, where_input};
+ghost use Rattle.gql_inputs.specs.InputTypes.{item_of as item_of_type, name_in as name_of_type};
+ghost use Rattle.gql_inputs.specs.Lookups.{FieldForm, fields_in};
+ghost use Rattle.gql_inputs.specs.Values.{fields_of, given_field, value_of, values_of};
 
-use crate::bad_value::BadValue;
+use crate::bad_value::{BadValue, add_bad};
 use crate::forms::{is_null, may_be_list, place_of};
-use crate::lacking::add_lacking;
-use crate::singles::{
-    add_bad, add_boolean, add_float, add_int, add_name, add_string, is_custom_scalar,
-};
+use crate::input_types::{InputField, InputKind, InputType, InputTypes};
+use crate::missing::{add_missing, is_required};
+use crate::scalar::{Scalar, is_custom};
+use crate::singles::{add_single, is_custom_type};
 use crate::texts::type_text;
-use crate::types::{input_type, is_list, is_non_null, item_of, one_of};
+use crate::types::{is_list, is_non_null, item_of, name_in, one_of};
 use crate::within::{add_within_all, add_within_fields};
 use gql_ast::{Literal, ObjectField, Rule, TypeRef};
-use gql_faults::is_required;
 use gql_text::Place;
-use gql_types::{HasName, Schema, SchemaType, TypeKind};
 use std::alloc::{AllocError, Global};
 
-fn add_null(
+// Adds a value that does not fit, where the type is known.
+fn add_if_known<A: InputTypes>(
     alloc: Global,
-    schema: &Schema,
     place: Place,
+    types: &mut A,
     of_type: &TypeRef,
     found: &mut Vec<BadValue>,
 ) -> Result<(), AllocError>
-    ensures { OnOk result (found.new.items ≡ found.old.items ++ spec.null schema.now place (written of_type.now)) }
+    ensures look { A.look types.new ≡ A.look types.old }
+    ensures kept { A.kept types.new ≡ A.kept types.old }
+    ensures found { OnOk result (found.new.items ≡ found.old.items
+        ++ spec.never_fits (A.look types.old) place (written of_type.now)) }
 {
-    if input_type(schema, of_type).is_some() {
-        if is_non_null(of_type) {
-            add_bad(Rule::V18, place, type_text(alloc, of_type)?, found)?;
-        }
+    if types.input_type(alloc, name_in(of_type))?.is_some() {
+        add_bad(Rule::V18, place, type_text(alloc, of_type)?, found)?;
     }
     Ok(())
 }
 
-/// Adds a value that is bad where one value is expected, about the type of that.
+// Adds null, where the type is Non-Null.
+fn add_null<A: InputTypes>(
+    alloc: Global,
+    place: Place,
+    types: &mut A,
+    of_type: &TypeRef,
+    found: &mut Vec<BadValue>,
+) -> Result<(), AllocError>
+    ensures look { A.look types.new ≡ A.look types.old }
+    ensures kept { A.kept types.new ≡ A.kept types.old }
+    ensures found { OnOk result (found.new.items ≡ found.old.items
+        ++ spec.null_misfits (A.look types.old) place (written of_type.now)) }
+{
+    if is_non_null(of_type) {
+        add_if_known(alloc, place, types, of_type, found)?;
+    }
+    Ok(())
+}
+
+// Adds a list or an object where another value is expected, about the type of that value.
 fn add_at_one(
     alloc: Global,
     place: Place,
@@ -49,21 +70,25 @@ fn add_at_one(
     add_bad(Rule::V18, place, type_text(alloc, one_of(of_type))?, found)
 }
 
-#[tactic(auto, using(crate::specs::Within::within_all_is))]
-fn add_list_at_one(
+// Adds what of a list does not fit a type that is not a list.
+#[tactic(auto, using(crate::proofs::Inside::within_values_is))]
+fn add_list_at_one<A: InputTypes>(
     alloc: Global,
-    schema: &Schema,
-    place: Place,
     items: &[Literal],
+    place: Place,
+    types: &mut A,
     of_type: &TypeRef,
     found: &mut Vec<BadValue>,
 ) -> Result<(), AllocError>
-    ensures { OnOk result (found.new.items ≡ found.old.items
-        ++ where_input schema.now (written of_type.now) (spec.list_at_one (map spec.looked items.now) place (written of_type.now))) }
+    ensures look { A.look types.new ≡ A.look types.old }
+    ensures kept { A.kept types.new ≡ A.kept types.old }
+    ensures found { OnOk result (found.new.items ≡ found.old.items
+        ++ spec.where_known (A.look types.old) (written of_type.now)
+        (spec.list_at_one place (written of_type.now) (λ name. spec.within_values name (values_of (map value_of items.now))))) }
 {
-    if let Some(found_type) = input_type(schema, of_type) {
-        if is_custom_scalar(found_type) {
-            add_within_all(alloc, items, found_type.name(), found)?;
+    if let Some(found_type) = types.input_type(alloc, name_in(of_type))? {
+        if is_custom_type(&found_type) {
+            add_within_all(alloc, items, name_in(of_type), found)?;
         } else {
             add_at_one(alloc, place, of_type, found)?;
         }
@@ -71,195 +96,195 @@ fn add_list_at_one(
     Ok(())
 }
 
-/// Adds what of a value does not fit the type.
+/// Adds what of a value does not fit the type, except for fields that occur more than once.
 #[cycle(misfits)]
-#[tactic(auto, using(crate::specs::Misfits::misfits_variable, crate::specs::Misfits::misfits_int, crate::specs::Misfits::misfits_float, crate::specs::Misfits::misfits_string, crate::specs::Misfits::misfits_boolean, crate::specs::Misfits::misfits_null, crate::specs::Misfits::misfits_enum, crate::specs::Misfits::misfits_list, crate::specs::Misfits::misfits_object, crate::proofs::Empties::no_misfits))]
-pub fn add_misfits(
+#[tactic(auto, using(crate::proofs::Judged::misfits_variable, crate::proofs::Judged::misfits_int, crate::proofs::Judged::misfits_float, crate::proofs::Judged::misfits_string, crate::proofs::Judged::misfits_boolean, crate::proofs::Judged::misfits_null, crate::proofs::Judged::misfits_enum, crate::proofs::Judged::misfits_list, crate::proofs::Judged::misfits_object, crate::proofs::Empties::no_misfits))]
+pub fn add_misfits<A: InputTypes>(
     alloc: Global,
     value: &Literal,
-    schema: &Schema,
+    types: &mut A,
     of_type: &TypeRef,
     found: &mut Vec<BadValue>,
 ) -> Result<(), AllocError>
-    ensures { OnOk result (found.new.items ≡ found.old.items ++ spec.misfits schema.now (written of_type.now) value.now) }
+    ensures look { A.look types.new ≡ A.look types.old }
+    ensures kept { A.kept types.new ≡ A.kept types.old }
+    ensures found { OnOk result (found.new.items ≡ found.old.items
+        ++ spec.misfits (A.look types.old) (written of_type.now) (value_of value.now)) }
 {
     match value {
-        Literal::Variable { .. } => {}
-        Literal::Int { place, text } => {
-            add_int(alloc, schema, *place, text.as_str(), of_type, found)?;
-        }
-        Literal::Float { place, .. } => add_float(alloc, schema, *place, of_type, found)?,
-        Literal::String { place, .. } => add_string(alloc, schema, *place, of_type, found)?,
-        Literal::Boolean { place, .. } => add_boolean(alloc, schema, *place, of_type, found)?,
-        Literal::Null { place } => add_null(alloc, schema, *place, of_type, found)?,
-        Literal::Enum { place, name } => {
-            add_name(alloc, schema, *place, name.as_str(), of_type, found)?;
-        }
+        Literal::Variable { .. } => Ok(()),
+        Literal::Null { place } => add_null(alloc, *place, types, of_type, found),
+        Literal::Int { .. }
+        | Literal::Float { .. }
+        | Literal::String { .. }
+        | Literal::Boolean { .. }
+        | Literal::Enum { .. } => add_single(alloc, value, types, of_type, found),
         Literal::List { place, items } => {
-            add_list(alloc, items.as_slice(), *place, schema, of_type, found)?;
+            add_list(alloc, items.as_slice(), *place, types, of_type, found)
         }
         Literal::Object { place, fields } => {
-            add_object(alloc, fields.as_slice(), *place, schema, of_type, found)?;
+            add_object(alloc, fields.as_slice(), *place, types, of_type, found)
         }
     }
-    Ok(())
 }
 
+// Adds what of a list does not fit.
 #[cycle(misfits)]
-fn add_list(
+#[tactic(auto, using(crate::proofs::Judged::items_misfits_is))]
+fn add_list<A: InputTypes>(
     alloc: Global,
     items: &[Literal],
     place: Place,
-    schema: &Schema,
+    types: &mut A,
     of_type: &TypeRef,
     found: &mut Vec<BadValue>,
 ) -> Result<(), AllocError>
-    ensures { OnOk result (found.new.items ≡ found.old.items
-        ++ spec.list_by schema.now place (map spec.looked items.now) (written of_type.now) (item_of_type (written of_type.now))) }
+    ensures look { A.look types.new ≡ A.look types.old }
+    ensures kept { A.kept types.new ≡ A.kept types.old }
+    ensures found { OnOk result (found.new.items ≡ found.old.items
+        ++ spec.list_misfits (A.look types.old) place (written of_type.now) (values_of (map value_of items.now))) }
 {
     match item_of(of_type) {
-        Some(item_type) => add_items(alloc, items, schema, item_type, found)?,
-        None => add_list_at_one(alloc, schema, place, items, of_type, found)?,
+        Some(item_type) => add_items(alloc, items, types, item_type, found),
+        None => add_list_at_one(alloc, items, place, types, of_type, found),
     }
-    Ok(())
 }
 
+// Adds what of the items of a list does not fit their type.
 #[cycle(misfits)]
-fn add_items(
+fn add_items<A: InputTypes>(
     alloc: Global,
     items: &[Literal],
-    schema: &Schema,
+    types: &mut A,
     of_type: &TypeRef,
     found: &mut Vec<BadValue>,
 ) -> Result<(), AllocError>
-    ensures { OnOk result (found.new.items ≡ found.old.items
-        ++ flat_map (spec.item_misfits schema.now (written of_type.now)) (map spec.looked items.now)) }
+    ensures look { A.look types.new ≡ A.look types.old }
+    ensures kept { A.kept types.new ≡ A.kept types.old }
+    ensures found { OnOk result (found.new.items ≡ found.old.items
+        ++ flat_map (λ (x : AValue). spec.item_misfits (A.look types.old) (written of_type.now) (value_of x)) items.now) }
 {
     for item in items {
-        add_item(alloc, item, schema, of_type, found)?;
+        add_item(alloc, item, types, of_type, found)?;
     }
     Ok(())
 }
 
+// Adds what of one item does not fit. An item of a list that is given is not made a list of one.
 #[cycle(misfits)]
-fn add_item(
+fn add_item<A: InputTypes>(
     alloc: Global,
     item: &Literal,
-    schema: &Schema,
+    types: &mut A,
     of_type: &TypeRef,
     found: &mut Vec<BadValue>,
 ) -> Result<(), AllocError>
-    ensures { OnOk result (found.new.items ≡ found.old.items ++ spec.item_misfits schema.now (written of_type.now) (spec.looked item.now)) }
+    ensures look { A.look types.new ≡ A.look types.old }
+    ensures kept { A.kept types.new ≡ A.kept types.old }
+    ensures found { OnOk result (found.new.items ≡ found.old.items
+        ++ spec.item_misfits (A.look types.old) (written of_type.now) (value_of item.now)) }
 {
     if is_list(of_type) && !may_be_list(item) {
-        add_no_list(alloc, item, schema, of_type, found)?;
+        add_if_known(alloc, place_of(item), types, of_type, found)
     } else {
-        add_misfits(alloc, item, schema, of_type, found)?;
+        add_misfits(alloc, item, types, of_type, found)
     }
-    Ok(())
 }
 
-/// Adds an item that is no list where a list is expected.
-fn add_no_list(
-    alloc: Global,
-    item: &Literal,
-    schema: &Schema,
-    of_type: &TypeRef,
-    found: &mut Vec<BadValue>,
-) -> Result<(), AllocError>
-    ensures { OnOk result (found.new.items ≡ found.old.items ++ spec.no_list schema.now (written of_type.now) (spec.looked item.now)) }
-{
-    if input_type(schema, of_type).is_some() {
-        add_bad(Rule::V18, place_of(item), type_text(alloc, of_type)?, found)?;
-    }
-    Ok(())
-}
-
+// Adds what of an object does not fit.
 #[cycle(misfits)]
-fn add_object(
+#[tactic(auto, using(crate::proofs::Judged::fields_misfits_is))]
+fn add_object<A: InputTypes>(
     alloc: Global,
     fields: &[ObjectField],
     place: Place,
-    schema: &Schema,
+    types: &mut A,
     of_type: &TypeRef,
     found: &mut Vec<BadValue>,
 ) -> Result<(), AllocError>
-    ensures { OnOk result (found.new.items ≡ found.old.items ++ where_input schema.now (written of_type.now)
-        (λ (t : AType). spec.object_by schema.now place (map spec.looked_field fields.now) (written of_type.now) t t.kind)) }
+    ensures look { A.look types.new ≡ A.look types.old }
+    ensures kept { A.kept types.new ≡ A.kept types.old }
+    ensures found { OnOk result (found.new.items ≡ found.old.items
+        ++ spec.object_misfits (A.look types.old) place (written of_type.now) (fields_of (map given_field fields.now))) }
 {
-    if let Some(found_type) = input_type(schema, of_type) {
-        match found_type.kind {
-            TypeKind::InputObject => {
-                add_fields(alloc, fields, schema, found_type, found)?;
-                add_lacking(alloc, fields, place, found_type, found)?;
+    match types.input_type(alloc, name_in(of_type))? {
+        None => Ok(()),
+        Some(found_type) => match found_type.kind() {
+            InputKind::InputObject => {
+                add_fields(alloc, fields, types, &found_type, found)?;
+                add_missing(alloc, fields, place, &found_type, found)
             }
-            TypeKind::Scalar => add_to_scalar(alloc, fields, place, found_type, of_type, found)?,
-            TypeKind::Enum => add_at_one(alloc, place, of_type, found)?,
-            TypeKind::Object | TypeKind::Interface | TypeKind::Union => {}
-        }
+            InputKind::Scalar(scalar) => add_to_scalar(
+                alloc, fields, place, scalar, of_type, found,
+            ),
+            InputKind::Enum => add_at_one(alloc, place, of_type, found),
+        },
     }
-    Ok(())
 }
 
-/// Adds what of an object does not fit a scalar.
-#[tactic(auto, using(crate::specs::Within::within_fields_is))]
+// Adds what of an object does not fit a scalar.
+#[tactic(auto, using(crate::proofs::Inside::within_fields_is))]
 fn add_to_scalar(
     alloc: Global,
     fields: &[ObjectField],
     place: Place,
-    found_type: &SchemaType,
+    scalar: Scalar,
     of_type: &TypeRef,
     found: &mut Vec<BadValue>,
 ) -> Result<(), AllocError>
     ensures { OnOk result (found.new.items ≡ found.old.items
-        ++ spec.object_at_scalar place (map spec.looked_field fields.now) (written of_type.now) found_type.now) }
+        ++ spec.object_at_scalar place (written of_type.now) (λ name. spec.within_fields name (fields_of (map given_field fields.now))) scalar) }
 {
-    if is_custom_scalar(found_type) {
-        add_within_fields(alloc, fields, found_type.name(), found)?;
+    if is_custom(scalar) {
+        add_within_fields(alloc, fields, name_in(of_type), found)
     } else {
-        add_at_one(alloc, place, of_type, found)?;
+        add_at_one(alloc, place, of_type, found)
     }
-    Ok(())
 }
 
+// Adds what of the fields of an object does not fit the fields of its type.
 #[cycle(misfits)]
-fn add_fields(
+fn add_fields<A: InputTypes>(
     alloc: Global,
     fields: &[ObjectField],
-    schema: &Schema,
-    of_type: &SchemaType,
+    types: &mut A,
+    of_type: &A::Answer,
     found: &mut Vec<BadValue>,
 ) -> Result<(), AllocError>
-    ensures { OnOk result (found.new.items ≡ found.old.items
-        ++ flat_map (spec.field_misfits schema.now of_type.now) (map spec.looked_field fields.now)) }
+    ensures look { A.look types.new ≡ A.look types.old }
+    ensures kept { A.kept types.new ≡ A.kept types.old }
+    ensures found { OnOk result (found.new.items ≡ found.old.items
+        ++ flat_map (spec.field_misfits (A.look types.old) (fields_in (A.Answer.form of_type.now))) (map given_field fields.now)) }
 {
     for field in fields {
-        add_field(alloc, field, schema, of_type, found)?;
+        add_field(alloc, field, types, of_type, found)?;
     }
     Ok(())
 }
 
+// Adds what of one field does not fit: a field that the type does not have, or a value that does
+// not fit its type. `null` at a required field is reported by V21 alone, with the missing fields.
 #[cycle(misfits)]
-fn add_field(
+fn add_field<A: InputTypes>(
     alloc: Global,
     field: &ObjectField,
-    schema: &Schema,
-    of_type: &SchemaType,
+    types: &mut A,
+    of_type: &A::Answer,
     found: &mut Vec<BadValue>,
 ) -> Result<(), AllocError>
-    ensures { OnOk result (found.new.items ≡ found.old.items ++ spec.field_misfits schema.now of_type.now (spec.looked_field field.now)) }
+    ensures look { A.look types.new ≡ A.look types.old }
+    ensures kept { A.kept types.new ≡ A.kept types.old }
+    ensures found { OnOk result (found.new.items ≡ found.old.items
+        ++ spec.field_misfits (A.look types.old) (fields_in (A.Answer.form of_type.now)) (given_field field.now)) }
 {
-    match of_type.input_fields.get(field.name.as_str()) {
+    match of_type.field(field.name.as_str()) {
         Some(definition) => {
-            let definition = definition.node.get();
-            if !(is_null(&field.value) && is_required(definition)) {
-                add_misfits(alloc, &field.value, schema, &definition.of_type, found)?;
+            if is_null(&field.value) && is_required(&definition) {
+                Ok(())
+            } else {
+                add_misfits(alloc, &field.value, types, definition.of_type, found)
             }
         }
-        None => {
-            let about = field.name.text.copy(alloc)?;
-            add_bad(Rule::V19, field.name.place, about, found)?;
-        }
+        None => add_bad(Rule::V19, field.name.place, field.name.text.copy()?, found),
     }
-    Ok(())
 }

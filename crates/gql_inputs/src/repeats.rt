@@ -1,17 +1,19 @@
-//! V20: fields of an object that stand more than once (GraphQL specification, 5.6.3), wherever the object stands in a value.
+//! V20: fields that occur more than once in an object (GraphQL specification, 5.6.3), wherever the
+//! object is in a value.
 ghost use Rattle.std.specs.Prelude.{◌≡◌, ◌++◌, None, map, flat_map, IfOk, OnOk};
 ghost use Rattle.gql_ast.specs.declared.literal.Literal.{Literal as AValue};
 ghost use Rattle.gql_ast.specs.declared.literal.ObjectField.{ObjectField as AField};
 ghost use Rattle.gql_faults.specs.Places.{named};
 ghost use Rattle.gql_types.specs.Parts.{sited};
 ghost use Rattle.gql_inputs.specs.BadValues as spec;
+ghost use Rattle.gql_inputs.specs.Values.{given_field, value_of};
 
-use crate::bad_value::BadValue;
-use crate::singles::add_bad;
+use crate::bad_value::{BadValue, add_bad};
 use gql_ast::{Literal, ObjectField, Rule};
 use gql_faults::{NamePlace, repeated};
 use std::alloc::{AllocError, Global};
 
+// The names of the fields, in their order.
 fn names<'v>(alloc: Global, fields: &'v [ObjectField]) -> Result<Vec<NamePlace<'v>>, AllocError>
     ensures { IfOk result (λ names. map named names.items ≡ sited None (map (λ (f : AField). f.name) fields.now)) }
 {
@@ -25,6 +27,7 @@ fn names<'v>(alloc: Global, fields: &'v [ObjectField]) -> Result<Vec<NamePlace<'
     Ok(names)
 }
 
+// Adds one field, which occurs more than once.
 fn add_repeat(
     alloc: Global,
     name: &NamePlace<'_>,
@@ -32,10 +35,11 @@ fn add_repeat(
 ) -> Result<(), AllocError>
     ensures { OnOk result (found.new.items ≡ found.old.items ++ spec.repeat (named name.now)) }
 {
-    let about = name.name.text.copy(alloc)?;
+    let about = name.name.text.copy()?;
     add_bad(Rule::V20, name.name.place, about, found)
 }
 
+// Adds each of these fields.
 fn add_all_repeats(
     alloc: Global,
     names: &[NamePlace<'_>],
@@ -49,13 +53,14 @@ fn add_all_repeats(
     Ok(())
 }
 
+// Adds the fields of one object that occur more than once.
 #[tactic(auto, using(crate::proofs::Empties::names_of))]
 fn add_field_repeats(
     alloc: Global,
     fields: &[ObjectField],
     found: &mut Vec<BadValue>,
 ) -> Result<(), AllocError>
-    ensures { OnOk result (found.new.items ≡ found.old.items ++ spec.field_repeats (map spec.looked_field fields.now)) }
+    ensures { OnOk result (found.new.items ≡ found.old.items ++ spec.field_repeats (map given_field fields.now)) }
 {
     let names = names(alloc, fields)?;
     let repeated = repeated(alloc, names.as_slice())?;
@@ -63,15 +68,15 @@ fn add_field_repeats(
     Ok(())
 }
 
-/// Adds the fields of objects in a value that stand more than once, each time.
+/// Adds the fields that occur more than once in an object of a value, each time.
 #[cycle(repeats)]
-#[tactic(auto, using(crate::specs::Within::repeats_variable, crate::specs::Within::repeats_int, crate::specs::Within::repeats_float, crate::specs::Within::repeats_string, crate::specs::Within::repeats_boolean, crate::specs::Within::repeats_null, crate::specs::Within::repeats_enum, crate::specs::Within::repeats_list, crate::specs::Within::repeats_object, crate::proofs::Empties::no_repeats))]
+#[tactic(auto, using(crate::proofs::Repeating::repeats_variable, crate::proofs::Repeating::repeats_int, crate::proofs::Repeating::repeats_float, crate::proofs::Repeating::repeats_string, crate::proofs::Repeating::repeats_boolean, crate::proofs::Repeating::repeats_null, crate::proofs::Repeating::repeats_enum, crate::proofs::Repeating::repeats_list, crate::proofs::Repeating::repeats_object, crate::proofs::Empties::no_repeats))]
 pub fn add_repeats(
     alloc: Global,
     value: &Literal,
     found: &mut Vec<BadValue>,
 ) -> Result<(), AllocError>
-    ensures { OnOk result (found.new.items ≡ found.old.items ++ spec.repeats value.now) }
+    ensures { OnOk result (found.new.items ≡ found.old.items ++ spec.repeats (value_of value.now)) }
 {
     match value {
         Literal::List { items, .. } => add_repeats_in_all(alloc, items.as_slice(), found)?,
@@ -90,13 +95,14 @@ pub fn add_repeats(
     Ok(())
 }
 
+// Adds those in the items of a list.
 #[cycle(repeats)]
 fn add_repeats_in_all(
     alloc: Global,
     items: &[Literal],
     found: &mut Vec<BadValue>,
 ) -> Result<(), AllocError>
-    ensures { OnOk result (found.new.items ≡ found.old.items ++ flat_map spec.repeats items.now) }
+    ensures { OnOk result (found.new.items ≡ found.old.items ++ flat_map (λ (x : AValue). spec.repeats (value_of x)) items.now) }
 {
     for item in items {
         add_repeats(alloc, item, found)?;
@@ -104,13 +110,14 @@ fn add_repeats_in_all(
     Ok(())
 }
 
+// Adds those in the values of an object's fields.
 #[cycle(repeats)]
 fn add_repeats_in_fields(
     alloc: Global,
     fields: &[ObjectField],
     found: &mut Vec<BadValue>,
 ) -> Result<(), AllocError>
-    ensures { OnOk result (found.new.items ≡ found.old.items ++ flat_map (λ (f : AField). spec.repeats f.value) fields.now) }
+    ensures { OnOk result (found.new.items ≡ found.old.items ++ flat_map (λ (f : AField). spec.repeats (value_of f.value)) fields.now) }
 {
     for field in fields {
         add_repeats(alloc, &field.value, found)?;

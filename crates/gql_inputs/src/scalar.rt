@@ -28,3 +28,13 @@ pub fn scalar_named(name: &str) -> Scalar
         Scalar::Custom
     }
 }
+
+/// Whether a scalar is one of a schema file.
+pub fn is_custom(scalar: Scalar) -> bool
+    ensures { result ≡ spec.is_custom scalar }
+{
+    match scalar {
+        Scalar::Custom => true,
+        Scalar::Int | Scalar::String | Scalar::Boolean | Scalar::Id => false,
+    }
+}

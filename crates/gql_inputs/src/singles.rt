@@ -1,35 +1,20 @@
-//! Values that are no lists, objects, nulls or variables: which types take them (GraphQL specification, 3.5 and 3.9).
-ghost use Rattle.std.specs.Prelude.{◌≡◌, ◌++◌, false, bytes_eq, OnOk};
-ghost use Rattle.std.specs.List.{list_any};
-ghost use Rattle.gql_ast.specs.declared.type_system.EnumValueDefinition.{EnumValueDefinition as EnumValue};
-ghost use Rattle.gql_built_in.specs.declared.sited.Sited.{Sited};
+//! Values without parts: which input types take them (GraphQL specification, 3.5 and 3.9).
+ghost use Rattle.std.specs.Prelude.{◌≡◌, ◌++◌, IfOk, OnOk};
 ghost use Rattle.gql_ast.specs.declared.rule.Rule.TheVariants as rule;
 ghost use Rattle.gql_types.specs.Written.{written};
-ghost use Rattle.gql_types.specs.declared.schema_type.SchemaType.{SchemaType as AType};
 ghost use Rattle.gql_inputs.specs.BadValues as spec;
+ghost use Rattle.gql_inputs.specs.Values.{place_of as start_of, value_of};
 
-use crate::bad_value::BadValue;
+use crate::bad_value::{BadValue, add_bad};
+use crate::forms::place_of;
+use crate::input_types::{InputKind, InputType, InputTypes};
 use crate::numbers::{is_int, is_long};
-use crate::scalar::{Scalar, scalar_named};
+use crate::scalar::{Scalar, is_custom};
 use crate::texts::type_text;
-use crate::types::{input_type, one_of};
-use gql_ast::{Rule, Text, TypeRef};
+use crate::types::{name_in, one_of};
+use gql_ast::{Literal, Rule, Text, TypeRef};
 use gql_text::Place;
-use gql_types::{HasName, Schema, SchemaType, TypeKind};
 use std::alloc::{AllocError, Global};
-
-/// Adds a bad value.
-pub fn add_bad(
-    rule: Rule,
-    place: Place,
-    about: Text,
-    found: &mut Vec<BadValue>,
-) -> Result<(), AllocError>
-    ensures { OnOk result (found.new.items ≡ found.old.items ++ spec.bad rule place about) }
-{
-    found.push(BadValue { rule, place, about })?;
-    Ok(())
-}
 
 fn scalar_takes_int(scalar: Scalar, text: &str) -> bool
     ensures { result ≡ spec.scalar_takes_int text.now scalar }
@@ -59,197 +44,120 @@ fn scalar_takes_boolean(scalar: Scalar) -> bool
     }
 }
 
-fn is_custom(scalar: Scalar) -> bool
-    ensures { result ≡ spec.is_custom scalar }
+fn takes_int<T: InputType>(of_type: &T, text: &str) -> bool
+    ensures { result ≡ spec.takes_as_scalar (spec.scalar_takes_int text.now) (T.form of_type.now) }
 {
-    match scalar {
-        Scalar::Custom => true,
-        Scalar::Int | Scalar::String | Scalar::Boolean | Scalar::Id => false,
+    match of_type.kind() {
+        InputKind::Scalar(scalar) => scalar_takes_int(scalar, text),
+        InputKind::Enum | InputKind::InputObject => false,
     }
 }
 
-fn takes_int(of_type: &SchemaType, text: &str) -> bool
-    ensures { result ≡ spec.scalar_takes (spec.scalar_takes_int text.now) of_type.now of_type.now.kind }
+fn takes_string<T: InputType>(of_type: &T) -> bool
+    ensures { result ≡ spec.takes_as_scalar spec.scalar_takes_string (T.form of_type.now) }
 {
-    match of_type.kind {
-        TypeKind::Scalar => scalar_takes_int(scalar_named(of_type.name()), text),
-        TypeKind::Enum
-        | TypeKind::InputObject
-        | TypeKind::Object
-        | TypeKind::Interface
-        | TypeKind::Union => false,
+    match of_type.kind() {
+        InputKind::Scalar(scalar) => scalar_takes_string(scalar),
+        InputKind::Enum | InputKind::InputObject => false,
     }
 }
 
-fn takes_string(of_type: &SchemaType) -> bool
-    ensures { result ≡ spec.scalar_takes spec.scalar_takes_string of_type.now of_type.now.kind }
+fn takes_boolean<T: InputType>(of_type: &T) -> bool
+    ensures { result ≡ spec.takes_as_scalar spec.scalar_takes_boolean (T.form of_type.now) }
 {
-    match of_type.kind {
-        TypeKind::Scalar => scalar_takes_string(scalar_named(of_type.name())),
-        TypeKind::Enum
-        | TypeKind::InputObject
-        | TypeKind::Object
-        | TypeKind::Interface
-        | TypeKind::Union => false,
+    match of_type.kind() {
+        InputKind::Scalar(scalar) => scalar_takes_boolean(scalar),
+        InputKind::Enum | InputKind::InputObject => false,
     }
 }
 
-fn takes_boolean(of_type: &SchemaType) -> bool
-    ensures { result ≡ spec.scalar_takes spec.scalar_takes_boolean of_type.now of_type.now.kind }
+fn takes_name<T: InputType>(of_type: &T, name: &str) -> bool
+    ensures { result ≡ spec.takes_name name.now (T.form of_type.now) }
 {
-    match of_type.kind {
-        TypeKind::Scalar => scalar_takes_boolean(scalar_named(of_type.name())),
-        TypeKind::Enum
-        | TypeKind::InputObject
-        | TypeKind::Object
-        | TypeKind::Interface
-        | TypeKind::Union => false,
+    match of_type.kind() {
+        InputKind::Scalar(scalar) => is_custom(scalar),
+        InputKind::Enum => of_type.has_value(name),
+        InputKind::InputObject => false,
     }
 }
 
-/// Whether a type is a scalar of a schema file.
-pub fn is_custom_scalar(of_type: &SchemaType) -> bool
-    ensures { result ≡ spec.is_custom_scalar of_type.now }
+/// Whether an input type is a scalar of a schema file.
+pub fn is_custom_type<T: InputType>(of_type: &T) -> bool
+    ensures { result ≡ spec.is_custom_form (T.form of_type.now) }
 {
-    match of_type.kind {
-        TypeKind::Scalar => {
-            let scalar = scalar_named(of_type.name());
-            is_custom(scalar)
-        }
-        TypeKind::Enum
-        | TypeKind::InputObject
-        | TypeKind::Object
-        | TypeKind::Interface
-        | TypeKind::Union => false,
+    match of_type.kind() {
+        InputKind::Scalar(scalar) => is_custom(scalar),
+        InputKind::Enum | InputKind::InputObject => false,
     }
 }
 
-/// Whether an enum has a value of that name.
-fn has_value(of_type: &SchemaType, name: &str) -> bool
-    ensures { result ≡ list_any (λ (v : Sited EnumValue). bytes_eq name.now v.node.name.text) of_type.now.values }
+// Whether an input type takes a value, if the value has no parts; else true.
+#[tactic(auto, using(crate::proofs::ValueForms::value_variable, crate::proofs::ValueForms::value_int, crate::proofs::ValueForms::value_float, crate::proofs::ValueForms::value_string, crate::proofs::ValueForms::value_boolean, crate::proofs::ValueForms::value_null, crate::proofs::ValueForms::value_enum, crate::proofs::ValueForms::value_list, crate::proofs::ValueForms::value_object))]
+fn takes<T: InputType>(of_type: &T, value: &Literal) -> bool
+    ensures { result ≡ spec.takes (value_of value.now) (T.form of_type.now) }
 {
-    of_type.values.get(name).is_some()
-}
-
-fn takes_name(of_type: &SchemaType, name: &str) -> bool
-    ensures { result ≡ spec.takes_name name.now of_type.now of_type.now.kind }
-{
-    match of_type.kind {
-        TypeKind::Enum => has_value(of_type, name),
-        TypeKind::Scalar => is_custom(scalar_named(of_type.name())),
-        TypeKind::InputObject | TypeKind::Object | TypeKind::Interface | TypeKind::Union => false,
+    match value {
+        Literal::Int { text, .. } => takes_int(of_type, text.as_str()),
+        Literal::Float { .. } => false,
+        Literal::String { .. } => takes_string(of_type),
+        Literal::Boolean { .. } => takes_boolean(of_type),
+        Literal::Enum { name, .. } => takes_name(of_type, name.as_str()),
+        Literal::Variable { .. }
+        | Literal::Null { .. }
+        | Literal::List { .. }
+        | Literal::Object { .. } => true,
     }
 }
 
-/// Adds a value that is bad where a value that is no list is expected, about the type.
-fn add_told(
+// The type that a fault is about: a custom scalar by its name, another type as it is written for
+// one value.
+fn expected_text<T: InputType>(
     alloc: Global,
     of_type: &TypeRef,
-    found_type: &SchemaType,
-    place: Place,
-    found: &mut Vec<BadValue>,
-) -> Result<(), AllocError>
-    ensures { OnOk result (found.new.items ≡ found.old.items ++ spec.bad rule.V18 place (spec.told found_type.now (written of_type.now))) }
+    found_type: &T,
+) -> Result<Text, AllocError>
+    ensures { IfOk result (λ text. text ≡ spec.expected (written of_type.now) (T.form found_type.now)) }
 {
-    if is_custom_scalar(found_type) {
-        let about = Text::from_str(alloc, found_type.name())?;
-        add_bad(Rule::V18, place, about, found)
+    if is_custom_type(found_type) {
+        Text::from_str(alloc, name_in(of_type))
     } else {
-        let about = type_text(alloc, one_of(of_type))?;
-        add_bad(Rule::V18, place, about, found)
+        type_text(alloc, one_of(of_type))
     }
 }
 
-/// Adds a whole number that the type does not take.
-pub fn add_int(
+// Adds a value without parts, unless the type takes it.
+fn add_unless_taken<T: InputType>(
     alloc: Global,
-    schema: &Schema,
-    place: Place,
-    text: &str,
+    value: &Literal,
     of_type: &TypeRef,
+    found_type: &T,
     found: &mut Vec<BadValue>,
 ) -> Result<(), AllocError>
     ensures { OnOk result (found.new.items ≡ found.old.items
-        ++ spec.single schema.now place (λ (t : AType). spec.scalar_takes (spec.scalar_takes_int text.now) t t.kind) (written of_type.now)) }
+        ++ spec.single_at (written of_type.now) (value_of value.now) (T.form found_type.now)) }
 {
-    if let Some(found_type) = input_type(schema, of_type) {
-        if !takes_int(found_type, text) {
-            add_told(alloc, of_type, found_type, place, found)?;
-        }
+    if !takes(found_type, value) {
+        let about = expected_text(alloc, of_type, found_type)?;
+        add_bad(Rule::V18, place_of(value), about, found)?;
     }
     Ok(())
 }
 
-/// Adds a number with a fraction or an exponent where a type is known: no type takes one.
-pub fn add_float(
+/// Adds a value without parts, where the type is known and does not take it.
+pub fn add_single<A: InputTypes>(
     alloc: Global,
-    schema: &Schema,
-    place: Place,
+    value: &Literal,
+    types: &mut A,
     of_type: &TypeRef,
     found: &mut Vec<BadValue>,
 ) -> Result<(), AllocError>
-    ensures { OnOk result (found.new.items ≡ found.old.items ++ spec.single schema.now place (λ t. false) (written of_type.now)) }
+    ensures look { A.look types.new ≡ A.look types.old }
+    ensures kept { A.kept types.new ≡ A.kept types.old }
+    ensures found { OnOk result (found.new.items ≡ found.old.items
+        ++ spec.single_misfits (A.look types.old) (written of_type.now) (value_of value.now)) }
 {
-    if let Some(found_type) = input_type(schema, of_type) {
-        add_told(alloc, of_type, found_type, place, found)?;
-    }
-    Ok(())
-}
-
-/// Adds a string that the type does not take.
-pub fn add_string(
-    alloc: Global,
-    schema: &Schema,
-    place: Place,
-    of_type: &TypeRef,
-    found: &mut Vec<BadValue>,
-) -> Result<(), AllocError>
-    ensures { OnOk result (found.new.items ≡ found.old.items
-        ++ spec.single schema.now place (λ (t : AType). spec.scalar_takes spec.scalar_takes_string t t.kind) (written of_type.now)) }
-{
-    if let Some(found_type) = input_type(schema, of_type) {
-        if !takes_string(found_type) {
-            add_told(alloc, of_type, found_type, place, found)?;
-        }
-    }
-    Ok(())
-}
-
-/// Adds `true` or `false` where the type does not take it.
-pub fn add_boolean(
-    alloc: Global,
-    schema: &Schema,
-    place: Place,
-    of_type: &TypeRef,
-    found: &mut Vec<BadValue>,
-) -> Result<(), AllocError>
-    ensures { OnOk result (found.new.items ≡ found.old.items
-        ++ spec.single schema.now place (λ (t : AType). spec.scalar_takes spec.scalar_takes_boolean t t.kind) (written of_type.now)) }
-{
-    if let Some(found_type) = input_type(schema, of_type) {
-        if !takes_boolean(found_type) {
-            add_told(alloc, of_type, found_type, place, found)?;
-        }
-    }
-    Ok(())
-}
-
-/// Adds a name that is no value of the type.
-pub fn add_name(
-    alloc: Global,
-    schema: &Schema,
-    place: Place,
-    name: &str,
-    of_type: &TypeRef,
-    found: &mut Vec<BadValue>,
-) -> Result<(), AllocError>
-    ensures { OnOk result (found.new.items ≡ found.old.items
-        ++ spec.single schema.now place (λ (t : AType). spec.takes_name name.now t t.kind) (written of_type.now)) }
-{
-    if let Some(found_type) = input_type(schema, of_type) {
-        if !takes_name(found_type, name) {
-            add_told(alloc, of_type, found_type, place, found)?;
-        }
+    if let Some(found_type) = types.input_type(alloc, name_in(of_type))? {
+        add_unless_taken(alloc, value, of_type, &found_type, found)?;
     }
     Ok(())
 }

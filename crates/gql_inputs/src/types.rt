@@ -4,8 +4,9 @@ ghost use Rattle.std.specs.Option.{option_copied};
 ghost use Rattle.gql_types.specs.Written.{written};
 ghost use Rattle.gql_inputs.specs.InputTypes as spec;
 
+use crate::scalar::{is_custom, scalar_named};
 use gql_ast::TypeRef;
-use gql_types::{Schema, SchemaType, TypeKind};
+use gql_types::{HasName, Schema, SchemaType, TypeKind};
 
 /// The name within lists and Non-Nulls.
 #[tactic(auto, using(gql_types::specs::Written::written_named, gql_types::specs::Written::written_list, gql_types::specs::Written::written_non_null))]
@@ -90,5 +91,22 @@ pub fn input_type<'s>(schema: &'s Schema, of_type: &TypeRef) -> Option<&'s Schem
             }
         }
         None => None,
+    }
+}
+
+/// Whether a type is a scalar of a schema file.
+pub fn is_custom_scalar(of_type: &SchemaType) -> bool
+    ensures { result ≡ spec.is_custom_scalar of_type.now }
+{
+    match of_type.kind {
+        TypeKind::Scalar => {
+            let scalar = scalar_named(of_type.name());
+            is_custom(scalar)
+        }
+        TypeKind::Enum
+        | TypeKind::InputObject
+        | TypeKind::Object
+        | TypeKind::Interface
+        | TypeKind::Union => false,
     }
 }

@@ -1,27 +1,28 @@
-//! Values of a scalar of a schema file: it takes no number with a fraction or an exponent, and whole numbers of 64 bits alone,
-//! wherever they stand in the value (GraphQL specification, 3.5.5).
+//! Values of a scalar of a schema file. It takes no number with a fraction or an exponent, and
+//! integers of 64 bits alone, wherever they are in the value (this registry's own rule, on scalars as
+//! in 3.5.5 of the GraphQL specification).
 ghost use Rattle.std.specs.Prelude.{◌≡◌, ◌++◌, flat_map, OnOk};
 ghost use Rattle.gql_ast.specs.declared.literal.Literal.{Literal as AValue};
 ghost use Rattle.gql_ast.specs.declared.literal.ObjectField.{ObjectField as AField};
 ghost use Rattle.gql_ast.specs.declared.rule.Rule.TheVariants as rule;
 ghost use Rattle.gql_inputs.specs.BadValues as spec;
+ghost use Rattle.gql_inputs.specs.Values.{value_of};
 
-use crate::bad_value::BadValue;
+use crate::bad_value::{BadValue, add_bad};
 use crate::numbers::is_long;
-use crate::singles::add_bad;
 use gql_ast::{Literal, ObjectField, Rule, Text};
 use std::alloc::{AllocError, Global};
 
 /// Adds what a scalar of that name does not take of a value.
 #[cycle(within)]
-#[tactic(auto, using(crate::specs::Within::within_variable, crate::specs::Within::within_int, crate::specs::Within::within_float, crate::specs::Within::within_string, crate::specs::Within::within_boolean, crate::specs::Within::within_null, crate::specs::Within::within_enum, crate::specs::Within::within_list, crate::specs::Within::within_object, crate::proofs::Empties::nothing, crate::proofs::Empties::nothing_in_range))]
+#[tactic(auto, using(crate::proofs::Inside::within_variable, crate::proofs::Inside::within_int, crate::proofs::Inside::within_float, crate::proofs::Inside::within_string, crate::proofs::Inside::within_boolean, crate::proofs::Inside::within_null, crate::proofs::Inside::within_enum, crate::proofs::Inside::within_list, crate::proofs::Inside::within_object, crate::proofs::Empties::nothing, crate::proofs::Empties::nothing_in_range))]
 pub fn add_within(
     alloc: Global,
     value: &Literal,
     scalar: &str,
     found: &mut Vec<BadValue>,
 ) -> Result<(), AllocError>
-    ensures { OnOk result (found.new.items ≡ found.old.items ++ spec.within scalar.now value.now) }
+    ensures { OnOk result (found.new.items ≡ found.old.items ++ spec.within scalar.now (value_of value.now)) }
 {
     match value {
         Literal::Int { place, text } => {
@@ -53,7 +54,7 @@ pub fn add_within_all(
     scalar: &str,
     found: &mut Vec<BadValue>,
 ) -> Result<(), AllocError>
-    ensures { OnOk result (found.new.items ≡ found.old.items ++ flat_map (λ (x : AValue). spec.within scalar.now x) items.now) }
+    ensures { OnOk result (found.new.items ≡ found.old.items ++ flat_map (λ (x : AValue). spec.within scalar.now (value_of x)) items.now) }
 {
     for item in items {
         add_within(alloc, item, scalar, found)?;
@@ -69,7 +70,7 @@ pub fn add_within_fields(
     scalar: &str,
     found: &mut Vec<BadValue>,
 ) -> Result<(), AllocError>
-    ensures { OnOk result (found.new.items ≡ found.old.items ++ flat_map (λ (f : AField). spec.within scalar.now f.value) fields.now) }
+    ensures { OnOk result (found.new.items ≡ found.old.items ++ flat_map (λ (f : AField). spec.within scalar.now (value_of f.value)) fields.now) }
 {
     for field in fields {
         add_within(alloc, &field.value, scalar, found)?;

@@ -1,4 +1,4 @@
--- What look-up by name finds among those that hold what is looked up.
+-- What a look-up by name finds.
 use Rattle.std.proofs.Common.{◌≡◌, List, [], ◌∷◌, Bool, Bor, Option, map, find, is_some, option_map, refl, arith}
 use Rattle.std.specs.Option.{option_copied}
 use Rattle.std.specs.List.{list_any}

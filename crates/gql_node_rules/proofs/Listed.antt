@@ -23,7 +23,7 @@ already x l xs h = by_test x l xs (same_location l x) refl h
 pub one_more : (l x : DirectiveLocation) (xs : List DirectiveLocation) → is_listed l (xs ++ x ∷ []) ≡ (is_listed l xs || same_location l x)
 one_more l x xs = rw (list_any-append (same_location l) xs (x ∷ [])) grind (arith, common_steps)
 
--- one more was looked at
+-- one more was checked
 pub listed_step : (l : DirectiveLocation) (xs : List DirectiveLocation) (i : ℕ) (x : DirectiveLocation) (old new : Bool) → i < length xs → get_or xs i x ≡ x
     → old ≡ is_listed l (take i xs)
     → new ≡ (old || same_location l x)

@@ -7,7 +7,7 @@ pub flat_map_same : {X Y : Type 0} (f g : X → List Y) (xs : List X) → ((x : 
 flat_map_same f g [] same = refl
 flat_map_same f g (x ∷ xs) same = λ k. same x k ++ flat_map_same f g xs same k
 
--- one more of those that the code borrows was looked at
+-- one more of those that the code borrows was checked
 pub flat_map_step : {R X Y : Type 0} (f : X → List Y) (m : R → X) (xs : List R) (i : ℕ) (x : R) (base old new : List Y) → i < length xs → get_or xs i x ≡ x
     → old ≡ base ++ flat_map f (map m (take i xs))
     → new ≡ old ++ f (m x)

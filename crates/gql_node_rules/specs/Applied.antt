@@ -33,7 +33,8 @@ pub record Application : Type 0 where
   pub directive : Directive
 
 -- nodes of one location
-abbrev pub all_at : {A : Type 0} → DirectiveLocation → (A → List Directive) → List (Sited A) → List Annotations
+abbrev pub all_at : {A : Type 0} → DirectiveLocation → (A → List Directive) → List (Sited A)
+    → List Annotations
 all_at location directives nodes = map (λ n. record { location = location; file = n.file; directives = directives n.node }) nodes
 
 -- the location of a type, or of its extension
@@ -68,7 +69,8 @@ annotated_types n = types_at n.types ++ type_extensions_at n.type_extensions
 abbrev pub annotated_parts : AllNodes → List Annotations
 annotated_parts n = all_at location.FieldDefinition (λ (f : FieldDefinition). f.directives) n.fields
     ++ (all_at location.ArgumentDefinition (λ (a : InputValueDefinition). a.directives) n.arguments
-    ++ (all_at location.InputFieldDefinition (λ (f : InputValueDefinition). f.directives) n.input_fields
+    ++ (all_at location.InputFieldDefinition
+    (λ (f : InputValueDefinition). f.directives) n.input_fields
     ++ all_at location.EnumValue (λ (v : EnumValueDefinition). v.directives) n.values))
 
 -- every node that may have directives
@@ -81,7 +83,8 @@ type_and_extensions t = types_at (t.definition ∷ []) ++ type_extensions_at t.e
 
 -- the first definition of the schema, and its extensions
 abbrev pub schema_and_extensions : AllNodes → List Annotations
-schema_and_extensions n = all_at location.Schema (λ (d : SchemaDefinition). d.directives) (take 1 n.schemas)
+schema_and_extensions n = all_at location.Schema (λ (d : SchemaDefinition). d.directives)
+    (take 1 n.schemas)
     ++ all_at location.Schema (λ (e : SchemaExtension). e.directives) n.schema_extensions
 
 -- the directives of a node

@@ -29,8 +29,10 @@ reference_faults n s = s20.faults n s ++ p01.faults n
 
 -- by the rules on applied directives
 abbrev pub directive_faults : AllNodes → Schema → List Fault
-directive_faults n s = s29.faults n s ++ (s30.faults n s ++ (s31.faults n s ++ (s32.faults n s ++ s33.faults n s)))
+directive_faults n s = s29.faults n s ++ (s30.faults n s
+    ++ (s31.faults n s ++ (s32.faults n s ++ s33.faults n s)))
 
 -- by all these rules
 abbrev pub node_faults : AllNodes → Schema → List Fault
-node_faults n s = name_faults n ++ (role_faults n s ++ (reference_faults n s ++ directive_faults n s))
+node_faults n s = name_faults n ++ (role_faults n s
+    ++ (reference_faults n s ++ directive_faults n s))

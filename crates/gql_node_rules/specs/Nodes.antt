@@ -95,7 +95,8 @@ schema_extensions ds = within schema_extension_of ds
 
 -- the parts of definitions of types, then those of their extensions
 abbrev pub parts : List (Sited Tree) → List (Sited TypeParts)
-parts ds = each (λ (d : TypeDefinition). d.parts) (types ds) ++ each (λ (e : TypeExtension). e.parts) (type_extensions ds)
+parts ds = each (λ (d : TypeDefinition). d.parts) (types ds)
+    ++ each (λ (e : TypeExtension). e.parts) (type_extensions ds)
 
 -- the fields of objects and interfaces (3.6, 3.7)
 abbrev pub fields : List (Sited Tree) → List (Sited FieldDefinition)
@@ -111,7 +112,8 @@ input_fields ds = within input_fields_of (parts ds)
 
 -- the arguments of fields (3.6.1), then those of directives (3.13)
 abbrev pub arguments : List (Sited Tree) → List (Sited InputValueDefinition)
-arguments ds = within (λ (f : FieldDefinition). f.arguments) (fields ds) ++ within (λ (d : DirectiveDefinition). d.arguments) (directives ds)
+arguments ds = within (λ (f : FieldDefinition). f.arguments) (fields ds)
+    ++ within (λ (d : DirectiveDefinition). d.arguments) (directives ds)
 
 -- all nodes, by their forms
 pub record AllNodes : Type 0 where

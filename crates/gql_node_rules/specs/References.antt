@@ -13,7 +13,8 @@ use Rattle.gql_node_rules.specs.Nodes.{AllNodes, each, within}
 
 -- the types of arguments and of input fields (3.6.1, 3.10)
 abbrev pub inputs : AllNodes → List (Sited Name)
-inputs n = each (λ (a : InputValueDefinition). name_in a.of_type) n.arguments ++ each (λ (f : InputValueDefinition). name_in f.of_type) n.input_fields
+inputs n = each (λ (a : InputValueDefinition). name_in a.of_type) n.arguments
+    ++ each (λ (f : InputValueDefinition). name_in f.of_type) n.input_fields
 
 -- the types of the fields of objects and interfaces (3.6, 3.7)
 abbrev pub outputs : AllNodes → List (Sited Name)
@@ -32,7 +33,8 @@ abbrev pub types_in : List RootOperation → List Name
 types_in roots = map (λ (r : RootOperation). r.name) roots
 
 abbrev pub roots : AllNodes → List (Sited Name)
-roots n = within (λ (s : SchemaDefinition). types_in s.roots) n.schemas ++ within (λ (e : SchemaExtension). types_in e.roots) n.schema_extensions
+roots n = within (λ (s : SchemaDefinition). types_in s.roots) n.schemas
+    ++ within (λ (e : SchemaExtension). types_in e.roots) n.schema_extensions
 
 -- all references
 abbrev pub references : AllNodes → List (Sited Name)

@@ -16,7 +16,8 @@ use Rattle.gql_node_rules.specs.References.{members}
 
 -- the fault at a name
 abbrev pub fault_of_name : Schema → Sited Name → List Fault
-fault_of_name s n = where_known (kind_named s n.node.text) (λ (k : TypeKind). if same_kind k kind.Object then [] else fault_of rule.S22 n)
+fault_of_name s n = where_known (kind_named s n.node.text)
+    (λ (k : TypeKind). if same_kind k kind.Object then [] else fault_of rule.S22 n)
 
 -- the faults by S22
 abbrev pub faults : AllNodes → Schema → List Fault

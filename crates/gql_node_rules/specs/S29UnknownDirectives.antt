@@ -11,7 +11,8 @@ use Rattle.gql_node_rules.specs.Nodes.{AllNodes}
 
 -- the faults of an applied directive
 abbrev pub faults_of_applied : Schema → Application → List Fault
-faults_of_applied s a = if is_some (directive_named s (name_of a)) then [] else fault_at rule.S29 (name_of a) (place_of a)
+faults_of_applied s a = if is_some (directive_named s (name_of a)) then []
+    else fault_at rule.S29 (name_of a) (place_of a)
 
 -- the faults by S29
 abbrev pub faults : AllNodes → Schema → List Fault

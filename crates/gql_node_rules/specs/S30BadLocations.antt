@@ -14,7 +14,9 @@ use Rattle.gql_node_rules.specs.Nodes.{AllNodes}
 
 -- of a directive with this definition, if it is known
 abbrev pub fault_by : Option (Sited DirectiveDefinition) → Application → List Fault
-fault_by known a = where_known known (λ (d : Sited DirectiveDefinition). if is_listed a.location d.node.locations then [] else fault_at rule.S30 (name_of a) (place_of a))
+fault_by known a = where_known known
+    (λ (d : Sited DirectiveDefinition). if is_listed a.location d.node.locations then []
+    else fault_at rule.S30 (name_of a) (place_of a))
 
 -- the faults of an applied directive
 abbrev pub faults_of_applied : Schema → Application → List Fault

@@ -23,7 +23,8 @@ names_of group =
 
 -- the fault at a directive, if it is defined and not repeatable
 abbrev pub unless_repeatable : Schema → Application → List Fault
-unless_repeatable s a = where_known (directive_named s (name_of a)) (λ (d : Sited DirectiveDefinition).
+unless_repeatable s a = where_known (directive_named s (name_of a))
+    (λ (d : Sited DirectiveDefinition).
     if d.node.is_repeatable then [] else fault_at rule.S31 (name_of a) (place_of a))
 
 -- the fault at one directive of a group, if its name occurs more than once there

@@ -28,7 +28,8 @@ given a = sited a.file (names_of a.directive.arguments)
 
 -- an argument of this name is defined
 abbrev pub is_defined : List InputValueDefinition → List ℕ → Bool
-is_defined arguments name = list_any (λ (v : InputValueDefinition). bytes_eq name v.name.text) arguments
+is_defined arguments name = list_any
+    (λ (v : InputValueDefinition). bytes_eq name v.name.text) arguments
 
 -- an argument of this name is given
 abbrev pub is_given : Application → List ℕ → Bool
@@ -39,7 +40,8 @@ abbrev pub fault_of_given : List InputValueDefinition → Sited Name → List Fa
 fault_of_given arguments n = if is_defined arguments n.node.text then [] else fault_of rule.S32 n
 
 abbrev pub undefined : Option (Sited DirectiveDefinition) → Application → List Fault
-undefined known a = where_known known (λ (d : Sited DirectiveDefinition). flat_map (fault_of_given d.node.arguments) (given a))
+undefined known a = where_known known
+    (λ (d : Sited DirectiveDefinition). flat_map (fault_of_given d.node.arguments) (given a))
 
 -- an argument that is given more than once, each time
 abbrev pub twice : Application → List Fault
@@ -47,10 +49,13 @@ twice a = repeated_faults rule.S32 (given a)
 
 -- a required argument that is not given
 abbrev pub fault_of_required : Application → InputValueDefinition → List Fault
-fault_of_required a v = if is_given a v.name.text then [] else fault_at rule.S32 v.name.text (place_of a)
+fault_of_required a v = if is_given a v.name.text then []
+    else fault_at rule.S32 v.name.text (place_of a)
 
 abbrev pub missing : Option (Sited DirectiveDefinition) → Application → List Fault
-missing known a = where_known known (λ (d : Sited DirectiveDefinition). flat_map (fault_of_required a) (filter is_required d.node.arguments))
+missing known a = where_known known
+    (λ (d : Sited DirectiveDefinition). flat_map (fault_of_required a)
+    (filter is_required d.node.arguments))
 
 -- of a directive with this definition, if it is known
 abbrev pub faults_by : Option (Sited DirectiveDefinition) → Application → List Fault

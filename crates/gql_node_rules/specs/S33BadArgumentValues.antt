@@ -17,10 +17,12 @@ use Rattle.gql_node_rules.specs.ValueFaults.{fault_unless_fit}
 
 -- the first argument of this name that a directive defines
 abbrev pub argument_named : List InputValueDefinition → List ℕ → Option InputValueDefinition
-argument_named arguments name = find (λ (v : InputValueDefinition). bytes_eq name v.name.text) arguments
+argument_named arguments name = find
+    (λ (v : InputValueDefinition). bytes_eq name v.name.text) arguments
 
 -- of one argument that is given in this file, where these are defined
-abbrev pub fault_of_value : Schema → Option (List ℕ) → List InputValueDefinition → Argument → List Fault
+abbrev pub fault_of_value : Schema → Option (List ℕ) → List InputValueDefinition → Argument
+    → List Fault
 fault_of_value s file arguments a = where_known (argument_named arguments a.name.text)
     (λ (v : InputValueDefinition). fault_unless_fit rule.S33 s v (record { file = file; node = a.value }))
 

@@ -7,15 +7,17 @@ use Rattle.gql_ast.specs.declared.literal.Literal.{Literal}
 use Rattle.gql_ast.specs.declared.rule.Rule.{Rule}
 use Rattle.gql_ast.specs.declared.type_system.InputValueDefinition.{InputValueDefinition}
 use Rattle.gql_built_in.specs.declared.sited.Sited.{Sited}
-use Rattle.gql_inputs.specs.BadValues.{fits, looked}
+use Rattle.gql_inputs.specs.BadValues.{fits}
+use Rattle.gql_inputs.specs.Values.{place_of, value_of}
 use Rattle.gql_faults.specs.Faults.{fault_at}
 use Rattle.gql_types.specs.Written.{written}
 use Rattle.gql_types.specs.declared.schema.Schema.{Schema}
 
 -- where a value starts
 abbrev pub start_of : Sited Literal → Sited Place
-start_of x = record { file = x.file; node = (looked x.node).place }
+start_of x = record { file = x.file; node = place_of (value_of x.node) }
 
 -- of this rule, unless the value fits the type that this definition gives
 abbrev pub fault_unless_fit : Rule → Schema → InputValueDefinition → Sited Literal → List Fault
-fault_unless_fit rule s v x = if fits s x.node (written v.of_type) then [] else fault_at rule v.name.text (start_of x)
+fault_unless_fit rule s v x = if fits s x.node (written v.of_type) then []
+    else fault_at rule v.name.text (start_of x)

@@ -106,7 +106,9 @@ fn add_nodes<'t, T: HasDirectives>(
     nodes: &[Node<'t, T>],
     found: &mut Vec<Annotated<'t>>,
 ) -> Result<(), AllocError>
-    ensures { OnOk result (map annotations found.new.items ≡ map annotations found.old.items ++ spec.all_at location T.directives (map one nodes.now)) }
+    ensures { OnOk result (map annotations found.new.items
+        ≡ map annotations found.old.items ++ spec.all_at location T.directives
+        (map one nodes.now)) }
 {
     for node in nodes {
         found.push(Annotated {
@@ -137,7 +139,8 @@ fn add_types<'t>(
     types: &[Node<'t, TypeDefinition>],
     found: &mut Vec<Annotated<'t>>,
 ) -> Result<(), AllocError>
-    ensures { OnOk result (map annotations found.new.items ≡ map annotations found.old.items ++ spec.types_at (map one types.now)) }
+    ensures { OnOk result (map annotations found.new.items
+        ≡ map annotations found.old.items ++ spec.types_at (map one types.now)) }
 {
     for definition in types {
         found.push(Annotated {
@@ -154,7 +157,8 @@ fn add_type_extensions<'t>(
     extensions: &[Node<'t, TypeExtension>],
     found: &mut Vec<Annotated<'t>>,
 ) -> Result<(), AllocError>
-    ensures { OnOk result (map annotations found.new.items ≡ map annotations found.old.items ++ spec.type_extensions_at (map one extensions.now)) }
+    ensures { OnOk result (map annotations found.new.items
+        ≡ map annotations found.old.items ++ spec.type_extensions_at (map one extensions.now)) }
 {
     for extension in extensions {
         found.push(Annotated {
@@ -168,7 +172,8 @@ fn add_type_extensions<'t>(
 
 // Adds the schema and its extensions.
 fn add_schemas<'t>(nodes: &Nodes<'t>, found: &mut Vec<Annotated<'t>>) -> Result<(), AllocError>
-    ensures { OnOk result (map annotations found.new.items ≡ map annotations found.old.items ++ spec.annotated_schemas (lists nodes.now)) }
+    ensures { OnOk result (map annotations found.new.items
+        ≡ map annotations found.old.items ++ spec.annotated_schemas (lists nodes.now)) }
 {
     let location = DirectiveLocation::Schema;
     add_nodes(location, nodes.schemas.as_slice(), found)?;
@@ -178,7 +183,8 @@ fn add_schemas<'t>(nodes: &Nodes<'t>, found: &mut Vec<Annotated<'t>>) -> Result<
 
 // Adds types and their extensions.
 fn add_all_types<'t>(nodes: &Nodes<'t>, found: &mut Vec<Annotated<'t>>) -> Result<(), AllocError>
-    ensures { OnOk result (map annotations found.new.items ≡ map annotations found.old.items ++ spec.annotated_types (lists nodes.now)) }
+    ensures { OnOk result (map annotations found.new.items
+        ≡ map annotations found.old.items ++ spec.annotated_types (lists nodes.now)) }
 {
     add_types(nodes.types.as_slice(), found)?;
     add_type_extensions(nodes.type_extensions.as_slice(), found)?;
@@ -187,7 +193,8 @@ fn add_all_types<'t>(nodes: &Nodes<'t>, found: &mut Vec<Annotated<'t>>) -> Resul
 
 // Adds fields, arguments, input fields and enum values.
 fn add_parts<'t>(nodes: &Nodes<'t>, found: &mut Vec<Annotated<'t>>) -> Result<(), AllocError>
-    ensures { OnOk result (map annotations found.new.items ≡ map annotations found.old.items ++ spec.annotated_parts (lists nodes.now)) }
+    ensures { OnOk result (map annotations found.new.items
+        ≡ map annotations found.old.items ++ spec.annotated_parts (lists nodes.now)) }
 {
     let location = DirectiveLocation::FieldDefinition;
     add_nodes(location, nodes.fields.as_slice(), found)?;
@@ -201,7 +208,8 @@ fn add_parts<'t>(nodes: &Nodes<'t>, found: &mut Vec<Annotated<'t>>) -> Result<()
 
 /// Every node that may have directives.
 pub fn all_annotated<'t>(alloc: Global, nodes: &Nodes<'t>) -> Result<Vec<Annotated<'t>>, AllocError>
-    ensures { IfOk result (λ found. map annotations found.items ≡ spec.annotated (lists nodes.now)) }
+    ensures { IfOk result (λ found. map annotations found.items
+        ≡ spec.annotated (lists nodes.now)) }
 {
     let mut found = Vec::new(alloc);
     add_schemas(nodes, &mut found)?;
@@ -212,7 +220,8 @@ pub fn all_annotated<'t>(alloc: Global, nodes: &Nodes<'t>) -> Result<Vec<Annotat
 
 // Adds the directives of a node.
 fn add_applied<'t>(node: &Annotated<'t>, found: &mut Vec<Applied<'t>>) -> Result<(), AllocError>
-    ensures { OnOk result (map application found.new.items ≡ map application found.old.items ++ spec.applied_at (annotations node.now)) }
+    ensures { OnOk result (map application found.new.items
+        ≡ map application found.old.items ++ spec.applied_at (annotations node.now)) }
 {
     for directive in node.directives {
         found.push(Applied {
@@ -229,7 +238,8 @@ pub fn all_applied<'t>(
     alloc: Global,
     nodes: &[Annotated<'t>],
 ) -> Result<Vec<Applied<'t>>, AllocError>
-    ensures { IfOk result (λ found. map application found.items ≡ flat_map spec.applied_at (map annotations nodes.now)) }
+    ensures { IfOk result (λ found. map application found.items
+        ≡ flat_map spec.applied_at (map annotations nodes.now)) }
 {
     let mut found = Vec::new(alloc);
     for node in nodes {
@@ -243,7 +253,8 @@ pub fn type_and_extensions(
     alloc: Global,
     of_type: &SchemaType,
 ) -> Result<Vec<Annotated<'_>>, AllocError>
-    ensures { IfOk result (λ found. map annotations found.items ≡ spec.type_and_extensions of_type.now) }
+    ensures { IfOk result (λ found. map annotations found.items
+        ≡ spec.type_and_extensions of_type.now) }
 {
     let definition = of_type.definition.node.get();
     let mut found = Vec::new(alloc);
@@ -274,7 +285,8 @@ pub fn schema_and_extensions<'t>(
     alloc: Global,
     nodes: &Nodes<'t>,
 ) -> Result<Vec<Annotated<'t>>, AllocError>
-    ensures { IfOk result (λ found. map annotations found.items ≡ spec.schema_and_extensions (lists nodes.now)) }
+    ensures { IfOk result (λ found. map annotations found.items
+        ≡ spec.schema_and_extensions (lists nodes.now)) }
 {
     let location = DirectiveLocation::Schema;
     let mut found = Vec::new(alloc);

@@ -15,7 +15,8 @@ fn add_names<'t, T: HasOwnName>(
     nodes: &[Node<'t, T>],
     found: &mut Vec<NamePlace<'t>>,
 ) -> Result<(), AllocError>
-    ensures { OnOk result (map named found.new.items ≡ map named found.old.items ++ each T.own_name (map one nodes.now)) }
+    ensures { OnOk result (map named found.new.items
+        ≡ map named found.old.items ++ each T.own_name (map one nodes.now)) }
 {
     for node in nodes {
         found.push(NamePlace {
@@ -40,7 +41,8 @@ pub fn names_of<'t, T: HasOwnName>(
 
 // Adds the names of definitions and of extensions of types.
 fn add_definitions<'t>(nodes: &Nodes<'t>, found: &mut Vec<NamePlace<'t>>) -> Result<(), AllocError>
-    ensures { OnOk result (map named found.new.items ≡ map named found.old.items ++ spec.definition_names (lists nodes.now)) }
+    ensures { OnOk result (map named found.new.items
+        ≡ map named found.old.items ++ spec.definition_names (lists nodes.now)) }
 {
     add_names(nodes.types.as_slice(), found)?;
     add_names(nodes.type_extensions.as_slice(), found)?;
@@ -50,7 +52,8 @@ fn add_definitions<'t>(nodes: &Nodes<'t>, found: &mut Vec<NamePlace<'t>>) -> Res
 
 // Adds the names of their parts.
 fn add_parts<'t>(nodes: &Nodes<'t>, found: &mut Vec<NamePlace<'t>>) -> Result<(), AllocError>
-    ensures { OnOk result (map named found.new.items ≡ map named found.old.items ++ spec.part_names (lists nodes.now)) }
+    ensures { OnOk result (map named found.new.items
+        ≡ map named found.old.items ++ spec.part_names (lists nodes.now)) }
 {
     add_names(nodes.fields.as_slice(), found)?;
     add_names(nodes.arguments.as_slice(), found)?;

@@ -24,7 +24,8 @@ fn add_location(
     location: DirectiveLocation,
     found: &mut Vec<DirectiveLocation>,
 ) -> Result<(), AllocError>
-    ensures { OnOk result ((l : TheLocation) → spec.is_listed l found.new.items ≡ (spec.is_listed l found.old.items || spec.same_location l location)) }
+    ensures { OnOk result ((l : TheLocation) → spec.is_listed l found.new.items
+        ≡ (spec.is_listed l found.old.items || spec.same_location l location)) }
 {
     if !is_listed(location, found.as_slice()) {
         found.push(location)?;
@@ -37,7 +38,8 @@ pub fn distinct(
     alloc: Global,
     locations: &[DirectiveLocation],
 ) -> Result<Vec<DirectiveLocation>, AllocError>
-    ensures { IfOk result (λ found. (l : TheLocation) → spec.is_listed l found.items ≡ spec.is_listed l locations.now) }
+    ensures { IfOk result (λ found. (l : TheLocation)
+        → spec.is_listed l found.items ≡ spec.is_listed l locations.now) }
 {
     let mut found = Vec::new(alloc);
     for location in locations {

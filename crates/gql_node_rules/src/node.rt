@@ -20,7 +20,8 @@ pub trait Holds<T> {
 
     /// Adds the nodes that this one holds.
     fn add_held<'t>(holder: &Node<'t, Self>, found: &mut Vec<Node<'t, T>>) -> Result<(), AllocError>
-        ensures { OnOk result (map one found.new.items ≡ map one found.old.items ++ sited (one holder.now).file (held (one holder.now).node)) };
+        ensures { OnOk result (map one found.new.items ≡ map one found.old.items
+            ++ sited (one holder.now).file (held (one holder.now).node)) };
 }
 
 /// Adds the nodes that all of these hold.
@@ -28,7 +29,8 @@ pub fn add_all<'t, A: Holds<T>, T: Drop>(
     holders: &[Node<'t, A>],
     found: &mut Vec<Node<'t, T>>,
 ) -> Result<(), AllocError>
-    ensures { OnOk result (map one found.new.items ≡ map one found.old.items ++ within A.held (map one holders.now)) }
+    ensures { OnOk result (map one found.new.items ≡ map one found.old.items
+        ++ within A.held (map one holders.now)) }
 {
     for holder in holders {
         A::add_held(holder, found)?;

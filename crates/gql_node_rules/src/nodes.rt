@@ -36,7 +36,8 @@ fn add_shared<'t, T: Drop>(
     nodes: &'t [Shared<T>],
     found: &mut Vec<Node<'t, T>>,
 ) -> Result<(), AllocError>
-    ensures { OnOk result (map one found.new.items ≡ map one found.old.items ++ sited (Some file.now) nodes.now) }
+    ensures { OnOk result (map one found.new.items ≡ map one found.old.items
+        ++ sited (Some file.now) nodes.now) }
 {
     for node in nodes {
         found.push(Node {
@@ -120,7 +121,8 @@ fn add_parts_of_types<'t>(
     types: &[Node<'t, TypeDefinition>],
     found: &mut Vec<Node<'t, TypeParts>>,
 ) -> Result<(), AllocError>
-    ensures { OnOk result (map one found.new.items ≡ map one found.old.items ++ spec.each (λ d. d.parts) (map one types.now)) }
+    ensures { OnOk result (map one found.new.items ≡ map one found.old.items
+        ++ spec.each (λ d. d.parts) (map one types.now)) }
 {
     for definition in types {
         found.push(Node {
@@ -136,7 +138,8 @@ fn add_parts_of_extensions<'t>(
     extensions: &[Node<'t, TypeExtension>],
     found: &mut Vec<Node<'t, TypeParts>>,
 ) -> Result<(), AllocError>
-    ensures { OnOk result (map one found.new.items ≡ map one found.old.items ++ spec.each (λ e. e.parts) (map one extensions.now)) }
+    ensures { OnOk result (map one found.new.items ≡ map one found.old.items
+        ++ spec.each (λ e. e.parts) (map one extensions.now)) }
 {
     for extension in extensions {
         found.push(Node {
@@ -152,7 +155,8 @@ fn all_in<'t, A: Holds<T>, T: Drop>(
     alloc: Global,
     holders: &[Node<'t, A>],
 ) -> Result<Vec<Node<'t, T>>, AllocError>
-    ensures { IfOk result (λ found. map one found.items ≡ spec.within A.held (map one holders.now)) }
+    ensures { IfOk result (λ found. map one found.items
+        ≡ spec.within A.held (map one holders.now)) }
 {
     let mut found = Vec::new(alloc);
     add_all(holders, &mut found)?;
@@ -166,7 +170,8 @@ fn parts<'t>(
     extensions: &[Node<'t, TypeExtension>],
 ) -> Result<Vec<Node<'t, TypeParts>>, AllocError>
     ensures { IfOk result (λ found. map one found.items
-        ≡ spec.each (λ d. d.parts) (map one types.now) ++ spec.each (λ e. e.parts) (map one extensions.now)) }
+        ≡ spec.each (λ d. d.parts) (map one types.now) ++ spec.each (λ e. e.parts)
+        (map one extensions.now)) }
 {
     let mut found = Vec::new(alloc);
     add_parts_of_types(types, &mut found)?;
@@ -181,7 +186,8 @@ fn arguments<'t>(
     directives: &[Node<'t, DirectiveDefinition>],
 ) -> Result<Vec<Node<'t, InputValueDefinition>>, AllocError>
     ensures { IfOk result (λ found. map one found.items
-        ≡ spec.within (λ f. f.arguments) (map one fields.now) ++ spec.within (λ d. d.arguments) (map one directives.now)) }
+        ≡ spec.within (λ f. f.arguments) (map one fields.now)
+        ++ spec.within (λ d. d.arguments) (map one directives.now)) }
 {
     let mut found = Vec::new(alloc);
     add_all(fields, &mut found)?;

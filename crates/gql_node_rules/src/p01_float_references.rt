@@ -19,7 +19,8 @@ fn check_name(
     name: &NamePlace<'_>,
     faults: &mut Vec<Fault>,
 ) -> Result<(), AllocError>
-    ensures { OnOk result (faults.new.items ≡ faults.old.items ++ spec.fault_of_name (named name.now)) }
+    ensures { OnOk result (faults.new.items ≡ faults.old.items
+        ++ spec.fault_of_name (named name.now)) }
 {
     if is_float(name.name.as_str()) {
         add_fault_of(alloc, Rule::P01, name, faults)?;
@@ -33,7 +34,8 @@ pub fn check(
     names: &[NamePlace<'_>],
     faults: &mut Vec<Fault>,
 ) -> Result<(), AllocError>
-    ensures { OnOk result (faults.new.items ≡ faults.old.items ++ flat_map spec.fault_of_name (map named names.now)) }
+    ensures { OnOk result (faults.new.items ≡ faults.old.items
+        ++ flat_map spec.fault_of_name (map named names.now)) }
 {
     for name in names {
         check_name(alloc, name, faults)?;

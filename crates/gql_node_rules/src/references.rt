@@ -46,7 +46,8 @@ fn add_types<'t, T: Typed>(
     nodes: &[Node<'t, T>],
     found: &mut Vec<NamePlace<'t>>,
 ) -> Result<(), AllocError>
-    ensures { OnOk result (map named found.new.items ≡ map named found.old.items ++ each (λ n. name_in (T.of_type n)) (map one nodes.now)) }
+    ensures { OnOk result (map named found.new.items
+        ≡ map named found.old.items ++ each (λ n. name_in (T.of_type n)) (map one nodes.now)) }
 {
     for node in nodes {
         found.push(NamePlace {
@@ -59,7 +60,8 @@ fn add_types<'t, T: Typed>(
 
 /// Adds the types of arguments and of input fields.
 fn add_all_inputs<'t>(nodes: &Nodes<'t>, found: &mut Vec<NamePlace<'t>>) -> Result<(), AllocError>
-    ensures { OnOk result (map named found.new.items ≡ map named found.old.items ++ spec.inputs (lists nodes.now)) }
+    ensures { OnOk result (map named found.new.items
+        ≡ map named found.old.items ++ spec.inputs (lists nodes.now)) }
 {
     add_types(nodes.arguments.as_slice(), found)?;
     add_types(nodes.input_fields.as_slice(), found)?;
@@ -77,7 +79,8 @@ pub fn inputs<'t>(alloc: Global, nodes: &Nodes<'t>) -> Result<Vec<NamePlace<'t>>
 
 /// Adds the types of the fields of objects and interfaces.
 fn add_all_outputs<'t>(nodes: &Nodes<'t>, found: &mut Vec<NamePlace<'t>>) -> Result<(), AllocError>
-    ensures { OnOk result (map named found.new.items ≡ map named found.old.items ++ spec.outputs (lists nodes.now)) }
+    ensures { OnOk result (map named found.new.items
+        ≡ map named found.old.items ++ spec.outputs (lists nodes.now)) }
 {
     add_types(nodes.fields.as_slice(), found)?;
     Ok(())
@@ -97,7 +100,8 @@ fn add_listed<'t>(
     names: &'t [Name],
     found: &mut Vec<NamePlace<'t>>,
 ) -> Result<(), AllocError>
-    ensures { OnOk result (map named found.new.items ≡ map named found.old.items ++ sited (Some file.now) names.now) }
+    ensures { OnOk result (map named found.new.items
+        ≡ map named found.old.items ++ sited (Some file.now) names.now) }
 {
     for name in names {
         found.push(NamePlace {
@@ -128,7 +132,8 @@ fn add_all_interfaces<'t>(
     nodes: &Nodes<'t>,
     found: &mut Vec<NamePlace<'t>>,
 ) -> Result<(), AllocError>
-    ensures { OnOk result (map named found.new.items ≡ map named found.old.items ++ spec.interfaces (lists nodes.now)) }
+    ensures { OnOk result (map named found.new.items
+        ≡ map named found.old.items ++ spec.interfaces (lists nodes.now)) }
 {
     for parts in nodes.parts.as_slice() {
         add_interfaces(parts, found)?;
@@ -151,7 +156,8 @@ fn add_members<'t>(
 
 /// Adds the members of unions.
 fn add_all_members<'t>(nodes: &Nodes<'t>, found: &mut Vec<NamePlace<'t>>) -> Result<(), AllocError>
-    ensures { OnOk result (map named found.new.items ≡ map named found.old.items ++ spec.members (lists nodes.now)) }
+    ensures { OnOk result (map named found.new.items
+        ≡ map named found.old.items ++ spec.members (lists nodes.now)) }
 {
     for parts in nodes.parts.as_slice() {
         add_members(parts, found)?;
@@ -173,7 +179,8 @@ fn add_entries<'t>(
     entries: &'t [RootOperation],
     found: &mut Vec<NamePlace<'t>>,
 ) -> Result<(), AllocError>
-    ensures { OnOk result (map named found.new.items ≡ map named found.old.items ++ sited (Some file.now) (spec.types_in entries.now)) }
+    ensures { OnOk result (map named found.new.items
+        ≡ map named found.old.items ++ sited (Some file.now) (spec.types_in entries.now)) }
 {
     for entry in entries {
         found.push(NamePlace {
@@ -188,7 +195,8 @@ fn add_schemas<'t>(
     schemas: &[Node<'t, SchemaDefinition>],
     found: &mut Vec<NamePlace<'t>>,
 ) -> Result<(), AllocError>
-    ensures { OnOk result (map named found.new.items ≡ map named found.old.items ++ within (λ s. spec.types_in s.roots) (map one schemas.now)) }
+    ensures { OnOk result (map named found.new.items
+        ≡ map named found.old.items ++ within (λ s. spec.types_in s.roots) (map one schemas.now)) }
 {
     for schema in schemas {
         add_entries(schema.file, schema.node.roots.as_slice(), found)?;
@@ -200,7 +208,9 @@ fn add_schema_extensions<'t>(
     extensions: &[Node<'t, SchemaExtension>],
     found: &mut Vec<NamePlace<'t>>,
 ) -> Result<(), AllocError>
-    ensures { OnOk result (map named found.new.items ≡ map named found.old.items ++ within (λ e. spec.types_in e.roots) (map one extensions.now)) }
+    ensures { OnOk result (map named found.new.items
+        ≡ map named found.old.items ++ within (λ e. spec.types_in e.roots)
+        (map one extensions.now)) }
 {
     for extension in extensions {
         add_entries(extension.file, extension.node.roots.as_slice(), found)?;
@@ -210,7 +220,8 @@ fn add_schema_extensions<'t>(
 
 /// Adds the root operation types of definitions and extensions of the schema.
 fn add_all_roots<'t>(nodes: &Nodes<'t>, found: &mut Vec<NamePlace<'t>>) -> Result<(), AllocError>
-    ensures { OnOk result (map named found.new.items ≡ map named found.old.items ++ spec.roots (lists nodes.now)) }
+    ensures { OnOk result (map named found.new.items
+        ≡ map named found.old.items ++ spec.roots (lists nodes.now)) }
 {
     add_schemas(nodes.schemas.as_slice(), found)?;
     add_schema_extensions(nodes.schema_extensions.as_slice(), found)?;

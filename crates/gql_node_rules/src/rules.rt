@@ -19,7 +19,8 @@ use std::alloc::{AllocError, Global};
 
 // S03.
 fn check_names(alloc: Global, nodes: &Nodes<'_>, faults: &mut Vec<Fault>) -> Result<(), AllocError>
-    ensures { OnOk result (faults.new.items ≡ faults.old.items ++ spec.name_faults (lists nodes.now)) }
+    ensures { OnOk result (faults.new.items ≡ faults.old.items
+        ++ spec.name_faults (lists nodes.now)) }
 {
     let names = defined_names(alloc, nodes)?;
     s03_reserved_names::check(alloc, names.as_slice(), faults)?;
@@ -33,7 +34,8 @@ fn check_roles(
     nodes: &Nodes<'_>,
     faults: &mut Vec<Fault>,
 ) -> Result<(), AllocError>
-    ensures { OnOk result (faults.new.items ≡ faults.old.items ++ spec.role_faults (lists nodes.now) schema.now) }
+    ensures { OnOk result (faults.new.items ≡ faults.old.items
+        ++ spec.role_faults (lists nodes.now) schema.now) }
 {
     let inputs = inputs(alloc, nodes)?;
     s16_non_input_types::check(alloc, schema, inputs.as_slice(), faults)?;
@@ -51,7 +53,8 @@ fn check_references(
     nodes: &Nodes<'_>,
     faults: &mut Vec<Fault>,
 ) -> Result<(), AllocError>
-    ensures { OnOk result (faults.new.items ≡ faults.old.items ++ spec.reference_faults (lists nodes.now) schema.now) }
+    ensures { OnOk result (faults.new.items ≡ faults.old.items
+        ++ spec.reference_faults (lists nodes.now) schema.now) }
 {
     let references = all_references(alloc, nodes)?;
     s20_unknown_types::check(alloc, schema, references.as_slice(), faults)?;
@@ -66,7 +69,8 @@ fn check_directives(
     nodes: &Nodes<'_>,
     faults: &mut Vec<Fault>,
 ) -> Result<(), AllocError>
-    ensures { OnOk result (faults.new.items ≡ faults.old.items ++ spec.directive_faults (lists nodes.now) schema.now) }
+    ensures { OnOk result (faults.new.items ≡ faults.old.items
+        ++ spec.directive_faults (lists nodes.now) schema.now) }
 {
     let annotated = all_annotated(alloc, nodes)?;
     let applied = all_applied(alloc, annotated.as_slice())?;

@@ -18,7 +18,8 @@ fn check_name(
     name: &NamePlace<'_>,
     faults: &mut Vec<Fault>,
 ) -> Result<(), AllocError>
-    ensures { OnOk result (faults.new.items ≡ faults.old.items ++ spec.fault_of_name (named name.now)) }
+    ensures { OnOk result (faults.new.items ≡ faults.old.items
+        ++ spec.fault_of_name (named name.now)) }
 {
     if is_reserved(name.name.as_str()) {
         add_fault_of(alloc, Rule::S03, name, faults)?;
@@ -32,7 +33,8 @@ pub fn check(
     names: &[NamePlace<'_>],
     faults: &mut Vec<Fault>,
 ) -> Result<(), AllocError>
-    ensures { OnOk result (faults.new.items ≡ faults.old.items ++ flat_map spec.fault_of_name (map named names.now)) }
+    ensures { OnOk result (faults.new.items ≡ faults.old.items
+        ++ flat_map spec.fault_of_name (map named names.now)) }
 {
     for name in names {
         check_name(alloc, name, faults)?;

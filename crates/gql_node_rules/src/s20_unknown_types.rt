@@ -21,7 +21,8 @@ fn check_name(
     name: &NamePlace<'_>,
     faults: &mut Vec<Fault>,
 ) -> Result<(), AllocError>
-    ensures { OnOk result (faults.new.items ≡ faults.old.items ++ spec.fault_of_name schema.now (named name.now)) }
+    ensures { OnOk result (faults.new.items ≡ faults.old.items
+        ++ spec.fault_of_name schema.now (named name.now)) }
 {
     if !is_known(schema, name.name.as_str()) {
         add_fault_of(alloc, Rule::S20, name, faults)?;
@@ -36,7 +37,8 @@ pub fn check(
     names: &[NamePlace<'_>],
     faults: &mut Vec<Fault>,
 ) -> Result<(), AllocError>
-    ensures { OnOk result (faults.new.items ≡ faults.old.items ++ flat_map (spec.fault_of_name schema.now) (map named names.now)) }
+    ensures { OnOk result (faults.new.items ≡ faults.old.items
+        ++ flat_map (spec.fault_of_name schema.now) (map named names.now)) }
 {
     for name in names {
         check_name(alloc, schema, name, faults)?;

@@ -5,21 +5,8 @@ ghost use Rattle.gql_node_rules.specs.S21NonOutputTypes as spec;
 
 use gql_ast::{Fault, Rule};
 use gql_faults::{NamePlace, add_fault_of};
-use gql_types::{Schema, TypeKind};
+use gql_types::Schema;
 use std::alloc::{AllocError, Global};
-
-fn is_output(kind: TypeKind) -> bool
-    ensures { result ≡ spec.is_output kind }
-{
-    match kind {
-        TypeKind::Scalar
-        | TypeKind::Object
-        | TypeKind::Interface
-        | TypeKind::Union
-        | TypeKind::Enum => true,
-        TypeKind::InputObject => false,
-    }
-}
 
 fn check_name(
     alloc: Global,
@@ -27,11 +14,12 @@ fn check_name(
     name: &NamePlace<'_>,
     faults: &mut Vec<Fault>,
 ) -> Result<(), AllocError>
-    ensures { OnOk result (faults.new.items ≡ faults.old.items ++ spec.fault_of_name schema.now (named name.now)) }
+    ensures { OnOk result (faults.new.items ≡ faults.old.items
+        ++ spec.fault_of_name schema.now (named name.now)) }
 {
     match schema.kind(name.name.as_str()) {
         Some(kind) => {
-            if !is_output(kind) {
+            if !kind.is_output() {
                 add_fault_of(alloc, Rule::S21, name, faults)?;
             }
             Ok(())
@@ -47,7 +35,8 @@ pub fn check(
     names: &[NamePlace<'_>],
     faults: &mut Vec<Fault>,
 ) -> Result<(), AllocError>
-    ensures { OnOk result (faults.new.items ≡ faults.old.items ++ flat_map (spec.fault_of_name schema.now) (map named names.now)) }
+    ensures { OnOk result (faults.new.items ≡ faults.old.items
+        ++ flat_map (spec.fault_of_name schema.now) (map named names.now)) }
 {
     for name in names {
         check_name(alloc, schema, name, faults)?;

@@ -14,7 +14,8 @@ fn check_name(
     name: &NamePlace<'_>,
     faults: &mut Vec<Fault>,
 ) -> Result<(), AllocError>
-    ensures { OnOk result (faults.new.items ≡ faults.old.items ++ spec.fault_of_name schema.now (named name.now)) }
+    ensures { OnOk result (faults.new.items ≡ faults.old.items
+        ++ spec.fault_of_name schema.now (named name.now)) }
 {
     match schema.kind(name.name.as_str()) {
         Some(kind) => {
@@ -34,7 +35,8 @@ pub fn check(
     names: &[NamePlace<'_>],
     faults: &mut Vec<Fault>,
 ) -> Result<(), AllocError>
-    ensures { OnOk result (faults.new.items ≡ faults.old.items ++ flat_map (spec.fault_of_name schema.now) (map named names.now)) }
+    ensures { OnOk result (faults.new.items ≡ faults.old.items
+        ++ flat_map (spec.fault_of_name schema.now) (map named names.now)) }
 {
     for name in names {
         check_name(alloc, schema, name, faults)?;

@@ -22,7 +22,8 @@ fn check_applied(
     applied: &Applied<'_>,
     faults: &mut Vec<Fault>,
 ) -> Result<(), AllocError>
-    ensures { OnOk result (faults.new.items ≡ faults.old.items ++ spec.faults_of_applied schema.now (application applied.now)) }
+    ensures { OnOk result (faults.new.items ≡ faults.old.items
+        ++ spec.faults_of_applied schema.now (application applied.now)) }
 {
     let name = applied.name();
     if !is_defined(schema, name) {
@@ -38,7 +39,8 @@ pub fn check(
     all: &[Applied<'_>],
     faults: &mut Vec<Fault>,
 ) -> Result<(), AllocError>
-    ensures { OnOk result (faults.new.items ≡ faults.old.items ++ flat_map (spec.faults_of_applied schema.now) (map application all.now)) }
+    ensures { OnOk result (faults.new.items ≡ faults.old.items
+        ++ flat_map (spec.faults_of_applied schema.now) (map application all.now)) }
 {
     for applied in all {
         check_applied(alloc, schema, applied, faults)?;

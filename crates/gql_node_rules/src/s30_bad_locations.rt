@@ -33,7 +33,8 @@ fn check_applied(
     faults: &mut Vec<Fault>,
 ) -> Result<(), AllocError>
     ensures { OnOk result (faults.new.items ≡ faults.old.items
-        ++ spec.fault_by (find (λ d. bytes_eq (applied_spec.name_of (application applied.now)) d.node.name.text)
+        ++ spec.fault_by (find (λ d. bytes_eq (applied_spec.name_of
+        (application applied.now)) d.node.name.text)
         (map (λ g. g.definition.now) signatures.now)) (application applied.now)) }
 {
     match signature_named(signatures, applied.name()) {
@@ -50,7 +51,8 @@ pub fn check(
     faults: &mut Vec<Fault>,
 ) -> Result<(), AllocError>
     ensures { OnOk result (faults.new.items ≡ faults.old.items
-        ++ flat_map (λ a. spec.fault_by (find (λ d. bytes_eq (applied_spec.name_of a) d.node.name.text)
+        ++ flat_map (λ a. spec.fault_by
+        (find (λ d. bytes_eq (applied_spec.name_of a) d.node.name.text)
         (map (λ g. g.definition.now) signatures.now)) a) (map application all.now)) }
 {
     for applied in all {

@@ -16,7 +16,8 @@ use std::collections::HashMap;
 
 // The names of these directives.
 fn names_of<'t>(alloc: Global, group: &[Applied<'t>]) -> Result<Vec<NamePlace<'t>>, AllocError>
-    ensures { IfOk result (λ names. map named names.items ≡ spec.names_of (map application group.now)) }
+    ensures { IfOk result (λ names. map named names.items
+        ≡ spec.names_of (map application group.now)) }
 {
     let mut names = Vec::new(alloc);
     for applied in group {
@@ -59,7 +60,8 @@ fn check_applied(
     faults: &mut Vec<Fault>,
 ) -> Result<(), AllocError>
     ensures { OnOk result (faults.new.items ≡ faults.old.items
-        ++ (if nat_lt 1 (unwrap_or (hash.get_by (λ k. bytes_eq (applied_spec.name_of (application applied.now)) k.now) counts.now) 0)
+        ++ (if nat_lt 1 (unwrap_or (hash.get_by (λ k. bytes_eq
+        (applied_spec.name_of (application applied.now)) k.now) counts.now) 0)
         then spec.unless_repeatable schema.now (application applied.now) else [])) }
 {
     if counts.get(applied.name()).copied().unwrap_or(0) > 1 {

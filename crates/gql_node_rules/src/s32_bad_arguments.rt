@@ -52,7 +52,8 @@ fn check_all_given(
     faults: &mut Vec<Fault>,
 ) -> Result<(), AllocError>
     ensures { OnOk result (faults.new.items ≡ faults.old.items
-        ++ flat_map (spec.fault_of_given signature.now.definition.now.node.arguments) (map named given.now)) }
+        ++ flat_map (spec.fault_of_given signature.now.definition.now.node.arguments)
+        (map named given.now)) }
 {
     for name in given {
         check_given(alloc, signature, name, faults)?;
@@ -80,7 +81,8 @@ fn check_required(
     faults: &mut Vec<Fault>,
 ) -> Result<(), AllocError>
     ensures { OnOk result (faults.new.items ≡ faults.old.items
-        ++ (if is_some (hash.get_by (λ k. bytes_eq definition.now.name.text k.now) given.now) then []
+        ++ (if is_some (hash.get_by (λ k. bytes_eq definition.now.name.text k.now) given.now)
+        then []
         else fault_at rule.S32 definition.now.name.text (spot at.now))) }
 {
     let name = definition.name.as_str();
@@ -98,7 +100,8 @@ fn check_all_required(
     faults: &mut Vec<Fault>,
 ) -> Result<(), AllocError>
     ensures { OnOk result (faults.new.items ≡ faults.old.items
-        ++ flat_map (λ v. if is_some (hash.get_by (λ k. bytes_eq v.name.text k.now) given.now) then []
+        ++ flat_map (λ v. if is_some (hash.get_by (λ k. bytes_eq v.name.text k.now) given.now)
+        then []
         else fault_at rule.S32 v.name.text (spot at.now)) (map (λ v. v.now) required.now)) }
 {
     for definition in required {
@@ -116,7 +119,8 @@ fn check_missing(
 ) -> Result<(), AllocError>
     requires { map named given.now ≡ spec.given (application applied.now) }
     ensures { OnOk result (faults.new.items ≡ faults.old.items
-        ++ flat_map (spec.fault_of_required (application applied.now)) (map (λ v. v.now) signature.now.required.items)) }
+        ++ flat_map (spec.fault_of_required (application applied.now))
+        (map (λ v. v.now) signature.now.required.items)) }
 {
     let texts = texts(alloc, given)?;
     let at = applied.spot();
@@ -145,7 +149,8 @@ fn check_unknown(
     applied: &Applied<'_>,
     faults: &mut Vec<Fault>,
 ) -> Result<(), AllocError>
-    ensures { OnOk result (faults.new.items ≡ faults.old.items ++ spec.faults_by None (application applied.now)) }
+    ensures { OnOk result (faults.new.items ≡ faults.old.items
+        ++ spec.faults_by None (application applied.now)) }
 {
     let given = given(alloc, applied)?;
     add_repeated(alloc, Rule::S32, given.as_slice(), faults)?;
@@ -159,7 +164,8 @@ fn check_applied(
     faults: &mut Vec<Fault>,
 ) -> Result<(), AllocError>
     ensures { OnOk result (faults.new.items ≡ faults.old.items
-        ++ spec.faults_by (find (λ d. bytes_eq (applied_spec.name_of (application applied.now)) d.node.name.text)
+        ++ spec.faults_by (find (λ d. bytes_eq (applied_spec.name_of
+        (application applied.now)) d.node.name.text)
         (map (λ g. g.definition.now) signatures.now)) (application applied.now)) }
 {
     match signature_named(signatures, applied.name()) {
@@ -176,7 +182,8 @@ pub fn check(
     faults: &mut Vec<Fault>,
 ) -> Result<(), AllocError>
     ensures { OnOk result (faults.new.items ≡ faults.old.items
-        ++ flat_map (λ a. spec.faults_by (find (λ d. bytes_eq (applied_spec.name_of a) d.node.name.text)
+        ++ flat_map (λ a. spec.faults_by
+        (find (λ d. bytes_eq (applied_spec.name_of a) d.node.name.text)
         (map (λ g. g.definition.now) signatures.now)) a) (map application all.now)) }
 {
     for applied in all {

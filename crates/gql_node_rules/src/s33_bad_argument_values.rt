@@ -42,7 +42,8 @@ fn check_known(
     faults: &mut Vec<Fault>,
 ) -> Result<(), AllocError>
     ensures { OnOk result (faults.new.items ≡ faults.old.items
-        ++ spec.faults_by schema.now (Some signature.now.definition.now) (application applied.now)) }
+        ++ spec.faults_by schema.now (Some signature.now.definition.now)
+        (application applied.now)) }
 {
     for argument in applied.directive.arguments.as_slice() {
         check_value(alloc, schema, signature, applied, argument, faults)?;
@@ -59,7 +60,8 @@ fn check_applied(
     faults: &mut Vec<Fault>,
 ) -> Result<(), AllocError>
     ensures { OnOk result (faults.new.items ≡ faults.old.items
-        ++ spec.faults_by schema.now (find (λ d. bytes_eq (applied_spec.name_of (application applied.now)) d.node.name.text)
+        ++ spec.faults_by schema.now (find (λ d. bytes_eq
+        (applied_spec.name_of (application applied.now)) d.node.name.text)
         (map (λ g. g.definition.now) signatures.now)) (application applied.now)) }
 {
     match signature_named(signatures, applied.name()) {
@@ -77,7 +79,8 @@ pub fn check(
     faults: &mut Vec<Fault>,
 ) -> Result<(), AllocError>
     ensures { OnOk result (faults.new.items ≡ faults.old.items
-        ++ flat_map (λ a. spec.faults_by schema.now (find (λ d. bytes_eq (applied_spec.name_of a) d.node.name.text)
+        ++ flat_map (λ a. spec.faults_by schema.now (find
+        (λ d. bytes_eq (applied_spec.name_of a) d.node.name.text)
         (map (λ g. g.definition.now) signatures.now)) a) (map application all.now)) }
 {
     for applied in all {

@@ -27,7 +27,8 @@ impl<'s> HasName for DefinedArgument<'s> {
     }
 }
 
-/// The definition of a directive with its arguments, those of them that are required, and its locations, each once.
+/// The definition of a directive with its arguments, those of them that are required, and its
+/// locations, each once.
 #[derive(Drop)]
 pub struct Signature<'s> {
     pub definition: &'s Sited<Shared<DirectiveDefinition>>,
@@ -79,7 +80,8 @@ fn required<'s>(
     alloc: Global,
     definitions: &'s [Shared<InputValueDefinition>],
 ) -> Result<Vec<&'s InputValueDefinition>, AllocError>
-    ensures { IfOk result (λ found. map (λ v. v.now) found.items ≡ filter is_required definitions.now) }
+    ensures { IfOk result (λ found. map (λ v. v.now) found.items
+        ≡ filter is_required definitions.now) }
 {
     let mut found = Vec::new(alloc);
     for definition in definitions {
@@ -133,7 +135,8 @@ pub fn signature_named<'a, 's>(
     name: &str,
 ) -> Option<&'a Signature<'s>>
     ensures { option_map (λ g. g.now.definition.now) result
-        ≡ find (λ d. bytes_eq name.now d.node.name.text) (map (λ g. g.definition.now) signatures.now) }
+        ≡ find (λ d. bytes_eq name.now d.node.name.text)
+        (map (λ g. g.definition.now) signatures.now) }
 {
     signatures.get(name)
 }
@@ -141,7 +144,8 @@ pub fn signature_named<'a, 's>(
 impl<'s> Signature<'s> {
     /// The first argument of that name.
     pub fn argument(&self, name: &str) -> Option<&'s InputValueDefinition>
-        ensures { option_copied result ≡ argument_named self.now.definition.now.node.arguments name.now }
+        ensures { option_copied result
+            ≡ argument_named self.now.definition.now.node.arguments name.now }
     {
         match self.arguments.get(name) {
             Some(argument) => Some(argument.definition),

@@ -16,7 +16,8 @@ fn add_file<'t>(
     definitions: &'t [Definition],
     found: &mut Vec<Node<'t, Tree>>,
 ) -> Result<(), AllocError>
-    ensures { OnOk result (map one found.new.items ≡ map one found.old.items ++ in_order_of definitions.now) }
+    ensures { OnOk result (map one found.new.items ≡ map one found.old.items
+        ++ in_order_of definitions.now) }
 {
     for definition in definitions {
         found.push(Node {

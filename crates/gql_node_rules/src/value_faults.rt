@@ -1,14 +1,12 @@
 //! A value that does not fit the type of its argument or input field (GraphQL 5.6).
 ghost use Rattle.std.specs.Prelude.{◌≡◌, ◌++◌, OnOk};
-ghost use Rattle.gql_inputs.specs.BadValues.{looked};
 ghost use Rattle.gql_faults.specs.Places.{spot};
 ghost use Rattle.gql_node_rules.specs.Borrowed.{value};
 ghost use Rattle.gql_node_rules.specs.ValueFaults as spec;
 
 use gql_ast::{Fault, FileName, InputValueDefinition, Literal, Rule};
 use gql_faults::{Spot, add_fault};
-use gql_inputs::fits;
-use gql_text::Place;
+use gql_inputs::{fits, place_of};
 use gql_types::Schema;
 use std::alloc::{AllocError, Global};
 
@@ -17,24 +15,6 @@ use std::alloc::{AllocError, Global};
 pub struct ValuePlace<'t> {
     pub file: Option<&'t FileName>,
     pub value: &'t Literal,
-}
-
-// Where a value starts.
-#[tactic(auto, using(gql_inputs::specs::Looking::looked_variable, gql_inputs::specs::Looking::looked_int, gql_inputs::specs::Looking::looked_float, gql_inputs::specs::Looking::looked_string, gql_inputs::specs::Looking::looked_boolean, gql_inputs::specs::Looking::looked_null, gql_inputs::specs::Looking::looked_enum, gql_inputs::specs::Looking::looked_list, gql_inputs::specs::Looking::looked_object))]
-fn place_of(value: &Literal) -> Place
-    ensures { result ≡ (looked value.now).place }
-{
-    match value {
-        Literal::Variable { place, .. }
-        | Literal::Int { place, .. }
-        | Literal::Float { place, .. }
-        | Literal::String { place, .. }
-        | Literal::Boolean { place, .. }
-        | Literal::Null { place }
-        | Literal::Enum { place, .. }
-        | Literal::List { place, .. }
-        | Literal::Object { place, .. } => *place,
-    }
 }
 
 impl<'t> ValuePlace<'t> {
@@ -48,7 +28,8 @@ impl<'t> ValuePlace<'t> {
     }
 }
 
-/// Adds a fault at the start of a value, about its argument or input field, unless it fits the type.
+/// Adds a fault at the start of a value, about its argument or input field, unless it fits the
+/// type.
 pub fn add_unless_fits(
     alloc: Global,
     rule: Rule,

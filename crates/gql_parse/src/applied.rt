@@ -1,7 +1,7 @@
 //! Arguments and directives (GraphQL specification, 2.6 and 2.12), with constant values or not.
 ghost use Rattle.std.specs.Prelude.{◌<◌, ◌≤◌, length, OnOk};
 ghost use Rattle.gql_text.specs.declared.token.Kind.TheVariants as k;
-ghost use Rattle.gql_grammar.specs.Symbol.{Reads, before};
+ghost use Rattle.gql_grammar.specs.Symbol.{IsRest, Reads, before};
 ghost use Rattle.gql_grammar.specs.Repetition.{some_while};
 ghost use Rattle.gql_parse.specs.Directives as spec;
 
@@ -12,10 +12,11 @@ use gql_grammar::{Cursor, ParseError};
 use gql_text::Kind;
 use std::alloc::Global;
 
-#[tactic(auto, unfolding(crate::specs::Directives::argument))]
+#[tactic(auto, using(gql_grammar::proofs::Rests::rests), unfolding(crate::specs::Directives::argument))]
 fn argument(alloc: Global, cursor: &mut Cursor<'_>, constant: bool) -> Result<Argument, ParseError>
     ensures value { Reads ((spec.argument constant).read cursor.old) result cursor.new }
     ensures shorter { OnOk result (length cursor.new < length cursor.old) }
+    ensures rest { IsRest cursor.new cursor.old }
 {
     let name = name(alloc, cursor)?;
     cursor.expect(Kind::Colon)?;
@@ -23,7 +24,7 @@ fn argument(alloc: Global, cursor: &mut Cursor<'_>, constant: bool) -> Result<Ar
     Ok(Argument { name, value })
 }
 
-#[tactic(auto, using(gql_grammar::proofs::Loops::going_init, gql_grammar::proofs::Loops::going_on))]
+#[tactic(auto, using(gql_grammar::proofs::Rests::rests, gql_grammar::proofs::Loops::going_init, gql_grammar::proofs::Loops::going_on))]
 fn argument_list(
     alloc: Global,
     cursor: &mut Cursor<'_>,
@@ -31,6 +32,7 @@ fn argument_list(
 ) -> Result<Items<Argument>, ParseError>
     ensures value { Reads ((some_while (before k.RightParenthesis) (spec.argument constant)).read cursor.old) result cursor.new }
     ensures shorter { OnOk result (length cursor.new < length cursor.old) }
+    ensures rest { IsRest cursor.new cursor.old }
 {
     let mut found = Items::new(alloc);
     found.push(argument(alloc, cursor, constant)?)?;
@@ -40,7 +42,7 @@ fn argument_list(
     Ok(found)
 }
 
-#[tactic(auto, unfolding(crate::specs::Directives::arguments))]
+#[tactic(auto, using(gql_grammar::proofs::Rests::rests), unfolding(crate::specs::Directives::arguments))]
 fn arguments(
     alloc: Global,
     cursor: &mut Cursor<'_>,
@@ -48,6 +50,7 @@ fn arguments(
 ) -> Result<Items<Argument>, ParseError>
     ensures value { Reads ((spec.arguments constant).read cursor.old) result cursor.new }
     ensures shorter { OnOk result (length cursor.new < length cursor.old) }
+    ensures rest { IsRest cursor.new cursor.old }
 {
     cursor.expect(Kind::LeftParenthesis)?;
     let found = argument_list(alloc, cursor, constant)?;
@@ -56,6 +59,7 @@ fn arguments(
 }
 
 /// The arguments of a field or a directive, or none (2.6).
+#[tactic(auto, using(gql_grammar::proofs::Rests::rests))]
 pub fn optional_arguments(
     alloc: Global,
     cursor: &mut Cursor<'_>,
@@ -63,6 +67,7 @@ pub fn optional_arguments(
 ) -> Result<Items<Argument>, ParseError>
     ensures value { Reads ((spec.optional_arguments constant).read cursor.old) result cursor.new }
     ensures shorter { OnOk result (length cursor.new ≤ length cursor.old) }
+    ensures rest { IsRest cursor.new cursor.old }
 {
     if !cursor.sees(Kind::LeftParenthesis) {
         return Ok(Items::new(alloc));
@@ -70,7 +75,7 @@ pub fn optional_arguments(
     arguments(alloc, cursor, constant)
 }
 
-#[tactic(auto, unfolding(crate::specs::Directives::directive))]
+#[tactic(auto, using(gql_grammar::proofs::Rests::rests), unfolding(crate::specs::Directives::directive))]
 fn directive(
     alloc: Global,
     cursor: &mut Cursor<'_>,
@@ -78,6 +83,7 @@ fn directive(
 ) -> Result<Directive, ParseError>
     ensures value { Reads ((spec.directive constant).read cursor.old) result cursor.new }
     ensures shorter { OnOk result (length cursor.new < length cursor.old) }
+    ensures rest { IsRest cursor.new cursor.old }
 {
     let mark = cursor.expect(Kind::At)?;
     let name = name(alloc, cursor)?;
@@ -89,8 +95,8 @@ fn directive(
     })
 }
 
-/// The directives that stand next, of which there may be none (2.12). The values of constant ones have no variables.
-#[tactic(auto, unfolding(crate::specs::Directives::directives), using(gql_grammar::proofs::Loops::going_init, gql_grammar::proofs::Loops::going_on))]
+/// The directives that follow, of which there may be none (2.12). The values of constant ones have no variables.
+#[tactic(auto, unfolding(crate::specs::Directives::directives), using(gql_grammar::proofs::Rests::rests, gql_grammar::proofs::Loops::going_init, gql_grammar::proofs::Loops::going_on))]
 pub fn directives(
     alloc: Global,
     cursor: &mut Cursor<'_>,
@@ -98,6 +104,7 @@ pub fn directives(
 ) -> Result<Items<Directive>, ParseError>
     ensures value { Reads ((spec.directives constant).read cursor.old) result cursor.new }
     ensures shorter { OnOk result (length cursor.new ≤ length cursor.old) }
+    ensures rest { IsRest cursor.new cursor.old }
 {
     let mut found = Items::new(alloc);
     'directives: while cursor.sees(Kind::At) {

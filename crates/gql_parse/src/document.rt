@@ -9,13 +9,13 @@ ghost use Rattle.gql_grammar.specs.declared.fault.SyntaxFault.{SyntaxFault as Th
 ghost use Rattle.gql_grammar.specs.declared.fault.SyntaxRefusal.{SyntaxRefusal as TheRefusal};
 ghost use Rattle.gql_parse.specs.Documents.{executable};
 
-use crate::executable::read;
+use crate::executable::document;
 use gql_ast::{Document, FileName};
-use gql_grammar::{SyntaxFault, looked_at, placed};
+use gql_grammar::{Cursor, SyntaxFault, looked_at, placed};
 use gql_text::{Place, Token, end_place, lex};
 use std::alloc::Global;
 
-// No token behind the one that opens level 101 is read, which bounds how deep calls stand within each other, too.
+// No token after the one that opens level 101 is read, which also bounds how deep the calls nest.
 fn parse_looked_at(
     alloc: Global,
     tokens: &[Token<'_>],
@@ -25,13 +25,14 @@ fn parse_looked_at(
     ensures { Parses (executable file.now) end (map lexeme tokens.now) result }
 {
     let looked = looked_at(tokens);
-    match read(alloc, &tokens[..looked], file) {
+    let mut cursor = Cursor::new(&tokens[..looked]);
+    match document(alloc, &mut cursor, file) {
         Ok(document) => Ok(document),
-        Err(error) => Err(placed(error, tokens, end)),
+        Err(error) => Err(placed(error, &cursor, tokens, end)),
     }
 }
 
-/// The document that tokens are, or their fault. The end is the place behind the text.
+/// The document that tokens are, or their fault. The end is the place after the text.
 pub fn parse_tokens(
     alloc: Global,
     tokens: &[Token<'_>],
@@ -60,7 +61,7 @@ pub fn parse(alloc: Global, file: FileName, source: &str) -> Result<Document, Sy
     // A fault is that of the source.
     ensures refused { (number : TheRefusal) (place : ThePlace) → result ≡ Err (SyntaxFault.At number place)
         → IsFaultOf (executable file) source.now (SyntaxFault.At number place) }
-    // The fault of the source is told.
+    // The fault of the source is reported.
     ensures faulty { (fault : TheFault) → IsFaultOf (executable file) source.now fault → OrMemory result (Err fault) }
 {
     match lex(alloc, source) {

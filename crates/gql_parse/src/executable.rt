@@ -1,23 +1,22 @@
 //! Executable documents (GraphQL specification, 2.2).
-ghost use Rattle.std.specs.Prelude.{◌<◌, [], length, map, OnOk};
+ghost use Rattle.std.specs.Prelude.{◌≡◌, ◌<◌, [], length, OnOk};
 ghost use Rattle.gql_text.specs.declared.token.Kind.TheVariants as k;
-ghost use Rattle.gql_text.specs.Lexeme.{lexeme};
-ghost use Rattle.gql_grammar.specs.Symbol.{Reads, before};
+ghost use Rattle.gql_grammar.specs.Symbol.{IsRest, Reads, before};
 ghost use Rattle.gql_grammar.specs.Repetition.{some_while};
 ghost use Rattle.gql_parse.specs.Documents as spec;
 
 use crate::operations::{fragment, operation};
 use gql_ast::{Definition, Document, FileName, Items, Shared, Tree};
 use gql_grammar::{Cursor, ParseError};
-use gql_text::{Kind, Token};
+use gql_text::Kind;
 use std::alloc::Global;
 
-/// An operation or a fragment (GraphQL specification, 2.2). Refused at the first token that cannot stand there, or where memory
-/// is wanting.
-#[tactic(auto, unfolding(crate::specs::Documents::definition))]
+/// An operation or a fragment (GraphQL specification, 2.2).
+#[tactic(auto, using(gql_grammar::proofs::Rests::rests), unfolding(crate::specs::Documents::definition))]
 pub fn definition(alloc: Global, cursor: &mut Cursor<'_>) -> Result<Tree, ParseError>
     ensures value { Reads (spec.definition.read cursor.old) result cursor.new }
     ensures shorter { OnOk result (length cursor.new < length cursor.old) }
+    ensures rest { IsRest cursor.new cursor.old }
 {
     if cursor.sees_word("fragment") {
         let fragment = fragment(alloc, cursor)?;
@@ -28,7 +27,7 @@ pub fn definition(alloc: Global, cursor: &mut Cursor<'_>) -> Result<Tree, ParseE
     }
 }
 
-#[tactic(auto, unfolding(crate::specs::Documents::definition_in))]
+#[tactic(auto, using(gql_grammar::proofs::Rests::rests), unfolding(crate::specs::Documents::definition_in))]
 fn definition_in(
     alloc: Global,
     cursor: &mut Cursor<'_>,
@@ -36,6 +35,7 @@ fn definition_in(
 ) -> Result<Definition, ParseError>
     ensures value { Reads ((spec.definition_in file.now).read cursor.old) result cursor.new }
     ensures shorter { OnOk result (length cursor.new < length cursor.old) }
+    ensures rest { IsRest cursor.new cursor.old }
 {
     let tree = definition(alloc, cursor)?;
     Ok(Definition {
@@ -44,7 +44,7 @@ fn definition_in(
     })
 }
 
-#[tactic(auto, using(gql_grammar::proofs::Loops::going_init, gql_grammar::proofs::Loops::going_on))]
+#[tactic(auto, using(gql_grammar::proofs::Rests::rests, gql_grammar::proofs::Loops::going_init, gql_grammar::proofs::Loops::going_on))]
 fn definitions(
     alloc: Global,
     cursor: &mut Cursor<'_>,
@@ -52,6 +52,7 @@ fn definitions(
 ) -> Result<Items<Definition>, ParseError>
     ensures value { Reads ((some_while (before k.EndOfText) (spec.definition_in file.now)).read cursor.old) result cursor.new }
     ensures shorter { OnOk result (length cursor.new < length cursor.old) }
+    ensures rest { IsRest cursor.new cursor.old }
 {
     let mut found = Items::new(alloc);
     found.push(definition_in(alloc, cursor, file)?)?;
@@ -63,11 +64,15 @@ fn definitions(
 
 /// The document that all of the tokens are.
 #[tactic(auto, unfolding(crate::specs::Documents::executable, crate::specs::Documents::document))]
-pub fn read(alloc: Global, tokens: &[Token<'_>], file: &FileName) -> Result<Document, ParseError>
-    ensures { Reads ((spec.executable file.now).read (map lexeme tokens.now)) result [] }
+pub fn document(
+    alloc: Global,
+    cursor: &mut Cursor<'_>,
+    file: &FileName,
+) -> Result<Document, ParseError>
+    ensures value { Reads ((spec.executable file.now).read cursor.old) result cursor.new }
+    ensures all { OnOk result (cursor.new ≡ []) }
 {
-    let mut cursor = Cursor::new(tokens);
-    let definitions = definitions(alloc, &mut cursor, file)?;
+    let definitions = definitions(alloc, cursor, file)?;
     cursor.end()?;
     Ok(Document { definitions })
 }

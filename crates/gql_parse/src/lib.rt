@@ -2,19 +2,15 @@
 #![tactic(auto)]
 
 mod applied;
+mod calls;
 mod document;
 mod executable;
+pub mod laws;
 mod literal;
 mod names;
 mod operations;
 mod selections;
 mod types;
 
-pub use applied::directives;
+pub use calls::{definition, directives, name, optional_default, set, type_ref, value};
 pub use document::{one_answer, parse, parse_tokens};
-pub use executable::definition;
-pub use literal::value;
-pub use names::name;
-pub use operations::optional_default;
-pub use selections::set;
-pub use types::type_ref;

@@ -1,7 +1,7 @@
 //! Values (GraphQL specification, 2.9).
 ghost use Rattle.std.specs.Prelude.{◌<◌, ◌≤◌, length, OnOk};
 ghost use Rattle.gql_text.specs.declared.token.Kind.TheVariants as k;
-ghost use Rattle.gql_grammar.specs.Symbol.{Reads, before};
+ghost use Rattle.gql_grammar.specs.Symbol.{IsRest, Reads, before};
 ghost use Rattle.gql_grammar.specs.Repetition.{any_while};
 ghost use Rattle.gql_parse.specs.Values as spec;
 
@@ -11,10 +11,11 @@ use gql_grammar::{Cursor, ParseError};
 use gql_text::{Kind, text_value};
 use std::alloc::Global;
 
-#[tactic(auto, unfolding(crate::specs::Values::variable))]
+#[tactic(auto, using(gql_grammar::proofs::Rests::rests), unfolding(crate::specs::Values::variable))]
 fn variable(alloc: Global, cursor: &mut Cursor<'_>) -> Result<Literal, ParseError>
     ensures value { Reads (spec.variable.read cursor.old) result cursor.new }
     ensures shorter { OnOk result (length cursor.new < length cursor.old) }
+    ensures rest { IsRest cursor.new cursor.old }
 {
     let mark = cursor.expect(Kind::Dollar)?;
     let name = name(alloc, cursor)?;
@@ -24,10 +25,11 @@ fn variable(alloc: Global, cursor: &mut Cursor<'_>) -> Result<Literal, ParseErro
     })
 }
 
-#[tactic(auto, unfolding(crate::specs::Values::int))]
+#[tactic(auto, using(gql_grammar::proofs::Rests::rests), unfolding(crate::specs::Values::int))]
 fn int(alloc: Global, cursor: &mut Cursor<'_>) -> Result<Literal, ParseError>
     ensures value { Reads (spec.int.read cursor.old) result cursor.new }
     ensures shorter { OnOk result (length cursor.new < length cursor.old) }
+    ensures rest { IsRest cursor.new cursor.old }
 {
     let token = cursor.expect(Kind::IntValue)?;
     Ok(Literal::Int {
@@ -36,10 +38,11 @@ fn int(alloc: Global, cursor: &mut Cursor<'_>) -> Result<Literal, ParseError>
     })
 }
 
-#[tactic(auto, unfolding(crate::specs::Values::float))]
+#[tactic(auto, using(gql_grammar::proofs::Rests::rests), unfolding(crate::specs::Values::float))]
 fn float(alloc: Global, cursor: &mut Cursor<'_>) -> Result<Literal, ParseError>
     ensures value { Reads (spec.float.read cursor.old) result cursor.new }
     ensures shorter { OnOk result (length cursor.new < length cursor.old) }
+    ensures rest { IsRest cursor.new cursor.old }
 {
     let token = cursor.expect(Kind::FloatValue)?;
     Ok(Literal::Float {
@@ -48,10 +51,11 @@ fn float(alloc: Global, cursor: &mut Cursor<'_>) -> Result<Literal, ParseError>
     })
 }
 
-#[tactic(auto, unfolding(crate::specs::Values::string))]
+#[tactic(auto, using(gql_grammar::proofs::Rests::rests), unfolding(crate::specs::Values::string))]
 fn string(alloc: Global, cursor: &mut Cursor<'_>) -> Result<Literal, ParseError>
     ensures value { Reads (spec.string.read cursor.old) result cursor.new }
     ensures shorter { OnOk result (length cursor.new < length cursor.old) }
+    ensures rest { IsRest cursor.new cursor.old }
 {
     let token = cursor.expect(Kind::StringValue)?;
     let value = text_value(alloc, &token)?;
@@ -61,10 +65,11 @@ fn string(alloc: Global, cursor: &mut Cursor<'_>) -> Result<Literal, ParseError>
     })
 }
 
-#[tactic(auto, unfolding(crate::specs::Values::block_string))]
+#[tactic(auto, using(gql_grammar::proofs::Rests::rests), unfolding(crate::specs::Values::block_string))]
 fn block_string(alloc: Global, cursor: &mut Cursor<'_>) -> Result<Literal, ParseError>
     ensures value { Reads (spec.block_string.read cursor.old) result cursor.new }
     ensures shorter { OnOk result (length cursor.new < length cursor.old) }
+    ensures rest { IsRest cursor.new cursor.old }
 {
     let token = cursor.expect(Kind::BlockString)?;
     let value = text_value(alloc, &token)?;
@@ -74,10 +79,11 @@ fn block_string(alloc: Global, cursor: &mut Cursor<'_>) -> Result<Literal, Parse
     })
 }
 
-#[tactic(auto, unfolding(crate::specs::Values::word_literal))]
+#[tactic(auto, using(gql_grammar::proofs::Rests::rests), unfolding(crate::specs::Values::word_literal))]
 fn word(alloc: Global, cursor: &mut Cursor<'_>) -> Result<Literal, ParseError>
     ensures value { Reads (spec.word_literal.read cursor.old) result cursor.new }
     ensures shorter { OnOk result (length cursor.new < length cursor.old) }
+    ensures rest { IsRest cursor.new cursor.old }
 {
     let token = cursor.expect(Kind::Name)?;
     let place = token.place;
@@ -99,7 +105,8 @@ fn word(alloc: Global, cursor: &mut Cursor<'_>) -> Result<Literal, ParseError>
     })
 }
 
-// What stands where a variable may.
+// A variable, unless the value is constant.
+#[tactic(auto, using(gql_grammar::proofs::Rests::rests))]
 fn variable_unless(
     alloc: Global,
     cursor: &mut Cursor<'_>,
@@ -107,21 +114,21 @@ fn variable_unless(
 ) -> Result<Literal, ParseError>
     ensures value { Reads ((spec.variable_unless constant).read cursor.old) result cursor.new }
     ensures shorter { OnOk result (length cursor.new < length cursor.old) }
+    ensures rest { IsRest cursor.new cursor.old }
 {
     if constant {
-        return Err(cursor.refuse());
+        return Err(ParseError::Unexpected);
     }
     variable(alloc, cursor)
 }
 
-/// A value (GraphQL specification, 2.9); in a constant one no variable stands. Refused at the first token that cannot stand
-/// there, or where memory is wanting. It goes as deep as its brackets: a whole file has at most 100 open ones, a bare
-/// cursor as many as it was given.
+/// A value (GraphQL specification, 2.9). A constant one has no variables.
 #[cycle(value)]
-#[tactic(auto, using(crate::proofs::Rules::value_is))]
+#[tactic(auto, using(gql_grammar::proofs::Rests::rests, crate::proofs::Rules::value_is))]
 pub fn value(alloc: Global, cursor: &mut Cursor<'_>, constant: bool) -> Result<Literal, ParseError>
     ensures value { Reads ((spec.value constant).read cursor.old) result cursor.new }
     ensures shorter { OnOk result (length cursor.new < length cursor.old) }
+    ensures rest { IsRest cursor.new cursor.old }
 {
     match cursor.kind() {
         Kind::Dollar => variable_unless(alloc, cursor, constant),
@@ -132,15 +139,16 @@ pub fn value(alloc: Global, cursor: &mut Cursor<'_>, constant: bool) -> Result<L
         Kind::Name => word(alloc, cursor),
         Kind::LeftBracket => list(alloc, cursor, constant),
         Kind::LeftBrace => object(alloc, cursor, constant),
-        _ => Err(cursor.refuse()),
+        _ => Err(ParseError::Unexpected),
     }
 }
 
 #[cycle(value)]
-#[tactic(auto, unfolding(crate::specs::Values::list_of))]
+#[tactic(auto, using(gql_grammar::proofs::Rests::rests), unfolding(crate::specs::Values::list_of))]
 fn list(alloc: Global, cursor: &mut Cursor<'_>, constant: bool) -> Result<Literal, ParseError>
     ensures value { Reads ((spec.list_of (spec.value constant)).read cursor.old) result cursor.new }
     ensures shorter { OnOk result (length cursor.new < length cursor.old) }
+    ensures rest { IsRest cursor.new cursor.old }
 {
     let mark = cursor.expect(Kind::LeftBracket)?;
     let items = items(alloc, cursor, constant)?;
@@ -152,7 +160,7 @@ fn list(alloc: Global, cursor: &mut Cursor<'_>, constant: bool) -> Result<Litera
 }
 
 #[cycle(value)]
-#[tactic(auto, using(gql_grammar::proofs::Loops::going_init, gql_grammar::proofs::Loops::going_on))]
+#[tactic(auto, using(gql_grammar::proofs::Rests::rests, gql_grammar::proofs::Loops::going_init, gql_grammar::proofs::Loops::going_on))]
 fn items(
     alloc: Global,
     cursor: &mut Cursor<'_>,
@@ -160,6 +168,7 @@ fn items(
 ) -> Result<Items<Literal>, ParseError>
     ensures value { Reads ((any_while (before k.RightBracket) (spec.value constant)).read cursor.old) result cursor.new }
     ensures shorter { OnOk result (length cursor.new ≤ length cursor.old) }
+    ensures rest { IsRest cursor.new cursor.old }
 {
     let mut items = Items::new(alloc);
     'items: while cursor.before(Kind::RightBracket) {
@@ -169,10 +178,11 @@ fn items(
 }
 
 #[cycle(value)]
-#[tactic(auto, unfolding(crate::specs::Values::object_of))]
+#[tactic(auto, using(gql_grammar::proofs::Rests::rests), unfolding(crate::specs::Values::object_of))]
 fn object(alloc: Global, cursor: &mut Cursor<'_>, constant: bool) -> Result<Literal, ParseError>
     ensures value { Reads ((spec.object_of (spec.value constant)).read cursor.old) result cursor.new }
     ensures shorter { OnOk result (length cursor.new < length cursor.old) }
+    ensures rest { IsRest cursor.new cursor.old }
 {
     let mark = cursor.expect(Kind::LeftBrace)?;
     let fields = fields(alloc, cursor, constant)?;
@@ -184,7 +194,7 @@ fn object(alloc: Global, cursor: &mut Cursor<'_>, constant: bool) -> Result<Lite
 }
 
 #[cycle(value)]
-#[tactic(auto, using(gql_grammar::proofs::Loops::going_init, gql_grammar::proofs::Loops::going_on))]
+#[tactic(auto, using(gql_grammar::proofs::Rests::rests, gql_grammar::proofs::Loops::going_init, gql_grammar::proofs::Loops::going_on))]
 fn fields(
     alloc: Global,
     cursor: &mut Cursor<'_>,
@@ -192,6 +202,7 @@ fn fields(
 ) -> Result<Items<ObjectField>, ParseError>
     ensures value { Reads ((any_while (before k.RightBrace) (spec.object_field_of (spec.value constant))).read cursor.old) result cursor.new }
     ensures shorter { OnOk result (length cursor.new ≤ length cursor.old) }
+    ensures rest { IsRest cursor.new cursor.old }
 {
     let mut fields = Items::new(alloc);
     'fields: while cursor.before(Kind::RightBrace) {
@@ -201,7 +212,7 @@ fn fields(
 }
 
 #[cycle(value)]
-#[tactic(auto, unfolding(crate::specs::Values::object_field_of))]
+#[tactic(auto, using(gql_grammar::proofs::Rests::rests), unfolding(crate::specs::Values::object_field_of))]
 fn object_field(
     alloc: Global,
     cursor: &mut Cursor<'_>,
@@ -209,6 +220,7 @@ fn object_field(
 ) -> Result<ObjectField, ParseError>
     ensures value { Reads ((spec.object_field_of (spec.value constant)).read cursor.old) result cursor.new }
     ensures shorter { OnOk result (length cursor.new < length cursor.old) }
+    ensures rest { IsRest cursor.new cursor.old }
 {
     let name = name(alloc, cursor)?;
     cursor.expect(Kind::Colon)?;

@@ -1,6 +1,6 @@
 //! Names (GraphQL specification, 2.1.9).
 ghost use Rattle.std.specs.Prelude.{◌<◌, ◌≤◌, length, OnOk};
-ghost use Rattle.gql_grammar.specs.Symbol.{Reads};
+ghost use Rattle.gql_grammar.specs.Symbol.{IsRest, Reads};
 ghost use Rattle.gql_parse.specs.Names as spec;
 
 use gql_ast::{Name, Text};
@@ -8,11 +8,12 @@ use gql_grammar::{Cursor, ParseError};
 use gql_text::Kind;
 use std::alloc::Global;
 
-/// A name (GraphQL specification, 2.1.9), with its place. Refused at a token that is none, or where memory is wanting.
-#[tactic(auto, unfolding(crate::specs::Names::name))]
+/// A name (GraphQL specification, 2.1.9), with its place.
+#[tactic(auto, using(gql_grammar::proofs::Rests::rests), unfolding(crate::specs::Names::name))]
 pub fn name(alloc: Global, cursor: &mut Cursor<'_>) -> Result<Name, ParseError>
     ensures value { Reads (spec.name.read cursor.old) result cursor.new }
     ensures shorter { OnOk result (length cursor.new < length cursor.old) }
+    ensures rest { IsRest cursor.new cursor.old }
 {
     let token = cursor.expect(Kind::Name)?;
     Ok(Name {
@@ -22,10 +23,11 @@ pub fn name(alloc: Global, cursor: &mut Cursor<'_>) -> Result<Name, ParseError>
 }
 
 /// The name of an operation, which may be absent (2.3).
-#[tactic(auto, unfolding(crate::specs::Names::some_name))]
+#[tactic(auto, using(gql_grammar::proofs::Rests::rests), unfolding(crate::specs::Names::some_name))]
 pub fn optional_name(alloc: Global, cursor: &mut Cursor<'_>) -> Result<Option<Name>, ParseError>
     ensures value { Reads (spec.optional_name.read cursor.old) result cursor.new }
     ensures shorter { OnOk result (length cursor.new ≤ length cursor.old) }
+    ensures rest { IsRest cursor.new cursor.old }
 {
     if !cursor.sees(Kind::Name) {
         return Ok(None);

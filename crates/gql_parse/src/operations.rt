@@ -1,7 +1,7 @@
 //! Operations (GraphQL specification, 2.3), their variables (2.10), and fragments (2.8).
 ghost use Rattle.std.specs.Prelude.{◌≡◌, ◌<◌, ◌≤◌, length, OnOk};
 ghost use Rattle.gql_text.specs.declared.token.Kind.TheVariants as k;
-ghost use Rattle.gql_grammar.specs.Symbol.{Gives, Reads, before};
+ghost use Rattle.gql_grammar.specs.Symbol.{Gives, IsRest, Reads, before};
 ghost use Rattle.gql_text.specs.Lexeme.{lexeme};
 ghost use Rattle.gql_grammar.specs.Repetition.{some_while};
 ghost use Rattle.gql_parse.specs.Operations as spec;
@@ -12,18 +12,19 @@ use crate::names::{name, optional_name};
 use crate::selections::{fragment_name, selections, set, type_condition};
 use crate::types::type_ref;
 use gql_ast::{Fragment, Items, Literal, Operation, OperationKind, VariableDefinition};
-use gql_grammar::{Cursor, ParseError};
+use gql_grammar::{Cursor, ParseError, Unexpected};
 use gql_text::{Kind, Token};
 use std::alloc::Global;
 
 /// The default of a variable or of an input value, which is constant, or none (2.10).
-#[tactic(auto, unfolding(crate::specs::Operations::default))]
+#[tactic(auto, using(gql_grammar::proofs::Rests::rests), unfolding(crate::specs::Operations::default))]
 pub fn optional_default(
     alloc: Global,
     cursor: &mut Cursor<'_>,
 ) -> Result<Option<Literal>, ParseError>
     ensures value { Reads (spec.optional_default.read cursor.old) result cursor.new }
     ensures shorter { OnOk result (length cursor.new ≤ length cursor.old) }
+    ensures rest { IsRest cursor.new cursor.old }
 {
     if !cursor.sees(Kind::Equals) {
         return Ok(None);
@@ -32,13 +33,14 @@ pub fn optional_default(
     Ok(Some(value(alloc, cursor, true)?))
 }
 
-#[tactic(auto, unfolding(crate::specs::Operations::variable_definition))]
+#[tactic(auto, using(gql_grammar::proofs::Rests::rests), unfolding(crate::specs::Operations::variable_definition))]
 fn variable_definition(
     alloc: Global,
     cursor: &mut Cursor<'_>,
 ) -> Result<VariableDefinition, ParseError>
     ensures value { Reads (spec.variable_definition.read cursor.old) result cursor.new }
     ensures shorter { OnOk result (length cursor.new < length cursor.old) }
+    ensures rest { IsRest cursor.new cursor.old }
 {
     let mark = cursor.expect(Kind::Dollar)?;
     let name = name(alloc, cursor)?;
@@ -55,13 +57,14 @@ fn variable_definition(
     })
 }
 
-#[tactic(auto, using(gql_grammar::proofs::Loops::going_init, gql_grammar::proofs::Loops::going_on))]
+#[tactic(auto, using(gql_grammar::proofs::Rests::rests, gql_grammar::proofs::Loops::going_init, gql_grammar::proofs::Loops::going_on))]
 fn variable_list(
     alloc: Global,
     cursor: &mut Cursor<'_>,
 ) -> Result<Items<VariableDefinition>, ParseError>
     ensures value { Reads ((some_while (before k.RightParenthesis) spec.variable_definition).read cursor.old) result cursor.new }
     ensures shorter { OnOk result (length cursor.new < length cursor.old) }
+    ensures rest { IsRest cursor.new cursor.old }
 {
     let mut found = Items::new(alloc);
     found.push(variable_definition(alloc, cursor)?)?;
@@ -71,13 +74,14 @@ fn variable_list(
     Ok(found)
 }
 
-#[tactic(auto, unfolding(crate::specs::Operations::variable_definitions))]
+#[tactic(auto, using(gql_grammar::proofs::Rests::rests), unfolding(crate::specs::Operations::variable_definitions))]
 fn optional_variables(
     alloc: Global,
     cursor: &mut Cursor<'_>,
 ) -> Result<Items<VariableDefinition>, ParseError>
     ensures value { Reads (spec.optional_variables.read cursor.old) result cursor.new }
     ensures shorter { OnOk result (length cursor.new ≤ length cursor.old) }
+    ensures rest { IsRest cursor.new cursor.old }
 {
     if !cursor.sees(Kind::LeftParenthesis) {
         return Ok(Items::new(alloc));
@@ -107,19 +111,21 @@ fn operation_kind(text: &str) -> OperationKind
     }
 }
 
-#[tactic(auto, unfolding(crate::specs::Operations::operation_word, gql_grammar::specs::Symbol::name_where, gql_grammar::specs::Symbol::sees_name))]
-fn operation_word<'a>(cursor: &mut Cursor<'a>) -> Result<Token<'a>, ParseError>
+#[tactic(auto, using(gql_grammar::proofs::Rests::rests), unfolding(crate::specs::Operations::operation_word, gql_grammar::specs::Symbol::name_where, gql_grammar::specs::Symbol::sees_name))]
+fn operation_word<'a>(cursor: &mut Cursor<'a>) -> Result<Token<'a>, Unexpected>
     ensures value { Gives lexeme (spec.operation_word.read cursor.old) result cursor.new }
     ensures shorter { OnOk result (length cursor.new < length cursor.old) }
+    ensures rest { IsRest cursor.new cursor.old }
 {
     let fits = cursor.sees(Kind::Name) && is_operation_type(cursor.text());
     cursor.take_if(fits)
 }
 
-#[tactic(auto, unfolding(crate::specs::Operations::named_operation))]
+#[tactic(auto, using(gql_grammar::proofs::Rests::rests), unfolding(crate::specs::Operations::named_operation))]
 fn named_operation(alloc: Global, cursor: &mut Cursor<'_>) -> Result<Operation, ParseError>
     ensures value { Reads (spec.named_operation.read cursor.old) result cursor.new }
     ensures shorter { OnOk result (length cursor.new < length cursor.old) }
+    ensures rest { IsRest cursor.new cursor.old }
 {
     let word = operation_word(cursor)?;
     let name = optional_name(alloc, cursor)?;
@@ -136,10 +142,11 @@ fn named_operation(alloc: Global, cursor: &mut Cursor<'_>) -> Result<Operation, 
     })
 }
 
-#[tactic(auto, unfolding(crate::specs::Operations::shorthand))]
+#[tactic(auto, using(gql_grammar::proofs::Rests::rests), unfolding(crate::specs::Operations::shorthand))]
 fn shorthand(alloc: Global, cursor: &mut Cursor<'_>) -> Result<Operation, ParseError>
     ensures value { Reads (spec.shorthand.read cursor.old) result cursor.new }
     ensures shorter { OnOk result (length cursor.new < length cursor.old) }
+    ensures rest { IsRest cursor.new cursor.old }
 {
     let mark = cursor.expect(Kind::LeftBrace)?;
     let selections = selections(alloc, cursor)?;
@@ -155,9 +162,11 @@ fn shorthand(alloc: Global, cursor: &mut Cursor<'_>) -> Result<Operation, ParseE
 }
 
 /// An operation (GraphQL specification, 2.3).
+#[tactic(auto, using(gql_grammar::proofs::Rests::rests))]
 pub fn operation(alloc: Global, cursor: &mut Cursor<'_>) -> Result<Operation, ParseError>
     ensures value { Reads (spec.operation.read cursor.old) result cursor.new }
     ensures shorter { OnOk result (length cursor.new < length cursor.old) }
+    ensures rest { IsRest cursor.new cursor.old }
 {
     if cursor.sees(Kind::LeftBrace) {
         shorthand(alloc, cursor)
@@ -167,10 +176,11 @@ pub fn operation(alloc: Global, cursor: &mut Cursor<'_>) -> Result<Operation, Pa
 }
 
 /// A fragment with a name (GraphQL specification, 2.8).
-#[tactic(auto, unfolding(crate::specs::Operations::fragment))]
+#[tactic(auto, using(gql_grammar::proofs::Rests::rests), unfolding(crate::specs::Operations::fragment))]
 pub fn fragment(alloc: Global, cursor: &mut Cursor<'_>) -> Result<Fragment, ParseError>
     ensures value { Reads (spec.fragment.read cursor.old) result cursor.new }
     ensures shorter { OnOk result (length cursor.new < length cursor.old) }
+    ensures rest { IsRest cursor.new cursor.old }
 {
     let mark = cursor.expect_word("fragment")?;
     let name = fragment_name(alloc, cursor)?;

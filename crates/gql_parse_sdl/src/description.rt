@@ -1,6 +1,6 @@
 //! Descriptions (GraphQL specification, 3.2).
 ghost use Rattle.std.specs.Prelude.{◌≡◌, ◌<◌, ◌≤◌, length, OnOk};
-ghost use Rattle.gql_grammar.specs.Symbol.{Reads};
+ghost use Rattle.gql_grammar.specs.Symbol.{IsRest, Reads};
 ghost use Rattle.gql_parse_sdl.specs.Descriptions as spec;
 
 use gql_ast::Text;
@@ -8,17 +8,18 @@ use gql_grammar::{Cursor, ParseError};
 use gql_text::{Kind, Place, text_value};
 use std::alloc::Global;
 
-/// A description and where it stands.
+/// A description and its place.
 #[derive(Drop)]
 pub struct Description {
     pub place: Place,
     pub text: Text,
 }
 
-#[tactic(auto, unfolding(crate::specs::Descriptions::string))]
+#[tactic(auto, using(gql_grammar::proofs::Rests::rests), unfolding(crate::specs::Descriptions::string))]
 fn string(alloc: Global, cursor: &mut Cursor<'_>) -> Result<Option<Description>, ParseError>
     ensures value { Reads (spec.string.read cursor.old) result cursor.new }
     ensures shorter { OnOk result (length cursor.new < length cursor.old) }
+    ensures rest { IsRest cursor.new cursor.old }
 {
     let token = cursor.expect(Kind::StringValue)?;
     let value = text_value(alloc, &token)?;
@@ -28,10 +29,11 @@ fn string(alloc: Global, cursor: &mut Cursor<'_>) -> Result<Option<Description>,
     }))
 }
 
-#[tactic(auto, unfolding(crate::specs::Descriptions::block_string))]
+#[tactic(auto, using(gql_grammar::proofs::Rests::rests), unfolding(crate::specs::Descriptions::block_string))]
 fn block_string(alloc: Global, cursor: &mut Cursor<'_>) -> Result<Option<Description>, ParseError>
     ensures value { Reads (spec.block_string.read cursor.old) result cursor.new }
     ensures shorter { OnOk result (length cursor.new < length cursor.old) }
+    ensures rest { IsRest cursor.new cursor.old }
 {
     let token = cursor.expect(Kind::BlockString)?;
     let value = text_value(alloc, &token)?;
@@ -41,13 +43,15 @@ fn block_string(alloc: Global, cursor: &mut Cursor<'_>) -> Result<Option<Descrip
     }))
 }
 
-/// The description that stands next, or none.
+/// The description that follows, or none.
+#[tactic(auto, using(gql_grammar::proofs::Rests::rests))]
 pub fn optional_description(
     alloc: Global,
     cursor: &mut Cursor<'_>,
 ) -> Result<Option<Description>, ParseError>
     ensures value { Reads (spec.optional_description.read cursor.old) result cursor.new }
     ensures shorter { OnOk result (length cursor.new ≤ length cursor.old) }
+    ensures rest { IsRest cursor.new cursor.old }
 {
     match cursor.kind() {
         Kind::StringValue => string(alloc, cursor),

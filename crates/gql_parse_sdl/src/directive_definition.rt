@@ -1,13 +1,13 @@
 //! Directive definitions (GraphQL specification, 3.13).
 ghost use Rattle.std.specs.Prelude.{◌≡◌, ◌<◌, ◌≤◌, length, OnOk};
-ghost use Rattle.gql_grammar.specs.Symbol.{Reads};
+ghost use Rattle.gql_grammar.specs.Symbol.{Gives, IsRest, Reads};
 ghost use Rattle.gql_parse_sdl.specs.DirectiveDefinitions as spec;
 
 use crate::description::{Description, start, text_of};
 use crate::input_values::optional_argument_definitions;
 use crate::unions::optional_pipe;
 use gql_ast::{DirectiveDefinition, DirectiveLocation, Items};
-use gql_grammar::{Cursor, ParseError};
+use gql_grammar::{Cursor, ParseError, Unexpected};
 use gql_parse::name;
 use gql_text::Kind;
 use std::alloc::Global;
@@ -76,36 +76,39 @@ fn location_named(text: &str) -> Option<DirectiveLocation>
     }
 }
 
-#[tactic(auto, unfolding(crate::specs::DirectiveDefinitions::location_at))]
-fn location(cursor: &mut Cursor<'_>) -> Result<DirectiveLocation, ParseError>
-    ensures value { Reads (spec.location.read cursor.old) result cursor.new }
+#[tactic(auto, using(gql_grammar::proofs::Rests::rests), unfolding(crate::specs::DirectiveDefinitions::location_at))]
+fn location(cursor: &mut Cursor<'_>) -> Result<DirectiveLocation, Unexpected>
+    ensures value { Gives (λ found. found) (spec.location.read cursor.old) result cursor.new }
     ensures shorter { OnOk result (length cursor.new < length cursor.old) }
+    ensures rest { IsRest cursor.new cursor.old }
 {
     match location_named(cursor.text()) {
         Some(found) => {
             cursor.expect(Kind::Name)?;
             Ok(found)
         }
-        None => Err(cursor.refuse()),
+        None => Err(Unexpected),
     }
 }
 
-#[tactic(auto, unfolding(crate::specs::DirectiveDefinitions::further_location))]
-fn further_location(cursor: &mut Cursor<'_>) -> Result<DirectiveLocation, ParseError>
-    ensures value { Reads (spec.further_location.read cursor.old) result cursor.new }
+#[tactic(auto, using(gql_grammar::proofs::Rests::rests), unfolding(crate::specs::DirectiveDefinitions::further_location))]
+fn further_location(cursor: &mut Cursor<'_>) -> Result<DirectiveLocation, Unexpected>
+    ensures value { Gives (λ found. found) (spec.further_location.read cursor.old) result cursor.new }
     ensures shorter { OnOk result (length cursor.new < length cursor.old) }
+    ensures rest { IsRest cursor.new cursor.old }
 {
     cursor.expect(Kind::Pipe)?;
     location(cursor)
 }
 
-#[tactic(auto, using(gql_grammar::proofs::Loops::going_init, gql_grammar::proofs::Loops::going_on))]
+#[tactic(auto, using(gql_grammar::proofs::Rests::rests, gql_grammar::proofs::Loops::going_init, gql_grammar::proofs::Loops::going_on))]
 fn location_names(
     alloc: Global,
     cursor: &mut Cursor<'_>,
 ) -> Result<Items<DirectiveLocation>, ParseError>
     ensures value { Reads (spec.location_names.read cursor.old) result cursor.new }
     ensures shorter { OnOk result (length cursor.new < length cursor.old) }
+    ensures rest { IsRest cursor.new cursor.old }
 {
     let mut found = Items::new(alloc);
     found.push(location(cursor)?)?;
@@ -115,20 +118,22 @@ fn location_names(
     Ok(found)
 }
 
-#[tactic(auto, unfolding(crate::specs::DirectiveDefinitions::locations))]
+#[tactic(auto, using(gql_grammar::proofs::Rests::rests), unfolding(crate::specs::DirectiveDefinitions::locations))]
 fn locations(alloc: Global, cursor: &mut Cursor<'_>) -> Result<Items<DirectiveLocation>, ParseError>
     ensures value { Reads (spec.locations.read cursor.old) result cursor.new }
     ensures shorter { OnOk result (length cursor.new < length cursor.old) }
+    ensures rest { IsRest cursor.new cursor.old }
 {
     cursor.expect_word("on")?;
     optional_pipe(cursor)?;
     location_names(alloc, cursor)
 }
 
-#[tactic(auto, unfolding(crate::specs::DirectiveDefinitions::repeatable))]
-fn optional_repeatable(cursor: &mut Cursor<'_>) -> Result<bool, ParseError>
-    ensures value { Reads (spec.optional_repeatable.read cursor.old) result cursor.new }
+#[tactic(auto, using(gql_grammar::proofs::Rests::rests), unfolding(crate::specs::DirectiveDefinitions::repeatable))]
+fn optional_repeatable(cursor: &mut Cursor<'_>) -> Result<bool, Unexpected>
+    ensures value { Gives (λ found. found) (spec.optional_repeatable.read cursor.old) result cursor.new }
     ensures shorter { OnOk result (length cursor.new ≤ length cursor.old) }
+    ensures rest { IsRest cursor.new cursor.old }
 {
     if !cursor.sees_word("repeatable") {
         return Ok(false);
@@ -137,8 +142,8 @@ fn optional_repeatable(cursor: &mut Cursor<'_>) -> Result<bool, ParseError>
     Ok(true)
 }
 
-/// The definition of a directive, behind its description.
-#[tactic(auto, unfolding(crate::specs::DirectiveDefinitions::directive_definition))]
+/// The definition of a directive, after its description.
+#[tactic(auto, using(gql_grammar::proofs::Rests::rests), unfolding(crate::specs::DirectiveDefinitions::directive_definition))]
 pub fn directive_definition(
     alloc: Global,
     cursor: &mut Cursor<'_>,
@@ -146,6 +151,7 @@ pub fn directive_definition(
 ) -> Result<DirectiveDefinition, ParseError>
     ensures value { Reads ((spec.directive_definition description).read cursor.old) result cursor.new }
     ensures shorter { OnOk result (length cursor.new < length cursor.old) }
+    ensures rest { IsRest cursor.new cursor.old }
 {
     let mark = cursor.expect_word("directive")?;
     cursor.expect(Kind::At)?;

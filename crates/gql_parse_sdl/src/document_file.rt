@@ -3,7 +3,7 @@ ghost use Rattle.std.specs.Prelude.{◌≡◌, ◌<◌, ◌⊎◌, ℕ, List, If
 ghost use Rattle.gql_text.specs.Lexeme.{lexeme};
 ghost use Rattle.gql_text.specs.declared.place.Place.{Place as ThePlace};
 ghost use Rattle.gql_ast.specs.declared.definition.Document.{Document as TheDocument};
-ghost use Rattle.gql_grammar.specs.Symbol.{Reads};
+ghost use Rattle.gql_grammar.specs.Symbol.{IsRest, Reads};
 ghost use Rattle.gql_grammar.specs.Files.{Parses, OrMemory};
 ghost use Rattle.gql_grammar.specs.declared.fault.SyntaxFault.{SyntaxFault as TheFault};
 ghost use Rattle.gql_grammar.specs.declared.fault.SyntaxRefusal.{SyntaxRefusal as TheRefusal};
@@ -30,9 +30,11 @@ fn begins_executable(cursor: &Cursor<'_>) -> bool
     cursor.sees(Kind::LeftBrace) || cursor.sees(Kind::Name) && is_executable_word(cursor.text())
 }
 
+#[tactic(auto, using(gql_grammar::proofs::Rests::rests))]
 fn any_definition(alloc: Global, cursor: &mut Cursor<'_>) -> Result<Tree, ParseError>
     ensures value { Reads (spec.any_definition.read cursor.old) result cursor.new }
     ensures shorter { OnOk result (length cursor.new < length cursor.old) }
+    ensures rest { IsRest cursor.new cursor.old }
 {
     if begins_executable(cursor) {
         executable(alloc, cursor)
@@ -41,7 +43,7 @@ fn any_definition(alloc: Global, cursor: &mut Cursor<'_>) -> Result<Tree, ParseE
     }
 }
 
-#[tactic(auto, unfolding(crate::specs::DocumentFiles::definition))]
+#[tactic(auto, using(gql_grammar::proofs::Rests::rests), unfolding(crate::specs::DocumentFiles::definition))]
 fn definition(
     alloc: Global,
     file: &FileName,
@@ -49,6 +51,7 @@ fn definition(
 ) -> Result<Definition, ParseError>
     ensures value { Reads ((spec.definition file.now).read cursor.old) result cursor.new }
     ensures shorter { OnOk result (length cursor.new < length cursor.old) }
+    ensures rest { IsRest cursor.new cursor.old }
 {
     let tree = any_definition(alloc, cursor)?;
     Ok(Definition {
@@ -57,7 +60,7 @@ fn definition(
     })
 }
 
-#[tactic(auto, using(gql_grammar::proofs::Loops::going_init, gql_grammar::proofs::Loops::going_on))]
+#[tactic(auto, using(gql_grammar::proofs::Rests::rests, gql_grammar::proofs::Loops::going_init, gql_grammar::proofs::Loops::going_on))]
 fn definitions(
     alloc: Global,
     file: &FileName,
@@ -65,6 +68,7 @@ fn definitions(
 ) -> Result<Items<Definition>, ParseError>
     ensures value { Reads ((spec.definitions file.now).read cursor.old) result cursor.new }
     ensures shorter { OnOk result (length cursor.new < length cursor.old) }
+    ensures rest { IsRest cursor.new cursor.old }
 {
     let mut found = Items::new(alloc);
     found.push(definition(alloc, file, cursor)?)?;
@@ -75,11 +79,11 @@ fn definitions(
 }
 
 #[tactic(auto, unfolding(crate::specs::DocumentFiles::document_file, crate::specs::DocumentFiles::document))]
-fn document(alloc: Global, file: &FileName, tokens: &[Token<'_>]) -> Result<Document, ParseError>
-    ensures { Reads ((spec.document_file file.now).read (map lexeme tokens.now)) result [] }
+fn document(alloc: Global, file: &FileName, cursor: &mut Cursor<'_>) -> Result<Document, ParseError>
+    ensures value { Reads ((spec.document_file file.now).read cursor.old) result cursor.new }
+    ensures all { OnOk result (cursor.new ≡ []) }
 {
-    let mut cursor = Cursor::new(tokens);
-    let definitions = definitions(alloc, file, &mut cursor)?;
+    let definitions = definitions(alloc, file, cursor)?;
     cursor.end()?;
     Ok(Document { definitions })
 }
@@ -93,9 +97,10 @@ fn from_tokens(
     ensures { Parses (spec.document_file file.now) end (map lexeme tokens.now) result }
 {
     let looked = looked_at(tokens);
-    match document(alloc, file, &tokens[..looked]) {
+    let mut cursor = Cursor::new(&tokens[..looked]);
+    match document(alloc, file, &mut cursor) {
         Ok(document) => Ok(document),
-        Err(error) => Err(placed(error, tokens, end)),
+        Err(error) => Err(placed(error, &cursor, tokens, end)),
     }
 }
 
@@ -110,7 +115,7 @@ pub fn parse_any(alloc: Global, file: FileName, source: &str) -> Result<Document
     // A fault is that of the source.
     ensures refused { (number : TheRefusal) (place : ThePlace) → result ≡ Err (SyntaxFault.At number place)
         → spec.IsDocumentFault file source.now (SyntaxFault.At number place) }
-    // The fault of the source is told.
+    // The fault of the source is reported.
     ensures faulty { (fault : TheFault) → spec.IsDocumentFault file source.now fault → OrMemory result (Err fault) }
 {
     match lex(alloc, source) {

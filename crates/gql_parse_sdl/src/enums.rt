@@ -1,7 +1,7 @@
 //! The values of enums (GraphQL specification, 3.9).
 ghost use Rattle.std.specs.Prelude.{◌≡◌, ◌<◌, ◌≤◌, length, OnOk};
 ghost use Rattle.gql_text.specs.declared.token.Kind.TheVariants as k;
-ghost use Rattle.gql_grammar.specs.Symbol.{Reads, before};
+ghost use Rattle.gql_grammar.specs.Symbol.{IsRest, Reads, before};
 ghost use Rattle.gql_grammar.specs.Repetition.{some_while};
 ghost use Rattle.gql_parse_sdl.specs.Enums as spec;
 
@@ -19,10 +19,11 @@ fn is_enum_value(text: &str) -> bool
     !(text == "true" || text == "false" || text == "null")
 }
 
-#[tactic(auto, unfolding(crate::specs::Enums::enum_name, gql_grammar::specs::Symbol::name_where, gql_grammar::specs::Symbol::sees_name))]
+#[tactic(auto, using(gql_grammar::proofs::Rests::rests), unfolding(crate::specs::Enums::enum_name, gql_grammar::specs::Symbol::name_where, gql_grammar::specs::Symbol::sees_name))]
 fn enum_name(alloc: Global, cursor: &mut Cursor<'_>) -> Result<Name, ParseError>
     ensures value { Reads (spec.enum_name.read cursor.old) result cursor.new }
     ensures shorter { OnOk result (length cursor.new < length cursor.old) }
+    ensures rest { IsRest cursor.new cursor.old }
 {
     let fits = cursor.sees(Kind::Name) && is_enum_value(cursor.text());
     let token = cursor.take_if(fits)?;
@@ -32,13 +33,14 @@ fn enum_name(alloc: Global, cursor: &mut Cursor<'_>) -> Result<Name, ParseError>
     })
 }
 
-#[tactic(auto, unfolding(crate::specs::Enums::enum_value))]
+#[tactic(auto, using(gql_grammar::proofs::Rests::rests), unfolding(crate::specs::Enums::enum_value))]
 fn enum_value(
     alloc: Global,
     cursor: &mut Cursor<'_>,
 ) -> Result<Shared<EnumValueDefinition>, ParseError>
     ensures value { Reads (spec.enum_value.read cursor.old) result cursor.new }
     ensures shorter { OnOk result (length cursor.new < length cursor.old) }
+    ensures rest { IsRest cursor.new cursor.old }
 {
     let description = optional_description(alloc, cursor)?;
     let name = enum_name(alloc, cursor)?;
@@ -51,13 +53,14 @@ fn enum_value(
     Ok(Shared::new(alloc, definition)?)
 }
 
-#[tactic(auto, using(gql_grammar::proofs::Loops::going_init, gql_grammar::proofs::Loops::going_on))]
+#[tactic(auto, using(gql_grammar::proofs::Rests::rests, gql_grammar::proofs::Loops::going_init, gql_grammar::proofs::Loops::going_on))]
 fn enum_value_list(
     alloc: Global,
     cursor: &mut Cursor<'_>,
 ) -> Result<Items<Shared<EnumValueDefinition>>, ParseError>
     ensures value { Reads ((some_while (before k.RightBrace) spec.enum_value).read cursor.old) result cursor.new }
     ensures shorter { OnOk result (length cursor.new < length cursor.old) }
+    ensures rest { IsRest cursor.new cursor.old }
 {
     let mut found = Items::new(alloc);
     found.push(enum_value(alloc, cursor)?)?;
@@ -67,14 +70,15 @@ fn enum_value_list(
     Ok(found)
 }
 
-/// The values of an enum, or none where no `{` stands.
-#[tactic(auto, unfolding(crate::specs::Enums::enum_values))]
+/// The values of an enum, or none if no `{` follows.
+#[tactic(auto, using(gql_grammar::proofs::Rests::rests), unfolding(crate::specs::Enums::enum_values))]
 pub fn optional_enum_values(
     alloc: Global,
     cursor: &mut Cursor<'_>,
 ) -> Result<Items<Shared<EnumValueDefinition>>, ParseError>
     ensures value { Reads (spec.optional_enum_values.read cursor.old) result cursor.new }
     ensures shorter { OnOk result (length cursor.new ≤ length cursor.old) }
+    ensures rest { IsRest cursor.new cursor.old }
 {
     if !cursor.sees(Kind::LeftBrace) {
         return Ok(Items::new(alloc));

@@ -1,6 +1,6 @@
 //! Extensions of the schema and of types (GraphQL specification, 3.1).
 ghost use Rattle.std.specs.Prelude.{◌≡◌, ◌<◌, ◌≤◌, length, OnOk};
-ghost use Rattle.gql_grammar.specs.Symbol.{Reads};
+ghost use Rattle.gql_grammar.specs.Symbol.{IsRest, Reads};
 ghost use Rattle.gql_parse_sdl.specs.Extensions as spec;
 
 use crate::schema::optional_roots;
@@ -18,7 +18,7 @@ fn begins_braces(cursor: &Cursor<'_>) -> bool
     cursor.sees(Kind::At) || cursor.sees(Kind::LeftBrace)
 }
 
-// Whether a part of such a type stands next.
+// Whether a part of such a type follows.
 fn begins_part(cursor: &Cursor<'_>, keyword: TypeKeyword) -> bool
     ensures { result ≡ spec.begins_part keyword cursor.now }
 {
@@ -32,7 +32,7 @@ fn begins_part(cursor: &Cursor<'_>, keyword: TypeKeyword) -> bool
     }
 }
 
-#[tactic(auto, unfolding(crate::specs::Extensions::type_extension))]
+#[tactic(auto, using(gql_grammar::proofs::Rests::rests), unfolding(crate::specs::Extensions::type_extension))]
 fn type_extension(
     alloc: Global,
     cursor: &mut Cursor<'_>,
@@ -41,11 +41,12 @@ fn type_extension(
 ) -> Result<TypeExtension, ParseError>
     ensures value { Reads ((spec.type_extension place keyword).read cursor.old) result cursor.new }
     ensures shorter { OnOk result (length cursor.new < length cursor.old) }
+    ensures rest { IsRest cursor.new cursor.old }
 {
     cursor.expect_word(keyword.spelling())?;
     let name = name(alloc, cursor)?;
     if !begins_part(cursor, keyword) {
-        return Err(cursor.refuse());
+        return Err(ParseError::Unexpected);
     }
     let body = body(alloc, cursor, keyword)?;
     Ok(TypeExtension {
@@ -56,7 +57,7 @@ fn type_extension(
     })
 }
 
-#[tactic(auto, unfolding(crate::specs::Extensions::schema_extension))]
+#[tactic(auto, using(gql_grammar::proofs::Rests::rests), unfolding(crate::specs::Extensions::schema_extension))]
 fn schema_extension(
     alloc: Global,
     cursor: &mut Cursor<'_>,
@@ -64,10 +65,11 @@ fn schema_extension(
 ) -> Result<SchemaExtension, ParseError>
     ensures value { Reads ((spec.schema_extension place).read cursor.old) result cursor.new }
     ensures shorter { OnOk result (length cursor.new < length cursor.old) }
+    ensures rest { IsRest cursor.new cursor.old }
 {
     cursor.expect_word("schema")?;
     if !begins_braces(cursor) {
-        return Err(cursor.refuse());
+        return Err(ParseError::Unexpected);
     }
     let directives = directives(alloc, cursor, true)?;
     let roots = optional_roots(alloc, cursor)?;
@@ -78,9 +80,11 @@ fn schema_extension(
     })
 }
 
+#[tactic(auto, using(gql_grammar::proofs::Rests::rests))]
 fn extended(alloc: Global, cursor: &mut Cursor<'_>, place: Place) -> Result<Tree, ParseError>
     ensures value { Reads ((spec.extended place).read cursor.old) result cursor.new }
     ensures shorter { OnOk result (length cursor.new < length cursor.old) }
+    ensures rest { IsRest cursor.new cursor.old }
 {
     if cursor.sees_word("schema") {
         let extension = schema_extension(alloc, cursor, place)?;
@@ -91,15 +95,16 @@ fn extended(alloc: Global, cursor: &mut Cursor<'_>, place: Place) -> Result<Tree
             let extension = type_extension(alloc, cursor, place, keyword)?;
             Ok(Tree::TypeExtension(Shared::new(alloc, extension)?))
         }
-        None => Err(cursor.refuse()),
+        None => Err(ParseError::Unexpected),
     }
 }
 
-/// An extension, with at least one part behind what it extends.
-#[tactic(auto, unfolding(crate::specs::Extensions::extension))]
+/// An extension, with at least one part after what it extends.
+#[tactic(auto, using(gql_grammar::proofs::Rests::rests), unfolding(crate::specs::Extensions::extension))]
 pub fn extension(alloc: Global, cursor: &mut Cursor<'_>) -> Result<Tree, ParseError>
     ensures value { Reads (spec.extension.read cursor.old) result cursor.new }
     ensures shorter { OnOk result (length cursor.new < length cursor.old) }
+    ensures rest { IsRest cursor.new cursor.old }
 {
     let mark = cursor.expect_word("extend")?;
     extended(alloc, cursor, mark.place)

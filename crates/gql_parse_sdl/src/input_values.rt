@@ -1,6 +1,6 @@
 //! Arguments in definitions (GraphQL specification, 3.6.1) and the fields of input objects (3.10).
 ghost use Rattle.std.specs.Prelude.{◌<◌, ◌≤◌, length, OnOk};
-ghost use Rattle.gql_grammar.specs.Symbol.{Reads};
+ghost use Rattle.gql_grammar.specs.Symbol.{IsRest, Reads};
 ghost use Rattle.gql_parse_sdl.specs.InputValues as spec;
 
 use crate::description::{optional_description, text_of};
@@ -10,13 +10,14 @@ use gql_parse::{directives, name, optional_default, type_ref};
 use gql_text::Kind;
 use std::alloc::Global;
 
-#[tactic(auto, unfolding(crate::specs::InputValues::input_value))]
+#[tactic(auto, using(gql_grammar::proofs::Rests::rests), unfolding(crate::specs::InputValues::input_value))]
 fn input_value(
     alloc: Global,
     cursor: &mut Cursor<'_>,
 ) -> Result<Shared<InputValueDefinition>, ParseError>
     ensures value { Reads (spec.input_value.read cursor.old) result cursor.new }
     ensures shorter { OnOk result (length cursor.new < length cursor.old) }
+    ensures rest { IsRest cursor.new cursor.old }
 {
     let description = optional_description(alloc, cursor)?;
     let name = name(alloc, cursor)?;
@@ -35,7 +36,7 @@ fn input_value(
 }
 
 // One or more input values, up to a mark that closes.
-#[tactic(auto, using(gql_grammar::proofs::Loops::going_init, gql_grammar::proofs::Loops::going_on))]
+#[tactic(auto, using(gql_grammar::proofs::Rests::rests, gql_grammar::proofs::Loops::going_init, gql_grammar::proofs::Loops::going_on))]
 fn input_values(
     alloc: Global,
     cursor: &mut Cursor<'_>,
@@ -43,6 +44,7 @@ fn input_values(
 ) -> Result<Items<Shared<InputValueDefinition>>, ParseError>
     ensures value { Reads ((spec.input_values close).read cursor.old) result cursor.new }
     ensures shorter { OnOk result (length cursor.new < length cursor.old) }
+    ensures rest { IsRest cursor.new cursor.old }
 {
     let mut found = Items::new(alloc);
     found.push(input_value(alloc, cursor)?)?;
@@ -53,13 +55,14 @@ fn input_values(
 }
 
 /// The arguments that a field or a directive takes, or none.
-#[tactic(auto, unfolding(crate::specs::InputValues::argument_definitions))]
+#[tactic(auto, using(gql_grammar::proofs::Rests::rests), unfolding(crate::specs::InputValues::argument_definitions))]
 pub fn optional_argument_definitions(
     alloc: Global,
     cursor: &mut Cursor<'_>,
 ) -> Result<Items<Shared<InputValueDefinition>>, ParseError>
     ensures value { Reads (spec.optional_argument_definitions.read cursor.old) result cursor.new }
     ensures shorter { OnOk result (length cursor.new ≤ length cursor.old) }
+    ensures rest { IsRest cursor.new cursor.old }
 {
     if !cursor.sees(Kind::LeftParenthesis) {
         return Ok(Items::new(alloc));
@@ -70,14 +73,15 @@ pub fn optional_argument_definitions(
     Ok(found)
 }
 
-/// The fields of an input object, or none where no `{` stands.
-#[tactic(auto, unfolding(crate::specs::InputValues::input_fields))]
+/// The fields of an input object, or none if no `{` follows.
+#[tactic(auto, using(gql_grammar::proofs::Rests::rests), unfolding(crate::specs::InputValues::input_fields))]
 pub fn optional_input_fields(
     alloc: Global,
     cursor: &mut Cursor<'_>,
 ) -> Result<Items<Shared<InputValueDefinition>>, ParseError>
     ensures value { Reads (spec.optional_input_fields.read cursor.old) result cursor.new }
     ensures shorter { OnOk result (length cursor.new ≤ length cursor.old) }
+    ensures rest { IsRest cursor.new cursor.old }
 {
     if !cursor.sees(Kind::LeftBrace) {
         return Ok(Items::new(alloc));

@@ -1,6 +1,6 @@
-//! What stands behind the name of a type, in its definition and in its extensions (GraphQL specification, 3.5 to 3.10).
+//! What follows the name of a type, in its definition and in its extensions (GraphQL specification, 3.5 to 3.10).
 ghost use Rattle.std.specs.Prelude.{◌≤◌, length, OnOk};
-ghost use Rattle.gql_grammar.specs.Symbol.{Reads};
+ghost use Rattle.gql_grammar.specs.Symbol.{IsRest, Reads};
 ghost use Rattle.gql_parse_sdl.specs.Types as spec;
 
 use crate::enums::optional_enum_values;
@@ -20,10 +20,11 @@ pub struct TypeBody {
     pub parts: TypeParts,
 }
 
-#[tactic(auto, unfolding(crate::specs::Types::scalar_body))]
+#[tactic(auto, using(gql_grammar::proofs::Rests::rests), unfolding(crate::specs::Types::scalar_body))]
 fn scalar_body(alloc: Global, cursor: &mut Cursor<'_>) -> Result<TypeBody, ParseError>
     ensures value { Reads (spec.scalar_body.read cursor.old) result cursor.new }
     ensures shorter { OnOk result (length cursor.new ≤ length cursor.old) }
+    ensures rest { IsRest cursor.new cursor.old }
 {
     let directives = directives(alloc, cursor, true)?;
     Ok(TypeBody {
@@ -32,10 +33,11 @@ fn scalar_body(alloc: Global, cursor: &mut Cursor<'_>) -> Result<TypeBody, Parse
     })
 }
 
-#[tactic(auto, unfolding(crate::specs::Types::object_body))]
+#[tactic(auto, using(gql_grammar::proofs::Rests::rests), unfolding(crate::specs::Types::object_body))]
 fn object_body(alloc: Global, cursor: &mut Cursor<'_>) -> Result<TypeBody, ParseError>
     ensures value { Reads (spec.object_body.read cursor.old) result cursor.new }
     ensures shorter { OnOk result (length cursor.new ≤ length cursor.old) }
+    ensures rest { IsRest cursor.new cursor.old }
 {
     let interfaces = optional_interfaces(alloc, cursor)?;
     let directives = directives(alloc, cursor, true)?;
@@ -46,10 +48,11 @@ fn object_body(alloc: Global, cursor: &mut Cursor<'_>) -> Result<TypeBody, Parse
     })
 }
 
-#[tactic(auto, unfolding(crate::specs::Types::interface_body))]
+#[tactic(auto, using(gql_grammar::proofs::Rests::rests), unfolding(crate::specs::Types::interface_body))]
 fn interface_body(alloc: Global, cursor: &mut Cursor<'_>) -> Result<TypeBody, ParseError>
     ensures value { Reads (spec.interface_body.read cursor.old) result cursor.new }
     ensures shorter { OnOk result (length cursor.new ≤ length cursor.old) }
+    ensures rest { IsRest cursor.new cursor.old }
 {
     let interfaces = optional_interfaces(alloc, cursor)?;
     let directives = directives(alloc, cursor, true)?;
@@ -60,10 +63,11 @@ fn interface_body(alloc: Global, cursor: &mut Cursor<'_>) -> Result<TypeBody, Pa
     })
 }
 
-#[tactic(auto, unfolding(crate::specs::Types::union_body))]
+#[tactic(auto, using(gql_grammar::proofs::Rests::rests), unfolding(crate::specs::Types::union_body))]
 fn union_body(alloc: Global, cursor: &mut Cursor<'_>) -> Result<TypeBody, ParseError>
     ensures value { Reads (spec.union_body.read cursor.old) result cursor.new }
     ensures shorter { OnOk result (length cursor.new ≤ length cursor.old) }
+    ensures rest { IsRest cursor.new cursor.old }
 {
     let directives = directives(alloc, cursor, true)?;
     let members = optional_members(alloc, cursor)?;
@@ -73,10 +77,11 @@ fn union_body(alloc: Global, cursor: &mut Cursor<'_>) -> Result<TypeBody, ParseE
     })
 }
 
-#[tactic(auto, unfolding(crate::specs::Types::enum_body))]
+#[tactic(auto, using(gql_grammar::proofs::Rests::rests), unfolding(crate::specs::Types::enum_body))]
 fn enum_body(alloc: Global, cursor: &mut Cursor<'_>) -> Result<TypeBody, ParseError>
     ensures value { Reads (spec.enum_body.read cursor.old) result cursor.new }
     ensures shorter { OnOk result (length cursor.new ≤ length cursor.old) }
+    ensures rest { IsRest cursor.new cursor.old }
 {
     let directives = directives(alloc, cursor, true)?;
     let values = optional_enum_values(alloc, cursor)?;
@@ -86,10 +91,11 @@ fn enum_body(alloc: Global, cursor: &mut Cursor<'_>) -> Result<TypeBody, ParseEr
     })
 }
 
-#[tactic(auto, unfolding(crate::specs::Types::input_object_body))]
+#[tactic(auto, using(gql_grammar::proofs::Rests::rests), unfolding(crate::specs::Types::input_object_body))]
 fn input_object_body(alloc: Global, cursor: &mut Cursor<'_>) -> Result<TypeBody, ParseError>
     ensures value { Reads (spec.input_object_body.read cursor.old) result cursor.new }
     ensures shorter { OnOk result (length cursor.new ≤ length cursor.old) }
+    ensures rest { IsRest cursor.new cursor.old }
 {
     let directives = directives(alloc, cursor, true)?;
     let fields = optional_input_fields(alloc, cursor)?;
@@ -99,7 +105,8 @@ fn input_object_body(alloc: Global, cursor: &mut Cursor<'_>) -> Result<TypeBody,
     })
 }
 
-/// What stands behind the name of a type of this kind, all of which may be absent.
+/// What follows the name of a type of this kind, all of which may be absent.
+#[tactic(auto, using(gql_grammar::proofs::Rests::rests))]
 pub fn body(
     alloc: Global,
     cursor: &mut Cursor<'_>,
@@ -107,6 +114,7 @@ pub fn body(
 ) -> Result<TypeBody, ParseError>
     ensures value { Reads ((spec.body keyword).read cursor.old) result cursor.new }
     ensures shorter { OnOk result (length cursor.new ≤ length cursor.old) }
+    ensures rest { IsRest cursor.new cursor.old }
 {
     match keyword {
         TypeKeyword::Scalar => scalar_body(alloc, cursor),

@@ -1,6 +1,6 @@
 //! The definitions of types (GraphQL specification, 3.4).
 ghost use Rattle.std.specs.Prelude.{◌<◌, length, OnOk};
-ghost use Rattle.gql_grammar.specs.Symbol.{Reads};
+ghost use Rattle.gql_grammar.specs.Symbol.{IsRest, Reads};
 ghost use Rattle.gql_parse_sdl.specs.Types as spec;
 
 use crate::description::{Description, start, text_of};
@@ -11,8 +11,8 @@ use gql_grammar::{Cursor, ParseError};
 use gql_parse::name;
 use std::alloc::Global;
 
-/// The definition of a type of this kind, behind its description.
-#[tactic(auto, unfolding(crate::specs::Types::type_definition))]
+/// The definition of a type of this kind, after its description.
+#[tactic(auto, using(gql_grammar::proofs::Rests::rests), unfolding(crate::specs::Types::type_definition))]
 pub fn type_definition(
     alloc: Global,
     cursor: &mut Cursor<'_>,
@@ -21,6 +21,7 @@ pub fn type_definition(
 ) -> Result<TypeDefinition, ParseError>
     ensures value { Reads ((spec.type_definition description keyword).read cursor.old) result cursor.new }
     ensures shorter { OnOk result (length cursor.new < length cursor.old) }
+    ensures rest { IsRest cursor.new cursor.old }
 {
     let mark = cursor.expect_word(keyword.spelling())?;
     let name = name(alloc, cursor)?;

@@ -1,4 +1,5 @@
--- Files by their names: what is found after a file is put or removed, and that the names stay in order.
+-- Files by their names: what is found after a file is put or removed, and that the names stay in
+-- order.
 use Rattle.std.proofs.Common.{◌≡◌, ℕ, List, [], ◌∷◌, Bool, true, false, cond, Option, Some, None, refl, sym, ap, ◌∙◌}
 use Rattle.std.specs.Ordering.{is_eq, ordering_reverse}
 use Rattle.std.specs.declared.cmp.Ordering.{Ordering}

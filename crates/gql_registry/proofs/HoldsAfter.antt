@@ -9,7 +9,7 @@ use Rattle.gql_registry.specs.Laws.{IsOrdered, LeavesUnder, put, removed, elsewh
 use Rattle.gql_registry.specs.State.{State}
 use Rattle.gql_registry.proofs.FilesByName.{put_found, put_other, put_sorted, removed_other, removed_none, removed_sorted}
 
--- two names are one, or the order tells them apart
+-- two names are the same, or one comes before the other
 apart_or_same : (q k : List ℕ) → (k ≡ q) ⊎ ((k ≢ q) × (is_eq (name_order q k) ≡ false))
 apart_or_same q k = by (bytes_eq q k) refl
   where

@@ -1,4 +1,5 @@
--- Helper definitions for private contracts: what is known of an edit once some of its checks were passed.
+-- Helper definitions for private contracts: what is known of an edit once some of its checks were
+-- passed.
 use Rattle.std.specs.Prelude.{ℕ, ◌≡◌, Option, Some, None}
 use Rattle.gql_registry.specs.State.{State}
 

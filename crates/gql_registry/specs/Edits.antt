@@ -1,4 +1,5 @@
--- What an edit answers, and the state that it leaves: the checks in their order, and the change of one map of files.
+-- What an edit answers, and the state that it leaves: the checks in their order, and the change of
+-- one map of files.
 use Rattle.std.specs.Prelude.{ℕ, ◌≡◌, ◌≢◌, ◌<◌, ◌≤◌, List, length, Option, Some, None, Result, Ok, Err, IsUtf8}
 use Rattle.gql_text.specs.declared.place.Place.{Place}
 use Rattle.gql_grammar.specs.declared.fault.SyntaxFault.TheVariants.{At}
@@ -14,7 +15,8 @@ use Rattle.gql_registry.specs.declared.refusal.Refusal.{Refusal}
 use Rattle.gql_registry.specs.declared.refusal.Refusal.TheVariants.{Syntax, NotText, TooLong, NoFile, FilesFull, Stale, BadData, NoOperation, Faulty, TooLarge, Memory, Spent}
 use Rattle.gql_registry.specs.declared.registry.Edited.{Edited}
 
--- an edit: bytes put as the schema file of a name, in place of any of that name, or the file of a name removed
+-- an edit: bytes put as the schema file of a name, in place of any of that name, or the file of a
+-- name removed
 pub data Edit : Type 0 where
   put_schema : List ℕ → List ℕ → Edit
   remove_schema : List ℕ → Edit
@@ -27,9 +29,11 @@ name_of (remove_schema name) = name
 -- The edit fails a check in this state, with this refusal. An edit may expect a revision.
 pub data Fails : State → Option ℕ → Edit → Refusal → Type 0 where
   -- 206: another revision is expected than the present one
-  stale : {s : State} {expected : ℕ} {e : Edit} → expected ≢ s.revision → Fails s (Some expected) e (Stale s.revision)
+  stale : {s : State} {expected : ℕ} {e : Edit} → expected ≢ s.revision
+      → Fails s (Some expected) e (Stale s.revision)
   -- 212: there is no revision after the present one
-  spent : {s : State} {expected : Option ℕ} {e : Edit} → s.revision ≡ last_revision → Fails s expected e Spent
+  spent : {s : State} {expected : Option ℕ} {e : Edit} → s.revision ≡ last_revision
+      → Fails s expected e Spent
   -- 203: the file has too many bytes
   too_long : {s : State} {expected : Option ℕ} {name bytes : List ℕ} → file_limit < length bytes
       → Fails s expected (put_schema name bytes) TooLong
@@ -37,13 +41,17 @@ pub data Fails : State → Option ℕ → Edit → Refusal → Type 0 where
   not_text : {s : State} {expected : Option ℕ} {name bytes : List ℕ} → (IsUtf8 bytes → ⊥)
       → Fails s expected (put_schema name bytes) NotText
   -- 201: the text is not a schema file
-  syntax : {s : State} {expected : Option ℕ} {name bytes : List ℕ} {number : SyntaxRefusal} {place : Place}
-      → IsSchemaFault name bytes (At number place) → Fails s expected (put_schema name bytes) (Syntax number place)
+  syntax : {s : State} {expected : Option ℕ} {name bytes : List ℕ} {number : SyntaxRefusal}
+      {place : Place}
+      → IsSchemaFault name bytes (At number place)
+      → Fails s expected (put_schema name bytes) (Syntax number place)
   -- 204: there is no file of the name
-  no_file : {s : State} {expected : Option ℕ} {name : List ℕ} → file_named s.files.schema name ≡ None
+  no_file : {s : State} {expected : Option ℕ} {name : List ℕ}
+      → file_named s.files.schema name ≡ None
       → Fails s expected (remove_schema name) NoFile
   -- 205: the name is new, and there are as many files as there may be
-  files_full : {s : State} {expected : Option ℕ} {name bytes : List ℕ} → file_named s.files.schema name ≡ None
+  files_full : {s : State} {expected : Option ℕ} {name bytes : List ℕ}
+      → file_named s.files.schema name ≡ None
       → most_files ≤ length s.files.schema → Fails s expected (put_schema name bytes) FilesFull
 
 -- the order in which the checks are made: 206, 212, 203, 202, 201 or 207, 204, 205
@@ -81,15 +89,19 @@ without_schema files name = record files { schema = without_file files.schema na
 -- the state that an accepted edit leaves
 abbrev pub Leaves : State → Edit → State → Type 0
 Leaves s (put_schema name bytes) t =
-    (document : Document) × IsSchemaFile name bytes document × (t ≡ next s (with_schema s.files name document))
+    (document : Document) × IsSchemaFile name bytes document
+    × (t ≡ next s (with_schema s.files name document))
 Leaves s (remove_schema name) t = t ≡ next s (without_schema s.files name)
 
--- what an accepted edit that leaves this state answers: the revision, and the number of faults in the report
+-- what an accepted edit that leaves this state answers: the revision, and the number of faults in
+-- the report
 abbrev pub Reports : State → Edited → Type 0
-Reports t edited = (edited.revision ≡ t.revision) × ((faults : List Fault) × IsReport t.files faults × (edited.faults ≡ length faults))
+Reports t edited = (edited.revision ≡ t.revision)
+    × ((faults : List Fault) × IsReport t.files faults × (edited.faults ≡ length faults))
 
--- What an edit answers in the state s, and the state t that it leaves. It is accepted where it fails no check, and else
--- refused with the first, which changes nothing. If an allocation fails, the answer is `Memory` and nothing is changed.
+-- What an edit answers in the state s, and the state t that it leaves. It is accepted where it
+-- fails no check, and else refused with the first, which changes nothing. If an allocation fails,
+-- the answer is `Memory` and nothing is changed.
 abbrev pub Makes : State → Option ℕ → Edit → Result Edited Refusal → State → Type 0
 Makes s expected e (Ok edited) t = IsAccepted s expected e × Leaves s e t × Reports t edited
 Makes s expected e (Err Memory) t = t ≡ s

@@ -12,4 +12,5 @@ IsFault = IsSchemaFault
 
 -- these are the faults of the files, each once, in the order of reports
 abbrev pub IsReport : Files → List Fault → Type 0
-IsReport files faults = IsStrictlySortedBy fault_order faults × ((f : Fault) → Contains faults f ↔ IsFault files f)
+IsReport files faults = IsStrictlySortedBy fault_order faults
+    × ((f : Fault) → Contains faults f ↔ IsFault files f)

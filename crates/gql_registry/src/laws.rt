@@ -1,7 +1,8 @@
 //! Laws of the registry's report and edits. The functions do nothing: what they ensure is the law.
 ghost use Rattle.gql_registry.specs.Laws.{HoldsAfter, OneEdit, OneReport};
 
-/// Files have one report, and an edit has one answer and leaves one state, unless an allocation fails.
+/// Files have one report, and an edit has one answer and leaves one state, unless an allocation
+/// fails.
 pub fn one_outcome()
     ensures edit { OneEdit }
     ensures report { OneReport }
@@ -10,8 +11,8 @@ pub fn one_outcome()
     gql_report::laws::one_order();
 }
 
-/// After an accepted edit a name holds the document that was put under it, nothing after a removal, and what it held where
-/// the edit names another.
+/// After an accepted edit a name holds the document that was put under it, nothing after a removal,
+/// and what it held where the edit names another.
 pub fn holds_after()
     ensures { HoldsAfter }
 {}

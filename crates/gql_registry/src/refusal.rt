@@ -26,7 +26,7 @@ pub enum Refusal {
     /// 205: a 257th file of its kind.
     #[error("too many files")]
     FilesFull,
-    /// 206: the edit expects another revision than the present one, which is told.
+    /// 206: the edit expects another revision than the present one, which `revision` is.
     #[error("stale revision")]
     Stale { revision: u64 },
     /// 207: the data is no JSON object as the registry takes it.
@@ -35,13 +35,13 @@ pub enum Refusal {
     /// 208: no such operation, or none is named and there isn't just one.
     #[error("no such operation")]
     NoOperation,
-    /// 209: the schema, the operation or a fragment that it reaches has faults, which are told.
+    /// 209: the schema, the operation or a fragment that it reaches has faults, which are these.
     #[error("operation is faulty")]
     Faulty { faults: Items<Fault> },
     /// 210: the answer has more than 100,000 values.
     #[error("answer is too large")]
     TooLarge,
-    /// 211: memory was wanting.
+    /// 211: an allocation failed.
     #[error("out of memory")]
     Memory,
     /// 212: there is no revision after the present one.

@@ -61,20 +61,22 @@ impl Registry {
         self.revision
     }
 
-    /// The faults of the files that are present: all of them and no others, each once, by first place (none first), rule,
-    /// second place, owner and text.
+    /// The faults of the files that are present: all of them and no others, each once, by first
+    /// place (none first), rule, second place, owner and text.
     pub fn report(&self) -> Result<Vec<Fault>, AllocError>
         ensures { IfOk result (λ faults. spec.IsReport (state_of self.now).files faults.items) }
     {
         report_of(self.alloc, &self.files)
     }
 
-    /// The revision after the present one, for an edit that expects this revision. Refused by 206 and 212.
+    /// The revision after the present one, for an edit that expects this revision. Refused by 206
+    /// and 212.
     fn next_revision(&self, expected: Option<u64>) -> Result<u64, Refusal>
         ensures next { IfOk result (λ n. n ≡ (state_of self.now).revision + 1) }
         ensures left { IfOk result (λ _. (state_of self.now).revision < last_revision) }
         ensures expected { IfOk result (λ _. IsExpected (state_of self.now) expected) }
-        ensures err { IfErr result (λ r. (e : Edit) → IsFirstRefusal (state_of self.now) expected e r) }
+        ensures err { IfErr result (λ r. (e : Edit)
+            → IsFirstRefusal (state_of self.now) expected e r) }
     {
         if let Some(revision) = expected {
             if revision != self.revision {
@@ -102,16 +104,18 @@ impl Registry {
         Ok(Edited { revision, faults })
     }
 
-    /// Puts bytes as the schema file of a name, in place of any of that name, and returns the new revision and how many
-    /// faults the report has then. An edit may expect a revision. Refused, in this order, by 206, 212, 203, 202, 201 and
-    /// 205, and by 211 if an allocation fails; the registry is then as it was.
+    /// Puts bytes as the schema file of a name, in place of any of that name, and returns the new
+    /// revision and how many faults the report has then. An edit may expect a revision. Refused, in
+    /// this order, by 206, 212, 203, 202, 201 and 205, and by 211 if an allocation fails; the
+    /// registry is then as it was.
     pub fn put_schema(
         &mut self,
         name: FileName,
         bytes: &[u8],
         expected: Option<u64>,
     ) -> Result<Edited, Refusal>
-        ensures { Makes (state_of self.old) expected (put_schema name bytes.now) result (state_of self.new) }
+        ensures { Makes (state_of self.old) expected (put_schema name bytes.now) result
+            (state_of self.new) }
     {
         // The law that a text has a tree or a fault, and never both.
         one_answer();
@@ -131,14 +135,15 @@ impl Registry {
         Ok(self.accept(files, revision)?)
     }
 
-    /// Removes a schema file, and returns what `put_schema` does. Refused, in this order, by 206, 212 and 204, and by 211
-    /// if an allocation fails; the registry is then as it was.
+    /// Removes a schema file, and returns what `put_schema` does. Refused, in this order, by 206,
+    /// 212 and 204, and by 211 if an allocation fails; the registry is then as it was.
     pub fn remove_schema(
         &mut self,
         name: FileName,
         expected: Option<u64>,
     ) -> Result<Edited, Refusal>
-        ensures { Makes (state_of self.old) expected (remove_schema name) result (state_of self.new) }
+        ensures { Makes (state_of self.old) expected (remove_schema name) result
+            (state_of self.new) }
     {
         let revision = self.next_revision(expected)?;
         if !self.files.schema.has(&name) {

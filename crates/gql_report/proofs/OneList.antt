@@ -1,4 +1,4 @@
--- A list in the order of reports is told by its members.
+-- Two lists in the order of reports with the same members are the same.
 use Rattle.std.proofs.Common.{◌≡◌, inl, inr, refl, sym, ap, ap₂, ◌∙◌, subst, List, [], ◌∷◌, Contains}
 use Rattle.std.specs.declared.cmp.Ordering.{Ordering}
 use Rattle.std.specs.declared.cmp.Ordering.TheVariants.{Less, Greater}
@@ -32,7 +32,7 @@ first x y xs ys below_x below_y in_b in_a = elim (cases x y ys in_b) [
   ]
 ]
 
--- what stands behind the first in one list stands behind it in the other
+-- a fault that comes after the first in one list comes after it in the other
 behind : (x y : Fault) (xs ys : List Fault) → AllByRecursion (λ z. fault_order x z ≡ Less) xs → x ≡ y → (f : Fault) → (Contains (x ∷ xs) f → Contains (y ∷ ys) f) → Contains xs f → Contains ys f
 behind x y xs ys below same f to h = elim (cases f y ys (to (there f x xs h))) [
   | inl e ↦ let less : fault_order x x ≡ Less = every (λ z. fault_order x z ≡ Less) xs below x (subst (λ g. Contains xs g) (e ∙ sym same) h) in absurd (apart x x less less)

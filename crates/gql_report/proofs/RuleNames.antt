@@ -1,4 +1,4 @@
--- Rules are told apart by their names.
+-- Rules with the same name are the same.
 use Rattle.std.proofs.Common.{◌≡◌, refl, ap, sym, ◌∙◌, ℕ, List, [], ◌∷◌, Option, Some, find, bytes_eq}
 use Rattle.gql_ast.specs.Rules.{name_of}
 use Rattle.gql_ast.specs.declared.rule.Rule.{Rule}

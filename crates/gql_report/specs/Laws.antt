@@ -6,4 +6,5 @@ use Rattle.gql_report.specs.Order.{fault_order}
 
 -- a report is one: faults that are the same as a set are the same list in the order of reports
 abbrev pub OneOrder : Type 0
-OneOrder = (a b : List Fault) → IsStrictlySortedBy fault_order a → IsStrictlySortedBy fault_order b → ((f : Fault) → Contains a f ↔ Contains b f) → a ≡ b
+OneOrder = (a b : List Fault) → IsStrictlySortedBy fault_order a → IsStrictlySortedBy fault_order b
+    → ((f : Fault) → Contains a f ↔ Contains b f) → a ≡ b

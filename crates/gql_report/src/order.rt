@@ -65,7 +65,7 @@ fn first_and_rest(places: &[FilePlace]) -> (&[FilePlace], &[FilePlace])
     }
 }
 
-/// Where a fault stands in a report, by another.
+/// Whether a fault comes before another in a report.
 pub fn fault_cmp(fault: &Fault, other: &Fault) -> Ordering
     ensures { result ≡ spec.fault_order fault.now other.now }
 {

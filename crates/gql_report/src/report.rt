@@ -10,7 +10,8 @@ use std::alloc::{AllocError, Global};
 use std::collections::BTreeMap;
 
 fn ranked(alloc: Global, faults: Vec<Fault>) -> Result<BTreeMap<Ranked, ()>, AllocError>
-    ensures { IfOk result (λ set. (f : TheFault) → Contains (keys set) f ↔ Contains faults.items f) }
+    ensures { IfOk result (λ set. (f : TheFault) → Contains (keys set) f
+        ↔ Contains faults.items f) }
 {
     let mut set = BTreeMap::new(alloc);
     for fault in faults {
@@ -29,11 +30,12 @@ fn all_in(alloc: Global, set: BTreeMap<Ranked, ()>) -> Result<Vec<Fault>, AllocE
     Ok(faults)
 }
 
-/// The faults in the order of a report, each once: by their first place (none first; schema files before documents, then by file and
-/// offset), rule, second place, owner (none first) and text.
+/// The faults in the order of a report, each once: by their first place (none first; schema files
+/// before documents, then by file and offset), rule, second place, owner (none first) and text.
 pub fn in_order(alloc: Global, faults: Vec<Fault>) -> Result<Vec<Fault>, AllocError>
     ensures ordered { IfOk result (λ report. IsStrictlySortedBy fault_order report.items) }
-    ensures members { IfOk result (λ report. (f : TheFault) → Contains report.items f ↔ Contains faults.items f) }
+    ensures members { IfOk result (λ report. (f : TheFault)
+        → Contains report.items f ↔ Contains faults.items f) }
 {
     let set = ranked(alloc, faults)?;
     let report = all_in(alloc, set)?;

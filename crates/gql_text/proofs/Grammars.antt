@@ -34,7 +34,7 @@ run_all_at p x xs true e w h = rw e (w (let long : prefix_len p (x ∷ xs) ≡ 1
 run_all_at p x xs false e w h = absurd (let none : prefix_len p (x ∷ xs) ≡ 0 = rw e refl in omega (arith, none, h))
 
 -- a run that is the whole list
-run_all : (p : ℕ → Bool) (xs : List ℕ) → prefix_len p xs ≡ length xs → list_all p xs ≡ true
+pub run_all : (p : ℕ → Bool) (xs : List ℕ) → prefix_len p xs ≡ length xs → list_all p xs ≡ true
 run_all p [] h = refl
 run_all p (x ∷ xs) h = run_all_at p x xs (p x) refl (run_all p xs) h
 
@@ -55,10 +55,10 @@ run_is : (p : ℕ → Bool) (xs ys : List ℕ) → list_all p xs ≡ true → be
 run_is p [] ys a h = no_run p ys h
 run_is p (x ∷ xs) ys a h = let two = both_of (p x) (list_all p xs) a in rw (two.0, run_is p xs ys two.1 h) (one_more (length xs))
 
-run_whole : (p : ℕ → Bool) (xs : List ℕ) → list_all p xs ≡ true → prefix_len p xs ≡ length xs
+pub run_whole : (p : ℕ → Bool) (xs : List ℕ) → list_all p xs ≡ true → prefix_len p xs ≡ length xs
 run_whole p xs a = ap (prefix_len p) (sym (append-nil xs)) ∙ run_is p xs [] a refl
 
-nothing_left : (xs : List ℕ) (n : ℕ) → n ≡ length xs → drop n xs ≡ []
+pub nothing_left : (xs : List ℕ) (n : ℕ) → n ≡ length xs → drop n xs ≡ []
 nothing_left xs n e = nil_from_length (drop n xs) (omega (arith, length-drop n xs, e))
 
 -- what a number's parts say where the number ends with the text

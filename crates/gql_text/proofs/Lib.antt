@@ -13,3 +13,6 @@ pub mod Tokens
 pub mod Texts
 pub mod Fronts
 pub mod Cuts
+pub mod StringRules
+pub mod BlockRules
+pub mod IgnoredRules

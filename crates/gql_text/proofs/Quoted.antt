@@ -40,7 +40,7 @@ run_closing f kind s {n} (goes {k = j} e r) k i h d =
     record { from = c.from; count = c.count; closing = c.closing; ends = c.ends; behind = omega (arith, c.behind) }
 run_closing f kind s {n} (stops {m = m} e l) k i h d = absurd (cc)
 
-string_close : (bs : List ℕ) (k : ℕ) → string_piece bs ≡ Closes k → (rest : List ℕ) × (bs ≡ 34 ∷ rest) × (k ≡ 1)
+pub string_close : (bs : List ℕ) (k : ℕ) → string_piece bs ≡ Closes k → (rest : List ℕ) × (bs ≡ 34 ∷ rest) × (k ≡ 1)
 unfolding string_piece
 string_close [] k e = absurd (cc)
 string_close (b ∷ bs) k e =
@@ -55,7 +55,7 @@ string_close (b ∷ bs) k e =
       ]
     ]
 
-block_close : (bs : List ℕ) (k : ℕ) → block_piece bs ≡ Closes k → (three_quotes bs ≡ true) × (k ≡ 3)
+pub block_close : (bs : List ℕ) (k : ℕ) → block_piece bs ≡ Closes k → (three_quotes bs ≡ true) × (k ≡ 3)
 unfolding block_piece
 block_close [] k e = absurd (cc)
 block_close (b ∷ bs) k e =
@@ -67,7 +67,7 @@ block_close (b ∷ bs) k e =
       ]
     ]
 
-one_first : (text : List ℕ) → one_quote text ≡ true → (rest : List ℕ) × (text ≡ 34 ∷ rest)
+pub one_first : (text : List ℕ) → one_quote text ≡ true → (rest : List ℕ) × (text ≡ 34 ∷ rest)
 one_first [] e = absurd (cc)
 one_first (a ∷ []) e = ([], ap (λ x. x ∷ []) (eqb-true a 34 e))
 one_first (a ∷ b ∷ []) e = (b ∷ [], ap (λ x. x ∷ b ∷ []) (eqb-true a 34 e))
@@ -79,13 +79,13 @@ three_are a b c e =
     let ab = both_of (a == 34) (b == 34) abc.0 in
     (eqb-true a 34 ab.0, eqb-true b 34 ab.1, eqb-true c 34 abc.1)
 
-three_take : (text : List ℕ) → three_quotes text ≡ true → take 3 text ≡ three
+pub three_take : (text : List ℕ) → three_quotes text ≡ true → take 3 text ≡ three
 three_take [] e = absurd (cc)
 three_take (a ∷ []) e = absurd (cc)
 three_take (a ∷ b ∷ []) e = absurd (cc)
 three_take (a ∷ b ∷ c ∷ bs) e = let q = three_are a b c e in let x = q.0 in let y = q.1 in let z = q.2 in cc
 
-three_alone : (text : List ℕ) → three_quotes text ≡ true → length text ≡ 3 → text ≡ three
+pub three_alone : (text : List ℕ) → three_quotes text ≡ true → length text ≡ 3 → text ≡ three
 three_alone text e h = sym (take_whole text h) ∙ three_take text e
   where
     take_whole : (xs : List ℕ) → length xs ≡ 3 → take 3 xs ≡ xs
@@ -133,11 +133,11 @@ not_one b bs h = elim (tells (starts_with nat_eq (b ∷ bs) one)) [
   | inr e ↦ middle (nat_le 2 (length (b ∷ bs))) (starts_with nat_eq (b ∷ bs) one) (ends_with nat_eq (b ∷ bs) one) e
 ]
 
-mark_no_text : (b : ℕ) → (mark_kind b ≡ Some StringValue → ⊥) × (mark_kind b ≡ Some BlockString → ⊥)
+pub mark_no_text : (b : ℕ) → (mark_kind b ≡ Some StringValue → ⊥) × (mark_kind b ≡ Some BlockString → ⊥)
 mark_no_text b = (λ e. grind (arith, nat_tests), λ e. grind (arith, nat_tests))
 
 -- what begins with no quote is no string
-plain_text : (k : Kind) (b : ℕ) (bs : List ℕ) → Ellipsis ≢ k → ((c : ℕ) → mark_kind c ≡ Some k → ⊥) → Name ≢ k → IntValue ≢ k → FloatValue ≢ k
+pub plain_text : (k : Kind) (b : ℕ) (bs : List ℕ) → Ellipsis ≢ k → ((c : ℕ) → mark_kind c ≡ Some k → ⊥) → Name ≢ k → IntValue ≢ k → FloatValue ≢ k
     → plain_part b bs ≡ Taken k (length (b ∷ bs)) → ⊥
 plain_text k b bs no_dots no_mark no_name no_int no_float e = elim (word_part k (length (b ∷ bs)) b bs no_dots no_mark e) [
   | inl h ↦ let f = h.1 in no_name cc

@@ -1,6 +1,7 @@
 pub mod Chars
 pub mod Escapes
 pub mod Grammar
+pub mod Ignored
 pub mod Kinds
 pub mod Laws
 pub mod Lexeme
@@ -11,4 +12,5 @@ pub mod Numbers
 pub mod Parts
 pub mod Pieces
 pub mod Place
+pub mod Strings
 pub mod Values

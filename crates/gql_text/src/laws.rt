@@ -1,15 +1,17 @@
 //! What holds of tokens and faults, as contracts of functions that do nothing.
 ghost use Rattle.std.specs.Prelude.{◌↔◌, ◌≡◌, ◌≢◌, ◌<◌, ◌≤◌, ℕ, List, All, length, take, Some};
 ghost use Rattle.gql_text.specs.Grammar.{IsName, IsInteger, IsFloat, mark_text};
+ghost use Rattle.gql_text.specs.Ignored.{IsIgnored};
 ghost use Rattle.gql_text.specs.Lexeme.{Lexeme};
 ghost use Rattle.gql_text.specs.Lexis.{Stands, IsLexed, LexFails};
 ghost use Rattle.gql_text.specs.Laws.{HasReading, IsSliceOf, IsToken};
+ghost use Rattle.gql_text.specs.Strings.{IsBlockString, IsString};
 ghost use Rattle.gql_text.specs.Values.{between, string_value, block_value, text_value};
 ghost use Rattle.gql_text.specs.declared.place.Place.{Place};
 ghost use Rattle.gql_text.specs.declared.token.Kind.{Kind};
 ghost use Rattle.gql_text.specs.declared.token.Kind.TheVariants.{EndOfText, Name, IntValue, FloatValue, StringValue, BlockString};
 ghost use Rattle.gql_text.specs.declared.token.LexRefusal.{LexRefusal};
-ghost use Rattle.gql_text.specs.declared.front.Part.TheVariants.{Taken};
+ghost use Rattle.gql_text.specs.declared.front.Part.TheVariants.{Dropped, Taken};
 
 /// A text has tokens or a fault, never both, and no two token lists or two faults.
 pub fn one_reading()
@@ -46,6 +48,19 @@ pub fn grammar_of_tokens()
     ensures names { (text : List ℕ) → IsToken Name text ↔ IsName text }
     ensures integers { (text : List ℕ) → IsToken IntValue text ↔ IsInteger text }
     ensures floats { (text : List ℕ) → IsToken FloatValue text ↔ IsFloat text }
+{}
+
+/// What is dropped between tokens is what the grammar ignores (2.1.7).
+pub fn ignored_of_the_grammar()
+    ensures { (text : List ℕ) → Stands text (Dropped (length text)) ↔ IsIgnored text }
+{}
+
+/// Strings are those of the grammar, each with its value (2.9.4).
+pub fn strings_of_the_grammar()
+    ensures strings { (text value : List ℕ)
+        → ((IsToken StringValue text) × (text_value text ≡ value)) ↔ IsString text value }
+    ensures block_strings { (text value : List ℕ)
+        → ((IsToken BlockString text) × (text_value text ≡ value)) ↔ IsBlockString text value }
 {}
 
 /// The value of a string's token is that of what stands between its quotes, of a block string's that of its block

@@ -1,5 +1,6 @@
 ghost use Rattle.std.specs.Prelude.{◌≡◌};
 ghost use Rattle.gql_types.specs.Parts.{kind_of};
+ghost use Rattle.gql_types.specs.Kinds as spec;
 ghost use Rattle.gql_types.specs.Kinds.{same_kind, same_operation};
 
 use gql_ast::{OperationKind, TypeParts};
@@ -42,6 +43,46 @@ impl TypeKind {
         ensures { result ≡ same_kind self other }
     {
         self == other
+    }
+
+    /// Whether arguments, input fields and variables may have types of this kind (3.4.2).
+    pub fn is_input(self) -> bool
+        ensures { result ≡ spec.is_input self }
+    {
+        match self {
+            TypeKind::Scalar | TypeKind::Enum | TypeKind::InputObject => true,
+            TypeKind::Object | TypeKind::Interface | TypeKind::Union => false,
+        }
+    }
+
+    /// Whether fields may have types of this kind (3.4.2).
+    pub fn is_output(self) -> bool
+        ensures { result ≡ spec.is_output self }
+    {
+        match self {
+            TypeKind::InputObject => false,
+            _ => true,
+        }
+    }
+
+    /// Whether a selection set selects from types of this kind.
+    pub fn is_composite(self) -> bool
+        ensures { result ≡ spec.is_composite self }
+    {
+        match self {
+            TypeKind::Object | TypeKind::Interface | TypeKind::Union => true,
+            TypeKind::Scalar | TypeKind::Enum | TypeKind::InputObject => false,
+        }
+    }
+
+    /// Whether nothing is selected from types of this kind.
+    pub fn is_leaf(self) -> bool
+        ensures { result ≡ spec.is_leaf self }
+    {
+        match self {
+            TypeKind::Scalar | TypeKind::Enum => true,
+            _ => false,
+        }
     }
 }
 

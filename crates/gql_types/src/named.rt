@@ -3,6 +3,7 @@ ghost use Rattle.std.specs.Option.{option_copied};
 ghost use Rattle.std.specs.List.{position_from};
 ghost use Rattle.std.specs.HashMap as hash;
 
+use gql_ast::Text;
 use std::alloc::{AllocError, Global};
 use std::collections::HashMap;
 use std::marker::Model;
@@ -14,6 +15,14 @@ pub trait HasName {
     /// The name.
     fn name(&self) -> &str
         ensures { result.now ≡ name self.now };
+}
+
+impl HasName for Text {
+    ghost name = { λ text. text };
+
+    fn name(&self) -> &str {
+        self.as_str()
+    }
 }
 
 /// Things in their order, with look-up of the first of a name. Contracts see the list of the things.

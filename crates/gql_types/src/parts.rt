@@ -138,7 +138,7 @@ fn add_names(
     for name in names {
         found.push(Sited {
             file: copied(file),
-            node: name.copy(alloc)?,
+            node: name.copy()?,
         })?;
     }
     Ok(())

@@ -102,7 +102,7 @@ fn names_in(alloc: Global, set: &BTreeMap<Text, ()>) -> Result<Items<Text>, Allo
 {
     let mut found = Items::new(alloc);
     for (name, _unit) in set.iter() {
-        found.push(name.copy(alloc)?)?;
+        found.push(name.copy()?)?;
     }
     Ok(found)
 }
@@ -156,7 +156,7 @@ fn itself(alloc: Global, name: &Text) -> Result<Items<Text>, AllocError>
     ensures { IfOk result (λ found. found ≡ name.now ∷ []) }
 {
     let mut found = Items::new(alloc);
-    found.push(name.copy(alloc)?)?;
+    found.push(name.copy()?)?;
     Ok(found)
 }
 
@@ -169,7 +169,7 @@ fn add(
     ensures { OnOk result (found.new.items ≡ found.old.items ++ (record { of_type = name.now; types = types }) ∷ []) }
 {
     found.push(PossibleTypes {
-        of_type: name.copy(alloc)?,
+        of_type: name.copy()?,
         types,
     })?;
     Ok(())

@@ -36,7 +36,7 @@ fn add_entries(
             entry: Some(entry.place),
             name: Sited {
                 file: copied(file),
-                node: entry.name.copy(alloc)?,
+                node: entry.name.copy()?,
             },
         })?;
     }
@@ -59,7 +59,7 @@ fn add_implied(
                 entry: None,
                 name: Sited {
                     file: copied(&of_type.definition.file),
-                    node: of_type.definition.node.get().name.copy(alloc)?,
+                    node: of_type.definition.node.get().name.copy()?,
                 },
             })?;
             Ok(())

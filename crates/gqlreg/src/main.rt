@@ -1,4 +1,5 @@
-//! `gqlreg pipe` answers the requests of standard input on standard output, `gqlreg serve` those of connections.
+//! `gqlreg pipe` answers the requests of standard input on standard output, `gqlreg serve` those of
+//! connections.
 #![tactic(auto)]
 
 use gql_command::{Command, CommandFault, read_command};
@@ -25,7 +26,8 @@ fn run_pipe(rt: &HostRuntime) -> u8 {
     status_of(&pipe(&mut hub, &mut peer))
 }
 
-/// Answers the requests of this many connections to a port of 127.0.0.1, one connection after the other.
+/// Answers the requests of this many connections to a port of 127.0.0.1, one connection after the
+/// other.
 fn run_serve(rt: &HostRuntime, port: u16, connections: u32) -> u8 {
     let Ok(listener) = TcpListener::bind(rt, ("127.0.0.1", port)) else {
         return 1;
@@ -60,8 +62,8 @@ fn report_fault(rt: &HostRuntime, fault: CommandFault) -> u8 {
     }
 }
 
-/// The status where the command line cannot be read: 4 if an allocation failed, and 2 with a text for words that are not
-/// UTF-8.
+/// The status where the command line cannot be read: 4 if an allocation failed, and 2 with a text
+/// for words that are not UTF-8.
 fn report_unread(rt: &HostRuntime, error: &io::Error) -> u8 {
     match error.kind() {
         io::ErrorKind::OutOfMemory => 4,
@@ -72,8 +74,8 @@ fn report_unread(rt: &HostRuntime, error: &io::Error) -> u8 {
     }
 }
 
-/// Status 0: done; 1: a read, a write or the network failed, or there were too many reads; 2: the command line is refused;
-/// 3: the input ended within a request; 4: an allocation failed.
+/// Status 0: done; 1: a read, a write or the network failed, or there were too many reads; 2: the
+/// command line is refused; 3: the input ended within a request; 4: an allocation failed.
 fn main(rt: HostRuntime) -> ExitCode {
     let words = match words(&rt) {
         Ok(words) => words,

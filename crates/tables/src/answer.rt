@@ -18,8 +18,8 @@ fn parsed_tokens(alloc: Global, file: &FileName, text: &str) -> Result<Document,
     parse_tokens(alloc, tokens.as_slice(), file, end_place(text))
 }
 
-/// What a parser answers to a text: `doc`, of executable documents, or `doc-tokens`, of the tokens of one; `sdl`, of schema files;
-/// `any`, of files of any definitions.
+/// What a parser answers to a text: `doc`, of executable documents, or `doc-tokens`, of the tokens
+/// of one; `sdl`, of schema files; `any`, of files of any definitions.
 pub fn parsed(alloc: Global, parser: &str, text: &str) -> Option<Result<Document, SyntaxFault>> {
     let file = FileName::read("s")?;
     match parser {

@@ -3,7 +3,8 @@ use gql_ast::Tree;
 use gql_built_in::{Sited, built_in_definitions};
 use std::alloc::Global;
 
-/// The name of a type, or the name of a directive behind `@`; a definition that stands in a file is told by its file.
+/// The name of a type, or the name of a directive after `@`; the file of a definition that is in
+/// one.
 fn written_name(alloc: Global, definition: &Sited<Tree>) -> Option<String> {
     if let Some(file) = &definition.file {
         return String::from_str(alloc, file.as_str()).ok();

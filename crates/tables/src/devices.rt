@@ -10,7 +10,7 @@ const PIECE_BYTES: usize = 4;
 /// How many reads are made at most.
 const MOST_READS: u64 = 1_000;
 
-/// What `MOST` or `MOST fails after COUNT` says; none where MOST is 0.
+/// What `MOST` or `MOST fails after COUNT` says; `None` where MOST is 0.
 pub fn moves_in(text: &str) -> Option<Moves> {
     let (most, failing) = match text.split_once(" fails after ") {
         Some((most, count)) => (most, Some(count.parse::<u64>().ok()?)),
@@ -23,7 +23,7 @@ pub fn moves_in(text: &str) -> Option<Moves> {
     Some(Moves { most, failing })
 }
 
-/// What a read brings, and whether more bytes may follow; none where too many reads were made.
+/// What a read brings, and whether more bytes may follow; `None` where too many reads were made.
 fn read_once(alloc: Global, peer: &mut MemPeer<'_>) -> Option<(String, bool)> {
     if peer.reads > MOST_READS || peer.read_failures > MOST_READS {
         return None;
@@ -36,8 +36,8 @@ fn read_once(alloc: Global, peer: &mut MemPeer<'_>) -> Option<(String, bool)> {
     }
 }
 
-/// What reads from a peer in memory bring, up to its end or to a read that fails, and how many reads and failures there
-/// were: `MOVES`.
+/// What reads from a peer in memory bring, up to its end or to a read that fails, and how many
+/// reads and failures there were: `MOVES`.
 fn peer_reads(alloc: Global, bytes: &[u8], moves: &str) -> Option<String> {
     let reading = moves_in(moves)?;
     let mut peer = MemPeer::new(alloc, bytes, reading, moves_in("1")?);
@@ -55,7 +55,8 @@ fn peer_reads(alloc: Global, bytes: &[u8], moves: &str) -> Option<String> {
     format!(in alloc; "{written}; reads: {reads}, failures: {failures}").ok()
 }
 
-/// What a peer in memory holds after all bytes are written to it, or after a write that fails: `MOVES`.
+/// What a peer in memory holds after all bytes are written to it, or after a write that fails:
+/// `MOVES`.
 fn peer_writes(alloc: Global, bytes: &[u8], moves: &str) -> Option<String> {
     let writing = moves_in(moves)?;
     let mut peer = MemPeer::new(alloc, &[], moves_in("1")?, writing);

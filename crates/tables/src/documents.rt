@@ -50,8 +50,8 @@ fn number_of(parsed: &Result<Document, SyntaxFault>) -> u16 {
     }
 }
 
-/// The numbers of the answers to a text that is cut behind each character, the empty one first, each number where it is not that
-/// of the text before: `OFFSET NUMBER`.
+/// The numbers of the answers to a text that is cut after each character, the empty one first,
+/// each number where it is not that of the text before: `OFFSET NUMBER`.
 pub fn cuts_answer(alloc: Global, text: &str, parser: &str) -> Option<String> {
     let mut written = String::new(alloc);
     let mut last = None;

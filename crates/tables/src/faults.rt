@@ -1,4 +1,5 @@
 //! Faults as the table writes them.
+use crate::joined::join;
 use gql_ast::{Fault, FilePlace};
 use std::alloc::{AllocError, Global};
 
@@ -10,11 +11,13 @@ fn written_place(alloc: Global, place: &FilePlace) -> Result<String, AllocError>
     format!(in alloc; "{file} {line}:{column}")
 }
 
-/// A fault as its rule, what it is about, and its places.
+/// A fault as its rule, what it is about, unless that is empty, and its places.
 fn written_fault(alloc: Global, fault: &Fault) -> Result<String, AllocError> {
-    let rule = fault.rule.name();
+    let mut written = String::from_str(alloc, fault.rule.name())?;
     let about = fault.about.as_str();
-    let mut written = format!(in alloc; "{rule} {about}")?;
+    if !about.is_empty() {
+        join(&mut written, " ", about)?;
+    }
     let mut before = " at ";
     for place in fault.places.as_slice() {
         written.push_str(before)?;
@@ -24,8 +27,12 @@ fn written_fault(alloc: Global, fault: &Fault) -> Result<String, AllocError> {
     Ok(written)
 }
 
-/// The faults, joined by semicolons: of each its copy, which has to say the same.
+/// The faults, joined by semicolons, or `no faults`. Each is written from its copy, which has to be
+/// the same.
 pub fn written_faults(alloc: Global, faults: &[Fault]) -> Result<String, AllocError> {
+    if faults.is_empty() {
+        return String::from_str(alloc, "no faults");
+    }
     let mut written = String::new(alloc);
     let mut before = "";
     for fault in faults {

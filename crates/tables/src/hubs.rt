@@ -1,10 +1,11 @@
 //! The service: its answers to a stream of requests.
+use crate::answers::written_answers;
 use crate::bytes::{bytes_in, quoted_bytes};
 use gql_http::Hub;
 use gql_registry::Registry;
 use std::alloc::Global;
 
-/// Feeds a piece to a connection that is open still; none where memory is wanting.
+/// Feeds a piece to a connection unless it is closed; `None` if an allocation fails.
 fn feed(hub: &mut Hub, out: &mut Vec<u8>, piece: &[u8]) -> Option<()> {
     if hub.is_open(0) {
         let fed = hub.feed(0, piece);
@@ -16,7 +17,7 @@ fn feed(hub: &mut Hub, out: &mut Vec<u8>, piece: &[u8]) -> Option<()> {
     Some(())
 }
 
-/// What a service on an empty registry answers to a stream that is cut there.
+/// What a service on an empty registry answers to a stream that is cut at this place.
 pub fn answered(alloc: Global, bytes: &[u8], place: usize) -> Option<Vec<u8>> {
     let place = place.min(bytes.len());
     let mut hub = Hub::new(alloc, Registry::new(alloc));
@@ -38,27 +39,43 @@ fn byte_by_byte(alloc: Global, bytes: &[u8]) -> Option<Vec<u8>> {
     Some(out)
 }
 
-/// The answers to a stream, which are the same whole, byte by byte and cut at each place.
-fn in_any_pieces(alloc: Global, bytes: &[u8]) -> Option<String> {
+/// The answers to a stream, which are the same whole, byte by byte and cut at each place. `None`
+/// where they are not.
+fn in_any_pieces(alloc: Global, bytes: &[u8]) -> Option<Vec<u8>> {
     let whole = answered(alloc, bytes, 0)?;
     for place in 1..bytes.len() {
         if answered(alloc, bytes, place)?.as_slice() != whole.as_slice() {
-            return format!(in alloc; "another where it is cut at {place}").ok();
+            return None;
         }
     }
     if byte_by_byte(alloc, bytes)?.as_slice() != whole.as_slice() {
-        return String::from_str(alloc, "another byte by byte").ok();
+        return None;
     }
-    quoted_bytes(alloc, whole.as_slice()).ok()
+    Some(whole)
 }
 
-/// The answers to a stream, in any pieces, or where it is cut at one place: `cut at PLACE`.
-pub fn answers_answer(alloc: Global, text: &str, question: &str) -> Option<String> {
+/// The answers to a stream, in any pieces, or where it is cut at one place: ` cut at PLACE`.
+fn pieces_answer(alloc: Global, text: &str, pieces: &str) -> Option<Vec<u8>> {
     let bytes = bytes_in(alloc, text)?;
-    if question.is_empty() {
+    if pieces.is_empty() {
         return in_any_pieces(alloc, bytes.as_slice());
     }
-    let place = question.strip_prefix("cut at ")?.parse::<usize>().ok()?;
-    let answers = answered(alloc, bytes.as_slice(), place)?;
-    quoted_bytes(alloc, answers.as_slice()).ok()
+    let place = pieces.strip_prefix("cut at ")?.parse::<usize>().ok()?;
+    answered(alloc, bytes.as_slice(), place)
+}
+
+/// The answers to a stream, each on a line as a transcript writes it.
+pub fn answers_answer(alloc: Global, text: &str, pieces: &str) -> Option<String> {
+    match pieces_answer(alloc, text, pieces) {
+        Some(bytes) => written_answers(alloc, bytes.as_slice(), "\n"),
+        None => String::from_str(alloc, "not the same in all pieces").ok(),
+    }
+}
+
+/// The bytes that are answered to a stream.
+pub fn bytes_answer(alloc: Global, text: &str, pieces: &str) -> Option<String> {
+    match pieces_answer(alloc, text, pieces) {
+        Some(bytes) => quoted_bytes(alloc, bytes.as_slice()).ok(),
+        None => String::from_str(alloc, "not the same in all pieces").ok(),
+    }
 }

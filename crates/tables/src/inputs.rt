@@ -59,7 +59,7 @@ pub fn field_of(operation: &Operation) -> Option<&Field> {
     }
 }
 
-/// Puts a schema file; none where its text is none.
+/// Puts a schema file; `None` where its text is not one.
 pub fn put_file(alloc: Global, files: &mut Files, name: &FileName, text: &str) -> Option<()> {
     let document = parse_sdl(alloc, name.copy(), text).ok()?;
     let document = Shared::new(alloc, document).ok()?;

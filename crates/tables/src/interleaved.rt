@@ -1,5 +1,5 @@
 //! Streams that come over several connections in turn, a byte at a time.
-use crate::bytes::quoted_bytes;
+use crate::answers::written_answers;
 use gql_http::Hub;
 use gql_registry::Registry;
 use std::alloc::{AllocError, Global};
@@ -15,7 +15,8 @@ struct Session {
 }
 
 impl Session {
-    /// A service on an empty registry with so many open connections; none where there are not so many.
+    /// A service on an empty registry with this many open connections; `None` where it has not so
+    /// many.
     fn new(alloc: Global, count: u8) -> Option<Session> {
         let mut hub = Hub::new(alloc, Registry::new(alloc));
         let mut answers = Vec::new(alloc);
@@ -80,8 +81,8 @@ fn byte_by_byte(alloc: Global, count: u8, streams: &[String]) -> Option<Session>
     Some(session)
 }
 
-/// Whether streams over so many connections get the same answers in turn, a byte at a time, as one after the other; and the
-/// answers on the last connection.
+/// Whether streams over so many connections get the same answers in turn, a byte at a time, as one
+/// after the other; and the answers on the last connection.
 pub fn interleaved_answer(alloc: Global, count: &str) -> Option<String> {
     let count = count.parse::<u8>().ok()?;
     let streams = streams(alloc, count).ok()?;
@@ -92,7 +93,7 @@ pub fn interleaved_answer(alloc: Global, count: &str) -> Option<String> {
             return format!(in alloc; "another on connection {connection}").ok();
         }
     }
-    let last = quoted_bytes(alloc, in_turn.answers.last()?.as_slice()).ok()?;
+    let last = written_answers(alloc, in_turn.answers.last()?.as_slice(), "; ")?;
     let last = last.as_str();
     format!(in alloc; "the same; the last: {last}").ok()
 }

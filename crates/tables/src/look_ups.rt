@@ -1,4 +1,5 @@
-//! Look-ups in a schema (GraphQL specification, 3.3 to 3.13). Each answer is none where the question is not well written.
+//! Look-ups in a schema (GraphQL specification, 3.3 to 3.13). Each answer is `None` where the
+//! question is not well written.
 use crate::inputs::type_in;
 use crate::joined::join;
 use gql_ast::{FileName, Items, OperationKind, Text};
@@ -11,7 +12,7 @@ fn nothing(alloc: Global) -> Option<String> {
     String::from_str(alloc, "none").ok()
 }
 
-/// Where a name stands: in a file, or `built-in`.
+/// The place of a name in a file, or `built-in`.
 fn site(alloc: Global, file: &Option<FileName>, place: &Place) -> Option<String> {
     match file {
         Some(file) => {
@@ -63,7 +64,7 @@ fn names_answer(alloc: Global, schema: &Schema, word: &str, of_type: &str) -> Op
     }
 }
 
-/// Where a part of a type stands: `TYPE NAME`.
+/// The place of a part of a type: `TYPE NAME`.
 fn part_answer(alloc: Global, schema: &Schema, word: &str, question: &str) -> Option<String> {
     let (of_type, name) = question.split_once(" ")?;
     match word {
@@ -89,7 +90,7 @@ fn part_answer(alloc: Global, schema: &Schema, word: &str, question: &str) -> Op
     }
 }
 
-/// Where a directive stands, and the names of its arguments.
+/// The place of a directive, and the names of its arguments.
 fn directive_answer(alloc: Global, schema: &Schema, name: &str) -> Option<String> {
     let Some(directive) = schema.directive(name) else {
         return nothing(alloc);
@@ -101,7 +102,7 @@ fn directive_answer(alloc: Global, schema: &Schema, name: &str) -> Option<String
     Some(written)
 }
 
-/// The kind of a type, where its name stands, and where each of its extensions starts.
+/// The kind of a type, the place of its name, and where each of its extensions starts.
 fn type_answer(alloc: Global, schema: &Schema, name: &str) -> Option<String> {
     let Some(found) = schema.get(name) else {
         return nothing(alloc);
@@ -156,7 +157,7 @@ fn root_answer(alloc: Global, schema: &Schema, kind: &str) -> Option<String> {
     }
 }
 
-/// Whether a type may stand where another is expected: `TYPE TYPE`.
+/// Whether a type is covariant with another: `TYPE TYPE`.
 fn covariant_answer(alloc: Global, schema: &Schema, question: &str) -> Option<String> {
     let (of_type, base) = question.split_once(" ")?;
     let of_type = type_in(alloc, of_type)?;

@@ -1,16 +1,20 @@
-//! Holds the crates against a table. Standard input has texts and, behind each, what is expected of it, as its first lines
-//! say. Answers that differ are printed, and then how many there were.
+//! Compares the answers of the crates with those that tables expect. The arguments are the tables'
+//! files, each of which says at its head how it is written. Answers that differ are printed, each
+//! with its file and line, and then how many answers there were.
 #![tactic(auto)]
 
 mod answer;
 mod answer_heads;
+mod answers;
 mod built_in;
 mod bytes;
-mod circles;
 mod commands;
 mod cursors;
+mod cycles;
 mod devices;
 mod documents;
+mod fact_words;
+mod facts;
 mod faults;
 mod file_maps;
 mod hubs;
@@ -19,6 +23,7 @@ mod interleaved;
 mod joined;
 mod levels;
 mod look_ups;
+mod operations;
 mod pipes;
 mod quoted;
 mod row;
@@ -34,20 +39,22 @@ mod values;
 mod wire;
 mod written;
 
-use anyhow::Result;
+use anyhow::{Result, bail};
+use std::env;
 use table::Table;
 
 fn main(rt: HostRuntime) -> Result<()> {
     let mut table = Table::new(rt.alloc());
-    for line in rt.lines(rt.alloc()) {
-        table.read(&rt, line?.as_str())?;
+    for path in env::args(&rt)?.skip(1) {
+        table.read_file(&rt, path.as_str())?;
     }
-    let differences = table.differences.as_str();
     let answers = table.answers;
+    let differences = table.differences.as_str();
     if differences.is_empty() {
         println!(rt; "{answers} answers, all as expected")?;
+        Ok(())
     } else {
         println!(rt; "{differences}{answers} answers")?;
+        bail!("some lines of the tables are not as they should be")
     }
-    Ok(())
 }

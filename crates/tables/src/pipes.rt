@@ -7,7 +7,7 @@ use gql_registry::Registry;
 use gql_wire::MemPeer;
 use std::alloc::Global;
 
-/// How a pipe of a service on an empty registry ends, whose peer is new; none where it is not.
+/// How a pipe of a service on an empty registry ends, whose peer is new; `None` where it is not.
 fn piped(alloc: Global, peer: &mut MemPeer<'_>) -> Option<Result<PipeEnd, PipeFault>> {
     if peer.read_failures > 0 || peer.write_failures > 0 {
         return None;
@@ -27,8 +27,8 @@ fn written_end(ended: &Result<PipeEnd, PipeFault>) -> &'static str {
     }
 }
 
-/// How a pipe ends, how many bytes of the stream's answers it wrote, and the status of a program that runs it:
-/// `reads MOVES, writes MOVES`.
+/// How a pipe ends, how many bytes of the stream's answers it wrote, and the status of a program
+/// that runs it: `reads MOVES, writes MOVES`.
 pub fn pipe_answer(alloc: Global, text: &str, question: &str) -> Option<String> {
     let (reads, writes) = question.strip_prefix("reads ")?.split_once(", writes ")?;
     let bytes = bytes_in(alloc, text)?;

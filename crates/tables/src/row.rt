@@ -1,9 +1,12 @@
+use crate::facts::facts_answer;
 use crate::faults::written_faults;
 use crate::inputs::put_file;
+use crate::joined::join;
 use crate::look_ups::look_up_answer;
+use crate::operations::operations_answer;
 use crate::servers::serves_answer;
 use crate::texts::text_answer;
-use crate::transcripts::Transcript;
+use crate::transcripts::{Transcript, written_request};
 use crate::values::value_answer;
 use crate::wire::wire_answer;
 use gql_ast::{FileName, Files};
@@ -11,7 +14,16 @@ use gql_registry::Registry;
 use gql_types::{Schema, assemble};
 use std::alloc::{AllocError, Global};
 
-/// A row that is being read: a registry with its files so far, and the file at hand.
+/// The faults of a document, which the question has after its word, or which is the one before it.
+fn faults_answer(alloc: Global, schema: &Schema, document: &str, question: &str) -> Option<String> {
+    match question.split_once(" ") {
+        Some(("faults", text)) => operations_answer(alloc, schema, text),
+        None if question == "faults" => operations_answer(alloc, schema, document),
+        _ => None,
+    }
+}
+
+/// A row that is being read: a registry with its files so far, and the present file.
 #[derive(Drop)]
 pub struct Row {
     alloc: Global,
@@ -24,8 +36,12 @@ pub struct Row {
     is_refused: bool,
     /// The schema of the files, once a question about it is asked.
     schema: Option<Schema>,
+    /// The document that the next question is about.
+    document: String,
     /// The service that `hub` lines are about.
     transcript: Transcript,
+    /// The answers that are expected of a stream, each on a line.
+    answers: String,
 }
 
 impl Row {
@@ -38,11 +54,13 @@ impl Row {
             files: Files::new(alloc),
             is_refused: false,
             schema: None,
+            document: String::new(alloc),
             transcript: Transcript::new(alloc),
+            answers: String::new(alloc),
         }
     }
 
-    /// Puts the file at hand, if there is one.
+    /// Puts the present file, if there is one.
     fn put(&mut self) {
         if self.name.is_empty() {
             return;
@@ -70,7 +88,7 @@ impl Row {
         Ok(())
     }
 
-    /// Adds a line to the file of that name: to the one at hand, or to a new one.
+    /// Adds a line to the file of that name: to the present one, or to a new one.
     pub fn add(&mut self, name: &str, line: &str) -> Result<(), AllocError> {
         if self.name.as_str() == name {
             self.text.push_str("\n")?;
@@ -80,7 +98,7 @@ impl Row {
         self.text.push_str(line)
     }
 
-    /// Adds a text so many times to the file at hand, with no line break, or else to a new one.
+    /// Adds a text so many times to the present file, with no line break, or else to a new one.
     pub fn add_text(&mut self, text: &str, times: u32) -> Result<(), AllocError> {
         if self.name.is_empty() {
             self.begin("s")?;
@@ -89,6 +107,34 @@ impl Row {
             self.text.push_str(text)?;
         }
         Ok(())
+    }
+
+    /// Adds a whole file.
+    pub fn add_file(&mut self, name: &str, text: &str) -> Result<(), AllocError> {
+        self.begin(name)?;
+        self.text.push_str(text)
+    }
+
+    /// Adds a line to the document that the next question is about.
+    pub fn add_to_document(&mut self, line: &str) -> Result<(), AllocError> {
+        join(&mut self.document, "\n", line)
+    }
+
+    /// Adds a request to the stream that the text is: `METHOD TARGET BODY`. Returns whether it was
+    /// one.
+    pub fn add_request(&mut self, request: &str) -> Result<bool, AllocError> {
+        match written_request(self.alloc, request) {
+            Some(request) => {
+                self.add_text(request.as_str(), 1)?;
+                Ok(true)
+            }
+            None => Ok(false),
+        }
+    }
+
+    /// Adds an answer that is expected of the stream.
+    pub fn add_answer(&mut self, answer: &str) -> Result<(), AllocError> {
+        join(&mut self.answers, "\n", answer)
     }
 
     /// The faults of the report on the row's files, or `refused`.
@@ -118,14 +164,20 @@ impl Row {
         if let Some(answer) = value_answer(self.alloc, schema, question) {
             return Ok(answer);
         }
+        if let Some(answer) = facts_answer(self.alloc, schema, question) {
+            return Ok(answer);
+        }
+        if let Some(answer) = faults_answer(self.alloc, schema, self.document.as_str(), question) {
+            return Ok(answer);
+        }
         match look_up_answer(self.alloc, schema, question) {
             Some(answer) => Ok(answer),
             None => String::from_str(self.alloc, "no such question"),
         }
     }
 
-    /// The answer to a question about the row's service with connections, or about its text as a stream to a server; none
-    /// for another question.
+    /// The answer to a question about the row's service with connections, or about its text as a
+    /// stream to a server; `None` for another question.
     fn service_answer(&mut self, rt: &HostRuntime, question: &str) -> Option<String> {
         if question == "serves" {
             return serves_answer(rt, self.text.as_str());
@@ -133,8 +185,18 @@ impl Row {
         self.transcript.step(question.strip_prefix("hub ")?)
     }
 
-    /// The answer to a question of the table.
+    /// The answer to a question of the table. The answers to a stream are `as above` where they are
+    /// those that lines before expect.
     pub fn answer(&mut self, rt: &HostRuntime, question: &str) -> Result<String, AllocError> {
+        let answer = self.given_answer(rt, question)?;
+        self.document = String::new(self.alloc);
+        if !self.answers.is_empty() && answer.as_str() == self.answers.as_str() {
+            return String::from_str(self.alloc, "as above");
+        }
+        Ok(answer)
+    }
+
+    fn given_answer(&mut self, rt: &HostRuntime, question: &str) -> Result<String, AllocError> {
         if question == "report" {
             return self.report();
         }

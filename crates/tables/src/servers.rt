@@ -1,11 +1,13 @@
 //! A server and its client in one process.
-use crate::bytes::{bytes_in, quoted_bytes};
+use crate::answers::written_answers;
+use crate::bytes::bytes_in;
 use gql_http::{Hub, serve_on};
 use gql_registry::Registry;
 use std::io::{Read, Write};
 use std::net::{Shutdown, TcpListener, TcpStream};
 
-/// What a service on an empty registry answers to a client that connects, writes a stream and ends it.
+/// What a server on an empty registry answers to a client that connects, writes a stream and ends
+/// it, each answer on a line as a transcript writes it.
 pub fn serves_answer(rt: &HostRuntime, text: &str) -> Option<String> {
     let bytes = bytes_in(rt.alloc(), text)?;
     let listener = TcpListener::bind(rt, "127.0.0.1:0").ok()?;
@@ -17,5 +19,5 @@ pub fn serves_answer(rt: &HostRuntime, text: &str) -> Option<String> {
     serve_on(&listener, &mut hub, 1).ok()?;
     let mut answer = Vec::new(rt.alloc());
     client.read_to_end(&mut answer).ok()?;
-    quoted_bytes(rt.alloc(), answer.as_slice()).ok()
+    written_answers(rt.alloc(), answer.as_slice(), "\n")
 }

@@ -3,7 +3,7 @@ use std::alloc::Global;
 
 /// What is asked step after step.
 pub trait Stepped {
-    /// What a step answers, and none where there is no such step.
+    /// What a step answers; `None` where there is no such step.
     fn step(&mut self, alloc: Global, step: &str) -> Option<String>;
 }
 
@@ -17,7 +17,7 @@ pub fn steps_answer<S: Stepped>(alloc: Global, stepped: &mut S, steps: &str) -> 
     Some(answers)
 }
 
-/// A step as its word and what stands behind it.
+/// A step as its word and the text after it.
 pub fn parts_of(step: &str) -> (&str, &str) {
     step.split_once(" ").unwrap_or((step, ""))
 }

@@ -10,7 +10,7 @@ struct Stream {
     alloc: Global,
     framer: Framer,
     found: Vec<Framed>,
-    /// Whether a request closed the connection, behind which nothing is read.
+    /// Whether a request closed the connection, after which nothing is read.
     is_closed: bool,
 }
 
@@ -107,7 +107,7 @@ impl Stream {
     }
 }
 
-/// What the requests of a stream are that is cut there.
+/// The requests of a stream that is cut at this place.
 fn cut_at(alloc: Global, bytes: &[u8], place: usize) -> Result<String, AllocError> {
     let place = place.min(bytes.len());
     let mut stream = Stream::new(alloc);
@@ -116,7 +116,7 @@ fn cut_at(alloc: Global, bytes: &[u8], place: usize) -> Result<String, AllocErro
     stream.written()
 }
 
-/// What the requests of a stream are that comes a byte at a time.
+/// The requests of a stream that comes a byte at a time.
 fn byte_by_byte(alloc: Global, bytes: &[u8]) -> Result<String, AllocError> {
     let mut stream = Stream::new(alloc);
     for byte in bytes {

@@ -1,17 +1,17 @@
 //! Questions about a text alone, and about no text.
 use crate::answer::parser_answer;
 use crate::built_in::built_in_answer;
-use crate::circles::{circles_answer, places_answer};
 use crate::cursors::cursor_answer;
+use crate::cycles::{names_on_cycles_answer, nodes_on_cycles_answer};
 use crate::documents::{copies_answer, cuts_answer, same_answer};
 use crate::file_maps::files_answer;
-use crate::levels::{looked_answer, placed_answer};
+use crate::levels::{placed_answer, visited_answer};
 use crate::tokens::{count_answer, end_answer, tokens_answer, value_answer};
 use crate::trees::trees_answer;
 use gql_ast::FileName;
 use std::alloc::Global;
 
-/// The name of a file that a text is.
+/// A text as the name of a file.
 fn name_answer(alloc: Global, text: &str) -> Option<String> {
     match FileName::read(text) {
         Some(name) => String::from_str(alloc, name.as_str()).ok(),
@@ -19,7 +19,8 @@ fn name_answer(alloc: Global, text: &str) -> Option<String> {
     }
 }
 
-/// The answer to a question about a text, by its first word; none where there is no such question, or where it is not well written.
+/// The answer to a question about a text, by its first word; `None` where there is no such
+/// question, or where it is not well written.
 pub fn text_answer(alloc: Global, text: &str, question: &str) -> Option<String> {
     let (word, rest) = question.split_once(" ").unwrap_or((question, ""));
     match word {
@@ -28,7 +29,7 @@ pub fn text_answer(alloc: Global, text: &str, question: &str) -> Option<String> 
         "count" => count_answer(alloc, text).ok(),
         "value" => value_answer(alloc, text).ok(),
         "end" => end_answer(alloc, text).ok(),
-        "looked" => looked_answer(alloc, text),
+        "visited" => visited_answer(alloc, text),
         "placed" => placed_answer(alloc, text, rest),
         "name" => name_answer(alloc, text),
         "same" => same_answer(alloc, text, rest),
@@ -37,8 +38,8 @@ pub fn text_answer(alloc: Global, text: &str, question: &str) -> Option<String> 
         "cuts" => cuts_answer(alloc, text, rest),
         "cursor" => cursor_answer(alloc, text, rest),
         "files" => files_answer(alloc, rest),
-        "circles" => circles_answer(alloc, rest),
-        "places" => places_answer(alloc, rest),
+        "names-on-cycles" => names_on_cycles_answer(alloc, rest),
+        "nodes-on-cycles" => nodes_on_cycles_answer(alloc, rest),
         "built-in" => built_in_answer(alloc),
         _ => None,
     }

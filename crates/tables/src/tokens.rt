@@ -83,7 +83,7 @@ pub fn value_answer(alloc: Global, text: &str) -> Result<String, AllocError> {
     }
 }
 
-/// The place behind a text.
+/// The place after a text.
 pub fn end_answer(alloc: Global, text: &str) -> Result<String, AllocError> {
     if text.len() > 65_536 {
         return String::from_str(alloc, "too long");

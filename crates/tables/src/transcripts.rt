@@ -1,10 +1,28 @@
 //! Transcripts of a service with several connections: what each step gives.
-use crate::bytes::{bytes_in, quoted_bytes};
+use crate::answers::written_answers;
+use crate::bytes::bytes_in;
 use crate::joined::join;
 use crate::quoted::unquoted;
 use gql_http::{Hub, OpenRefusal};
 use gql_registry::Registry;
 use std::alloc::Global;
+
+/// The bytes of a request that `METHOD TARGET` or `METHOD TARGET BODY` says. A character of the
+/// body is a byte, and `(empty)` an empty body.
+pub fn written_request(alloc: Global, request: &str) -> Option<String> {
+    let (method, rest) = request.split_once(" ")?;
+    match rest.split_once(" ") {
+        Some((target, body)) => {
+            let body = if body == "(empty)" { "" } else { body };
+            let length = body.chars().count();
+            format!(in alloc;
+                "{method} {target} HTTP/1.1\r\nContent-Length: {length}\r\n\r\n{body}"
+            )
+        }
+        None => format!(in alloc; "{method} {rest} HTTP/1.1\r\n\r\n"),
+    }
+    .ok()
+}
 
 /// A service and its connections.
 #[derive(Drop)]
@@ -30,18 +48,21 @@ impl Transcript {
         }
     }
 
-    /// Feeds bytes to a connection. Returns the answers that this gave, and `closes` where a request closed the connection;
-    /// `closed` where it was not open.
+    /// Feeds bytes to a connection. Returns the answers that this gave or `nothing`, and `closes`
+    /// where a request closed the connection; `closed` where it was not open.
     fn feed(&mut self, connection: u8, piece: &[u8]) -> Option<String> {
         if !self.hub.is_open(connection) {
             return String::from_str(self.alloc, "closed").ok();
         }
         let fed = self.hub.feed(connection, piece);
-        let mut written = quoted_bytes(self.alloc, fed.out.as_slice()).ok()?;
+        let mut written = written_answers(self.alloc, fed.out.as_slice(), "; ")?;
+        if written.is_empty() {
+            written.push_str("nothing").ok()?;
+        }
         if fed.memory {
-            written.push_str(" memory").ok()?;
+            written.push_str("; memory").ok()?;
         } else if fed.closed {
-            written.push_str(" closes").ok()?;
+            written.push_str("; closes").ok()?;
         }
         Some(written)
     }
@@ -54,7 +75,16 @@ impl Transcript {
         self.feed(connection, piece.as_slice())
     }
 
-    /// What a step that says a word and the number of a connection gives: `open`, `close` or `is-open`.
+    /// Feeds the request that `NUMBER METHOD TARGET BODY` says.
+    fn feed_request(&mut self, rest: &str) -> Option<String> {
+        let (connection, request) = rest.split_once(" ")?;
+        let connection = connection.parse::<u8>().ok()?;
+        let bytes = bytes_in(self.alloc, written_request(self.alloc, request)?.as_str())?;
+        self.feed(connection, bytes.as_slice())
+    }
+
+    /// What a step that says a word and the number of a connection gives: `open`, `close` or
+    /// `is-open`.
     fn short_step(&mut self, word: &str, connection: &str) -> Option<&'static str> {
         let connection = connection.parse::<u8>().ok()?;
         match word {
@@ -72,7 +102,8 @@ impl Transcript {
         }
     }
 
-    /// What a step gives: `begin`, `open NUMBER`, `close NUMBER`, `is-open NUMBER` or `feed NUMBER STRING`.
+    /// What a step gives: `begin`, `open NUMBER`, `close NUMBER`, `is-open NUMBER`, `feed NUMBER
+    /// STRING` or `request NUMBER METHOD TARGET BODY`.
     pub fn step(&mut self, step: &str) -> Option<String> {
         let (word, rest) = step.split_once(" ").unwrap_or((step, ""));
         match word {
@@ -81,12 +112,14 @@ impl Transcript {
                 String::from_str(self.alloc, "begun").ok()
             }
             "feed" => self.feed_string(rest),
+            "request" => self.feed_request(rest),
             _ => String::from_str(self.alloc, self.short_step(word, rest)?).ok(),
         }
     }
 }
 
-/// What steps on a new service give, with commas between them. No step is a `feed`, whose string may have commas.
+/// What steps on a new service give, with commas between them. No step is a `feed` or a `request`,
+/// which may have commas.
 pub fn connections_answer(alloc: Global, steps: &str) -> Option<String> {
     let mut transcript = Transcript::new(alloc);
     let mut written = String::new(alloc);

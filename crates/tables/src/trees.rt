@@ -1,4 +1,4 @@
-//! Trees as the table writes them: as in GraphQL, and behind a node `/LINE:COLUMN` where it starts.
+//! Trees as the table writes them: as in GraphQL, and after a node `/LINE:COLUMN` where it starts.
 
 mod executables;
 mod literals;
@@ -17,7 +17,7 @@ pub trait Written {
     fn written(&self, alloc: Global) -> Result<String, AllocError>;
 }
 
-/// The items, each but the first behind a blank.
+/// The items, each but the first after a blank.
 fn written_items<T: Written>(alloc: Global, items: &[T]) -> Result<String, AllocError> {
     let mut written = String::new(alloc);
     for item in items {
@@ -27,16 +27,11 @@ fn written_items<T: Written>(alloc: Global, items: &[T]) -> Result<String, Alloc
 }
 
 /// A text between two others, or nothing where it is empty.
-pub fn between(
-    alloc: Global,
-    before: &str,
-    text: &str,
-    behind: &str,
-) -> Result<String, AllocError> {
+pub fn between(alloc: Global, before: &str, text: &str, after: &str) -> Result<String, AllocError> {
     if text.is_empty() {
         return Ok(String::new(alloc));
     }
-    format!(in alloc; "{before}{text}{behind}")
+    format!(in alloc; "{before}{text}{after}")
 }
 
 /// The items between two texts, or nothing where there are none.
@@ -44,10 +39,10 @@ pub fn enclosed<T: Written>(
     alloc: Global,
     before: &str,
     items: &[T],
-    behind: &str,
+    after: &str,
 ) -> Result<String, AllocError> {
     let items = written_items(alloc, items)?;
-    between(alloc, before, items.as_str(), behind)
+    between(alloc, before, items.as_str(), after)
 }
 
 /// What is there between two texts, or nothing.
@@ -55,9 +50,9 @@ pub fn optional<T: Written>(
     alloc: Global,
     before: &str,
     item: &Option<T>,
-    behind: &str,
+    after: &str,
 ) -> Result<String, AllocError> {
-    between(alloc, before, item.written(alloc)?.as_str(), behind)
+    between(alloc, before, item.written(alloc)?.as_str(), after)
 }
 
 impl<T: Written> Written for Items<T> {

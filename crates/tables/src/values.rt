@@ -1,5 +1,5 @@
-//! Questions about values (GraphQL specification, 3.5 to 3.12, 5.6, 6.1.2, 6.4.1). Each answer is none where the question is not
-//! well written.
+//! Questions about values (GraphQL specification, 3.5 to 3.12, 5.6, 6.1.2, 6.4.1). Each answer is
+//! `None` where the question is not well written.
 use crate::inputs::{document_in, field_of, json_in, literal_in, operation_of, type_in};
 use crate::written::{written_misfits, written_option, written_value};
 use gql_coerce::{coerce_arguments, coerce_json, coerce_literal, coerce_variables};
@@ -7,7 +7,7 @@ use gql_inputs::{bad_values, fits};
 use gql_types::Schema;
 use std::alloc::Global;
 
-/// A question, and the object of the variables' values behind its word `with`.
+/// A question, and the object of the variables' values after its word `with`.
 fn with_variables(question: &str) -> (&str, &str) {
     question.split_once(" with ").unwrap_or((question, "{}"))
 }

@@ -4,7 +4,7 @@ use gql_inputs::BadValue;
 use serde_json::Value;
 use std::alloc::{AllocError, Global};
 
-/// A refusal as its number, and its path where it does not stand at the whole input.
+/// A refusal as its number, and its path where it is not the whole input.
 fn written_refusal(alloc: Global, refusal: &Refusal) -> Result<String, AllocError> {
     let number = refusal.reason.number();
     let path = refusal.path.as_slice();

@@ -5,7 +5,7 @@ use gql_ast::{Argument, Directive, Literal, ObjectField};
 use gql_text::Place;
 use std::alloc::{AllocError, Global};
 
-/// A text where it stands.
+/// A text with its place.
 fn placed(alloc: Global, text: &str, place: &Place) -> Result<String, AllocError> {
     let place = place.written(alloc)?;
     format!(in alloc; "{text}{place}")

@@ -1,5 +1,5 @@
-//! Definitions of schema files. The place behind the first word of a definition is the definition's, which starts at its
-//! description.
+//! Definitions of schema files. The place after the first word of a definition is the
+//! definition's, which starts at its description.
 use crate::trees::{Written, enclosed, optional};
 use gql_ast::{
     DirectiveDefinition, DirectiveLocation, EnumValueDefinition, FieldDefinition,
@@ -66,7 +66,7 @@ fn written_interfaces(alloc: Global, parts: &TypeParts) -> Result<String, AllocE
     }
 }
 
-/// The members of a type, which stand behind its directives.
+/// The members of a type, which come after its directives.
 fn written_members(alloc: Global, parts: &TypeParts) -> Result<String, AllocError> {
     match parts {
         TypeParts::Scalar => Ok(String::new(alloc)),

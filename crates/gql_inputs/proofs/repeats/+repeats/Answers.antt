@@ -1,6 +1,6 @@
 use Rattle.std.proofs.Common.{arith}
 use Rattle.std.proofs.lemmas.Grind.{common_steps}
-use Rattle.gql_inputs.specs.Within.{repeats_object}
+use Rattle.gql_inputs.proofs.Repeating.{repeats_object}
 use Rattle.gql_inputs.proofs.repeats.+repeats.Goals as goal
 
 pub add_repeats-returns-in_ok-add_repeats_in_fields-in-Object :

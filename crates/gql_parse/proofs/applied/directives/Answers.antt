@@ -15,4 +15,4 @@ pub returns-in_err-directive-clause-value : goal.returns-in_err-directive-clause
 unfolding directives
 returns-in_err-directive-clause-value c =
     let more : sees k.At c.directives.cursor ≡ true = grind arith in
-    fault_reads c.directives.invariant more c.in_err-directive.field-0.0 c.in_err-directive.ensures.value c.from_residual.result c.from_residual.ensures.1 c.directive.new.cursor
+    fault_reads c.directives.invariant more c.in_err-directive.field-0.0 c.directive.new.cursor c.in_err-directive.ensures.value c.from_residual.result c.from_residual.ensures.1

@@ -17,9 +17,9 @@ fields-returns-clause-value t c =
 pub items-returns-in_err-value-clause-value : goal.items-returns-in_err-value-clause-value
 items-returns-in_err-value-clause-value t c =
     let more : before k.RightBracket c.items.cursor ≡ true = grind arith in
-    fault_reads c.items.invariant more c.in_err-value.field-0.0 c.in_err-value.ensures.value c.from_residual.result c.from_residual.ensures.1 c.value.new.cursor
+    fault_reads c.items.invariant more c.in_err-value.field-0.0 c.value.new.cursor c.in_err-value.ensures.value c.from_residual.result c.from_residual.ensures.1
 
 pub fields-returns-in_err-object_field-clause-value : goal.fields-returns-in_err-object_field-clause-value
 fields-returns-in_err-object_field-clause-value t c =
     let more : before k.RightBrace c.fields.cursor ≡ true = grind arith in
-    fault_reads c.fields.invariant more c.in_err-object_field.field-0.0 c.in_err-object_field.ensures.value c.from_residual.result c.from_residual.ensures.1 c.object_field.new.cursor
+    fault_reads c.fields.invariant more c.in_err-object_field.field-0.0 c.object_field.new.cursor c.in_err-object_field.ensures.value c.from_residual.result c.from_residual.ensures.1

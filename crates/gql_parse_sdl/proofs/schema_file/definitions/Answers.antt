@@ -3,12 +3,13 @@ use Rattle.gql_text.specs.declared.token.Kind.TheVariants as k
 use Rattle.gql_grammar.specs.Symbol.{before}
 use Rattle.gql_grammar.proofs.Loops.{going_on, going_ends, some_began, some_fault}
 use Rattle.gql_parse_sdl.specs.SchemaFiles.{definition}
+use Rattle.gql_grammar.proofs.Rests.{rest_then}
 use Rattle.gql_parse_sdl.proofs.schema_file.definitions.Goals as goal
 
 pub definitions-preserved : goal.definitions-preserved
 definitions-preserved c =
     let more : before k.EndOfText c.definitions.cursor ≡ true = grind arith in
-    going_on _ _ c.definitions.invariant more c.in_ok-definition-2.ensures.value _ c.in_ok-push-2.ensures.ok
+    going_on _ _ c.definitions.invariant more c.in_ok-definition-2.ensures.value c.in_ok-definition-2.ensures.rest _ c.in_ok-push-2.ensures.ok
 
 pub returns-clause-value : goal.returns-clause-value
 returns-clause-value c =
@@ -19,4 +20,10 @@ pub returns-in_err-definition-2-clause-value : goal.returns-in_err-definition-2-
 returns-in_err-definition-2-clause-value c =
     let more : before k.EndOfText c.definitions.cursor ≡ true = grind arith in
     let began = some_began (before k.EndOfText) (definition c.args.file.now) c.args.cursor.now c.definition.new.cursor c.in_ok-definition.field-0 c.push.new.self c.in_ok-definition.ensures.value (grind arith) in
-    some_fault _ began c.definitions.invariant more c.in_err-definition-2.field-0.0 c.in_err-definition-2.ensures.value c.from_residual-in_err-definition-2.result c.from_residual-in_err-definition-2.ensures.1 c.definition-in-definitions.new.cursor
+    some_fault _ began c.definitions.invariant more c.in_err-definition-2.field-0.0 c.definition-in-definitions.new.cursor c.in_err-definition-2.ensures.value c.from_residual-in_err-definition-2.result c.from_residual-in_err-definition-2.ensures.1
+
+pub returns-in_err-definition-2-clause-rest : goal.returns-in_err-definition-2-clause-rest
+returns-in_err-definition-2-clause-rest c = rest_then c.definition-in-definitions.ensures.rest (rest_then c.definitions.invariant.rest c.definition.ensures.rest)
+
+pub returns-in_err-push-2-clause-rest : goal.returns-in_err-push-2-clause-rest
+returns-in_err-push-2-clause-rest c = rest_then c.definition-in-definitions.ensures.rest (rest_then c.definitions.invariant.rest c.definition.ensures.rest)

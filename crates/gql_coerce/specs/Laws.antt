@@ -1,0 +1,40 @@
+-- Laws of coercion.
+use Rattle.std.specs.Prelude.{◌≡◌, ℕ, List, Option, Some}
+use Rattle.gql_ast.specs.declared.executable.VariableDefinition.{VariableDefinition}
+use Rattle.gql_ast.specs.declared.literal.Argument.{Argument}
+use Rattle.gql_ast.specs.declared.type_system.InputValueDefinition.{InputValueDefinition}
+use Rattle.gql_types.specs.Written.{Written}
+use Rattle.gql_types.specs.declared.schema.Schema.{Schema}
+use Rattle.serde_json.specs.Data.{Data}
+use Rattle.gql_coerce.specs.Coercion.{coerced}
+use Rattle.gql_coerce.specs.Comes.{Outcome, Comes, reached}
+use Rattle.gql_coerce.specs.Defaults.{HasNoCycle}
+use Rattle.gql_coerce.specs.Inputs.{Input}
+use Rattle.gql_coerce.specs.Requests.{VariablesCome, ArgumentsCome}
+
+-- two outcomes that an input comes to at a type are one
+abbrev pub OneOutcome : Type 0
+OneOutcome = (s : Schema) (x : Input) (t : Written) (o p : Outcome (Option Data)) → Comes s x t o
+    → Comes s x t p → o ≡ p
+
+-- what the recursion reaches with some number of levels, the input comes to
+abbrev pub AnyDepth : Type 0
+AnyDepth = (s : Schema) (x : Input) (t : Written) (o : Outcome (Option Data)) (n : ℕ)
+    → coerced n s x (Some t) ≡ reached o → Comes s x t o
+
+-- two outcomes that the variables of a request come to are one
+abbrev pub OneOfVariables : Type 0
+OneOfVariables = (s : Schema) (definitions : List VariableDefinition) (values : Data)
+    (o p : Outcome Data) → VariablesCome s definitions values o → VariablesCome s definitions values p
+    → o ≡ p
+
+-- two outcomes that arguments come to are one
+abbrev pub OneOfArguments : Type 0
+OneOfArguments = (s : Schema) (definitions : List InputValueDefinition) (given : List Argument)
+    (values : Data) (o p : Outcome Data) → ArgumentsCome s definitions given values o
+    → ArgumentsCome s definitions given values p → o ≡ p
+
+-- where no default leads back to itself, each input comes to something
+abbrev pub SomeOutcome : Type 0
+SomeOutcome = (s : Schema) → HasNoCycle s → (x : Input) (t : Written)
+    → (o : Outcome (Option Data)) × Comes s x t o

@@ -1,0 +1,55 @@
+//! The lists and objects around the input that is coerced.
+use crate::coerced::Coerced;
+use crate::entry::{Entries, Entry};
+use crate::part::{ListItems, Part};
+use gql_ast::TypeRef;
+use serde_json::{Map, Value};
+
+/// A list: its items, how many were coerced or are being coerced, what is expected of each, and the
+/// values so far.
+#[derive(Drop)]
+pub struct ListFrame<'v> {
+    pub items: ListItems<'v>,
+    pub next: usize,
+    pub expected: Option<&'v TypeRef>,
+    pub values: Vec<Value>,
+}
+
+/// An object: its entries, how many were coerced or are being coerced, what is expected of it, and the
+/// members so far.
+#[derive(Drop)]
+pub struct ObjectFrame<'v> {
+    pub entries: Entries<'v>,
+    pub next: usize,
+    pub expected: Option<&'v TypeRef>,
+    pub members: Map<String, Value>,
+}
+
+/// A list or an object, and the part of it that is being coerced.
+#[derive(Drop)]
+pub enum Frame<'v> {
+    /// The item before the next one.
+    Item(ListFrame<'v>),
+    /// The value that this entry gives.
+    Given(ObjectFrame<'v>, Entry<'v>),
+    /// The default of the field of this name, or what is known of it without one.
+    Default(ObjectFrame<'v>, &'v str),
+}
+
+/// What the walk is at.
+#[derive(Drop)]
+pub enum Focus<'v> {
+    /// An input, and what is expected of it.
+    Input(Part<'v>, Option<&'v TypeRef>),
+    /// What the input before it came to.
+    Answer(Coerced),
+}
+
+/// What is to be done next.
+#[derive(Drop)]
+pub enum Step<'v> {
+    /// Go on with a part of this list or object.
+    Within(Frame<'v>, Focus<'v>),
+    /// The input came to this.
+    Answer(Coerced),
+}

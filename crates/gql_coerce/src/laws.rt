@@ -1,0 +1,27 @@
+//! Laws of coercion. The functions do nothing; their contracts hold.
+ghost use Rattle.gql_coerce.specs.Laws as laws;
+
+/// An input comes to one outcome at a type.
+pub fn one_outcome()
+    ensures { laws.OneOutcome }
+{}
+
+/// What the recursion reaches with some number of levels, the input comes to: more change nothing.
+pub fn any_depth()
+    ensures { laws.AnyDepth }
+{}
+
+/// The variables of a request come to one outcome.
+pub fn one_of_variables()
+    ensures { laws.OneOfVariables }
+{}
+
+/// Arguments come to one outcome.
+pub fn one_of_arguments()
+    ensures { laws.OneOfArguments }
+{}
+
+/// Where no default leads back to itself, an input comes to something at each type.
+pub fn some_outcome()
+    ensures { laws.SomeOutcome }
+{}

@@ -1,0 +1,120 @@
+//! The coercion of inputs (GraphQL specification, 3.5 to 3.12). The lists and objects around the input
+//! at hand are on a stack of its own, so that memory alone limits how deep they nest.
+ghost use Rattle.std.specs.Prelude.{◌≡◌, ℕ, suc, Option, option_map, IfOk};
+ghost use Rattle.std.specs.Option.{option_copied};
+ghost use Rattle.gql_types.specs.Written.{written};
+ghost use Rattle.gql_types.specs.declared.schema.Schema.{Schema as ASchema};
+ghost use Rattle.serde_json.specs.Data.{Data};
+ghost use Rattle.gql_coerce.specs.Coercion.{coerced as levels_of};
+ghost use Rattle.gql_coerce.specs.Comes.{Eventually};
+ghost use Rattle.gql_coerce.specs.Frames.{focus_at, step_at, frame_of, frames_of, frame_by, Holds, Inside};
+ghost use Rattle.gql_coerce.specs.Outcomes.{Reached, said};
+ghost use Rattle.gql_coerce.specs.Parts.{input_of};
+
+use crate::coerced::Coerced;
+use crate::frame::{Focus, Frame, Step};
+use crate::lists::resume_list;
+use crate::objects::{resume_default, resume_given};
+use crate::part::Part;
+use crate::{json, literals};
+use gql_ast::TypeRef;
+use gql_types::Schema;
+use std::alloc::{AllocError, Global};
+
+// An input, by its form.
+fn enter<'v>(
+    alloc: Global,
+    schema: &'v Schema,
+    part: Part<'v>,
+    expected: Option<&'v TypeRef>,
+) -> Result<Step<'v>, AllocError>
+    ensures { IfOk result (λ step. (n : ℕ) → levels_of (suc n) schema.now (input_of part.entry) (option_map written (option_copied expected.entry)) ≡ step_at n schema.now step) }
+{
+    match part {
+        Part::Literal(value, variables) => {
+            literals::enter(alloc, value, variables, schema, expected)
+        }
+        Part::Json(value) => json::enter(alloc, value, schema, expected),
+    }
+}
+
+// A list or an object, of which a part came to this.
+fn resume<'v>(alloc: Global, frame: Frame<'v>, coerced: Coerced) -> Result<Step<'v>, AllocError>
+    ensures { IfOk result (λ step. (s : ASchema) (n : ℕ) → frame_by (levels_of n s) (frame_of frame.entry) (said coerced) ≡ step_at n s step) }
+{
+    match frame {
+        Frame::Item(list) => resume_list(alloc, list, coerced),
+        Frame::Given(object, entry) => resume_given(alloc, object, entry, coerced),
+        Frame::Default(object, name) => resume_default(alloc, object, name, coerced),
+    }
+}
+
+// Whether more defaults are open within one another than the schema has input fields, so that one of
+// them is within itself.
+fn has_cycle(schema: &Schema, stack: &[Frame<'_>]) -> bool {
+    let mut open = 0_usize;
+    for frame in stack {
+        if matches!(frame, Frame::Default(..)) {
+            open = open.saturating_add(1);
+        }
+    }
+    for of_type in schema.types() {
+        open = open.saturating_sub(of_type.input_fields.as_slice().len());
+    }
+    // the field at hand may have no default
+    open > 1
+}
+
+// Where defaults lead back to themselves, an input may come to nothing: it is given up then. This is
+// looked for when the stack has doubled.
+fn give_up(schema: &Schema, stack: &[Frame<'_>]) -> Result<(), AllocError> {
+    let depth = stack.len();
+    if depth >= 1024 && depth.is_power_of_two() && has_cycle(schema, stack) {
+        return Err(AllocError);
+    }
+    Ok(())
+}
+
+// Goes into a list or an object, or takes the answer.
+fn take_step<'v>(
+    schema: &Schema,
+    step: Step<'v>,
+    stack: &mut Vec<Frame<'v>>,
+) -> Result<Focus<'v>, AllocError>
+    ensures { IfOk result (λ focus. (s : ASchema) (whole : ℕ → Reached (Option Data)) → Inside s whole (frames_of stack.old.items) (λ n. step_at n s step.entry)
+        → Holds s whole (frames_of stack.new.items) (λ n. focus_at n s focus)) }
+{
+    match step {
+        Step::Within(frame, focus) => {
+            stack.push(frame)?;
+            give_up(schema, stack.as_slice())?;
+            Ok(focus)
+        }
+        Step::Answer(coerced) => Ok(Focus::Answer(coerced)),
+    }
+}
+
+/// What an input comes to. It is given up where it takes a default within itself, and after 2^64 - 1
+/// steps, to which no run comes.
+pub fn coerce<'v>(
+    alloc: Global,
+    schema: &'v Schema,
+    part: Part<'v>,
+    expected: Option<&'v TypeRef>,
+) -> Result<Coerced, AllocError>
+    ensures { IfOk result (λ c. Eventually (λ n. levels_of n schema.now (input_of part.entry) (option_map written (option_copied expected.entry)) ≡ said c)) }
+{
+    let mut stack = Vec::new(alloc);
+    let mut focus = Focus::Input(part, expected);
+    'steps: for _ in 0..u64::MAX {
+        let step = match focus {
+            Focus::Input(inner, of_type) => enter(alloc, schema, inner, of_type)?,
+            Focus::Answer(coerced) => match stack.pop() {
+                Some(frame) => resume(alloc, frame, coerced)?,
+                None => return Ok(coerced),
+            },
+        };
+        focus = take_step(schema, step, &mut stack)?;
+    }
+    Err(AllocError)
+}

@@ -1,0 +1,121 @@
+-- The facts of a schema and of document files: the answer to each key.
+use Rattle.std.specs.Prelude.{flat_map, codes, ℕ, List, [], ◌∷◌, map, find, bytes_eq, is_some, Bool, Option, option_and_then, if◌then◌else◌}
+use Rattle.std.specs.List.{list_any}
+use Rattle.std.specs.Option.{option_map_or}
+use Rattle.gql_ast.specs.declared.definition.Definition.{Definition}
+use Rattle.gql_ast.specs.declared.definition.Document.{Document}
+use Rattle.gql_ast.specs.declared.definition.Tree.{Tree}
+use Rattle.gql_ast.specs.declared.definition.Tree.TheVariants as tree
+use Rattle.gql_ast.specs.declared.files.Files.{Files}
+use Rattle.gql_ast.specs.declared.type_system.DirectiveDefinition.{DirectiveDefinition}
+use Rattle.gql_ast.specs.declared.type_system.FieldDefinition.{FieldDefinition}
+use Rattle.gql_ast.specs.declared.type_system.EnumValueDefinition.{EnumValueDefinition}
+use Rattle.gql_ast.specs.declared.type_system.InputValueDefinition.{InputValueDefinition}
+use Rattle.gql_built_in.specs.declared.sited.Sited.{Sited}
+use Rattle.gql_types.specs.Schemas.{schema_of, type_named, kind_named, field_named, possible_named, input_named, enum_named, directive_named, root_of}
+use Rattle.gql_types.specs.Written.{written}
+use Rattle.gql_types.specs.declared.roots.Root.{Root}
+use Rattle.gql_types.specs.declared.schema.Schema.{Schema}
+use Rattle.gql_types.specs.declared.schema_type.SchemaType.{SchemaType}
+use Rattle.gql_facts.specs.declared.fact.Fact.{Fact}
+use Rattle.gql_facts.specs.declared.fact.Fact.TheVariants as fact
+use Rattle.gql_facts.specs.declared.fact.InputFact.{InputFact}
+use Rattle.gql_facts.specs.declared.fact.FieldFact.{FieldFact}
+use Rattle.gql_facts.specs.declared.fact.DirectiveFact.{DirectiveFact}
+use Rattle.gql_facts.specs.declared.fact.FragmentFact.{FragmentFact}
+use Rattle.gql_facts.specs.declared.key.Key.TheVariants as key
+use Rattle.gql_facts.specs.Worlds.{Facts}
+use Rattle.gql_facts.specs.WrittenTypes.{type_of}
+
+-- ---- what facts hold of definitions
+
+-- of an argument or an input field: its name, its type, and whether it has a default
+abbrev pub input_fact : InputValueDefinition → InputFact
+input_fact d = record {
+  name = d.name.text;
+  of_type = type_of (written d.of_type);
+  has_default = is_some d.default;
+}
+
+-- of a field of an object or an interface
+abbrev pub field_fact : Sited FieldDefinition → FieldFact
+field_fact d = record {
+  of_type = type_of (written d.node.of_type);
+  arguments = map input_fact d.node.arguments;
+}
+
+-- of the fields of an input object
+abbrev pub input_facts : List (Sited InputValueDefinition) → List InputFact
+input_facts = map (λ (d : Sited InputValueDefinition). input_fact d.node)
+
+-- of the values of an enum
+abbrev pub value_names : List (Sited EnumValueDefinition) → List (List ℕ)
+value_names = map (λ (v : Sited EnumValueDefinition). v.node.name.text)
+
+-- of a directive
+abbrev pub directive_fact : Sited DirectiveDefinition → DirectiveFact
+directive_fact d = record {
+  locations = d.node.locations;
+  is_repeatable = d.node.is_repeatable;
+  arguments = map input_fact d.node.arguments;
+}
+
+-- an answer, or none
+abbrev pub answer : {A : Type 0} → (A → Fact) → Option A → Fact
+answer f o = option_map_or f o fact.Absent
+
+-- ---- the facts of a schema
+
+-- The fields that every composite type has, and those of the query root for introspection (GraphQL
+-- specification, 4.1 and 4.2). They have no answer while introspection is not served.
+abbrev pub is_meta_field : List ℕ → Bool
+is_meta_field n =
+    list_any (bytes_eq n) (codes "__typename" ∷ codes "__schema" ∷ codes "__type" ∷ [])
+
+-- the field of this name of the type of this name, where that is an object or an interface
+abbrev pub field_answer : Schema → List ℕ → List ℕ → Fact
+field_answer s t n = if is_meta_field n then fact.Absent
+    else answer (λ d. fact.Field (field_fact d)) (field_named s t n)
+
+-- the possible types of the type of this name, where it is composite
+abbrev pub possible_answer : Schema → List ℕ → Fact
+possible_answer s t =
+    answer fact.Possible (option_and_then (λ (x : SchemaType). possible_named s t) (type_named s t))
+
+-- ---- the facts of document files
+
+-- the fragments of a file, in their order
+abbrev pub fragment_in : Definition → List FragmentFact
+fragment_in d = fragment_of d d.tree where
+  fragment_of : Definition → Tree → List FragmentFact
+  fragment_of d (tree.Fragment f) = record { file = d.file; fragment = f } ∷ []
+  fragment_of d _ = []
+
+-- the fragments of all document files, in the order of the files' names
+abbrev pub fragments : List (List ℕ × Document) → List FragmentFact
+fragments documents =
+    flat_map (λ (file : List ℕ × Document). flat_map fragment_in file.1.definitions) documents
+
+-- the first fragment of this name
+abbrev pub fragment_named : List (List ℕ × Document) → List ℕ → Option FragmentFact
+fragment_named documents n =
+    find (λ (f : FragmentFact). bytes_eq n f.fragment.name.text) (fragments documents)
+
+-- ---- all facts
+
+-- the answer of a schema and of document files to a key
+abbrev pub fact_in : Schema → List (List ℕ × Document) → Facts
+fact_in s documents (key.KindOf t) = answer fact.Kind (kind_named s t)
+fact_in s documents (key.FieldOf t n) = field_answer s t n
+fact_in s documents (key.PossibleOf t) = possible_answer s t
+fact_in s documents (key.InputOf t) = answer (λ ds. fact.Input (input_facts ds)) (input_named s t)
+fact_in s documents (key.EnumOf t) = answer (λ vs. fact.Enum (value_names vs)) (enum_named s t)
+fact_in s documents (key.DirectiveOf n) =
+    answer (λ d. fact.Directive (directive_fact d)) (directive_named s n)
+fact_in s documents (key.RootOf k) =
+    answer (λ (r : Root). fact.Root r.name.node.text) (root_of s k)
+fact_in s documents (key.FragmentOf n) = answer fact.Fragment (fragment_named documents n)
+
+-- the answer of the files that are present to a key
+abbrev pub fact_of : Files → Facts
+fact_of files = fact_in (schema_of files) files.documents

@@ -1,0 +1,15 @@
+pub mod Members
+pub mod ListMembers
+pub mod Keys
+pub mod WrittenTypes
+pub mod Worlds
+pub mod Nodes
+pub mod OwnReads
+pub mod Reads
+pub mod Views
+pub mod Scans
+pub mod Walks
+pub mod Facts
+pub mod Tables
+pub mod Presents
+pub mod Examples

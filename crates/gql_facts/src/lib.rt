@@ -1,0 +1,23 @@
+//! What rules on operations may ask of a schema and of fragments, what a definition reads, and a
+//! record of it.
+#![tactic(auto)]
+
+mod fact;
+mod fragments;
+mod key;
+pub mod laws;
+mod present;
+mod scan;
+mod schema_facts;
+mod walk;
+mod world;
+mod written_type;
+
+pub use fact::{DirectiveFact, Fact, FieldFact, FragmentFact, InputFact};
+pub use fragments::Fragments;
+pub use key::Key;
+pub use present::Present;
+pub use schema_facts::SchemaFacts;
+pub use walk::{Walk, walk_reads};
+pub use world::{Recorder, World};
+pub use written_type::{Wrapper, WrittenType};

@@ -1,0 +1,69 @@
+//! What answers rules, and a record of its answers.
+ghost use Rattle.std.specs.Prelude.{◌≡◌, ℕ, List, Option, Some, IfOk, OnOk, OnErr, option_map};
+ghost use Rattle.gql_facts.specs.Worlds.{IsWorld, noted};
+ghost use Rattle.gql_facts.specs.declared.fact.Fact.{Fact};
+ghost use Rattle.gql_facts.specs.declared.key.Key.{Key};
+
+use crate::fact::Fact;
+use crate::key::Key;
+use indexmap::IndexMap;
+use std::alloc::{AllocError, Global};
+
+/// What answers the keys that rules ask. An answer is the same at every call.
+pub trait World {
+    /// The fact for each key.
+    ghost facts: { Self → Key → Fact };
+
+    /// Names that have all fragments and input objects among them.
+    ghost names: { Self → List (List ℕ) };
+
+    /// The answers so far, each once, in the order in which they were first given, where the world
+    /// records them.
+    ghost asked: { Self → Option (List (Key × Fact)) };
+
+    /// The borrows that the world holds, 0 for none. Each call keeps them, so that their lenders
+    /// have them again afterwards.
+    ghost lent: { Self → ℕ × ℕ };
+
+    /// The answer to a key. A world that keeps a record has recorded it. If an allocation fails,
+    /// the record is as it was. The facts are the same either way.
+    fn fact(&mut self, alloc: Global, key: &Key) -> Result<Fact, AllocError>
+        ensures answer { IfOk result (λ f. f ≡ facts self.old key.now) }
+        ensures facts { facts self.new ≡ facts self.old }
+        ensures names { names self.new ≡ names self.old }
+        ensures lent { lent self.new ≡ lent self.old }
+        ensures asked { OnOk result (asked self.new
+            ≡ option_map (noted key.now (facts self.old key.now)) (asked self.old)) }
+        ensures failed { OnErr result (asked self.new ≡ asked self.old) };
+
+    /// A key has an answer of its kind or none; a fragment has its own name; fragments and input
+    /// objects are finitely many.
+    ghost is_world: { (s : Self) → IsWorld (facts s) (names s) };
+}
+
+/// A world that records every answer of another, absences too, in the order in which keys were
+/// first asked. A call that fails records nothing, also where the other world had an answer.
+#[derive(Drop)]
+pub struct Recorder<'w, W: World> {
+    pub inner: &'w mut W,
+    pub record: &'w mut IndexMap<Key, Fact>,
+}
+
+impl<'w, W: World> World for Recorder<'w, W> {
+    ghost facts = { λ r. W.facts r.inner.now };
+
+    ghost names = { λ r. W.names r.inner.now };
+
+    ghost asked = { λ r. Some r.record.now.entries };
+
+    ghost lent = { λ r. (r.inner.ghost_name, r.record.ghost_name) };
+
+    fn fact(&mut self, alloc: Global, key: &Key) -> Result<Fact, AllocError> {
+        let fact = self.inner.fact(alloc, key)?;
+        let noted = fact.copy()?;
+        self.record.insert(key.copy()?, noted)?;
+        Ok(fact)
+    }
+
+    ghost is_world = { λ r. W.is_world r.inner.now };
+}

@@ -1,0 +1,68 @@
+//! Types as they are written, without places (GraphQL specification, 2.11).
+ghost use Rattle.std.specs.Prelude.{◌≡◌, ◌++◌, ◌↔◌, IsTrue, IfOk};
+ghost use Rattle.gql_types.specs.Written.{written, written_named, written_list, written_non_null};
+ghost use Rattle.gql_facts.specs.WrittenTypes.{type_of, wrapped};
+
+use gql_ast::{Items, Same, Text, TypeRef, same_items};
+use std::alloc::{AllocError, Global};
+
+/// A step from a type to the type within it.
+#[derive(Clone, Copy, Debug, PartialEq, Eq)]
+pub enum Wrapper {
+    /// From a list to its items.
+    List,
+    /// From a Non-Null type to the type without its `!`.
+    NonNull,
+}
+
+/// A type as it is written: the steps from the outside in, and the name that they end in. `[Int!]`
+/// has the steps List and NonNull.
+#[derive(Drop)]
+pub struct WrittenType {
+    pub wrappers: Items<Wrapper>,
+    pub name: Text,
+}
+
+impl Same for Wrapper {
+    fn same(&self, other: &Wrapper) -> bool {
+        *self == *other
+    }
+}
+
+impl Same for WrittenType {
+    fn same(&self, other: &WrittenType) -> bool {
+        self.name.same(&other.name)
+            && same_items(self.wrappers.as_slice(), other.wrappers.as_slice())
+    }
+}
+
+#[tactic(auto, using(crate::specs::WrittenTypes::wrapped_named, crate::specs::WrittenTypes::wrapped_list, crate::specs::WrittenTypes::wrapped_non_null))]
+fn unwrapped(of_type: &TypeRef, wrappers: &mut Items<Wrapper>) -> Result<Text, AllocError>
+    ensures { IfOk result (λ name. record { wrappers = wrappers.new; name = name }
+        ≡ wrapped wrappers.old (written of_type.now)) }
+{
+    match of_type {
+        TypeRef::Named(name) => name.text.copy(),
+        TypeRef::List { place: _, item } => {
+            wrappers.push(Wrapper::List)?;
+            let name = unwrapped(item.get(), wrappers)?;
+            Ok(name)
+        }
+        TypeRef::NonNull(of_type) => {
+            wrappers.push(Wrapper::NonNull)?;
+            let name = unwrapped(of_type.get(), wrappers)?;
+            Ok(name)
+        }
+    }
+}
+
+impl WrittenType {
+    /// The type without its places.
+    pub fn of(alloc: Global, of_type: &TypeRef) -> Result<WrittenType, AllocError>
+        ensures { IfOk result (λ t. t ≡ type_of (written of_type.now)) }
+    {
+        let mut wrappers = Items::new(alloc);
+        let name = unwrapped(of_type, &mut wrappers)?;
+        Ok(WrittenType { wrappers, name })
+    }
+}

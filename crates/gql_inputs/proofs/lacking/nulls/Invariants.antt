@@ -1,7 +1,0 @@
-use Rattle.std.proofs.Common.{◌≡◌, ℕ, List, take, map, is_some, bytes_eq}
-use Rattle.std.specs.HashMap as hash
-use Rattle.gql_inputs.specs.BadValues.{looked_field, is_null_given}
-use Rattle.gql_inputs.proofs.lacking.nulls.Given as goal
-
-abbrev pub invariant-loop-field : goal.invariant-loop-field
-invariant-loop-field l = (q : List ℕ) → is_some (hash.get_by (λ k. bytes_eq q k.now) l.names) ≡ is_null_given (map looked_field (take l.field-index l.fields)) q

@@ -1,0 +1,83 @@
+//! What rules ask of input types, whoever knows them (GraphQL specification, 3.4.2).
+ghost use Rattle.std.specs.Prelude.{◌≡◌, ◌<◌, ℕ, List, Option, Some, IfOk, bytes_eq, length, option_map, slice_get};
+ghost use Rattle.std.specs.List.{list_any};
+ghost use Rattle.gql_inputs.specs.Lookups.{InputForm, InputLookup, field_form, field_named, fields_in, kind_of, values_in};
+
+use crate::scalar::Scalar;
+use gql_ast::{Text, TypeRef};
+use std::alloc::{AllocError, Global};
+
+/// Which kind of input type a type is.
+#[derive(Clone, Copy)]
+pub enum InputKind {
+    /// A scalar, built in or of a schema file (3.5).
+    Scalar(Scalar),
+    /// (3.9)
+    Enum,
+    /// (3.10)
+    InputObject,
+}
+
+/// A field of an input object (3.10).
+#[derive(Clone, Copy)]
+pub struct InputField<'t> {
+    pub name: &'t Text,
+    pub of_type: &'t TypeRef,
+    pub has_default: bool,
+}
+
+/// An input type: a scalar, an enum by the names of its values, or an input object by its fields.
+///
+/// An implementation says by `form` which one it is. It may borrow from what it was taken from, or
+/// own what it knows; what it lends lives as long as it is borrowed itself.
+pub trait InputType {
+    /// The type, as definitions see it.
+    ghost form: { Self → InputForm };
+
+    /// The kind of the type.
+    fn kind(&self) -> InputKind
+        ensures { result ≡ kind_of (form self.now) };
+
+    /// Whether it is an enum with a value of that name.
+    fn has_value(&self, name: &str) -> bool
+        ensures { result ≡ list_any (bytes_eq name.now) (values_in (form self.now)) };
+
+    /// The first field of that name, if it is an input object that has one.
+    fn field(&self, name: &str) -> Option<InputField<'_>>
+        ensures { option_map field_form result ≡ field_named (fields_in (form self.now)) name.now };
+
+    /// The number of its fields; 0 if it is not an input object.
+    fn field_count(&self) -> usize
+        ensures { result ≡ length (fields_in (form self.now)) };
+
+    /// The field at an index, in the order in which the type defines them.
+    fn field_at(&self, index: usize) -> InputField<'_>
+        requires { index < length (fields_in (form self.now)) }
+        ensures { slice_get (fields_in (form self.now)) index ≡ Some (field_form result) };
+}
+
+/// What can be asked which input type a name stands for.
+///
+/// It is asked again for each part of a value, and answers the same each time. To implement it,
+/// state by `look` what each name is, and by `kept` what a call leaves as it was. `kept` is for
+/// whoever lends the implementation something: name there what the lender has to know afterwards,
+/// as the ghost name of a `&mut` borrow. Where nothing is borrowed, `Kept` is left out and `kept`
+/// is `λ _. tt`.
+pub trait InputTypes {
+    /// What is known of an input type.
+    type Answer: InputType + Drop;
+
+    /// What each name is as an input type, or nothing where it is none that is known.
+    ghost look: { Self → InputLookup };
+
+    // What a call leaves as it was, besides the answers.
+    ghost Kept: { Type 0 } = { Unit {0} };
+
+    ghost kept: { Self → Self.Kept };
+
+    /// The input type of that name, or `None` where the name is none that is known.
+    fn input_type(&mut self, alloc: Global, name: &str) -> Result<Option<Self::Answer>, AllocError>
+        ensures answer { IfOk result (λ answer. option_map Self.Answer.form answer ≡ look self.old name.now) }
+        ensures look { look self.new ≡ look self.old }
+        ensures kept { Self.kept self.new ≡ Self.kept self.old };
+}

@@ -1,0 +1,11 @@
+use Rattle.gql_grammar.proofs.Rests.{rest_then}
+use Rattle.gql_parse.proofs.operations.named_operation.Goals as goal
+
+pub returns-in_err-directives-clause-rest : goal.returns-in_err-directives-clause-rest
+returns-in_err-directives-clause-rest c = rest_then c.directives.ensures.rest (rest_then c.optional_variables.ensures.rest (rest_then c.optional_name.ensures.rest c.operation_word.ensures.rest))
+
+pub returns-in_err-selections-clause-rest : goal.returns-in_err-selections-clause-rest
+returns-in_err-selections-clause-rest c = rest_then c.set.ensures.rest (rest_then c.directives.ensures.rest (rest_then c.optional_variables.ensures.rest (rest_then c.optional_name.ensures.rest c.operation_word.ensures.rest)))
+
+pub returns-clause-rest : goal.returns-clause-rest
+returns-clause-rest c = rest_then c.set.ensures.rest (rest_then c.directives.ensures.rest (rest_then c.optional_variables.ensures.rest (rest_then c.optional_name.ensures.rest c.operation_word.ensures.rest)))

@@ -1,0 +1,37 @@
+//! Laws of the grammar's recursive symbols, as contracts of functions that do nothing.
+ghost use Rattle.std.specs.Prelude.{◌↔◌, Bool, List};
+ghost use Rattle.gql_text.specs.Lexeme.{Lexeme};
+ghost use Rattle.gql_ast.specs.declared.executable.Selection.{Selection};
+ghost use Rattle.gql_ast.specs.declared.literal.Literal.{Literal};
+ghost use Rattle.gql_ast.specs.declared.type_ref.TypeRef.{TypeRef};
+ghost use Rattle.gql_grammar.specs.Symbol.{Derives, Fails};
+ghost use Rattle.gql_parse.specs.Selections.{set, set_of};
+ghost use Rattle.gql_parse.specs.Types.{type_ref, type_ref_of};
+ghost use Rattle.gql_parse.specs.Values.{value, value_of};
+
+/// A value is what its rule derives where the values in it are values, and fails where that rule fails (GraphQL
+/// specification, 2.9).
+pub fn values()
+    ensures derived { (constant : Bool) (tokens rest : List Lexeme) (literal : Literal)
+        → Derives (value constant) tokens literal rest
+        ↔ Derives (value_of constant (value constant)) tokens literal rest }
+    ensures refused { (constant : Bool) (tokens rest : List Lexeme)
+        → Fails (value constant) tokens rest ↔ Fails (value_of constant (value constant)) tokens rest }
+{}
+
+/// A type is what its rule derives where the types in it are types, and fails where that rule fails (GraphQL
+/// specification, 2.11).
+pub fn types()
+    ensures derived { (tokens rest : List Lexeme) (reference : TypeRef)
+        → Derives type_ref tokens reference rest ↔ Derives (type_ref_of type_ref) tokens reference rest }
+    ensures refused { (tokens rest : List Lexeme)
+        → Fails type_ref tokens rest ↔ Fails (type_ref_of type_ref) tokens rest }
+{}
+
+/// A selection set is what its rule derives where the sets in it are selection sets, and fails where that rule fails
+/// (GraphQL specification, 2.4).
+pub fn selection_sets()
+    ensures derived { (tokens rest : List Lexeme) (selections : List Selection)
+        → Derives set tokens selections rest ↔ Derives (set_of set) tokens selections rest }
+    ensures refused { (tokens rest : List Lexeme) → Fails set tokens rest ↔ Fails (set_of set) tokens rest }
+{}

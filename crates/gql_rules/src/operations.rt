@@ -1,0 +1,102 @@
+//! The faults of an operation.
+ghost use Rattle.std.specs.Prelude.{◌≡◌, ◌++◌, IfOk, OnOk, flat_map};
+ghost use Rattle.gql_facts.specs.Nodes as nodes;
+ghost use Rattle.gql_facts.specs.OwnReads as reads;
+ghost use Rattle.gql_rules.specs.LocalFaults as spec;
+
+use crate::asking::kind_of;
+use crate::conditions::composite_by;
+use crate::locations::location_of;
+use crate::visit::visit_set;
+use crate::{directives, p03_subscriptions, p05_mutations_without_a_root};
+use gql_ast::{
+    DirectiveLocation, Fault, FilePlace, Operation, OperationKind, Text, VariableDefinition,
+};
+use gql_facts::{Fact, Key, World};
+use std::alloc::{AllocError, Global};
+
+/// The name of the type that an operation selects from, by the answer for its kind.
+fn selected_by(kind: OperationKind, root: &Fact) -> Result<Option<Text>, AllocError>
+    ensures { IfOk result (λ t. t ≡ reads.selected_by kind root.now) }
+{
+    match kind {
+        OperationKind::Subscription => Ok(None),
+        OperationKind::Query | OperationKind::Mutation => match root {
+            Fact::Root(name) => Ok(Some(name.get().copy()?)),
+            _ => Ok(None),
+        },
+    }
+}
+
+/// A type, where it is known and composite.
+fn composite<W: World>(
+    alloc: Global,
+    world: &mut W,
+    of_type: &Option<Text>,
+) -> Result<Option<Text>, AllocError>
+    ensures facts { W.facts world.new ≡ W.facts world.old }
+    ensures names { W.names world.new ≡ W.names world.old }
+    ensures lent { W.lent world.new ≡ W.lent world.old }
+    ensures parent { IfOk result (λ t. t ≡ nodes.composite (W.facts world.old) of_type.now) }
+{
+    let Some(of_type) = of_type else {
+        return Ok(None);
+    };
+    let kind = kind_of(alloc, world, of_type)?;
+    let parent = composite_by(of_type, kind)?;
+    Ok(parent)
+}
+
+fn check_variables<W: World>(
+    alloc: Global,
+    world: &mut W,
+    owner: &FilePlace,
+    variables: &[VariableDefinition],
+    faults: &mut Vec<Fault>,
+) -> Result<(), AllocError>
+    ensures facts { W.facts world.new ≡ W.facts world.old }
+    ensures names { W.names world.new ≡ W.names world.old }
+    ensures lent { W.lent world.new ≡ W.lent world.old }
+    ensures found { OnOk result (faults.new.items ≡ faults.old.items
+        ++ flat_map (spec.variable_faults (W.facts world.old) owner.now) variables.now) }
+{
+    for variable in variables {
+        let applied = variable.directives.as_slice();
+        let location = DirectiveLocation::VariableDefinition;
+        directives::check(alloc, world, owner, location, applied, faults)?;
+    }
+    Ok(())
+}
+
+/// Adds the faults of an operation.
+pub fn check<W: World>(
+    alloc: Global,
+    world: &mut W,
+    owner: &FilePlace,
+    operation: &Operation,
+    faults: &mut Vec<Fault>,
+) -> Result<(), AllocError>
+    ensures facts { W.facts world.new ≡ W.facts world.old }
+    ensures names { W.names world.new ≡ W.names world.old }
+    ensures lent { W.lent world.new ≡ W.lent world.old }
+    ensures found { OnOk result (faults.new.items ≡ faults.old.items
+        ++ spec.operation_faults (W.facts world.old) owner.now operation.now) }
+{
+    let root = world.fact(alloc, &Key::RootOf(operation.kind))?;
+    p03_subscriptions::check(alloc, owner, operation, faults)?;
+    p05_mutations_without_a_root::check(alloc, owner, operation, &root, faults)?;
+    let (at, applied) = (location_of(operation.kind), operation.directives.as_slice());
+    directives::check(alloc, world, owner, at, applied, faults)?;
+    check_variables(alloc, world, owner, operation.variables.as_slice(), faults)?;
+    let selected = selected_by(operation.kind, &root)?;
+    let parent = composite(alloc, world, &selected)?;
+    visit_set(
+        alloc,
+        world,
+        owner,
+        &parent,
+        operation.selections.as_slice(),
+        faults,
+    )?;
+    Ok(())
+}
