@@ -1,5 +1,5 @@
 -- Scans that fail: what was asked until then is a part of what the whole scan asks.
-use Rattle.std.specs.Prelude.{◌≡◌, ℕ, zero, suc, ◌+◌, ◌<◌, List, [], ◌∷◌, ◌++◌, flat_map, take, length, get_or, slice_get, option_map, Contains, Option, Some, Result, Ok, Err, OnErr, refl}
+use Rattle.std.specs.Prelude.{◌≡◌, ℕ, zero, suc, ◌+◌, ◌<◌, List, [], ◌∷◌, ◌++◌, take, length, get_or, slice_get, option_map, Contains, Option, Some, Result, Ok, Err, OnErr, refl}
 use Rattle.std.proofs.Common.{sym, ◌∙◌, subst, inl, inr}
 use Rattle.std.proofs.lemmas.List.Elements.{Contains-append_left, Contains-append_right, Contains-append_cases}
 use Rattle.gql_ast.specs.declared.definition.Tree.{Tree}
@@ -18,7 +18,7 @@ use Rattle.gql_facts.specs.declared.key.Key.TheVariants as key
 use Rattle.gql_facts.specs.Worlds.{Facts, Record, noted}
 use Rattle.gql_facts.specs.Nodes.{composite, field_type_in, parent_below, parent_within}
 use Rattle.gql_facts.specs.Walks.{led_to}
-use Rattle.gql_facts.specs.OwnReads.{composite_reads, field_reads, condition_reads, directive_reads, set_scan, selection_scan, field_scan, inline_scan, operation_reads, fragment_reads, tree_reads, selected_by}
+use Rattle.gql_facts.specs.OwnReads.{composite_reads, field_reads, condition_reads, set_scan, selection_scan, field_scan, inline_scan, operation_reads, fragment_reads, tree_reads, selected_by}
 use Rattle.gql_facts.specs.Scans.{Records, Scans, add_keys}
 use Rattle.gql_facts.specs.ListMembers.{Contains-nil, some_same}
 use Rattle.gql_facts.proofs.Parts.{scan_cons}

@@ -1,11 +1,10 @@
 -- Worked examples of the definitions.
-use Rattle.std.specs.Prelude.{◌≡◌, ℕ, List, [], ◌∷◌, codes, bytes_eq, refl, Option, Some, None, if◌then◌else◌}
+use Rattle.std.specs.Prelude.{◌≡◌, ℕ, List, [], ◌∷◌, codes, bytes_eq, refl, Some, None, if◌then◌else◌}
 use Rattle.gql_text.specs.declared.place.Place.{Place}
 use Rattle.gql_ast.specs.declared.definition.Definition.{Definition}
 use Rattle.gql_ast.specs.declared.definition.Tree.TheVariants as tree
 use Rattle.gql_ast.specs.declared.executable.Field.{Field}
 use Rattle.gql_ast.specs.declared.executable.InlineFragment.{InlineFragment}
-use Rattle.gql_ast.specs.declared.executable.Operation.{Operation}
 use Rattle.gql_ast.specs.declared.executable.OperationKind.TheVariants as operation
 use Rattle.gql_ast.specs.declared.executable.Selection.TheVariants as s
 use Rattle.gql_ast.specs.declared.executable.Spread.{Spread}

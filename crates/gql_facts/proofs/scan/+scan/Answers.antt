@@ -63,7 +63,7 @@ scan_field-returns-in_err-keep_directives-clause-failed g t c =
     let p = c.args.parent.now in
     let f = c.args.field.now in
     on_error c.from_residual-in_err-keep_directives.result
-        (records_left F (field_reads F p f.name.text) (directive_reads f.directives ++ set_scan F (parent_below F p f.name.text) f.selections) c.in_ok-below.ensures.scanned.records)
+    (records_left F (field_reads F p f.name.text) (directive_reads f.directives ++ set_scan F (parent_below F p f.name.text) f.selections) c.in_ok-below.ensures.scanned.records)
 
 pub scan_inline-returns-in_err-keep_directives-clause-failed : goal.scan_inline-returns-in_err-keep_directives-clause-failed
 scan_inline-returns-in_err-keep_directives-clause-failed g t c =
@@ -71,4 +71,4 @@ scan_inline-returns-in_err-keep_directives-clause-failed g t c =
     let p = c.args.parent.now in
     let i = c.args.inline.now in
     on_error c.from_residual-in_err-keep_directives.result
-        (records_left F (condition_reads i.condition) (directive_reads i.directives ++ set_scan F (parent_within F p i.condition) i.selections) c.in_ok-within.ensures.scanned.records)
+    (records_left F (condition_reads i.condition) (directive_reads i.directives ++ set_scan F (parent_within F p i.condition) i.selections) c.in_ok-within.ensures.scanned.records)

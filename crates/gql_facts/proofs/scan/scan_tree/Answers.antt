@@ -1,4 +1,3 @@
-use Rattle.std.proofs.Common.{rules}
 use Rattle.gql_facts.proofs.Failing.{on_error, tree_failed}
 use Rattle.gql_facts.proofs.scan.scan_tree.Goals as goal
 

@@ -1,4 +1,3 @@
-use Rattle.std.proofs.Common.{rules}
 use Rattle.gql_facts.proofs.Failing.{on_error, followed_failed}
 use Rattle.gql_facts.proofs.walk.follow.Goals as goal
 
