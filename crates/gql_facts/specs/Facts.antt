@@ -25,7 +25,7 @@ use Rattle.gql_facts.specs.declared.fact.DirectiveFact.{DirectiveFact}
 use Rattle.gql_facts.specs.declared.fact.FragmentFact.{FragmentFact}
 use Rattle.gql_facts.specs.declared.key.Key.TheVariants as key
 use Rattle.gql_facts.specs.Worlds.{Facts}
-use Rattle.gql_facts.specs.WrittenTypes.{type_of}
+use Rattle.gql_types.specs.WrittenTypes.{type_of}
 
 -- ---- what facts hold of definitions
 

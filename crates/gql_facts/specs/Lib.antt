@@ -1,7 +1,6 @@
 pub mod Members
 pub mod ListMembers
 pub mod Keys
-pub mod WrittenTypes
 pub mod Worlds
 pub mod Nodes
 pub mod OwnReads

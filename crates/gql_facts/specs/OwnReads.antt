@@ -19,7 +19,7 @@ use Rattle.gql_facts.specs.declared.fact.Fact.{Fact}
 use Rattle.gql_facts.specs.declared.key.Key.{Key}
 use Rattle.gql_facts.specs.declared.key.Key.TheVariants as key
 use Rattle.gql_facts.specs.Worlds.{Facts}
-use Rattle.gql_facts.specs.WrittenTypes.{named_type}
+use Rattle.gql_types.specs.WrittenTypes.{named_type}
 use Rattle.gql_facts.specs.Nodes.{Node, field, spread, inline, nodes, nodes_in, composite, root_in, field_type, parent_below, parent_within}
 
 -- a directive that is applied

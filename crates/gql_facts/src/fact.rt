@@ -1,9 +1,8 @@
 //! The answers to what rules ask.
 ghost use Rattle.std.specs.Prelude.{◌≡◌, ◌↔◌, IsTrue, IfOk};
 
-use crate::written_type::WrittenType;
 use gql_ast::{DirectiveLocation, FileName, Fragment, Items, Same, Shared, Text, same_items};
-use gql_types::{HasName, Named, TypeKind};
+use gql_types::{HasName, Named, TypeKind, WrittenType};
 use std::alloc::AllocError;
 
 /// An argument or an input field (GraphQL specification, 3.6.1, 3.10).

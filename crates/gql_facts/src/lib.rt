@@ -11,7 +11,6 @@ mod scan;
 mod schema_facts;
 mod walk;
 mod world;
-mod written_type;
 
 pub use fact::{DirectiveFact, Fact, FieldFact, FragmentFact, InputFact};
 pub use fragments::Fragments;
@@ -20,4 +19,3 @@ pub use present::Present;
 pub use schema_facts::SchemaFacts;
 pub use walk::{Walk, walk_reads};
 pub use world::{Recorder, World};
-pub use written_type::{Wrapper, WrittenType};

@@ -5,16 +5,16 @@ ghost use Rattle.gql_types.specs.Written.{written};
 ghost use Rattle.gql_facts.specs.Nodes as nodes;
 ghost use Rattle.gql_facts.specs.OwnReads as spec;
 ghost use Rattle.gql_facts.specs.Scans.{Records, Scans, add_keys};
-ghost use Rattle.gql_facts.specs.WrittenTypes.{named_type};
+ghost use Rattle.gql_types.specs.WrittenTypes.{named_type};
 
 use crate::fact::Fact;
 use crate::key::Key;
 use crate::world::World;
-use crate::written_type::WrittenType;
 use gql_ast::{
     Directive, Field, Fragment, InlineFragment, Name, Operation, OperationKind, Selection, Spread,
     Text, Tree, TypeRef, VariableDefinition,
 };
+use gql_types::WrittenType;
 use indexmap::IndexSet;
 use std::alloc::{AllocError, Global};
 

@@ -7,12 +7,11 @@ ghost use Rattle.gql_facts.specs.Facts as spec;
 ghost use Rattle.gql_facts.specs.Tables as tables;
 
 use crate::fact::{DirectiveFact, Fact, FieldFact, InputFact};
-use crate::written_type::WrittenType;
 use gql_ast::{
     DirectiveDefinition, DirectiveLocation, EnumValueDefinition, FieldDefinition,
     InputValueDefinition, Items, OperationKind, Shared, Text,
 };
-use gql_types::{HasName, Named, Root, Schema, SchemaType, Sited, TypeKind};
+use gql_types::{HasName, Named, Root, Schema, SchemaType, Sited, TypeKind, WrittenType};
 use std::alloc::{AllocError, Global};
 
 /// A field of a type, with its fact.

@@ -24,7 +24,7 @@ use Rattle.gql_facts.specs.Nodes.{field, inline, spread, field_node, inline_node
 use Rattle.gql_facts.specs.OwnReads.{own_reads, operation_reads, fragment_reads, composite_reads, field_reads, condition_reads, directive_reads, variable_reads, set_scan, selection_scan, field_scan, inline_scan, spread_scan, selected_root, selected_by, root_parent}
 use Rattle.gql_facts.specs.Reads.{own, of_fragment, by_definition, Agree}
 use Rattle.gql_facts.specs.Worlds.{Facts}
-use Rattle.gql_facts.specs.WrittenTypes.{named_type}
+use Rattle.gql_types.specs.WrittenTypes.{named_type}
 use Rattle.gql_types.specs.Written.{written}
 use Rattle.gql_facts.specs.declared.fact.Fact.{Fact}
 use Rattle.gql_facts.specs.declared.fact.Fact.TheVariants as fact

@@ -10,8 +10,8 @@ use Rattle.gql_facts.specs.declared.fact.InputFact.{InputFact}
 use Rattle.gql_facts.specs.declared.fact.DirectiveFact.{DirectiveFact}
 use Rattle.gql_facts.specs.declared.fact.FragmentFact.{FragmentFact}
 use Rattle.gql_facts.specs.declared.key.Key.TheVariants as key
-use Rattle.gql_facts.specs.declared.written_type.Wrapper.{Wrapper}
-use Rattle.gql_facts.specs.declared.written_type.Wrapper.TheVariants as wrapper
+use Rattle.gql_types.specs.declared.written_type.Wrapper.{Wrapper}
+use Rattle.gql_types.specs.declared.written_type.Wrapper.TheVariants as wrapper
 use Rattle.gql_facts.specs.Worlds.{Facts}
 
 -- ---- what an answer says

@@ -3,3 +3,4 @@ pub mod Firsts
 pub mod Groups
 pub mod Ordering
 pub mod Places
+pub mod Wrapping

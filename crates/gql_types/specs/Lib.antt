@@ -9,3 +9,4 @@ pub mod Roots
 pub mod Schemas
 pub mod Types
 pub mod Written
+pub mod WrittenTypes

@@ -12,6 +12,7 @@ mod possible;
 mod roots;
 mod schema;
 mod schema_type;
+mod written_type;
 
 pub use gql_built_in::Sited;
 pub use kind::TypeKind;
@@ -20,3 +21,4 @@ pub use possible::PossibleTypes;
 pub use roots::Root;
 pub use schema::{Schema, assemble};
 pub use schema_type::SchemaType;
+pub use written_type::{Wrapper, WrittenType};

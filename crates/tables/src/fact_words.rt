@@ -1,8 +1,8 @@
 //! Keys and facts as the tables write them.
 use crate::joined::join;
 use gql_ast::{OperationKind, Text};
-use gql_facts::{DirectiveFact, Fact, FieldFact, InputFact, Key, Wrapper, WrittenType};
-use gql_types::Named;
+use gql_facts::{DirectiveFact, Fact, FieldFact, InputFact, Key};
+use gql_types::{Named, Wrapper, WrittenType};
 use std::alloc::Global;
 
 fn kind_word(kind: OperationKind) -> &'static str {

@@ -7,9 +7,9 @@ use Rattle.gql_ast.specs.declared.text.Name.{Name}
 use Rattle.gql_ast.specs.declared.type_ref.TypeRef.{TypeRef}
 use Rattle.gql_ast.specs.declared.type_ref.TypeRef.TheVariants as t
 use Rattle.gql_types.specs.Written.{Written, named, listed, required, written, written_named, written_list, written_non_null}
-use Rattle.gql_facts.specs.declared.written_type.Wrapper.{Wrapper}
-use Rattle.gql_facts.specs.declared.written_type.Wrapper.TheVariants as wrapper
-use Rattle.gql_facts.specs.declared.written_type.WrittenType.{WrittenType}
+use Rattle.gql_types.specs.declared.written_type.Wrapper.{Wrapper}
+use Rattle.gql_types.specs.declared.written_type.Wrapper.TheVariants as wrapper
+use Rattle.gql_types.specs.declared.written_type.WrittenType.{WrittenType}
 
 -- these steps, and then those of the type
 abbrev pub wrapped : List Wrapper → Written → WrittenType
@@ -25,11 +25,27 @@ type_of w = wrapped [] w
 abbrev pub named_type : Written → List ℕ
 named_type w = (type_of w).name
 
+-- a type with these steps around it, from the outside in
+abbrev pub typed : List Wrapper → Written → Written
+typed [] w = w
+typed (wrapper.List ∷ ws) w = listed (typed ws w)
+typed (wrapper.NonNull ∷ ws) w = required (typed ws w)
+
+-- the type that steps and a name are of
+abbrev pub typed_of : WrittenType → Written
+typed_of t = typed t.wrappers (named t.name)
+
 -- `[Int!]` ends in the first name of this example
 example : (n : List ℕ)
     → type_of (listed (required (named n)))
     ≡ record { wrappers = wrapper.List ∷ wrapper.NonNull ∷ []; name = n }
 example n = refl
+
+-- and its steps and its name are of that type alone
+example_back : (n : List ℕ)
+    → typed_of (record { wrappers = wrapper.List ∷ wrapper.NonNull ∷ []; name = n })
+    ≡ listed (required (named n))
+example_back n = refl
 
 pub wrapped_named : (ws : List Wrapper) (n : Name)
     → wrapped ws (written (t.Named n)) ≡ record { wrappers = ws; name = n.text }

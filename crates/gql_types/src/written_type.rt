@@ -1,7 +1,7 @@
 //! Types as they are written, without places (GraphQL specification, 2.11).
 ghost use Rattle.std.specs.Prelude.{◌≡◌, ◌++◌, ◌↔◌, IsTrue, IfOk};
 ghost use Rattle.gql_types.specs.Written.{written, written_named, written_list, written_non_null};
-ghost use Rattle.gql_facts.specs.WrittenTypes.{type_of, wrapped};
+ghost use Rattle.gql_types.specs.WrittenTypes.{type_of, wrapped};
 
 use gql_ast::{Items, Same, Text, TypeRef, same_items};
 use std::alloc::{AllocError, Global};
