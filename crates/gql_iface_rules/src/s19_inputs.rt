@@ -129,5 +129,5 @@ pub fn object_of<'o, 's>(
     ensures { option_map object (option_copied result)
         ≡ spec.object_named (map object objects.now) (name_within (written of_type.now)) }
 {
-    objects.get(name_in(of_type))
+    objects.get(name_in(of_type).as_str())
 }

@@ -1,6 +1,7 @@
 pub mod ValueForms
 pub mod Inside
 pub mod Repeating
+pub mod Stepping
 pub mod Judged
 pub mod Empties
 pub mod Finding

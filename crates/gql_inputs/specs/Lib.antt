@@ -3,4 +3,5 @@ pub mod InputTypes
 pub mod Values
 pub mod Lookups
 pub mod BadValues
+pub mod ExpectedTypes
 pub mod Agreement

@@ -10,6 +10,7 @@ use Rattle.gql_types.specs.declared.kind.TypeKind.{TypeKind}
 use Rattle.gql_types.specs.declared.kind.TypeKind.TheVariants as kind
 use Rattle.gql_types.specs.declared.schema.Schema.{Schema}
 use Rattle.gql_types.specs.declared.schema_type.SchemaType.{SchemaType}
+use Rattle.gql_inputs.specs.ExpectedTypes.{written_of}
 use Rattle.gql_inputs.specs.InputTypes.{is_non_null, name_of, scalar_named}
 use Rattle.gql_inputs.specs.declared.input_types.InputField.{InputField}
 use Rattle.gql_inputs.specs.declared.input_types.InputKind.{InputKind}
@@ -64,7 +65,7 @@ is_required f = is_non_null f.of_type && not f.has_default
 abbrev pub field_form : InputField → FieldForm
 field_form f = record {
   name = f.name.now;
-  of_type = written f.of_type.now;
+  of_type = written_of f.of_type;
   has_default = f.has_default;
 }
 

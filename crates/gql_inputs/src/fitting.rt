@@ -2,9 +2,11 @@
 ghost use Rattle.std.specs.Prelude.{◌≡◌, ◌++◌, IfOk, OnOk};
 ghost use Rattle.gql_types.specs.Written.{written};
 ghost use Rattle.gql_inputs.specs.BadValues as spec;
+ghost use Rattle.gql_inputs.specs.ExpectedTypes.{written_of};
 ghost use Rattle.gql_inputs.specs.Values.{value_of};
 
 use crate::bad_value::BadValue;
+use crate::expected_type::ExpectedType;
 use crate::input_types::InputTypes;
 use crate::misfits::add_misfits;
 use crate::of_schema::OfSchema;
@@ -21,13 +23,13 @@ pub fn add_bad_values<A: InputTypes>(
     alloc: Global,
     types: &mut A,
     value: &Literal,
-    of_type: &TypeRef,
+    of_type: ExpectedType<'_>,
     found: &mut Vec<BadValue>,
 ) -> Result<(), AllocError>
     ensures look { A.look types.new ≡ A.look types.old }
     ensures kept { A.kept types.new ≡ A.kept types.old }
     ensures found { OnOk result (found.new.items ≡ found.old.items
-        ++ spec.bad_values_by (A.look types.old) (value_of value.now) (written of_type.now)) }
+        ++ spec.bad_values_by (A.look types.old) (value_of value.now) (written_of of_type.entry)) }
 {
     add_misfits(alloc, value, types, of_type, found)?;
     add_repeats(alloc, value, found)
@@ -44,7 +46,8 @@ pub fn bad_values(
 {
     let mut found = Vec::new(alloc);
     let mut types = OfSchema { schema };
-    add_bad_values(alloc, &mut types, value, of_type, &mut found)?;
+    let expected = ExpectedType::Placed(of_type);
+    add_bad_values(alloc, &mut types, value, expected, &mut found)?;
     Ok(found)
 }
 

@@ -3,8 +3,9 @@ ghost use Rattle.std.specs.Prelude.{◌≡◌, ◌<◌, ℕ, List, Option, Some,
 ghost use Rattle.std.specs.List.{list_any};
 ghost use Rattle.gql_inputs.specs.Lookups.{InputForm, InputLookup, field_form, field_named, fields_in, kind_of, values_in};
 
+use crate::expected_type::ExpectedType;
 use crate::scalar::Scalar;
-use gql_ast::{Text, TypeRef};
+use gql_ast::Text;
 use std::alloc::{AllocError, Global};
 
 /// Which kind of input type a type is.
@@ -22,7 +23,7 @@ pub enum InputKind {
 #[derive(Clone, Copy)]
 pub struct InputField<'t> {
     pub name: &'t Text,
-    pub of_type: &'t TypeRef,
+    pub of_type: ExpectedType<'t>,
     pub has_default: bool,
 }
 
@@ -76,7 +77,7 @@ pub trait InputTypes {
     ghost kept: { Self → Self.Kept };
 
     /// The input type of that name, or `None` where the name is none that is known.
-    fn input_type(&mut self, alloc: Global, name: &str) -> Result<Option<Self::Answer>, AllocError>
+    fn input_type(&mut self, alloc: Global, name: &Text) -> Result<Option<Self::Answer>, AllocError>
         ensures answer { IfOk result (λ answer. option_map Self.Answer.form answer ≡ look self.old name.now) }
         ensures look { look self.new ≡ look self.old }
         ensures kept { Self.kept self.new ≡ Self.kept self.old };

@@ -3,6 +3,7 @@
 #![tactic(auto)]
 
 mod bad_value;
+mod expected_type;
 mod fitting;
 mod forms;
 mod input_types;
@@ -14,15 +15,18 @@ mod of_schema;
 mod repeats;
 mod scalar;
 mod singles;
+mod steps;
 mod texts;
 mod types;
 mod within;
 
 pub use bad_value::BadValue;
+pub use expected_type::ExpectedType;
 pub use fitting::{add_bad_values, bad_values, fits};
 pub use forms::place_of;
 pub use input_types::{InputField, InputKind, InputType, InputTypes};
 pub use numbers::whole_number;
 pub use of_schema::{OfSchema, SchemaInputType};
+pub use repeats::add_repeats;
 pub use scalar::{Scalar, scalar_named};
 pub use types::{input_type, is_custom_scalar, is_list, is_non_null, item_of, name_in};

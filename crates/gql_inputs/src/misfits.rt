@@ -1,22 +1,22 @@
 //! Values that do not fit the type that is expected (GraphQL specification, 5.6.1, 5.6.2 and 5.6.4).
 ghost use Rattle.std.specs.Prelude.{◌≡◌, ◌++◌, ℕ, List, is_some, map, flat_map, IfOk, OnOk};
 ghost use Rattle.gql_ast.specs.declared.literal.Literal.{Literal as AValue};
-ghost use Rattle.gql_types.specs.Written.{Written, written};
+ghost use Rattle.gql_types.specs.Written.{Written};
 ghost use Rattle.gql_inputs.specs.BadValues as spec;
+ghost use Rattle.gql_inputs.specs.ExpectedTypes.{written_of};
 ghost use Rattle.gql_inputs.specs.InputTypes.{item_of as item_of_type, name_in as name_of_type};
 ghost use Rattle.gql_inputs.specs.Lookups.{FieldForm, fields_in};
 ghost use Rattle.gql_inputs.specs.Values.{fields_of, given_field, value_of, values_of};
 
 use crate::bad_value::{BadValue, add_bad};
+use crate::expected_type::ExpectedType;
 use crate::forms::{is_null, may_be_list, place_of};
 use crate::input_types::{InputField, InputKind, InputType, InputTypes};
 use crate::missing::{add_missing, is_required};
 use crate::scalar::{Scalar, is_custom};
 use crate::singles::{add_single, is_custom_type};
-use crate::texts::type_text;
-use crate::types::{is_list, is_non_null, item_of, name_in, one_of};
 use crate::within::{add_within_all, add_within_fields};
-use gql_ast::{Literal, ObjectField, Rule, TypeRef};
+use gql_ast::{Literal, ObjectField, Rule};
 use gql_text::Place;
 use std::alloc::{AllocError, Global};
 
@@ -25,16 +25,16 @@ fn add_if_known<A: InputTypes>(
     alloc: Global,
     place: Place,
     types: &mut A,
-    of_type: &TypeRef,
+    of_type: ExpectedType<'_>,
     found: &mut Vec<BadValue>,
 ) -> Result<(), AllocError>
     ensures look { A.look types.new ≡ A.look types.old }
     ensures kept { A.kept types.new ≡ A.kept types.old }
     ensures found { OnOk result (found.new.items ≡ found.old.items
-        ++ spec.never_fits (A.look types.old) place (written of_type.now)) }
+        ++ spec.never_fits (A.look types.old) place (written_of of_type.entry)) }
 {
-    if types.input_type(alloc, name_in(of_type))?.is_some() {
-        add_bad(Rule::V18, place, type_text(alloc, of_type)?, found)?;
+    if types.input_type(alloc, of_type.name())?.is_some() {
+        add_bad(Rule::V18, place, of_type.text(alloc)?, found)?;
     }
     Ok(())
 }
@@ -44,15 +44,15 @@ fn add_null<A: InputTypes>(
     alloc: Global,
     place: Place,
     types: &mut A,
-    of_type: &TypeRef,
+    of_type: ExpectedType<'_>,
     found: &mut Vec<BadValue>,
 ) -> Result<(), AllocError>
     ensures look { A.look types.new ≡ A.look types.old }
     ensures kept { A.kept types.new ≡ A.kept types.old }
     ensures found { OnOk result (found.new.items ≡ found.old.items
-        ++ spec.null_misfits (A.look types.old) place (written of_type.now)) }
+        ++ spec.null_misfits (A.look types.old) place (written_of of_type.entry)) }
 {
-    if is_non_null(of_type) {
+    if of_type.is_non_null() {
         add_if_known(alloc, place, types, of_type, found)?;
     }
     Ok(())
@@ -62,12 +62,12 @@ fn add_null<A: InputTypes>(
 fn add_at_one(
     alloc: Global,
     place: Place,
-    of_type: &TypeRef,
+    of_type: ExpectedType<'_>,
     found: &mut Vec<BadValue>,
 ) -> Result<(), AllocError>
-    ensures { OnOk result (found.new.items ≡ found.old.items ++ spec.at_one place (written of_type.now)) }
+    ensures { OnOk result (found.new.items ≡ found.old.items ++ spec.at_one place (written_of of_type.entry)) }
 {
-    add_bad(Rule::V18, place, type_text(alloc, one_of(of_type))?, found)
+    add_bad(Rule::V18, place, of_type.one().text(alloc)?, found)
 }
 
 // Adds what of a list does not fit a type that is not a list.
@@ -77,18 +77,18 @@ fn add_list_at_one<A: InputTypes>(
     items: &[Literal],
     place: Place,
     types: &mut A,
-    of_type: &TypeRef,
+    of_type: ExpectedType<'_>,
     found: &mut Vec<BadValue>,
 ) -> Result<(), AllocError>
     ensures look { A.look types.new ≡ A.look types.old }
     ensures kept { A.kept types.new ≡ A.kept types.old }
     ensures found { OnOk result (found.new.items ≡ found.old.items
-        ++ spec.where_known (A.look types.old) (written of_type.now)
-        (spec.list_at_one place (written of_type.now) (λ name. spec.within_values name (values_of (map value_of items.now))))) }
+        ++ spec.where_known (A.look types.old) (written_of of_type.entry)
+        (spec.list_at_one place (written_of of_type.entry) (λ name. spec.within_values name (values_of (map value_of items.now))))) }
 {
-    if let Some(found_type) = types.input_type(alloc, name_in(of_type))? {
+    if let Some(found_type) = types.input_type(alloc, of_type.name())? {
         if is_custom_type(&found_type) {
-            add_within_all(alloc, items, name_in(of_type), found)?;
+            add_within_all(alloc, items, of_type.name().as_str(), found)?;
         } else {
             add_at_one(alloc, place, of_type, found)?;
         }
@@ -103,13 +103,13 @@ pub fn add_misfits<A: InputTypes>(
     alloc: Global,
     value: &Literal,
     types: &mut A,
-    of_type: &TypeRef,
+    of_type: ExpectedType<'_>,
     found: &mut Vec<BadValue>,
 ) -> Result<(), AllocError>
     ensures look { A.look types.new ≡ A.look types.old }
     ensures kept { A.kept types.new ≡ A.kept types.old }
     ensures found { OnOk result (found.new.items ≡ found.old.items
-        ++ spec.misfits (A.look types.old) (written of_type.now) (value_of value.now)) }
+        ++ spec.misfits (A.look types.old) (written_of of_type.entry) (value_of value.now)) }
 {
     match value {
         Literal::Variable { .. } => Ok(()),
@@ -136,15 +136,15 @@ fn add_list<A: InputTypes>(
     items: &[Literal],
     place: Place,
     types: &mut A,
-    of_type: &TypeRef,
+    of_type: ExpectedType<'_>,
     found: &mut Vec<BadValue>,
 ) -> Result<(), AllocError>
     ensures look { A.look types.new ≡ A.look types.old }
     ensures kept { A.kept types.new ≡ A.kept types.old }
     ensures found { OnOk result (found.new.items ≡ found.old.items
-        ++ spec.list_misfits (A.look types.old) place (written of_type.now) (values_of (map value_of items.now))) }
+        ++ spec.list_misfits (A.look types.old) place (written_of of_type.entry) (values_of (map value_of items.now))) }
 {
-    match item_of(of_type) {
+    match of_type.item() {
         Some(item_type) => add_items(alloc, items, types, item_type, found),
         None => add_list_at_one(alloc, items, place, types, of_type, found),
     }
@@ -156,13 +156,13 @@ fn add_items<A: InputTypes>(
     alloc: Global,
     items: &[Literal],
     types: &mut A,
-    of_type: &TypeRef,
+    of_type: ExpectedType<'_>,
     found: &mut Vec<BadValue>,
 ) -> Result<(), AllocError>
     ensures look { A.look types.new ≡ A.look types.old }
     ensures kept { A.kept types.new ≡ A.kept types.old }
     ensures found { OnOk result (found.new.items ≡ found.old.items
-        ++ flat_map (λ (x : AValue). spec.item_misfits (A.look types.old) (written of_type.now) (value_of x)) items.now) }
+        ++ flat_map (λ (x : AValue). spec.item_misfits (A.look types.old) (written_of of_type.entry) (value_of x)) items.now) }
 {
     for item in items {
         add_item(alloc, item, types, of_type, found)?;
@@ -176,15 +176,15 @@ fn add_item<A: InputTypes>(
     alloc: Global,
     item: &Literal,
     types: &mut A,
-    of_type: &TypeRef,
+    of_type: ExpectedType<'_>,
     found: &mut Vec<BadValue>,
 ) -> Result<(), AllocError>
     ensures look { A.look types.new ≡ A.look types.old }
     ensures kept { A.kept types.new ≡ A.kept types.old }
     ensures found { OnOk result (found.new.items ≡ found.old.items
-        ++ spec.item_misfits (A.look types.old) (written of_type.now) (value_of item.now)) }
+        ++ spec.item_misfits (A.look types.old) (written_of of_type.entry) (value_of item.now)) }
 {
-    if is_list(of_type) && !may_be_list(item) {
+    if of_type.is_list() && !may_be_list(item) {
         add_if_known(alloc, place_of(item), types, of_type, found)
     } else {
         add_misfits(alloc, item, types, of_type, found)
@@ -199,15 +199,15 @@ fn add_object<A: InputTypes>(
     fields: &[ObjectField],
     place: Place,
     types: &mut A,
-    of_type: &TypeRef,
+    of_type: ExpectedType<'_>,
     found: &mut Vec<BadValue>,
 ) -> Result<(), AllocError>
     ensures look { A.look types.new ≡ A.look types.old }
     ensures kept { A.kept types.new ≡ A.kept types.old }
     ensures found { OnOk result (found.new.items ≡ found.old.items
-        ++ spec.object_misfits (A.look types.old) place (written of_type.now) (fields_of (map given_field fields.now))) }
+        ++ spec.object_misfits (A.look types.old) place (written_of of_type.entry) (fields_of (map given_field fields.now))) }
 {
-    match types.input_type(alloc, name_in(of_type))? {
+    match types.input_type(alloc, of_type.name())? {
         None => Ok(()),
         Some(found_type) => match found_type.kind() {
             InputKind::InputObject => {
@@ -229,14 +229,14 @@ fn add_to_scalar(
     fields: &[ObjectField],
     place: Place,
     scalar: Scalar,
-    of_type: &TypeRef,
+    of_type: ExpectedType<'_>,
     found: &mut Vec<BadValue>,
 ) -> Result<(), AllocError>
     ensures { OnOk result (found.new.items ≡ found.old.items
-        ++ spec.object_at_scalar place (written of_type.now) (λ name. spec.within_fields name (fields_of (map given_field fields.now))) scalar) }
+        ++ spec.object_at_scalar place (written_of of_type.entry) (λ name. spec.within_fields name (fields_of (map given_field fields.now))) scalar) }
 {
     if is_custom(scalar) {
-        add_within_fields(alloc, fields, name_in(of_type), found)
+        add_within_fields(alloc, fields, of_type.name().as_str(), found)
     } else {
         add_at_one(alloc, place, of_type, found)
     }

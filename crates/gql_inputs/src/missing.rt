@@ -9,7 +9,6 @@ ghost use Rattle.gql_inputs.specs.Values.{given_field, is_null as is_null_value,
 use crate::bad_value::{BadValue, add_bad};
 use crate::forms::is_null;
 use crate::input_types::{InputField, InputType};
-use crate::types::is_non_null;
 use gql_ast::{ObjectField, Rule};
 use gql_text::Place;
 use std::alloc::{AllocError, Global};
@@ -19,7 +18,7 @@ use std::collections::HashMap;
 pub fn is_required(field: &InputField<'_>) -> bool
     ensures { result ≡ is_required_field (field_form field.now) }
 {
-    is_non_null(field.of_type) && !field.has_default
+    field.of_type.is_non_null() && !field.has_default
 }
 
 // The names of the fields.

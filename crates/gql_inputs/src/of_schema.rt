@@ -7,9 +7,10 @@ ghost use Rattle.gql_ast.specs.declared.type_system.InputValueDefinition.{InputV
 ghost use Rattle.gql_built_in.specs.declared.sited.Sited.{Sited as ASited};
 ghost use Rattle.gql_inputs.specs.Lookups as spec;
 
+use crate::expected_type::ExpectedType;
 use crate::input_types::{InputField, InputKind, InputType, InputTypes};
 use crate::scalar::{Scalar, scalar_named};
-use gql_ast::{EnumValueDefinition, InputValueDefinition, Shared};
+use gql_ast::{EnumValueDefinition, InputValueDefinition, Shared, Text};
 use gql_types::{HasName, Named, Schema, SchemaType, Sited, TypeKind};
 use std::alloc::{AllocError, Global};
 
@@ -33,7 +34,7 @@ fn input_field(definition: &Sited<Shared<InputValueDefinition>>) -> InputField<'
     let definition = definition.node.get();
     InputField {
         name: &definition.name.text,
-        of_type: &definition.of_type,
+        of_type: ExpectedType::Placed(&definition.of_type),
         has_default: definition.default.is_some(),
     }
 }
@@ -118,9 +119,9 @@ impl<'s> InputTypes for OfSchema<'s> {
     fn input_type(
         &mut self,
         alloc: Global,
-        name: &str,
+        name: &Text,
     ) -> Result<Option<SchemaInputType<'s>>, AllocError> {
-        match self.schema.get(name) {
+        match self.schema.get(name.as_str()) {
             Some(of_type) => Ok(as_input(of_type)),
             None => Ok(None),
         }

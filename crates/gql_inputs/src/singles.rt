@@ -1,18 +1,17 @@
 //! Values without parts: which input types take them (GraphQL specification, 3.5 and 3.9).
 ghost use Rattle.std.specs.Prelude.{◌≡◌, ◌++◌, IfOk, OnOk};
 ghost use Rattle.gql_ast.specs.declared.rule.Rule.TheVariants as rule;
-ghost use Rattle.gql_types.specs.Written.{written};
 ghost use Rattle.gql_inputs.specs.BadValues as spec;
+ghost use Rattle.gql_inputs.specs.ExpectedTypes.{written_of};
 ghost use Rattle.gql_inputs.specs.Values.{place_of as start_of, value_of};
 
 use crate::bad_value::{BadValue, add_bad};
+use crate::expected_type::ExpectedType;
 use crate::forms::place_of;
 use crate::input_types::{InputKind, InputType, InputTypes};
 use crate::numbers::{is_int, is_long};
 use crate::scalar::{Scalar, is_custom};
-use crate::texts::type_text;
-use crate::types::{name_in, one_of};
-use gql_ast::{Literal, Rule, Text, TypeRef};
+use gql_ast::{Literal, Rule, Text};
 use gql_text::Place;
 use std::alloc::{AllocError, Global};
 
@@ -113,15 +112,15 @@ fn takes<T: InputType>(of_type: &T, value: &Literal) -> bool
 // one value.
 fn expected_text<T: InputType>(
     alloc: Global,
-    of_type: &TypeRef,
+    of_type: ExpectedType<'_>,
     found_type: &T,
 ) -> Result<Text, AllocError>
-    ensures { IfOk result (λ text. text ≡ spec.expected (written of_type.now) (T.form found_type.now)) }
+    ensures { IfOk result (λ text. text ≡ spec.expected (written_of of_type.entry) (T.form found_type.now)) }
 {
     if is_custom_type(found_type) {
-        Text::from_str(alloc, name_in(of_type))
+        of_type.name().copy()
     } else {
-        type_text(alloc, one_of(of_type))
+        of_type.one().text(alloc)
     }
 }
 
@@ -129,12 +128,12 @@ fn expected_text<T: InputType>(
 fn add_unless_taken<T: InputType>(
     alloc: Global,
     value: &Literal,
-    of_type: &TypeRef,
+    of_type: ExpectedType<'_>,
     found_type: &T,
     found: &mut Vec<BadValue>,
 ) -> Result<(), AllocError>
     ensures { OnOk result (found.new.items ≡ found.old.items
-        ++ spec.single_at (written of_type.now) (value_of value.now) (T.form found_type.now)) }
+        ++ spec.single_at (written_of of_type.entry) (value_of value.now) (T.form found_type.now)) }
 {
     if !takes(found_type, value) {
         let about = expected_text(alloc, of_type, found_type)?;
@@ -148,15 +147,15 @@ pub fn add_single<A: InputTypes>(
     alloc: Global,
     value: &Literal,
     types: &mut A,
-    of_type: &TypeRef,
+    of_type: ExpectedType<'_>,
     found: &mut Vec<BadValue>,
 ) -> Result<(), AllocError>
     ensures look { A.look types.new ≡ A.look types.old }
     ensures kept { A.kept types.new ≡ A.kept types.old }
     ensures found { OnOk result (found.new.items ≡ found.old.items
-        ++ spec.single_misfits (A.look types.old) (written of_type.now) (value_of value.now)) }
+        ++ spec.single_misfits (A.look types.old) (written_of of_type.entry) (value_of value.now)) }
 {
-    if let Some(found_type) = types.input_type(alloc, name_in(of_type))? {
+    if let Some(found_type) = types.input_type(alloc, of_type.name())? {
         add_unless_taken(alloc, value, of_type, &found_type, found)?;
     }
     Ok(())

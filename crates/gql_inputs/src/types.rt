@@ -5,16 +5,16 @@ ghost use Rattle.gql_types.specs.Written.{written};
 ghost use Rattle.gql_inputs.specs.InputTypes as spec;
 
 use crate::scalar::{is_custom, scalar_named};
-use gql_ast::TypeRef;
+use gql_ast::{Text, TypeRef};
 use gql_types::{HasName, Schema, SchemaType, TypeKind};
 
 /// The name within lists and Non-Nulls.
 #[tactic(auto, using(gql_types::specs::Written::written_named, gql_types::specs::Written::written_list, gql_types::specs::Written::written_non_null))]
-pub fn name_in(of_type: &TypeRef) -> &str
+pub fn name_in(of_type: &TypeRef) -> &Text
     ensures { result.now ≡ spec.name_in (written of_type.now) }
 {
     match of_type {
-        TypeRef::Named(name) => name.as_str(),
+        TypeRef::Named(name) => &name.text,
         TypeRef::List { item, .. } => name_in(item.get()),
         TypeRef::NonNull(item) => name_in(item.get()),
     }
@@ -82,7 +82,7 @@ fn is_input(kind: TypeKind) -> bool
 pub fn input_type<'s>(schema: &'s Schema, of_type: &TypeRef) -> Option<&'s SchemaType>
     ensures { option_copied result ≡ spec.input_type schema.now (written of_type.now) }
 {
-    match schema.get(name_in(of_type)) {
+    match schema.get(name_in(of_type).as_str()) {
         Some(found) => {
             if is_input(found.kind) {
                 Some(found)
