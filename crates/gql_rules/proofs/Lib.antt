@@ -1,5 +1,7 @@
+pub mod InputView
 pub mod Members
 pub mod NullLiterals
+pub mod OfFiles
 pub mod OperationParts
 pub mod Parents
 pub mod Steps

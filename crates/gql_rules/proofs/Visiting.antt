@@ -51,3 +51,14 @@ module _ (facts : Facts) (owner : FilePlace) (parent : Option (List ℕ)) where
       new ∙ ap (λ l. l ++ selection_visit facts owner parent x) is
       ∙ append_assoc old (set_visit facts owner parent (take i xs)) (selection_visit facts owner parent x)
       ∙ ap (λ l. old ++ l) (sym (ap (set_visit facts owner parent) (take_more xs i x within ∙ ap (λ y. take i xs ++ y ∷ []) item) ∙ more (take i xs) x))
+
+-- what is found at the start of a field or an inline fragment, and then in what it selects
+pub selected_after : (F F1 : Facts) (owner : FilePlace) (below p : Option (List ℕ)) (ys xs : List Selection) (head f0 f1 f2 : List Fault)
+    → F1 ≡ F → below ≡ p → ys ≡ xs → f1 ≡ f0 ++ head → f2 ≡ f1 ++ set_visit F1 owner below ys
+    → f2 ≡ f0 ++ (head ++ set_visit F owner p xs)
+selected_after F F1 owner below p ys xs head f0 f1 f2 same entered listed first second =
+    second ∙ ap (λ l. l ++ set_visit F1 owner below ys) first
+    ∙ append_assoc f0 head (set_visit F1 owner below ys)
+    ∙ ap (λ f. f0 ++ (head ++ set_visit f owner below ys)) same
+    ∙ ap (λ q. f0 ++ (head ++ set_visit F owner q ys)) entered
+    ∙ ap (λ l. f0 ++ (head ++ set_visit F owner p l)) listed

@@ -1,5 +1,6 @@
 pub mod Answers
 pub mod Faults
+pub mod KnownInputs
 pub mod Literals
 pub mod LocalFaults
 pub mod Locations
@@ -16,6 +17,7 @@ pub mod V13FragmentsOnCompositeTypes
 pub mod V15FragmentSpreadTargetDefined
 pub mod V16FragmentSpreadsMustNotFormCycles
 pub mod V17FragmentSpreadIsPossible
+pub mod V18ToV21Values
 pub mod V22DirectivesAreDefined
 pub mod V23DirectivesInValidLocations
 pub mod V24DirectivesUniquePerLocation

@@ -1,5 +1,5 @@
 -- The faults of an operation or a fragment by the rules that look at one definition (GraphQL 5).
-use Rattle.std.specs.Prelude.{◌≡◌, Contains, ℕ, List, [], ◌∷◌, ◌++◌, map, flat_map, Option, Some, None}
+use Rattle.std.specs.Prelude.{◌≡◌, Contains, ℕ, List, [], ◌∷◌, ◌++◌, flat_map, Option, Some, None}
 use Rattle.std.specs.Option.{option_map}
 use Rattle.gql_text.specs.declared.place.Place.{Place}
 use Rattle.gql_ast.specs.Trees as trees
@@ -42,6 +42,7 @@ use Rattle.gql_rules.specs.V13FragmentsOnCompositeTypes as v13
 use Rattle.gql_rules.specs.V15FragmentSpreadTargetDefined as v15
 use Rattle.gql_rules.specs.V16FragmentSpreadsMustNotFormCycles as v16
 use Rattle.gql_rules.specs.V17FragmentSpreadIsPossible as v17
+use Rattle.gql_rules.specs.V18ToV21Values as values
 use Rattle.gql_rules.specs.V22DirectivesAreDefined as v22
 use Rattle.gql_rules.specs.V23DirectivesInValidLocations as v23
 use Rattle.gql_rules.specs.V24DirectivesUniquePerLocation as v24
@@ -60,7 +61,7 @@ of_field = option_map (λ (f : FieldFact). f.arguments)
 abbrev pub of_directive : Option DirectiveFact → Option (List InputFact)
 of_directive = option_map (λ (d : DirectiveFact). d.arguments)
 
--- a directive among those at this location, by its definition
+-- a directive among those at this location, without the values of its arguments, by its definition
 abbrev pub directive_faults_by : FilePlace → DirectiveLocation → List Directive → Directive
     → Option DirectiveFact → List Fault
 directive_faults_by owner at all d known = v22.faults owner d known
@@ -68,10 +69,16 @@ directive_faults_by owner at all d known = v22.faults owner d known
     ++ (v24.faults owner all d known
     ++ argument_faults owner d.place (of_directive known) d.arguments))
 
+-- a directive among those at this location, by what is known of it
+abbrev pub known_directive_faults : Facts → FilePlace → DirectiveLocation → List Directive
+    → Directive → Option DirectiveFact → List Fault
+known_directive_faults facts owner at all d known = directive_faults_by owner at all d known
+    ++ values.faults facts owner (of_directive known) d.arguments
+
 abbrev pub directive_faults : Facts → FilePlace → DirectiveLocation → List Directive → Directive
     → List Fault
 directive_faults facts owner at all d =
-    directive_faults_by owner at all d (directive_of facts d.name.text)
+    known_directive_faults facts owner at all d (directive_of facts d.name.text)
 
 -- the directives at this location
 abbrev pub directives_faults : Facts → FilePlace → DirectiveLocation → List Directive → List Fault
@@ -88,14 +95,17 @@ inline_faults facts owner parent None = []
 inline_faults facts owner parent (Some condition) = condition_faults facts owner condition
     ++ v17.faults_of_inline facts owner parent condition
 
--- a field, without its directives, by what is known of it and of its type
+-- a field, without its directives and the values of its arguments, by what is known of it and of
+-- its type
 abbrev pub field_faults_by : FilePlace → FieldNode → Option FieldFact → Option TypeKind → List Fault
 field_faults_by owner f known kind = v04.faults_by owner f f.parent known
     ++ (v07.faults_by owner f kind
     ++ argument_faults owner (start_of f) (of_field known) f.arguments)
 
+-- a field, without its directives
 abbrev pub field_faults : Facts → FilePlace → FieldNode → Option FieldFact → List Fault
 field_faults facts owner f known = field_faults_by owner f known (kind_of_field facts known)
+    ++ values.faults facts owner (of_field known) f.arguments
 
 -- a node of a selection set
 abbrev pub node_faults : Facts → FilePlace → Node → List Fault
@@ -113,8 +123,8 @@ set_faults facts owner = flat_map (node_faults facts owner)
 
 -- a variable
 abbrev pub variable_faults : Facts → FilePlace → VariableDefinition → List Fault
-variable_faults facts owner v =
-    directives_faults facts owner location.VariableDefinition v.directives
+variable_faults facts owner v = values.faults_of_variable facts owner v
+    ++ directives_faults facts owner location.VariableDefinition v.directives
 
 -- an operation
 abbrev pub operation_faults : Facts → FilePlace → Operation → List Fault

@@ -9,7 +9,7 @@ use crate::answers::directive_in;
 use crate::asking::ask_directive;
 use crate::counts::{counts, is_repeated};
 use crate::{
-    arguments, v22_directives_are_defined, v23_directives_in_valid_locations,
+    arguments, v18_to_v21_values, v22_directives_are_defined, v23_directives_in_valid_locations,
     v24_directives_unique_per_location,
 };
 use gql_ast::{Directive, DirectiveLocation, Fault, FilePlace};
@@ -85,6 +85,8 @@ fn check_directive<W: World>(
         known,
         faults,
     )?;
+    let given = directive.arguments.as_slice();
+    v18_to_v21_values::check(alloc, world, owner, arguments_of(known), given, faults)?;
     Ok(())
 }
 

@@ -8,7 +8,9 @@ ghost use Rattle.gql_rules.specs.LocalFaults as spec;
 use crate::answers::field_in;
 use crate::asking::{ask_field, kind_of};
 use crate::parts::start_of;
-use crate::{arguments, directives, v04_field_selections, v07_leaf_field_selections};
+use crate::{
+    arguments, directives, v04_field_selections, v07_leaf_field_selections, v18_to_v21_values,
+};
 use gql_ast::{DirectiveLocation, Fault, Field, FilePlace, Text};
 use gql_facts::{FieldFact, InputFact, World};
 use gql_types::{Named, TypeKind};
@@ -115,6 +117,8 @@ pub fn check<W: World>(
     let known = field_in(&fact);
     let kind = kind_of_field(alloc, world, known)?;
     check_known(alloc, owner, parent, field, known, kind, faults)?;
+    let given = field.arguments.as_slice();
+    v18_to_v21_values::check(alloc, world, owner, arguments_of(known), given, faults)?;
     let applied = field.directives.as_slice();
     directives::check(
         alloc,

@@ -8,7 +8,7 @@ use crate::asking::kind_of;
 use crate::conditions::composite_by;
 use crate::locations::location_of;
 use crate::visit::visit_set;
-use crate::{directives, p03_subscriptions, p05_mutations_without_a_root};
+use crate::{directives, p03_subscriptions, p05_mutations_without_a_root, v18_to_v21_values};
 use gql_ast::{
     DirectiveLocation, Fault, FilePlace, Operation, OperationKind, Text, VariableDefinition,
 };
@@ -47,6 +47,26 @@ fn composite<W: World>(
     Ok(parent)
 }
 
+fn check_variable<W: World>(
+    alloc: Global,
+    world: &mut W,
+    owner: &FilePlace,
+    variable: &VariableDefinition,
+    faults: &mut Vec<Fault>,
+) -> Result<(), AllocError>
+    ensures facts { W.facts world.new ≡ W.facts world.old }
+    ensures names { W.names world.new ≡ W.names world.old }
+    ensures lent { W.lent world.new ≡ W.lent world.old }
+    ensures found { OnOk result (faults.new.items ≡ faults.old.items
+        ++ spec.variable_faults (W.facts world.old) owner.now variable.now) }
+{
+    v18_to_v21_values::check_default(alloc, world, owner, variable, faults)?;
+    let applied = variable.directives.as_slice();
+    let location = DirectiveLocation::VariableDefinition;
+    directives::check(alloc, world, owner, location, applied, faults)?;
+    Ok(())
+}
+
 fn check_variables<W: World>(
     alloc: Global,
     world: &mut W,
@@ -61,9 +81,7 @@ fn check_variables<W: World>(
         ++ flat_map (spec.variable_faults (W.facts world.old) owner.now) variables.now) }
 {
     for variable in variables {
-        let applied = variable.directives.as_slice();
-        let location = DirectiveLocation::VariableDefinition;
-        directives::check(alloc, world, owner, location, applied, faults)?;
+        check_variable(alloc, world, owner, variable, faults)?;
     }
     Ok(())
 }

@@ -1,7 +1,14 @@
 use Rattle.std.proofs.Common.{◌++◌, ◌∙◌, ap, sym, arith}
-use Rattle.gql_rules.specs.LocalFaults.{selection_visit}
-use Rattle.gql_rules.proofs.Visiting.{of_field, of_inline, of_spread, visited_more}
+use Rattle.gql_facts.specs.Nodes.{field, field_node}
+use Rattle.gql_rules.specs.LocalFaults.{node_faults, selection_visit}
+use Rattle.gql_rules.proofs.Visiting.{of_field, of_inline, of_spread, visited_more, selected_after}
 use Rattle.gql_rules.proofs.visit.+visit.Goals as goal
+
+pub visit_field-returns-clause-found : goal.visit_field-returns-clause-found
+visit_field-returns-clause-found g t c =
+    let F = g.W.World.facts c.args.world.now in
+    selected_after F _ c.args.owner.now _ _ _ _ (node_faults F c.args.owner.now (field (field_node c.args.parent.now c.args.field.now)))
+    _ _ _ c.in_ok-below.ensures.facts c.in_ok-below.ensures.below c.as_slice.ensures c.in_ok-below.ensures.found c.in_ok-visit_set.ensures.found
 
 pub visit_selection-returns-in_ok-visit_field-in-Field-clause-found :
     goal.visit_selection-returns-in_ok-visit_field-in-Field-clause-found

@@ -1,0 +1,56 @@
+-- What the answers of files say of input types is what their schema says.
+use Rattle.std.specs.Prelude.{◌≡◌, ℕ, List, [], ◌∷◌, map, refl, bytes_eq, Option, Some, None}
+use Rattle.std.specs.Option.{option_map, option_and_then}
+use Rattle.std.proofs.Common.{ap, sym, ◌∙◌}
+use Rattle.std.proofs.lemmas.Slice.Eq.{bytes_eq-Decides}
+use Rattle.gql_ast.specs.declared.files.Files.{Files}
+use Rattle.gql_ast.specs.declared.type_system.InputValueDefinition.{InputValueDefinition}
+use Rattle.gql_built_in.specs.declared.sited.Sited.{Sited}
+use Rattle.gql_types.specs.Schemas.{schema_of, type_named, inputs_by, values_by}
+use Rattle.gql_types.specs.Written.{written}
+use Rattle.gql_types.specs.declared.kind.TypeKind.{TypeKind}
+use Rattle.gql_types.specs.declared.kind.TypeKind.TheVariants as kind
+use Rattle.gql_types.specs.declared.schema_type.SchemaType.{SchemaType}
+use Rattle.gql_types.proofs.Wrapping.{typed_back}
+use Rattle.gql_facts.specs.Facts.{answer, fact_of, input_fact, input_facts, value_names}
+use Rattle.gql_facts.specs.ListMembers.{found_in}
+use Rattle.gql_facts.specs.declared.fact.Fact.TheVariants as fact
+use Rattle.gql_inputs.specs.InputTypes.{name_of, scalar_named}
+use Rattle.gql_inputs.specs.Lookups.{InputForm, FieldForm, scalar, enumeration, input_object, form_of, form_at, in_schema}
+use Rattle.gql_inputs.specs.Lookups as lookups
+use Rattle.gql_rules.specs.Answers.{kind_in}
+use Rattle.gql_rules.specs.KnownInputs.{known_inputs, form_by, object_of, field_of}
+
+-- a field of an input object
+field_same : (d : Sited InputValueDefinition) → field_of (input_fact d.node) ≡ lookups.field_of d
+field_same d = ap (λ t. field_with d t) (typed_back (written d.node.of_type)) where
+  field_with : Sited InputValueDefinition → _ → FieldForm
+  field_with d t = record { name = d.node.name.text; of_type = t; has_default = (lookups.field_of d).has_default }
+
+fields_same : (ds : List (Sited InputValueDefinition)) → map field_of (input_facts ds) ≡ map lookups.field_of ds
+fields_same [] = refl
+fields_same (d ∷ ds) = ap (λ f. f ∷ map field_of (input_facts ds)) (field_same d) ∙ ap (λ l. lookups.field_of d ∷ l) (fields_same ds)
+
+-- a type of this name, by its kind
+by_kind : (name : List ℕ) (t : SchemaType) (k : TypeKind) → name ≡ name_of t
+    → form_by name (Some k) (answer (λ ds. fact.Input (input_facts ds)) (inputs_by k t)) (answer (λ vs. fact.Enum (value_names vs)) (values_by k t))
+    ≡ form_at t k
+by_kind name t kind.Scalar is = ap (λ n. Some (scalar (scalar_named n))) is
+by_kind name t kind.Enum is = refl
+by_kind name t kind.InputObject is = ap (λ fs. Some (input_object fs)) (fields_same t.input_fields)
+by_kind name t kind.Object is = refl
+by_kind name t kind.Interface is = refl
+by_kind name t kind.Union is = refl
+
+-- a name, by the type that has it
+by_type : (name : List ℕ) (o : Option SchemaType) → ((t : SchemaType) → o ≡ Some t → name ≡ name_of t)
+    → form_by name (kind_in (answer fact.Kind (option_map (λ (t : SchemaType). t.kind) o)))
+    (answer (λ ds. fact.Input (input_facts ds)) (option_and_then (λ (t : SchemaType). inputs_by t.kind t) o))
+    (answer (λ vs. fact.Enum (value_names vs)) (option_and_then (λ (t : SchemaType). values_by t.kind t) o))
+    ≡ option_and_then form_of o
+by_type name None is = refl
+by_type name (Some t) is = by_kind name t t.kind (is t refl)
+
+pub same_inputs : (files : Files) (name : List ℕ) → known_inputs (fact_of files) name ≡ in_schema (schema_of files) name
+same_inputs files name = by_type name (type_named (schema_of files) name)
+    (λ t found. (bytes_eq-Decides name (name_of t)).0 (found_in (λ (x : SchemaType). bytes_eq name x.definition.node.name.text) (schema_of files).types t found).1)
