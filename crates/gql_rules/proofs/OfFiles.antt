@@ -1,13 +1,13 @@
 -- What the answers of files say of input types is what their schema says.
-use Rattle.std.specs.Prelude.{◌≡◌, ℕ, List, [], ◌∷◌, map, refl, bytes_eq, Option, Some, None}
+use Rattle.std.specs.Prelude.{◌≡◌, ℕ, List, [], ◌∷◌, map, refl, bytes_eq, is_some, Option, Some, None}
 use Rattle.std.specs.Option.{option_map, option_and_then}
-use Rattle.std.proofs.Common.{ap, sym, ◌∙◌}
+use Rattle.std.proofs.Common.{ap, ◌∙◌}
 use Rattle.std.proofs.lemmas.Slice.Eq.{bytes_eq-Decides}
 use Rattle.gql_ast.specs.declared.files.Files.{Files}
 use Rattle.gql_ast.specs.declared.type_system.InputValueDefinition.{InputValueDefinition}
 use Rattle.gql_built_in.specs.declared.sited.Sited.{Sited}
 use Rattle.gql_types.specs.Schemas.{schema_of, type_named, inputs_by, values_by}
-use Rattle.gql_types.specs.Written.{written}
+use Rattle.gql_types.specs.Written.{Written, written}
 use Rattle.gql_types.specs.declared.kind.TypeKind.{TypeKind}
 use Rattle.gql_types.specs.declared.kind.TypeKind.TheVariants as kind
 use Rattle.gql_types.specs.declared.schema_type.SchemaType.{SchemaType}
@@ -19,13 +19,19 @@ use Rattle.gql_inputs.specs.InputTypes.{name_of, scalar_named}
 use Rattle.gql_inputs.specs.Lookups.{InputForm, FieldForm, scalar, enumeration, input_object, form_of, form_at, in_schema}
 use Rattle.gql_inputs.specs.Lookups as lookups
 use Rattle.gql_rules.specs.Answers.{kind_in}
-use Rattle.gql_rules.specs.KnownInputs.{known_inputs, form_by, object_of, field_of}
+use Rattle.gql_rules.specs.KnownInputs.{known_inputs, form_by, field_of}
 
 -- a field of an input object
+-- a field of an input object, of this type
+abbrev field_with : Sited InputValueDefinition → Written → FieldForm
+field_with d t = record {
+  name = d.node.name.text;
+  of_type = t;
+  has_default = is_some d.node.default;
+}
+
 field_same : (d : Sited InputValueDefinition) → field_of (input_fact d.node) ≡ lookups.field_of d
-field_same d = ap (λ t. field_with d t) (typed_back (written d.node.of_type)) where
-  field_with : Sited InputValueDefinition → _ → FieldForm
-  field_with d t = record { name = d.node.name.text; of_type = t; has_default = (lookups.field_of d).has_default }
+field_same d = ap (field_with d) (typed_back (written d.node.of_type))
 
 fields_same : (ds : List (Sited InputValueDefinition)) → map field_of (input_facts ds) ≡ map lookups.field_of ds
 fields_same [] = refl
