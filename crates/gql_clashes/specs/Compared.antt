@@ -1,5 +1,6 @@
 -- Helper definitions: what the search reads from numbered sets, as lists.
-use Rattle.std.specs.Prelude.{◌≡◌, ◌⊎◌, ◌++◌, ◌∷◌, [], ℕ, List, Bool, ◌&&◌, not, nat_lt, nat_le, cond, Option, Some, None, map, flat_map, list_any, slice_index_or, Contains}
+use Rattle.std.specs.Prelude.{◌≡◌, ◌⊎◌, ◌++◌, ◌∷◌, [], ℕ, List, Bool, ◌&&◌, not, nat_lt, nat_le, cond, Option, Some, None, map, flat_map, slice_index_or, Contains}
+use Rattle.std.specs.List.{list_any}
 use Rattle.gql_clashes.specs.declared.sets.Mode.{Mode}
 use Rattle.gql_clashes.specs.declared.sets.NumberedField.{NumberedField}
 use Rattle.gql_clashes.specs.declared.sets.Sets.{Sets}
