@@ -127,13 +127,13 @@ module _ (F S : Type 0) (v : Nodes F S) (w : Nodes ℕ ℕ) (node : ℕ → F) (
 
   pub of_back : (bodies : List ℕ) (x y : F) (m : Mode) → IsClash v (SeedsOf v (map set bodies)) x y m → (f g : ℕ) × IsClash w (SeedsOf w bodies) f g m × (node f ≡ x) × (node g ≡ y)
   of_back bodies x y m h = clash_back (SeedsOf w bodies) (of_used bodies) x y m h.1 (reached_back (SeedsOf w bodies) (SeedsOf v (map set bodies)) (of_used bodies) (λ a c b.
-    let r = Contains-map_from set bodies b.0 b.1 in
-    let p = fields_back b.2 r.0 r.2 in
-    let k = fields_back b.3 r.0 r.2 in
-    (p.0, k.0, (r.0, r.1, p.1, k.1), p.2, k.2)) h.0)
+      let r = Contains-map_from set bodies b.0 b.1 in
+      let p = fields_back b.2 r.0 r.2 in
+      let k = fields_back b.3 r.0 r.2 in
+      (p.0, k.0, (r.0, r.1, p.1, k.1), p.2, k.2)) h.0)
 
   pub between_back : (s t : ℕ) (x y : F) (m : Mode) → IsClash v (SeedsBetween v (set s) (set t)) x y m → (f g : ℕ) × IsClash w (SeedsBetween w s t) f g m × (node f ≡ x) × (node g ≡ y)
   between_back s t x y m h = clash_back (SeedsBetween w s t) (between_used s t) x y m h.1 (reached_back (SeedsBetween w s t) (SeedsBetween v (set s) (set t)) (between_used s t) (λ a c b.
-    let p = q.direct_back s a b.0 in
-    let k = q.direct_back t c b.1 in
-    (p.0, k.0, (p.1, k.1), p.2, k.2)) h.0)
+      let p = q.direct_back s a b.0 in
+      let k = q.direct_back t c b.1 in
+      (p.0, k.0, (p.1, k.1), p.2, k.2)) h.0)

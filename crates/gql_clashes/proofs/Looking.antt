@@ -1,15 +1,14 @@
 -- What an item asks for, as the calls tell it.
-use Rattle.std.proofs.Common.{◌≡◌, ◌<◌, ◌⊎◌, inl, inr, ℕ, List, [], ◌∷◌, ◌++◌, cond, map, length, get_or, sym, refl, arith, ◌+◌, append-nil, append_assoc, flat_map, take, ap, ◌∙◌, subst, Contains}
+use Rattle.std.proofs.Common.{◌≡◌, ◌<◌, ℕ, List, [], ◌∷◌, ◌++◌, map, length, get_or, sym, refl, ◌+◌, append-nil, append_assoc, flat_map, take, ap, ◌∙◌, subst, Contains}
 use Rattle.std.proofs.lemmas.List.{map_more}
 use Rattle.std.proofs.lemmas.Grind.{flat_map-append}
 use Rattle.std.proofs.lemmas.List.Elements.{Contains-get_or}
 use Rattle.gql_clashes.proofs.Members.{Contains-map}
-use Rattle.gql_clashes.specs.declared.sets.Mode.{Mode}
 use Rattle.gql_clashes.specs.declared.sets.Pair.{Pair}
 use Rattle.gql_clashes.specs.declared.search.Item.{Item}
 use Rattle.gql_clashes.specs.declared.sets.Sets.{Sets}
 use Rattle.gql_clashes.specs.Numbered.{nodes_of}
-use Rattle.gql_clashes.specs.Compared.{are_bad, are_fine, asked_at, bad_among, bad_at, found_at, item_of, items_among, items_below, items_of, pairs_of, two_in}
+use Rattle.gql_clashes.specs.Compared.{asked_at, bad_among, found_at, item_of, items_among}
 
 joined : {A : Type 0} (i j k l a b c : List A) → i ≡ [] → j ≡ i ++ a → k ≡ j ++ b → l ≡ k ++ c → l ≡ a ++ b ++ c
 joined i j k l a b c e f g h = rw (h, g, f, e) refl

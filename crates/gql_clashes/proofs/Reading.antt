@@ -1,7 +1,7 @@
 -- What is in the lists of an item.
 use Rattle.std.proofs.Common.{◌≡◌, ◌≤◌, ◌⊎◌, inl, inr, ◌<◌, ℕ, List, [], ◌∷◌, ◌++◌, Bool, true, false, ◌&&◌, ◌||◌, not, nat_eq, nat_le, cond, Option, Some, None, map, flat_map, length, sym, ◌∙◌, ap, subst, refl, arith, Contains}
 use Rattle.std.proofs.lemmas.Bool.{cases_lt, cases_eq}
-use Rattle.std.proofs.lemmas.Bool.Decides.{Decides-eqb, nat_tests}
+use Rattle.std.proofs.lemmas.Bool.Decides.{nat_tests}
 use Rattle.std.specs.List.{list_any}
 use Rattle.std.proofs.lemmas.List.Elements.{Contains-append_left, Contains-append_right, Contains-append_cases}
 use Rattle.gql_clashes.specs.declared.sets.Mode.{Mode}
@@ -13,7 +13,7 @@ use Rattle.gql_clashes.specs.declared.search.Item.{Item}
 use Rattle.gql_clashes.specs.Clashes.{AreTwo, is_bad, is_merge, mode_below}
 use Rattle.gql_clashes.specs.Items.{HasPair, Joins, Asks}
 use Rattle.gql_clashes.specs.Numbered.{IsWhole, field_at, nodes_of}
-use Rattle.gql_clashes.specs.Compared.{AreAlike, IsClassing, IsClassed, kind_at, other_in, two_in, are_bad, are_fine, pair_of, item_of, pair_if_two, pairs_of, between, items_below, bad_at, items_of, bad_among, items_among, asked_at}
+use Rattle.gql_clashes.specs.Compared.{AreAlike, IsClassing, IsClassed, kind_at, other_in, two_in, are_fine, pair_of, item_of, pair_if_two, pairs_of, between, items_below, bad_at, items_of, bad_among, items_among, asked_at}
 use Rattle.gql_clashes.specs.Seen.{IsInside}
 use Rattle.gql_clashes.proofs.Cover.{AreTests}
 use Rattle.gql_clashes.proofs.Members.{Contains-nil, Contains-here, Contains-there, Contains-cases, Contains-map, Contains-map_from, Contains-flat_map, Contains-flat_map_from}
@@ -94,13 +94,13 @@ any_has p (y ∷ ys) x h e = elim (Contains-cases x y ys h) [
   | inr t ↦ ap (λ b. p y || b) (any_has p ys x t e) ∙ or_true (p y)
 ]
 
+any_by : {A : Type 0} (p : A → Bool) (y : A) (ys : List A) (b : Bool) → p y ≡ b → (list_any p ys ≡ true → (x : A) × Contains ys x × (p x ≡ true)) → (b || list_any p ys) ≡ true → (x : A) × Contains (y ∷ ys) x × (p x ≡ true)
+any_by p y ys true e more h = (y, Contains-here y ys, e)
+any_by p y ys false e more h = let r = more h in (r.0, Contains-there r.0 y ys r.1, r.2)
+
 any_from : {A : Type 0} (p : A → Bool) (xs : List A) → list_any p xs ≡ true → (x : A) × Contains xs x × (p x ≡ true)
 any_from p [] h = cc
-any_from {A} p (y ∷ ys) h = by (p y) refl
-  where
-    by : (b : Bool) → p y ≡ b → (x : A) × Contains (y ∷ ys) x × (p x ≡ true)
-    by true e = (y, Contains-here y ys, e)
-    by false e = let r = any_from p ys (rw e at h) in (r.0, Contains-there r.0 y ys r.1, r.2)
+any_from p (y ∷ ys) h = any_by p y ys (p y) refl (any_from p ys) h
 
 two_has : (z : Sets) (c d : List ℕ) (f g : ℕ) → Contains c f → Contains d g → (nodes_of z).is_one f g ≡ false → two_in z c d ≡ true
 two_has z c d f g a b e = any_has (λ x. other_in z x d) c f a (any_has (λ y. not ((nodes_of z).is_one f y)) d g b (not_false ((nodes_of z).is_one f g) e))
@@ -265,9 +265,18 @@ module _ (z : Sets) (m : Mode) where
       let t = two_from z (x ∷ xs) (y ∷ ys) u.1 in
       let r = below_from z m x y i u.2 in
       let ex = kinds_left (x ∷ xs) (y ∷ ys) hc hd t.0 x t.2 (Contains-here x xs) in
-      let ey = kinds_right (x ∷ xs) (y ∷ ys) hc hd t.1 y t.3 (Contains-here y ys) in
-      (t.0, t.1, r.0, r.1, mode_below (nodes_of z) m x y, t.2, t.3, (t.4, same_name z t.0 t.1 x y ex ey ∙ o.0),
-      (same_bad z t.0 t.1 x y ex ey m ∙ was_false (is_bad (nodes_of z) m x y) o.1, same_mode z t.0 t.1 x y ex ey m, same_joins z t.0 t.1 x y ex ey r.0 r.1 r.2), r.3)
+      let ey = kinds_right (x ∷ xs) (y ∷ ys) hc hd t.1 y t.3 (Contains-here y ys) in (
+        t.0,
+        t.1,
+        r.0,
+        r.1,
+        mode_below (nodes_of z) m x y,
+        t.2,
+        t.3,
+        (t.4, same_name z t.0 t.1 x y ex ey ∙ o.0),
+        (same_bad z t.0 t.1 x y ex ey m ∙ was_false (is_bad (nodes_of z) m x y) o.1, same_mode z t.0 t.1 x y ex ey m, same_joins z t.0 t.1 x y ex ey r.0 r.1 r.2),
+        r.3,
+      )
 
   -- over all classes of some fields
   module _ (fs gs : List ℕ) (cs ds : List (List ℕ)) (hc : IsClassing z fs cs) (hd : IsClassing z gs ds) where
@@ -318,7 +327,7 @@ module _ (z : Sets) (k : ℕ → List (List ℕ)) (known : IsClassed z k) (x : I
 
   pub asked_below : (f g u v : ℕ) (n : Mode) → HasPair (nodes_of z) x.left x.right f g → Asks (nodes_of z) x.mode f g u v n → Contains (asked_at z k x) (item_of u v n)
   asked_below f g u v n s q = Contains-append_left (belows ++ lefts) rights (item_of u v n) (Contains-append_left belows lefts (item_of u v n)
-    (items_has z x.mode ((nodes_of z).direct x.left) ((nodes_of z).direct x.right) (k x.left) (k x.right) (known x.left) (known x.right) f g u v n s.0 s.1 s.2 q))
+      (items_has z x.mode ((nodes_of z).direct x.left) ((nodes_of z).direct x.right) (k x.left) (k x.right) (known x.left) (known x.right) f g u v n s.0 s.1 s.2 q))
 
   -- and for nothing else
   pub asked_from : (y : Item) → Contains (asked_at z k x) y → IsAskedOf z x.mode ((nodes_of z).direct x.left) ((nodes_of z).direct x.right) y

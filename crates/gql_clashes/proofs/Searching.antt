@@ -1,6 +1,6 @@
 -- A search goes on until nothing waits, and has then found the pairs that clash.
 use Rattle.std.proofs.Common.{◌≡◌, ◌≢◌, ℕ, ◌<◌, ◌≤◌, inl, inr, List, [], ◌∷◌, ◌++◌, Bool, true, false, nat_eq, nat_lt, cond, map, length, replicate, ap, sym, subst, ◌∙◌, refl, arith, length-append, Contains, ◌*◌}
-use Rattle.std.proofs.lemmas.Bool.{cases_eq, cases_lt}
+use Rattle.std.proofs.lemmas.Bool.{cases_lt}
 use Rattle.std.proofs.lemmas.Bool.Decides.{Decides-eqb, Decides-ltb}
 use Rattle.std.proofs.lemmas.List.{length-map, length-replicate}
 use Rattle.std.proofs.lemmas.List.Elements.{Contains-push, Contains-push_cases, Contains-append_left, Contains-append_right, Contains-append_cases}
@@ -10,7 +10,7 @@ use Rattle.gql_clashes.specs.declared.sets.Pair.{Pair}
 use Rattle.gql_clashes.specs.declared.sets.Sets.{Sets}
 use Rattle.gql_clashes.specs.declared.search.Item.{Item}
 use Rattle.gql_clashes.specs.Clashes.{AreTwo, is_bad, Reached, seed, turn, SeedsOf, SeedsBetween}
-use Rattle.gql_clashes.specs.Items.{Items, first, swapped, left, right, below, HasPair, Asks}
+use Rattle.gql_clashes.specs.Items.{Items, first, swapped, left, right, below, HasPair}
 use Rattle.gql_clashes.specs.Numbered.{IsWhole, IsClashPair, Lists, field_at, nodes_of}
 use Rattle.gql_clashes.specs.Compared.{IsClassed, pair_of, item_of, bad_among, items_among, found_at, asked_at}
 use Rattle.gql_clashes.specs.Search.{HasItem, IsMarked, WasSeen, IsDone, Searches, Explores, start_at}
@@ -225,9 +225,9 @@ pub clashes_by : (z : Sets) (k : ℕ → List (List ℕ)) (known : IsClassed z k
 clashes_by z k known bodies items before bad rows e f x = lists_clashes z k known items before rows bad x (SeedsOf (nodes_of z) bodies) (start_reached z bodies items e)
     (λ p c. absurd (Contains-nil p (subst (λ y. Contains y p) f c)))
     (λ f g two d.
-      let c : Contains items (item d.0 d.0 Merge) = subst (λ y. Contains y (item d.0 d.0 Merge)) (sym e) (Contains-map start_at bodies d.0 d.1) in
-      let s : WasSeen rows d.0 d.0 Merge = subst (λ y. is_seen rows y ≡ true) (sym (item_less d.0 d.0 Merge (omega arith))) (x.starts (item d.0 d.0 Merge) c) in
-      over_met (nodes_of z) (number_tests z) (WasSeen rows) (WasFound z bad) (explored z k known items before rows bad x) d.0 d.0 f g Merge s d.2 d.3 two)
+    let c : Contains items (item d.0 d.0 Merge) = subst (λ y. Contains y (item d.0 d.0 Merge)) (sym e) (Contains-map start_at bodies d.0 d.1) in
+    let s : WasSeen rows d.0 d.0 Merge = subst (λ y. is_seen rows y ≡ true) (sym (item_less d.0 d.0 Merge (omega arith))) (x.starts (item d.0 d.0 Merge) c) in
+    over_met (nodes_of z) (number_tests z) (WasSeen rows) (WasFound z bad) (explored z k known items before rows bad x) d.0 d.0 f g Merge s d.2 d.3 two)
 
 -- the items for which two bodies ask are reached
 asked_reached : (z : Sets) (k : ℕ → List (List ℕ)) (known : IsClassed z k) (s t : ℕ) (items : List Item) → items ≡ items_among z Merge (k s) (k t) → (u v : ℕ) (n : Mode) → Contains items (item u v n) → IsReached (nodes_of z) (SeedsBetween (nodes_of z) s t) u v n

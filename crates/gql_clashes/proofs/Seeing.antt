@@ -178,8 +178,12 @@ longer_marked n k c row row' e lt le =
     let size : length row' ≡ length row + k = ap length e ∙ length-append row (replicate k false) ∙ ap (λ j. length row + j) (length-replicate k false) in
     let rest : k + (2 * n - length row') ≡ 2 * n - length row = omega (arith, size, le) in
     let all : row' ++ replicate (2 * n - length row') false ≡ whole_row n row =
-      ap (λ y. y ++ replicate (2 * n - length row') false) e ∙ append_assoc row (replicate k false) (replicate (2 * n - length row') false) ∙ ap (λ y. row ++ y) (replicate-append-replicate k (2 * n - length row') false ∙ ap (λ j. replicate j false) rest) in
+    ap (λ y. y ++ replicate (2 * n - length row') false) e ∙ append_assoc row (replicate k false) (replicate (2 * n - length row') false) ∙ ap (λ y. row ++ y) (replicate-append-replicate k (2 * n - length row') false ∙ ap (λ j. replicate j false) rest) in
     ap (λ j. set row' c true ++ replicate (2 * n - j) false) l ∙ sym (set-append_left row' (replicate (2 * n - length row') false) c true lt) ∙ ap (λ y. set y c true) all
+
+pub see_in : {V : Type 0} (f : V → List Bool) (rows : List V) (x : Item) (v v' : V) → x.left < length rows → v ≡ get_or rows x.left v → whole_row (length rows) (f v') ≡ set (whole_row (length rows) (f v)) (column x) true
+    → map (λ r. whole_row (length (set rows x.left v')) (f r)) (set rows x.left v') ≡ see (map (λ r. whole_row (length rows) (f r)) rows) x
+see_in f rows x v v' lt is e = ap (λ n. map (λ r. whole_row n (f r)) (set rows x.left v')) (length-set rows x.left v') ∙ see_by (λ r. whole_row (length rows) (f r)) rows x v v' lt is e
 
 abbrev pub no_item : Item
 no_item = record { left = 0; right = 0; mode = Merge }

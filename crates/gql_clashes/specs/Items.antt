@@ -1,7 +1,6 @@
 -- Helper definitions: pairs of bodies in place of pairs of fields, which the search visits.
-use Rattle.std.specs.Prelude.{◌≡◌, ◌⊎◌, ℕ, List, false, Some, Contains}
+use Rattle.std.specs.Prelude.{◌≡◌, ◌⊎◌, ℕ, false, Some, Contains}
 use Rattle.gql_clashes.specs.declared.sets.Mode.{Mode}
-use Rattle.gql_clashes.specs.declared.sets.Mode.TheVariants.{Merge}
 use Rattle.gql_clashes.specs.Clashes.{Nodes, AreTwo, is_bad, mode_below}
 
 -- two fields that two bodies have themselves

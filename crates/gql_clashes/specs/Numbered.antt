@@ -29,7 +29,7 @@ nodes_of sets = record {
   below = λ f. (field_at sets f).below;
   is_one = λ f g. nat_eq (field_at sets f).node (field_at sets g).node;
   share_name = λ f g.
-    nat_eq (field_at sets f).response_name (field_at sets g).response_name;
+      nat_eq (field_at sets f).response_name (field_at sets g).response_name;
   share_parent = λ f g. nat_eq (field_at sets f).parent (field_at sets g).parent;
   of_object = λ f. (field_at sets f).of_object;
   share_call = λ f g. nat_eq (field_at sets f).call (field_at sets g).call;

@@ -1,5 +1,5 @@
 -- The clashes of a body, in parts: one part for each two bodies that it spreads.
-use Rattle.std.specs.Prelude.{ℕ, Contains}
+use Rattle.std.specs.Prelude.{Contains}
 use Rattle.gql_clashes.specs.declared.sets.Mode.{Mode}
 use Rattle.gql_clashes.specs.Clashes.{Nodes, IsClash, SeedsBetween}
 

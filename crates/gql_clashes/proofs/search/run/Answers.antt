@@ -3,7 +3,7 @@ use Rattle.gql_clashes.specs.Compared.{classes_of}
 use Rattle.gql_clashes.specs.Seen.{rows_of, whole_row}
 use Rattle.gql_clashes.proofs.Reading.{asked_inside}
 use Rattle.gql_clashes.proofs.Looking.{found_by}
-use Rattle.gql_clashes.proofs.Searching.{searches_first, searches_by, less_by, popped_inside, items_inside_by, marked_size, ended}
+use Rattle.gql_clashes.proofs.Searching.{searches_first, searches_by, less_by, popped_inside, items_inside_by, marked_size, ended, classes_inside}
 use Rattle.gql_clashes.proofs.search.run.Goals as goal
 
 pub loop-item-init : goal.loop-item-init
@@ -13,11 +13,23 @@ loop-item-init c = record {
   searches = searches_first c.args.sets.now (classes_of c.args.table.now) c.requires.classed (rows_of c.args.seen.now) c.args.todo.now.items c.args.bad.now.items c.requires.waits c.requires.all;
 }
 
-pub asked_by-items-requires-clause-left : goal.asked_by-items-requires-clause-left
-asked_by-items-requires-clause-left c = (popped_inside c.args.sets.now (classes_of c.args.table.now) c.requires.classed _ _ _ _ _ _ _ c.in-Some.item c.loop-item.invariant.square c.loop-item.invariant.searches c.in-Some.ensures.items).0
+pub classes_at-lefts-requires : goal.classes_at-lefts-requires
+classes_at-lefts-requires c = let i = (popped_inside c.args.sets.now (classes_of c.args.table.now) c.requires.classed _ _ _ _ _ _ _ c.in-Some.item c.loop-item.invariant.square c.loop-item.invariant.searches c.in-Some.ensures.items) in omega (arith, i.0, c.requires.rows)
 
-pub asked_by-items-requires-clause-right : goal.asked_by-items-requires-clause-right
-asked_by-items-requires-clause-right c = (popped_inside c.args.sets.now (classes_of c.args.table.now) c.requires.classed _ _ _ _ _ _ _ c.in-Some.item c.loop-item.invariant.square c.loop-item.invariant.searches c.in-Some.ensures.items).1
+pub find_all-requires-clause-lefts : goal.find_all-requires-clause-lefts
+find_all-requires-clause-lefts c = classes_inside c.args.sets.now (classes_of c.args.table.now) c.requires.whole c.requires.classed c.in-Some.item.left _ c.classes_at-lefts.ensures
+
+pub classes_at-rights-requires : goal.classes_at-rights-requires
+classes_at-rights-requires c = let i = (popped_inside c.args.sets.now (classes_of c.args.table.now) c.requires.classed _ _ _ _ _ _ _ c.in-Some.item c.loop-item.invariant.square c.loop-item.invariant.searches c.in-Some.ensures.items) in omega (arith, i.1, c.requires.rows)
+
+pub find_all-requires-clause-rights : goal.find_all-requires-clause-rights
+find_all-requires-clause-rights c = classes_inside c.args.sets.now (classes_of c.args.table.now) c.requires.whole c.requires.classed c.in-Some.item.right _ c.classes_at-rights.ensures
+
+pub asked_by-requires-clause-left : goal.asked_by-requires-clause-left
+asked_by-requires-clause-left c = (popped_inside c.args.sets.now (classes_of c.args.table.now) c.requires.classed _ _ _ _ _ _ _ c.in-Some.item c.loop-item.invariant.square c.loop-item.invariant.searches c.in-Some.ensures.items).0
+
+pub asked_by-requires-clause-right : goal.asked_by-requires-clause-right
+asked_by-requires-clause-right c = (popped_inside c.args.sets.now (classes_of c.args.table.now) c.requires.classed _ _ _ _ _ _ _ c.in-Some.item c.loop-item.invariant.square c.loop-item.invariant.searches c.in-Some.ensures.items).1
 
 pub mark-requires-clause-inside : goal.mark-requires-clause-inside
 mark-requires-clause-inside c = λ y h. items_inside_by c.args.sets.now (classes_of c.args.table.now) c.requires.classed _ c.deref.result.now c.in-Some.item y c.requires.whole
