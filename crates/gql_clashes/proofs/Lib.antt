@@ -1,0 +1,10 @@
+pub mod Carrying
+pub mod Classing
+pub mod Cover
+pub mod Joining
+pub mod Looking
+pub mod Marking
+pub mod Members
+pub mod Reading
+pub mod Searching
+pub mod Seeing

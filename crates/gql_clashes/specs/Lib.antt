@@ -1,0 +1,9 @@
+pub mod Adding
+pub mod Clashes
+pub mod Compared
+pub mod Items
+pub mod Numbered
+pub mod Numbering
+pub mod Parts
+pub mod Search
+pub mod Seen

@@ -1,0 +1,20 @@
+//! Which fields clash: the search of field selection merging (GraphQL 5.3.2), over fields and
+//! selection sets that are numbers.
+//!
+//! The search visits pairs of selection sets, each pair once in each mode, and compares the fields
+//! that the two have themselves. Fields that differ in nothing but their place, with nothing below,
+//! are compared as one.
+#![tactic(auto)]
+
+mod asked;
+mod classes;
+mod compare;
+mod found;
+mod parts;
+mod search;
+mod seen;
+mod sets;
+
+pub use parts::clashes_by_parts;
+pub use search::{clashes, clashes_between};
+pub use sets::{Body, Mode, NumberedField, Pair, Sets};
