@@ -35,4 +35,7 @@ mod v23_directives_in_valid_locations;
 mod v24_directives_unique_per_location;
 mod visit;
 
-pub use definition::local_faults;
+pub use asking::kind_of;
+pub use counts::{IsNamed, counts, is_repeated};
+pub use definition::{local_faults, owner_of};
+pub use faults::{add_fault, add_fault_of};
