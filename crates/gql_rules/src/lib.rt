@@ -7,7 +7,7 @@ mod answers;
 mod arguments;
 mod asking;
 mod conditions;
-mod counts;
+pub mod counts;
 mod definition;
 mod directives;
 mod faults;
@@ -36,6 +36,5 @@ mod v24_directives_unique_per_location;
 mod visit;
 
 pub use asking::kind_of;
-pub use counts::{IsNamed, counts, is_repeated};
 pub use definition::{local_faults, owner_of};
 pub use faults::{add_fault, add_fault_of};

@@ -1,5 +1,5 @@
 -- Helper definitions for private contracts: the uses and the faults as lists.
-use Rattle.std.specs.Prelude.{ℕ, List, [], ◌∷◌, ◌++◌, flat_map, Bool, bytes_eq, is_some, if◌then◌else◌}
+use Rattle.std.specs.Prelude.{ℕ, List, [], ◌∷◌, ◌++◌, flat_map, Bool, bytes_eq, is_some, Option, if◌then◌else◌}
 use Rattle.std.specs.List.{list_any}
 use Rattle.gql_ast.specs.declared.definition.Definition.{Definition}
 use Rattle.gql_ast.specs.declared.executable.VariableDefinition.{VariableDefinition}
@@ -40,9 +40,20 @@ undefined owner variables x = if is_some (variable_named variables x.name)
 abbrev pub is_used : List Use → List ℕ → Bool
 is_used uses name = list_any (λ (x : Use). bytes_eq name x.name) uses
 
--- V28 of a variable, at the first of its name
+-- V28 of a variable that is not used, at the first of its name
+abbrev pub unused_first : FilePlace → Option VariableDefinition → List Fault
+unused_first owner first = where_known first (λ (v : VariableDefinition).
+    fault_at owner rule.V28 v.name.text v.place ∷ [])
+
+-- V28 of a variable
 abbrev pub unused : FilePlace → List VariableDefinition → List Use → VariableDefinition → List Fault
 unused owner variables uses v = if is_used uses v.name.text
     then []
-    else where_known (variable_named variables v.name.text) (λ (first : VariableDefinition).
-    fault_at owner rule.V28 first.name.text first.place ∷ [])
+    else unused_first owner (variable_named variables v.name.text)
+
+-- V27 and V28 of an operation with these variables, by the fragments that it reaches
+abbrev pub use_faults : FilePlace → Definition → List FragmentFact → List VariableDefinition
+    → List Fault
+use_faults owner d members variables =
+    flat_map (undefined owner variables) (uses_in d members)
+    ++ flat_map (unused owner variables (uses_in d members)) variables

@@ -6,7 +6,8 @@ use Rattle.gql_ast.specs.declared.fault.Fault.{Fault}
 use Rattle.gql_ast.specs.declared.fault.FilePlace.{FilePlace}
 use Rattle.gql_ast.specs.declared.rule.Rule.TheVariants as rule
 use Rattle.gql_rules.specs.Faults.{fault_at}
-use Rattle.gql_rules.specs.Parts.{is_repeated, variable_name}
+use Rattle.gql_rules.specs.Parts.{is_repeated}
+use Rattle.gql_vars.specs.Variables.{variable_name}
 
 -- the fault of one of these variables
 abbrev pub fault_of_variable : FilePlace → List VariableDefinition → VariableDefinition → List Fault

@@ -4,10 +4,14 @@ use Rattle.gql_ast.specs.declared.executable.VariableDefinition.{VariableDefinit
 use Rattle.gql_ast.specs.declared.text.Name.{Name}
 use Rattle.gql_faults.specs.TypeNames.{name_in}
 
+-- the name of a variable
+abbrev pub variable_name : VariableDefinition → List ℕ
+variable_name v = v.name.text
+
 -- the first variable of a name: where there are more, the others do not count
 abbrev pub variable_named : List VariableDefinition → List ℕ → Option VariableDefinition
 variable_named variables name =
-    find (λ (v : VariableDefinition). bytes_eq name v.name.text) variables
+    find (λ (v : VariableDefinition). bytes_eq name (variable_name v)) variables
 
 -- the name that the type of a variable ends in
 abbrev pub type_name : VariableDefinition → Name

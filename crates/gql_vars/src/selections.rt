@@ -13,6 +13,7 @@ use gql_facts::FragmentFact;
 use std::alloc::{AllocError, Global};
 
 #[cycle(selections)]
+#[tactic(auto, using(crate::proofs::SelectionUses::in_field))]
 fn add_field_uses<'t>(
     file: &'t FileName,
     field: &'t Field,
@@ -27,6 +28,7 @@ fn add_field_uses<'t>(
 }
 
 #[cycle(selections)]
+#[tactic(auto, using(crate::proofs::SelectionUses::in_inline))]
 fn add_inline_uses<'t>(
     file: &'t FileName,
     inline: &'t InlineFragment,
@@ -40,6 +42,7 @@ fn add_inline_uses<'t>(
 }
 
 #[cycle(selections)]
+#[tactic(auto, using(crate::proofs::SelectionUses::in_spread))]
 fn add_selection_uses<'t>(
     file: &'t FileName,
     selection: &'t Selection,

@@ -19,7 +19,7 @@ pub fn first_variables<'t>(
         option_map (λ v. v.now) (hash.get_by (λ k. bytes_eq q k.now) first)
         ≡ variable_named variables.now q) }
 {
-    let mut first = HashMap::new(alloc);
+    let mut first: HashMap<&'t str, &'t VariableDefinition> = HashMap::new(alloc);
     for variable in variables {
         let name = variable.name.as_str();
         if first.get(name).is_none() {
@@ -37,7 +37,7 @@ pub fn used_names<'t>(
     ensures { IfOk result (λ names. (q : List ℕ) →
         set.contains_by (λ k. bytes_eq q k.now) names ≡ is_used (map use_of uses.now) q) }
 {
-    let mut names = HashSet::new(alloc);
+    let mut names: HashSet<&'t str> = HashSet::new(alloc);
     for used in uses {
         names.insert(used.name.as_str())?;
     }

@@ -18,7 +18,7 @@ pub struct VariableUse<'t> {
 
 /// Adds the uses in a value.
 #[cycle(values)]
-#[tactic(auto, using(crate::proofs::LiteralUses::in_variable, crate::proofs::LiteralUses::in_int, crate::proofs::LiteralUses::in_float, crate::proofs::LiteralUses::in_string, crate::proofs::LiteralUses::in_boolean, crate::proofs::LiteralUses::in_null, crate::proofs::LiteralUses::in_enum, crate::proofs::LiteralUses::in_list, crate::proofs::LiteralUses::in_object))]
+#[tactic(auto, using(crate::proofs::LiteralUses::in_variable, crate::proofs::LiteralUses::in_int, crate::proofs::LiteralUses::in_float, crate::proofs::LiteralUses::in_string, crate::proofs::LiteralUses::in_boolean, crate::proofs::LiteralUses::in_null, crate::proofs::LiteralUses::in_enum, crate::proofs::LiteralUses::in_list, crate::proofs::LiteralUses::in_object, crate::proofs::LiteralUses::no_uses))]
 fn add_value_uses<'t>(
     file: &'t FileName,
     value: &'t Literal,

@@ -6,7 +6,8 @@ ghost use Rattle.gql_rules.specs.Faults.{fault_at};
 ghost use Rattle.gql_vars.specs.V25VariableUniqueness as spec;
 
 use gql_ast::{Fault, FilePlace, Rule, VariableDefinition};
-use gql_rules::{add_fault, counts, is_repeated};
+use gql_rules::add_fault;
+use gql_rules::counts::{counts, is_repeated};
 use std::alloc::{AllocError, Global};
 use std::collections::HashMap;
 

@@ -1,5 +1,5 @@
 //! V27, All Variable Uses Defined: a variable is used that the operation does not define.
-ghost use Rattle.std.specs.Prelude.{◌≡◌, ◌++◌, ◌∷◌, [], ℕ, List, OnOk, bytes_eq, flat_map, is_some, map, option_map, if◌then◌else◌};
+ghost use Rattle.std.specs.Prelude.{◌≡◌, ◌++◌, ◌∷◌, [], ℕ, List, OnOk, bytes_eq, flat_map, is_some, option_map, if◌then◌else◌};
 ghost use Rattle.std.specs.HashMap as hash;
 ghost use Rattle.gql_ast.specs.declared.executable.VariableDefinition.{VariableDefinition as AVariable};
 ghost use Rattle.gql_ast.specs.declared.rule.Rule.TheVariants as rule;
@@ -42,7 +42,7 @@ pub fn check(
         → ((q : List ℕ) → option_map (λ v. v.now) (hash.get_by (λ k. bytes_eq q k.now) first.now)
         ≡ variable_named variables q)
         → faults.new.items ≡ faults.old.items
-        ++ flat_map (undefined owner.now variables) (map use_of uses.now)) }
+        ++ flat_map (λ x. undefined owner.now variables (use_of x)) uses.now) }
 {
     for used in uses {
         check_use(alloc, owner, first, used, faults)?;

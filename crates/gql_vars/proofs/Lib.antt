@@ -1,0 +1,3 @@
+pub mod LiteralUses
+pub mod SelectionUses
+pub mod Lookups
