@@ -4,8 +4,8 @@ ghost use Rattle.std.specs.Option.{option_copied};
 ghost use Rattle.gql_rules.specs.Answers as spec;
 
 use gql_ast::Text;
-use gql_facts::{DirectiveFact, Fact, FieldFact, FragmentFact, InputFact, Wrapper};
-use gql_types::{Named, TypeKind};
+use gql_facts::{DirectiveFact, Fact, FieldFact, FragmentFact, InputFact};
+use gql_types::{Named, TypeKind, Wrapper};
 
 /// The kind that an answer gives.
 pub fn kind_in(fact: &Fact) -> Option<TypeKind>

@@ -1,3 +1,7 @@
 pub mod LiteralUses
-pub mod SelectionUses
 pub mod Lookups
+pub mod SelectionUses
+pub mod Trees
+pub mod TypeNames
+pub mod View
+pub mod Whole

@@ -7,6 +7,8 @@ use Rattle.gql_ast.specs.declared.literal.ObjectField.{ObjectField, fold-ObjectF
 use Rattle.gql_ast.specs.declared.literal.Literal.TheOpen.{Literal-F}
 use Rattle.gql_ast.specs.declared.literal.Literal.TheFolds.{fold-roll-Literal, fold_out-ObjectField}
 use Rattle.gql_ast.specs.declared.literal.Literal.TheVariants as l
+use Rattle.gql_vars.specs.declared.uses.VariableUse.{VariableUse}
+use Rattle.gql_vars.specs.Lists.{use_of}
 use Rattle.gql_vars.specs.Uses.{Use, all, literal_uses, uses_at, uses_of_value}
 
 module _ (file : List ℕ) (place : Place) where
@@ -64,3 +66,10 @@ module _ (file : List ℕ) (place : Place) where
 -- a literal without uses
 pub no_uses : (old : List Use) (file : List ℕ) (x : Literal) → literal_uses file x ≡ [] → old ≡ old ++ literal_uses file x
 no_uses old file x is = rw is (sym (append-nil old))
+
+-- one use more
+pub used_one : (old new : List VariableUse) (x : VariableUse) → new ≡ old ++ x ∷ [] → map use_of new ≡ map use_of old ++ use_of x ∷ []
+used_one old new x is = ap (map use_of) is ∙ map_append use_of old (x ∷ []) where
+  map_append : {A B : Type 0} (f : A → B) (xs ys : List A) → map f (xs ++ ys) ≡ map f xs ++ map f ys
+  map_append f [] ys = refl
+  map_append f (y ∷ xs) ys = ap (λ l. f y ∷ l) (map_append f xs ys)

@@ -1,6 +1,7 @@
 -- Helper definitions for private contracts: the uses and the faults as lists.
-use Rattle.std.specs.Prelude.{ℕ, List, [], ◌∷◌, ◌++◌, flat_map, Bool, bytes_eq, is_some, Option, if◌then◌else◌}
+use Rattle.std.specs.Prelude.{ℕ, List, [], ◌∷◌, ◌++◌, flat_map, Bool, bytes_eq, is_some, Option, Some, None, if◌then◌else◌}
 use Rattle.std.specs.List.{list_any}
+use Rattle.std.specs.Option.{option_or}
 use Rattle.gql_ast.specs.declared.definition.Definition.{Definition}
 use Rattle.gql_ast.specs.declared.executable.VariableDefinition.{VariableDefinition}
 use Rattle.gql_ast.specs.declared.fault.Fault.{Fault}
@@ -39,6 +40,12 @@ undefined owner variables x = if is_some (variable_named variables x.name)
 -- a variable of this name is used
 abbrev pub is_used : List Use → List ℕ → Bool
 is_used uses name = list_any (λ (x : Use). bytes_eq name x.name) uses
+
+-- what is found under a name, or else this variable, if it has the name
+abbrev pub or_this : Option VariableDefinition → VariableDefinition → List ℕ
+    → Option VariableDefinition
+or_this found v name =
+    option_or found (if bytes_eq name v.name.text then Some v else None)
 
 -- V28 of a variable that is not used, at the first of its name
 abbrev pub unused_first : FilePlace → Option VariableDefinition → List Fault

@@ -51,7 +51,8 @@ fn check_uses(
     let first = first_variables(alloc, variables)?;
     let uses = uses_in(alloc, definition, members)?;
     v27_all_variable_uses_defined::check(alloc, owner, &first, uses.as_slice(), faults)?;
-    v28_all_variables_used::check(alloc, owner, variables, &first, uses.as_slice(), faults)
+    v28_all_variables_used::check(alloc, owner, variables, &first, uses.as_slice(), faults)?;
+    Ok(())
 }
 
 /// The faults of an operation, which is the definition.

@@ -24,7 +24,8 @@ fn add_field_uses<'t>(
 {
     add_argument_uses(file, field.arguments.as_slice(), uses)?;
     add_directive_uses(file, field.directives.as_slice(), uses)?;
-    add_set_uses(file, field.selections.as_slice(), uses)
+    add_set_uses(file, field.selections.as_slice(), uses)?;
+    Ok(())
 }
 
 #[cycle(selections)]
@@ -38,7 +39,8 @@ fn add_inline_uses<'t>(
         ++ spec.selection_uses file.now (selections.InlineFragment inline.now)) }
 {
     add_directive_uses(file, inline.directives.as_slice(), uses)?;
-    add_set_uses(file, inline.selections.as_slice(), uses)
+    add_set_uses(file, inline.selections.as_slice(), uses)?;
+    Ok(())
 }
 
 #[cycle(selections)]

@@ -1,14 +1,30 @@
 //! The variables of an operation by their names, and the names that are used.
-ghost use Rattle.std.specs.Prelude.{◌≡◌, ℕ, List, IfOk, bytes_eq, map, option_map};
+ghost use Rattle.std.specs.Prelude.{◌≡◌, ℕ, List, IfOk, OnOk, bytes_eq, is_some, map, option_map};
 ghost use Rattle.std.specs.HashMap as hash;
-ghost use Rattle.std.specs.HashSet as set;
-ghost use Rattle.gql_vars.specs.Lists.{use_of, is_used};
+ghost use Rattle.gql_vars.specs.Lists.{is_used, or_this, use_of};
 ghost use Rattle.gql_vars.specs.Variables.{variable_named};
 
 use crate::uses::VariableUse;
 use gql_ast::VariableDefinition;
 use std::alloc::{AllocError, Global};
-use std::collections::{HashMap, HashSet};
+use std::collections::HashMap;
+
+/// Keeps a variable, unless there is one of its name.
+fn keep_first<'t>(
+    first: &mut HashMap<&'t str, &'t VariableDefinition>,
+    variable: &'t VariableDefinition,
+) -> Result<(), AllocError>
+    ensures { OnOk result ((q : List ℕ) →
+        option_map (λ v. v.now) (hash.get_by (λ k. bytes_eq q k.now) first.new)
+        ≡ or_this (option_map (λ v. v.now) (hash.get_by (λ k. bytes_eq q k.now) first.old))
+        variable.now q) }
+{
+    let name = variable.name.as_str();
+    if first.get(name).is_none() {
+        first.insert(name, variable)?;
+    }
+    Ok(())
+}
 
 /// The first variable of each name.
 pub fn first_variables<'t>(
@@ -21,10 +37,7 @@ pub fn first_variables<'t>(
 {
     let mut first: HashMap<&'t str, &'t VariableDefinition> = HashMap::new(alloc);
     for variable in variables {
-        let name = variable.name.as_str();
-        if first.get(name).is_none() {
-            first.insert(name, variable)?;
-        }
+        keep_first(&mut first, variable)?;
     }
     Ok(first)
 }
@@ -33,13 +46,13 @@ pub fn first_variables<'t>(
 pub fn used_names<'t>(
     alloc: Global,
     uses: &[VariableUse<'t>],
-) -> Result<HashSet<&'t str>, AllocError>
+) -> Result<HashMap<&'t str, ()>, AllocError>
     ensures { IfOk result (λ names. (q : List ℕ) →
-        set.contains_by (λ k. bytes_eq q k.now) names ≡ is_used (map use_of uses.now) q) }
+        is_some (hash.get_by (λ k. bytes_eq q k.now) names) ≡ is_used (map use_of uses.now) q) }
 {
-    let mut names: HashSet<&'t str> = HashSet::new(alloc);
+    let mut names: HashMap<&'t str, ()> = HashMap::new(alloc);
     for used in uses {
-        names.insert(used.name.as_str())?;
+        names.insert(used.name.as_str(), ())?;
     }
     Ok(names)
 }

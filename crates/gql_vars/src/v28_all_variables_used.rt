@@ -1,8 +1,7 @@
 //! V28, All Variables Used: a variable is used neither in its operation nor in a fragment that the
 //! operation reaches.
-ghost use Rattle.std.specs.Prelude.{◌≡◌, ◌++◌, ℕ, List, OnOk, [], bytes_eq, flat_map, map, option_map, if◌then◌else◌};
+ghost use Rattle.std.specs.Prelude.{◌≡◌, ◌++◌, ℕ, List, OnOk, [], bytes_eq, flat_map, is_some, map, option_map, if◌then◌else◌};
 ghost use Rattle.std.specs.HashMap as hash;
-ghost use Rattle.std.specs.HashSet as set;
 ghost use Rattle.std.specs.Option.{option_copied};
 ghost use Rattle.gql_vars.specs.Lists as spec;
 ghost use Rattle.gql_vars.specs.Variables.{variable_named};
@@ -12,7 +11,7 @@ use crate::uses::VariableUse;
 use gql_ast::{Fault, FilePlace, Rule, VariableDefinition};
 use gql_rules::add_fault;
 use std::alloc::{AllocError, Global};
-use std::collections::{HashMap, HashSet};
+use std::collections::HashMap;
 
 /// Adds the fault of a variable that is not used, at the first of its name.
 fn add_unused(
@@ -34,17 +33,17 @@ fn check_variable(
     alloc: Global,
     owner: &FilePlace,
     first: &HashMap<&str, &VariableDefinition>,
-    used: &HashSet<&str>,
+    used: &HashMap<&str, ()>,
     variable: &VariableDefinition,
     faults: &mut Vec<Fault>,
 ) -> Result<(), AllocError>
     ensures { OnOk result (faults.new.items ≡ faults.old.items
-        ++ (if set.contains_by (λ k. bytes_eq variable.now.name.text k.now) used.now then []
+        ++ (if is_some (hash.get_by (λ k. bytes_eq variable.now.name.text k.now) used.now) then []
         else spec.unused_first owner.now (option_map (λ v. v.now)
         (hash.get_by (λ k. bytes_eq variable.now.name.text k.now) first.now)))) }
 {
     let name = variable.name.as_str();
-    if !used.contains(name) {
+    if used.get(name).is_none() {
         add_unused(alloc, owner, first.get(name).copied(), faults)?;
     }
     Ok(())
