@@ -1,7 +1,6 @@
 pub mod LiteralUses
 pub mod Lookups
 pub mod SelectionUses
-pub mod Trees
 pub mod TypeNames
 pub mod View
 pub mod Whole

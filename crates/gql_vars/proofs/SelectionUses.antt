@@ -1,11 +1,10 @@
 -- The uses in each form of a selection: the equations of the definition.
 use Rattle.std.specs.Prelude.{◌≡◌, ℕ, List, [], ◌∷◌, ◌++◌, map, flat_map, refl}
 use Rattle.std.proofs.Common.{ap, sym, ◌∙◌}
-use Rattle.gql_ast.specs.declared.executable.Selection.{Selection}
 use Rattle.gql_ast.specs.declared.executable.Field.{Field}
 use Rattle.gql_ast.specs.declared.executable.InlineFragment.{InlineFragment}
 use Rattle.gql_ast.specs.declared.executable.Spread.{Spread}
-use Rattle.gql_ast.specs.declared.executable.Selection.TheOpen.{Selection-F, Field-F, InlineFragment-F}
+use Rattle.gql_ast.specs.declared.executable.Selection.TheOpen.{Selection-F}
 use Rattle.gql_ast.specs.declared.executable.Selection.TheFolds.{fold-roll-Selection, fold_out-Field, fold_out-InlineFragment}
 use Rattle.gql_ast.specs.declared.executable.Selection.TheVariants as s
 use Rattle.gql_vars.specs.Uses.{Use, all, argument_uses, directive_uses, selection_uses, set_uses, selected_at, field_at, inline_at}
@@ -35,3 +34,14 @@ module _ (file : List ℕ) where
       ∙ fold-roll-Selection (List Use) (List Use) (List Use) (selected_at file) (field_at file) (inline_at file) (Selection-F.InlineFragment i)
       ∙ fold_out-InlineFragment (List Use) (List Use) (List Use) (selected_at file) (field_at file) (inline_at file) i
       ∙ ap (λ r. directive_uses file i.directives ++ r) (flat (selection_uses file) i.selections)
+
+-- parts that are added one after the other
+append_assoc : {A : Type 0} (a b c : List A) → (a ++ b) ++ c ≡ a ++ (b ++ c)
+append_assoc [] b c = refl
+append_assoc (x ∷ a) b c = ap (λ l. x ∷ l) (append_assoc a b c)
+
+pub two : (old mid new x y : List Use) → mid ≡ old ++ x → new ≡ mid ++ y → new ≡ old ++ (x ++ y)
+two old mid new x y first second = second ∙ ap (λ l. l ++ y) first ∙ append_assoc old x y
+
+pub three : (old mid end new x y z : List Use) → mid ≡ old ++ x → end ≡ mid ++ y → new ≡ end ++ z → new ≡ old ++ (x ++ (y ++ z))
+three old mid end new x y z first second third = two old mid new x (y ++ z) first (two mid end new y z second third)

@@ -1,20 +1,19 @@
 -- The name within a type is the same with its place and without.
 use Rattle.std.specs.Prelude.{◌≡◌, ℕ, List, [], ◌∷◌, ◌++◌, refl}
 use Rattle.std.proofs.Common.{ap, sym, ◌∙◌, subst}
-use Rattle.gql_text.specs.declared.place.Place.{Place}
 use Rattle.gql_ast.specs.declared.text.Name.{Name}
 use Rattle.gql_ast.specs.declared.type_ref.TypeRef.{TypeRef, roll-TypeRef}
 use Rattle.gql_ast.specs.declared.type_ref.TypeRef.TheOpen.{TypeRef-F}
 use Rattle.gql_ast.specs.declared.type_ref.TypeRef.TheFolds.{ind-TypeRef, map-TypeRef}
 use Rattle.gql_ast.specs.declared.type_ref.TypeRef.TheVariants as t
-use Rattle.gql_facts.specs.WrittenTypes.{named_type, wrapped}
-use Rattle.gql_facts.specs.declared.written_type.Wrapper.{Wrapper}
-use Rattle.gql_facts.specs.declared.written_type.Wrapper.TheVariants as wrapper
+use Rattle.gql_types.specs.WrittenTypes.{named_type, wrapped}
+use Rattle.gql_types.specs.declared.written_type.Wrapper.{Wrapper}
+use Rattle.gql_types.specs.declared.written_type.Wrapper.TheVariants as wrapper
 use Rattle.gql_faults.specs.TypeNames.{name_in, name_in_named, name_in_list, name_in_non_null}
 use Rattle.gql_types.specs.Written.{Written, named, listed, required, written, written_named, written_list, written_non_null}
 
 -- the name within a type, whatever its steps
-inner : Written → List ℕ
+abbrev inner : Written → List ℕ
 inner (named n) = n
 inner (listed w) = inner w
 inner (required w) = inner w

@@ -1,9 +1,8 @@
 -- Facts that agree on what a definition reads give it the same faults by the rules on variables.
-use Rattle.std.specs.Prelude.{◌≡◌, ◌↔◌, ℕ, List, [], ◌∷◌, ◌++◌, flat_map, refl, Contains}
+use Rattle.std.specs.Prelude.{◌≡◌, ◌↔◌, List, [], ◌∷◌, ◌++◌, flat_map, refl, Contains}
 use Rattle.std.proofs.Common.{ap, sym, ◌∙◌, subst}
 use Rattle.std.proofs.lemmas.List.Elements.{Contains-append_left, Contains-append_right}
 use Rattle.gql_ast.specs.declared.definition.Definition.{Definition}
-use Rattle.gql_ast.specs.declared.definition.Tree.{Tree}
 use Rattle.gql_ast.specs.declared.definition.Tree.TheVariants as tree
 use Rattle.gql_ast.specs.declared.executable.Operation.{Operation}
 use Rattle.gql_ast.specs.declared.executable.VariableDefinition.{VariableDefinition}
@@ -14,6 +13,8 @@ use Rattle.gql_facts.specs.ListMembers.{Contains-here, Contains-there}
 use Rattle.gql_facts.specs.OwnReads.{own_reads, operation_reads, composite_reads, directive_reads, variable_reads, set_scan, selected_root, root_parent}
 use Rattle.gql_facts.specs.Reads.{own, Agree}
 use Rattle.gql_facts.specs.Worlds.{Facts}
+use Rattle.gql_types.specs.WrittenTypes.{named_type}
+use Rattle.gql_types.specs.Written.{written}
 use Rattle.gql_facts.specs.declared.key.Key.{Key}
 use Rattle.gql_facts.specs.declared.key.Key.TheVariants as key
 use Rattle.gql_rules.specs.Answers.{kind_in}
@@ -29,7 +30,8 @@ use Rattle.gql_vars.specs.Variables.{type_name}
 module _ (v u : Facts) (owner : FilePlace) where
   kind_same : (x : VariableDefinition) (ks : List Key) → AgreeAt v u (variable_reads x ++ ks)
       → u (key.KindOf (type_name x).text) ≡ v (key.KindOf (type_name x).text)
-  kind_same x ks agree = subst (λ n. u (key.KindOf n) ≡ v (key.KindOf n)) (sym (same_name x.of_type)) (agree _ (Contains-here _ _))
+  kind_same x ks agree = subst (λ n. u (key.KindOf n) ≡ v (key.KindOf n)) (sym (same_name x.of_type)) (agree (key.KindOf (named_type (written x.of_type)))
+      (Contains-here (key.KindOf (named_type (written x.of_type))) (key.InputOf (named_type (written x.of_type)) ∷ key.EnumOf (named_type (written x.of_type)) ∷ directive_reads x.directives ++ ks)))
 
   types_same : (xs : List VariableDefinition) → AgreeAt v u (flat_map variable_reads xs)
       → flat_map (v26.faults u owner) xs ≡ flat_map (v26.faults v owner) xs

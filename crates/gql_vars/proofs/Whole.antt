@@ -1,10 +1,12 @@
 -- The lists that the code makes have just the faults of the operation.
-use Rattle.std.specs.Prelude.{◌≡◌, ◌×◌, ◌⊎◌, ℕ, List, [], ◌∷◌, ◌++◌, flat_map, map, refl, bytes_eq, is_some, Bool, true, false, Contains, Option, Some, None, if◌then◌else◌}
+use Rattle.std.specs.Prelude.{◌≡◌, ℕ, List, [], ◌∷◌, ◌++◌, flat_map, map, refl, bytes_eq, is_some, Bool, true, false, Contains, Option, Some, None, if◌then◌else◌}
 use Rattle.std.specs.List.{list_any}
 use Rattle.std.proofs.Common.{ap, sym, ◌∙◌, subst, inl, inr, true≢false}
 use Rattle.std.proofs.lemmas.List.Elements.{Contains-append_left, Contains-append_right, Contains-append_cases}
 use Rattle.std.proofs.lemmas.Slice.Eq.{bytes_eq-Decides}
 use Rattle.gql_ast.specs.declared.definition.Definition.{Definition}
+use Rattle.gql_ast.specs.declared.definition.Tree.{Tree}
+use Rattle.gql_ast.specs.declared.definition.Tree.TheVariants as tree
 use Rattle.gql_ast.specs.declared.executable.Operation.{Operation}
 use Rattle.gql_ast.specs.declared.executable.VariableDefinition.{VariableDefinition}
 use Rattle.gql_ast.specs.declared.fault.Fault.{Fault}
@@ -26,7 +28,7 @@ use Rattle.gql_vars.specs.V25VariableUniqueness as v25
 use Rattle.gql_vars.specs.V26VariablesAreInputTypes as v26
 use Rattle.gql_vars.specs.V27AllVariableUsesDefined as v27
 use Rattle.gql_vars.specs.V28AllVariablesUsed as v28
-use Rattle.gql_vars.specs.VariableFaults.{IsFaultOf, by_v25, by_v26, by_v27, by_v28, by_p04}
+use Rattle.gql_vars.specs.VariableFaults.{IsFaultOf, by_v25, by_v26, by_v27, by_v28, by_p04, IsVariableFault, of_operation}
 use Rattle.gql_vars.specs.Variables.{variable_named, variable_name}
 
 -- ---- lists
@@ -123,14 +125,14 @@ module _ (facts : Facts) (d : Definition) (o : Operation) (members : List Fragme
     | inr n ↦ n
   ]
 
-  unused_by : (n : List ℕ) (f : Fault) (b : Bool) (v : Option VariableDefinition) → is_used us n ≡ b → variable_named vs n ≡ v
-      → Contains (if b then [] else unused_first owner v) f → v28.IsFault facts d o f
-  unused_by n f true v no is h = absurd (Contains-nil f h)
-  unused_by n f false None no is h = absurd (Contains-nil f h)
-  unused_by n f false (Some v) no is h =
+  unused_by : (n : List ℕ) (f : Fault) (b : Bool) (first : Option VariableDefinition) → is_used us n ≡ b → variable_named vs n ≡ first
+      → Contains (if b then [] else unused_first owner first) f → v28.IsFault facts d o f
+  unused_by n f true first off is h = absurd (Contains-nil f h)
+  unused_by n f false None off is h = absurd (Contains-nil f h)
+  unused_by n f false (Some v) off is h =
       let same : n ≡ v.name.text = (bytes_eq-Decides n v.name.text).0 (found_in (λ (w : VariableDefinition). bytes_eq n (variable_name w)) vs v is).1 in
       subst (λ g. v28.IsFault facts d o g) (sym (one (fault_at owner rule.V28 v.name.text v.place) f h))
-      (v28.unused (subst (λ m. variable_named vs m ≡ Some v) same is) (subst (λ m. v28.IsUnused facts d m) same (no_use n no)))
+      (v28.unused (subst (λ m. variable_named vs m ≡ Some v) same is) (subst (λ m. v28.IsUnused facts d m) same (no_use n off)))
 
   sound28 : (f : Fault) → Contains (flat_map (unused owner vs us) vs) f → v28.IsFault facts d o f
   sound28 f h = let r = Contains-flat_map_from (unused owner vs us) vs f h in
@@ -200,3 +202,33 @@ module _ (facts : Facts) (d : Definition) (o : Operation) (members : List Fragme
 
   pub lists : (found : List Fault) → found ≡ all_faults → Lists found (IsFaultOf facts d o)
   lists found is = subst (λ l. Lists l (IsFaultOf facts d o)) (sym is) (record { sound = λ f h. sound f h; complete = λ f h. complete f h })
+
+-- the parts as the code adds them, one after the other
+pub all_of : (facts : Facts) (d : Definition) (o : Operation) (members : List FragmentFact) (at : FilePlace) (vs : List VariableDefinition) (ms : List FragmentFact)
+    (none first second third : List Fault) → at ≡ owner_of d → vs ≡ o.variables → ms ≡ members → none ≡ []
+    → first ≡ none ++ v25.faults at vs
+    → second ≡ first ++ flat_map (type_faults facts at) vs
+    → third ≡ second ++ use_faults at d ms vs
+    → third ≡ v25.faults (owner_of d) o.variables ++ (flat_map (type_faults facts (owner_of d)) o.variables ++ use_faults (owner_of d) d members o.variables)
+all_of facts d o members at vs ms none first second third here these those empty a b c =
+    c ∙ ap (λ l. l ++ use_faults at d ms vs) (b ∙ ap (λ l. l ++ flat_map (type_faults facts at) vs) (a ∙ ap (λ l. l ++ v25.faults at vs) empty))
+    ∙ append_assoc (v25.faults at vs) (flat_map (type_faults facts at) vs) (use_faults at d ms vs)
+    ∙ ap (λ p. v25.faults p vs ++ (flat_map (type_faults facts p) vs ++ use_faults p d ms vs)) here
+    ∙ ap (λ xs. v25.faults (owner_of d) xs ++ (flat_map (type_faults facts (owner_of d)) xs ++ use_faults (owner_of d) d ms xs)) these
+    ∙ ap (λ gs. v25.faults (owner_of d) o.variables ++ (flat_map (type_faults facts (owner_of d)) o.variables ++ use_faults (owner_of d) d gs o.variables)) those
+
+-- ---- the faults of a definition that is an operation
+
+abbrev some_operation : Tree → Operation → Operation
+some_operation (tree.Operation o) p = o
+some_operation _ p = p
+
+pub of_lists : (facts : Facts) (d : Definition) (o : Operation) (found : List Fault) → d.tree ≡ tree.Operation o → Lists found (IsFaultOf facts d o)
+    → Lists found (IsVariableFault facts d)
+of_lists facts d o found is all = record {
+  sound = λ f h. of_operation is (all.sound f h);
+  complete = λ f h. complete f h;
+} where
+  complete : (f : Fault) → IsVariableFault facts d f → Contains found f
+  complete f (of_operation {o = p} its h) =
+      all.complete f (subst (λ q. IsFaultOf facts d q f) (ap (λ t. some_operation t o) (sym its ∙ is)) h)

@@ -6,14 +6,11 @@ ghost use Rattle.gql_vars.specs.Lists.{use_of, uses_in as all_uses_in};
 ghost use Rattle.gql_vars.specs.Uses as spec;
 
 use crate::uses::{VariableUse, add_argument_uses, add_directive_uses};
-use gql_ast::{
-    Definition, Field, FileName, Fragment, InlineFragment, Operation, Selection, Tree,
-};
+use gql_ast::{Definition, Field, FileName, Fragment, InlineFragment, Operation, Selection, Tree};
 use gql_facts::FragmentFact;
 use std::alloc::{AllocError, Global};
 
 #[cycle(selections)]
-#[tactic(auto, using(crate::proofs::SelectionUses::in_field))]
 fn add_field_uses<'t>(
     file: &'t FileName,
     field: &'t Field,
@@ -29,7 +26,6 @@ fn add_field_uses<'t>(
 }
 
 #[cycle(selections)]
-#[tactic(auto, using(crate::proofs::SelectionUses::in_inline))]
 fn add_inline_uses<'t>(
     file: &'t FileName,
     inline: &'t InlineFragment,

@@ -24,7 +24,14 @@ fn add_unused(
         ++ spec.unused_first owner.now (option_copied first.entry)) }
 {
     match first {
-        Some(first) => add_fault(alloc, owner, Rule::V28, &first.name.text, first.place, faults),
+        Some(first) => add_fault(
+            alloc,
+            owner,
+            Rule::V28,
+            &first.name.text,
+            first.place,
+            faults,
+        ),
         None => Ok(()),
     }
 }

@@ -1,4 +1,4 @@
-use Rattle.std.proofs.Common.{◌++◌, ◌∙◌, ap, flat_map, map, sym}
+use Rattle.std.proofs.Common.{◌++◌, ◌∙◌, ap, flat_map, map}
 use Rattle.gql_vars.specs.Lists.{use_of, undefined, unused}
 use Rattle.gql_vars.proofs.Whole.{use_faults_are}
 use Rattle.gql_vars.proofs.operation.check_uses.Goals as goal

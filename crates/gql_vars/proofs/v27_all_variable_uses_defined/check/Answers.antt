@@ -1,5 +1,6 @@
 use Rattle.std.proofs.Common.{◌++◌, ◌∷◌, [], ◌∙◌, ap, sym, arith, is_some, if◌then◌else◌}
 use Rattle.gql_ast.specs.declared.rule.Rule.TheVariants as rule
+use Rattle.std.proofs.lemmas.Grind.{common_steps}
 use Rattle.gql_rules.proofs.Steps.{flat_map_step}
 use Rattle.gql_vars.specs.Faults.{fault_of_use}
 use Rattle.gql_vars.specs.Lists.{undefined, use_of}
@@ -13,3 +14,6 @@ loop-used-preserved c = λ variables first.
     c.args.faults.now.items _ _ (omega arith) (sym c.used-item.is) (c.loop-used.invariant variables first)
     (c.in_ok-check_use.ensures ∙ ap (λ b. c.loop-used.faults.items ++ (if b then [] else fault_of_use c.args.owner.now rule.V27 (use_of x) ∷ []))
     (is_there _ _ ∙ ap is_some (first x.name.now)))
+
+pub returns : goal.returns
+returns c = λ variables first. grind (arith, common_steps, c.loop-used.invariant variables first)
