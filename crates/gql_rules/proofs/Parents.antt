@@ -1,7 +1,6 @@
 -- The parent type of what a field or a condition selects, by what the code asks.
 use Rattle.std.specs.Prelude.{◌≡◌, ℕ, List, refl, Option, Some, None, if◌then◌else◌}
 use Rattle.std.proofs.Common.{ap, sym, ◌∙◌}
-use Rattle.gql_types.specs.Kinds.{is_composite}
 use Rattle.gql_types.specs.declared.kind.TypeKind.{TypeKind}
 use Rattle.gql_facts.specs.Nodes.{composite, parent_below, field_type_in, is_composite_fact}
 use Rattle.gql_facts.specs.Worlds.{Facts}
