@@ -1,7 +1,10 @@
 -- The clashes of a body, in parts: one part for each two bodies that it spreads.
-use Rattle.std.specs.Prelude.{Contains}
+use Rattle.std.specs.Prelude.{◌<◌, ℕ, Contains}
 use Rattle.gql_clashes.specs.declared.sets.Mode.{Mode}
+use Rattle.gql_clashes.specs.declared.sets.Pair.{Pair}
+use Rattle.gql_clashes.specs.declared.sets.Sets.{Sets}
 use Rattle.gql_clashes.specs.Clashes.{Nodes, IsClash, SeedsBetween}
+use Rattle.gql_clashes.specs.Numbered.{nodes_of}
 
 -- a selection set itself, and those that it spreads, again and again
 pub data SpreadsTo {F S : Type 0} (v : Nodes F S) : S → S → Type 0 where
@@ -12,3 +15,8 @@ pub data SpreadsTo {F S : Type 0} (v : Nodes F S) : S → S → Type 0 where
 abbrev pub IsClashOfParts : {F S : Type 0} → Nodes F S → S → F → F → Mode → Type 0
 IsClashOfParts {F} {S} v s f g m =
     (t u : S) × SpreadsTo v s t × SpreadsTo v s u × IsClash v (SeedsBetween v t u) f g m
+
+-- the same of numbers, with the lesser number first
+abbrev pub IsClashPairOfParts : Sets → ℕ → Pair → Type 0
+IsClashPairOfParts sets s p =
+    (p.first < p.second) × IsClashOfParts (nodes_of sets) s p.first p.second p.mode

@@ -2,7 +2,7 @@
 ghost use Rattle.std.specs.Prelude.{◌↔◌, ◌∷◌, [], ℕ};
 ghost use Rattle.gql_clashes.specs.Clashes.{SeedsBetween, SeedsOf};
 ghost use Rattle.gql_clashes.specs.Numbered.{IsClashPair, nodes_of};
-ghost use Rattle.gql_clashes.specs.Parts.{IsClashOfParts};
+ghost use Rattle.gql_clashes.specs.Parts.{IsClashPairOfParts};
 ghost use Rattle.gql_clashes.specs.declared.sets.Pair.{Pair};
 ghost use Rattle.gql_clashes.specs.declared.sets.Sets.{Sets};
 
@@ -11,4 +11,12 @@ pub fn between_in_any_order()
     ensures { (z : Sets) → (s t : ℕ) → (p : Pair)
         → IsClashPair z (SeedsBetween (nodes_of z) s t) p
         ↔ IsClashPair z (SeedsBetween (nodes_of z) t s) p }
+{}
+
+/// What clashes where the selections of a body are merged is what clashes between each two of the
+/// bodies that it spreads, itself among them.
+pub fn clashes_are_of_parts()
+    ensures { (z : Sets) → (s : ℕ) → (p : Pair)
+        → IsClashPair z (SeedsOf (nodes_of z) (s ∷ [])) p
+        ↔ IsClashPairOfParts z s p }
 {}

@@ -10,6 +10,7 @@ mod asked;
 mod classes;
 mod compare;
 mod found;
+pub mod laws;
 mod parts;
 mod search;
 mod seen;

@@ -3,7 +3,7 @@ ghost use Rattle.std.specs.Prelude.{◌≡◌, ℕ, List, IfOk, bytes_eq, count_
 ghost use Rattle.std.specs.HashMap as hash;
 ghost use Rattle.gql_rules.specs.Parts as spec;
 
-use gql_ast::{Argument, Directive};
+use gql_ast::{Argument, Directive, VariableDefinition};
 use std::alloc::{AllocError, Global};
 use std::collections::HashMap;
 
@@ -26,6 +26,14 @@ impl IsNamed for Argument {
 
 impl IsNamed for Directive {
     ghost name = { spec.directive_name };
+
+    fn name(&self) -> &str {
+        self.name.as_str()
+    }
+}
+
+impl IsNamed for VariableDefinition {
+    ghost name = { λ v. v.name.text };
 
     fn name(&self) -> &str {
         self.name.as_str()

@@ -13,7 +13,7 @@ use gql_facts::World;
 use std::alloc::{AllocError, Global};
 
 /// Where a definition starts.
-fn owner_of(definition: &Definition) -> FilePlace
+pub fn owner_of(definition: &Definition) -> FilePlace
     ensures { result ≡ spec.owner_of definition.now }
 {
     FilePlace {

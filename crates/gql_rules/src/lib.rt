@@ -7,7 +7,7 @@ mod answers;
 mod arguments;
 mod asking;
 mod conditions;
-mod counts;
+pub mod counts;
 mod definition;
 mod directives;
 mod faults;
@@ -37,5 +37,7 @@ mod v23_directives_in_valid_locations;
 mod v24_directives_unique_per_location;
 mod visit;
 
-pub use definition::local_faults;
+pub use asking::kind_of;
+pub use definition::{local_faults, owner_of};
+pub use faults::{add_fault, add_fault_of};
 pub use known_inputs::{KnownInputType, OfWorld};

@@ -3,7 +3,7 @@ use crate::faults::written_faults;
 use crate::inputs::put_file;
 use crate::joined::join;
 use crate::look_ups::look_up_answer;
-use crate::operations::operations_answer;
+use crate::operations::{Rules, operations_answer};
 use crate::servers::serves_answer;
 use crate::texts::text_answer;
 use crate::transcripts::{Transcript, written_request};
@@ -16,11 +16,13 @@ use std::alloc::{AllocError, Global};
 
 /// The faults of a document, which the question has after its word, or which is the one before it.
 fn faults_answer(alloc: Global, schema: &Schema, document: &str, question: &str) -> Option<String> {
-    match question.split_once(" ") {
-        Some(("faults", text)) => operations_answer(alloc, schema, text),
-        None if question == "faults" => operations_answer(alloc, schema, document),
-        _ => None,
-    }
+    let (word, text) = question.split_once(" ").unwrap_or((question, document));
+    let rules = match word {
+        "faults" => Rules::Local,
+        "usage" => Rules::Variables,
+        _ => return None,
+    };
+    operations_answer(alloc, schema, rules, text)
 }
 
 /// A row that is being read: a registry with its files so far, and the present file.

@@ -1,0 +1,10 @@
+pub mod Faults
+pub mod Lists
+pub mod P04FloatVariables
+pub mod Uses
+pub mod V25VariableUniqueness
+pub mod V26VariablesAreInputTypes
+pub mod V27AllVariableUsesDefined
+pub mod V28AllVariablesUsed
+pub mod VariableFaults
+pub mod Variables
