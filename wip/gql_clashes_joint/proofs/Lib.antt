@@ -1,0 +1,11 @@
+pub mod Carrying
+pub mod Checking
+pub mod Classing
+pub mod Cover
+pub mod Joining
+pub mod Marking
+pub mod Members
+pub mod Reading
+pub mod Searching
+pub mod Seeing
+pub mod Symmetry

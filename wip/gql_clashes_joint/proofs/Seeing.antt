@@ -1,0 +1,148 @@
+-- What was seen, after one item more.
+use Rattle.std.proofs.Common.{◌≡◌, ◌≢◌, ℕ, ◌+◌, ◌*◌, ◌<◌, ◌≤◌, ◌⊎◌, inl, inr, List, [], Bool, true, false, cond, length, get_or, set, map, replicate, ap, sym, ◌∙◌, subst, refl, arith, Contains}
+use Rattle.std.specs.List.{sum_by}
+use Rattle.std.proofs.Math.ListN.{length-set}
+use Rattle.std.proofs.lemmas.Bool.{cases_eq, cases_lt}
+use Rattle.std.proofs.lemmas.List.{get_or-set_same, get_or-set_other, get_or_past, get_or-map, map-set, get_or-replicate, length-replicate}
+use Rattle.std.proofs.lemmas.List.Elements.{Contains-get_or}
+use Rattle.std.proofs.lemmas.List.Sums.{sum_by-set}
+use Rattle.gql_clashes.specs.declared.sets.Mode.{Mode}
+use Rattle.gql_clashes.specs.declared.sets.Mode.TheVariants.{Merge, Shape}
+use Rattle.gql_clashes.specs.declared.search.Item.{Item}
+use Rattle.gql_clashes.specs.Seen.{place_of, column, is_seen, see, IsSquare, IsInside}
+
+place_less : (m : Mode) → place_of m ≤ 1
+place_less Merge = omega arith
+place_less Shape = omega arith
+
+place_apart : (m n : Mode) (a b : ℕ) → 2 * a + place_of m ≡ 2 * b + place_of n → (a ≡ b) × (m ≡ n)
+place_apart Merge Merge a b e = (omega arith, refl)
+place_apart Merge Shape a b e = absurd (omega arith)
+place_apart Shape Merge a b e = absurd (omega arith)
+place_apart Shape Shape a b e = (omega arith, refl)
+
+triple : (a a' b b' : ℕ) (m m' : Mode) → a ≡ a' → b ≡ b' → m ≡ m' → ◌≡◌ {A = ℕ × ℕ × Mode} (a, b, m) (a', b', m')
+triple a a' b b' m m' e f h = rw (e, f, h) refl
+
+item_of : ℕ × ℕ × Mode → Item
+item_of p = record { left = p.0; right = p.1; mode = p.2 }
+
+item_ext : (x y : Item) → x.left ≡ y.left → x.right ≡ y.right → x.mode ≡ y.mode → x ≡ y
+unfolding item_of
+item_ext x y e f m = ap item_of (triple x.left y.left x.right y.right x.mode y.mode e f m)
+
+same_item : (x y : Item) → x.left ≡ y.left → column x ≡ column y → x ≡ y
+same_item x y e c = let p = place_apart x.mode y.mode x.right y.right c in item_ext x y e p.0 p.1
+
+not_true : (b : Bool) → b ≡ false → b ≡ true → ⊥
+not_true b f t = cc
+
+module _ (count : ℕ) (rows : List (List Bool)) (q : IsSquare count rows) where
+  -- what is seen is inside
+  pub seen_inside : (x : Item) → is_seen rows x ≡ true → IsInside count x
+  seen_inside x h = elim (cases_lt x.left count) [
+    | inr g ↦ absurd (let e : get_or rows x.left [] ≡ [] = get_or_past rows x.left [] (omega (arith, q.rows_are)) in not_true (get_or (get_or rows x.left []) (column x) false) (rw e refl) h)
+    | inl l ↦ elim (cases_lt x.right count) [
+      | inl r ↦ (l, r)
+      | inr g ↦ absurd (not_true (get_or (get_or rows x.left []) (column x) false) (get_or_past (get_or rows x.left []) (column x) false (omega (arith, q.row_is x.left l))) h)
+    ]
+  ]
+
+  module _ (x : Item) (i : IsInside count x) where
+    row : List Bool
+    row = get_or rows x.left []
+
+    pub column_fits : column x < length (get_or rows x.left [])
+    column_fits = omega (arith, q.row_is x.left i.0, i.1, place_less x.mode)
+
+    left_fits : x.left < length rows
+    left_fits = omega (arith, q.rows_are, i.0)
+
+    row_seen : get_or (see rows x) x.left [] ≡ set (get_or rows x.left []) (column x) true
+    row_seen = get_or-set_same rows x.left (set (get_or rows x.left []) (column x) true) [] left_fits
+
+    other_row : (j : ℕ) → j ≢ x.left → get_or (see rows x) j [] ≡ get_or rows j []
+    other_row j ne = get_or-set_other rows x.left j (set (get_or rows x.left []) (column x) true) [] ne
+
+    pub see_same : is_seen (see rows x) x ≡ true
+    see_same = ap (λ r. get_or r (column x) false) row_seen ∙ get_or-set_same (get_or rows x.left []) (column x) true false column_fits
+
+    pub see_from : (y : Item) → is_seen (see rows x) y ≡ true → (is_seen rows y ≡ true) ⊎ (x ≡ y)
+    see_from y h = elim (cases_eq y.left x.left) [
+      | inr ne ↦ inl (ap (λ r. get_or r (column y) false) (sym (other_row y.left ne)) ∙ h)
+      | inl e ↦ elim (cases_eq (column y) (column x)) [
+        | inl s ↦ inr (sym (same_item y x e s))
+        | inr ne ↦ inl (
+            let a : get_or (get_or rows x.left []) (column y) false ≡ true = sym (get_or-set_other (get_or rows x.left []) (column x) (column y) true false ne) ∙ sym (ap (λ r. get_or r (column y) false) row_seen) ∙ ap (λ l. get_or (get_or (see rows x) l []) (column y) false) (sym e) ∙ h in
+            ap (λ l. get_or (get_or rows l []) (column y) false) e ∙ a)
+      ]
+    ]
+
+    pub see_kept : (y : Item) → is_seen rows y ≡ true → is_seen (see rows x) y ≡ true
+    see_kept y h = elim (cases_eq y.left x.left) [
+      | inr ne ↦ ap (λ r. get_or r (column y) false) (other_row y.left ne) ∙ h
+      | inl e ↦ elim (cases_eq (column y) (column x)) [
+        | inl s ↦ subst (λ z. is_seen (see rows x) z ≡ true) (sym (same_item y x e s)) see_same
+        | inr ne ↦
+            let a : get_or (get_or rows x.left []) (column y) false ≡ true = ap (λ l. get_or (get_or rows l []) (column y) false) (sym e) ∙ h in
+            let b : get_or (get_or (see rows x) x.left []) (column y) false ≡ true = ap (λ r. get_or r (column y) false) row_seen ∙ get_or-set_other (get_or rows x.left []) (column x) (column y) true false ne ∙ a in
+            ap (λ l. get_or (get_or (see rows x) l []) (column y) false) e ∙ b
+      ]
+    ]
+
+    pub see_square : IsSquare count (see rows x)
+    see_square = record {
+      rows_are = length-set rows x.left (set (get_or rows x.left []) (column x) true) ∙ q.rows_are;
+      row_is = λ j lt. elim (cases_eq j x.left) [
+        | inl e ↦ ap (λ l. length (get_or (see rows x) l [])) e ∙ ap length row_seen ∙ length-set (get_or rows x.left []) (column x) true ∙ q.row_is x.left i.0
+        | inr ne ↦ ap length (other_row j ne) ∙ q.row_is j lt
+      ];
+    }
+
+-- how much is unseen
+
+unfoldable pub unseen : List (List Bool) → ℕ
+unseen rows = sum_by (λ row. sum_by (λ b. cond b 0 1) row) rows
+
+pub see_less : (count : ℕ) (rows : List (List Bool)) (q : IsSquare count rows) (x : Item) → IsInside count x → is_seen rows x ≡ false → unseen (see rows x) + 1 ≡ unseen rows
+unfolding unseen
+see_less count rows q x i f =
+    let row : List Bool = get_or rows x.left [] in
+    let inner : sum_by (λ b. cond b 0 1) (set (get_or rows x.left []) (column x) true) + cond (is_seen rows x) 0 1 ≡ sum_by (λ b. cond b 0 1) (get_or rows x.left []) + 0 = sum_by-set (λ b. cond b 0 1) (get_or rows x.left []) (column x) true false (column_fits count rows q x i) in
+    let outer = sum_by-set (λ r. sum_by (λ b. cond b 0 1) r) rows x.left (set (get_or rows x.left []) (column x) true) [] (omega (arith, q.rows_are, i.0)) in
+    let one : ◌≡◌ {A = ℕ} (cond (is_seen rows x) 0 1) 1 = rw f refl in
+    omega (arith, inner, outer, one)
+
+-- nothing is seen at first
+pub none_square : (count : ℕ) → IsSquare count (replicate count (replicate (2 * count) false))
+none_square count = record {
+  rows_are = length-replicate count (replicate (2 * count) false);
+  row_is = λ j lt. ap length (get_or-replicate count j (replicate (2 * count) false) [] lt) ∙ length-replicate (2 * count) false;
+}
+
+nothing : (n k : ℕ) → get_or (replicate n false) k false ≡ false
+nothing n k = elim (cases_lt k n) [ inl l ↦ get_or-replicate n k false false l | inr g ↦ get_or_past (replicate n false) k false (omega (arith, length-replicate n false)) ]
+
+pub none_seen : (count : ℕ) (x : Item) → is_seen (replicate count (replicate (2 * count) false)) x ≡ true → ⊥
+none_seen count x h = elim (cases_lt x.left count) [
+  | inl l ↦ not_true _ (ap (λ r. get_or r (column x) false) (get_or-replicate count x.left (replicate (2 * count) false) [] l) ∙ nothing (2 * count) (column x)) h
+  | inr g ↦ not_true _ (ap (λ r. get_or r (column x) false) (get_or_past (replicate count (replicate (2 * count) false)) x.left [] (omega (arith, length-replicate count (replicate (2 * count) false))))) h
+]
+
+-- the same, as the clauses of the calls give it
+pub see_given : {V : Type 0} (f : V → List Bool) (rows : List V) (x : Item) (v v' : V) → x.left < length rows → v ≡ get_or rows x.left v → f v' ≡ set (f v) (column x) true → map f (set rows x.left v') ≡ see (map f rows) x
+see_given f rows x v v' lt is e =
+    let out : f v ≡ get_or (map f rows) x.left [] = ap f is ∙ sym (get_or-map f rows x.left v [] lt) in
+    map-set f rows x.left v' ∙ ap (λ r. set (map f rows) x.left r) (e ∙ ap (λ r. set r (column x) true) out)
+
+pub row_fits : {V : Type 0} (f : V → List Bool) (rows : List V) (x : Item) (v : V) → IsSquare (length rows) (map f rows) → IsInside (length rows) x → v ≡ get_or rows x.left v → column x < length (f v)
+row_fits f rows x v q i is =
+    let out : get_or (map f rows) x.left [] ≡ f v = get_or-map f rows x.left v [] i.0 ∙ ap f (sym is) in
+    let fits : column x < length (get_or (map f rows) x.left []) = column_fits (length rows) (map f rows) q x i in
+    subst (λ r. column x < length r) out fits
+
+abbrev pub no_item : Item
+no_item = record { left = 0; right = 0; mode = Merge }
+
+pub inside_at : (n m : ℕ) (items : List Item) (i : ℕ) → ((x : Item) → Contains items x → IsInside n x) → m ≡ n → i < length items → IsInside m (get_or items i no_item)
+inside_at n m items i h e lt = let p = h (get_or items i no_item) (Contains-get_or items i no_item lt) in (omega (arith, p.0, e), omega (arith, p.1, e))

@@ -1,0 +1,23 @@
+use Rattle.std.proofs.Common.{rules}
+use Rattle.gql_clashes.specs.Compared.{classes_of}
+use Rattle.gql_clashes.specs.Seen.{rows_of}
+use Rattle.gql_clashes.proofs.Searching.{first_given, explores_given, marked_size, nothing_given, nothing_inside}
+use Rattle.gql_clashes.proofs.search.search_from.Goals as goal
+
+pub mark-requires-clause-inside : goal.mark-requires-clause-inside
+mark-requires-clause-inside c = λ x h. nothing_inside (λ r. r.items) _ c.in_ok-seen.seen.rows.items x (nothing_given _ _ _ c.in_ok-seen.ensures (search rules)) (c.requires.inside x h)
+
+pub run-requires-clause-size : goal.run-requires-clause-size
+run-requires-clause-size c = marked_size (λ r. r.items) _ c.mark.new.seen.rows.items (first_given _ _ _ _ _ _ c.requires.inside (nothing_given _ _ _ c.in_ok-seen.ensures (search rules)) c.new-todo.ensures.items c.in_ok-mark.ensures.seen c.in_ok-mark.ensures.todo).0
+
+pub run-requires-clause-square : goal.run-requires-clause-square
+run-requires-clause-square c = (first_given _ _ _ _ _ _ c.requires.inside (nothing_given _ _ _ c.in_ok-seen.ensures (search rules)) c.new-todo.ensures.items c.in_ok-mark.ensures.seen c.in_ok-mark.ensures.todo).0
+
+pub run-requires-clause-waits : goal.run-requires-clause-waits
+run-requires-clause-waits c = (first_given _ _ _ _ _ _ c.requires.inside (nothing_given _ _ _ c.in_ok-seen.ensures (search rules)) c.new-todo.ensures.items c.in_ok-mark.ensures.seen c.in_ok-mark.ensures.todo).1
+
+pub run-requires-clause-all : goal.run-requires-clause-all
+run-requires-clause-all c = (first_given _ _ _ _ _ _ c.requires.inside (nothing_given _ _ _ c.in_ok-seen.ensures (search rules)) c.new-todo.ensures.items c.in_ok-mark.ensures.seen c.in_ok-mark.ensures.todo).2
+
+pub returns : goal.returns
+returns c = (rows_of c.run.new.seen, explores_given c.args.sets.now c.requires.whole (classes_of c.args.table.now) c.requires.classed _ _ _ _ _ _ _ _ _ c.requires.inside (nothing_given _ _ _ c.in_ok-seen.ensures (search rules)) c.new-todo.ensures.items c.in_ok-mark.ensures.seen c.in_ok-mark.ensures.todo c.in_ok-run.ensures)

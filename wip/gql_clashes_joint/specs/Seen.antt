@@ -1,0 +1,38 @@
+-- Which items were seen: a row for each left body, and in it two places for each right body.
+use Rattle.std.specs.Prelude.{◌≡◌, ◌<◌, ◌+◌, ◌*◌, ◌++◌, ◌∷◌, [], ℕ, List, Bool, true, false, cond, length, slice_index_or, slice_set, map}
+use Rattle.gql_clashes.specs.declared.sets.Mode.{Mode}
+use Rattle.gql_clashes.specs.declared.sets.Mode.TheVariants.{Merge, Shape}
+use Rattle.gql_clashes.specs.declared.search.Item.{Item}
+use Rattle.gql_clashes.specs.declared.seen.Seen.{Seen}
+
+abbrev pub place_of : Mode → ℕ
+place_of Merge = 0
+place_of Shape = 1
+
+abbrev pub column : Item → ℕ
+column x = 2 * x.right + place_of x.mode
+
+abbrev pub is_seen : List (List Bool) → Item → Bool
+is_seen rows x = slice_index_or (slice_index_or rows x.left []) (column x) false
+
+abbrev pub see : List (List Bool) → Item → List (List Bool)
+see rows x = slice_set rows x.left (slice_set (slice_index_or rows x.left []) (column x) true)
+
+-- so many rows, each with two places for each of them
+pub record IsSquare (count : ℕ) (rows : List (List Bool)) : Type 0 where
+  pub rows_are : length rows ≡ count
+  pub row_is : (i : ℕ) → i < count → length (slice_index_or rows i []) ≡ 2 * count
+
+abbrev pub IsInside : ℕ → Item → Type 0
+IsInside count x = (x.left < count) × (x.right < count)
+
+abbrev pub rows_of : Seen → List (List Bool)
+rows_of seen = map (λ r. r.items) seen.rows.items
+
+-- marking: what was seen so far, and what of it is still to be looked at
+abbrev pub mark : Item → List (List Bool) × List Item → List (List Bool) × List Item
+mark x s = cond (is_seen s.0 x) s (see s.0 x, s.1 ++ x ∷ [])
+
+abbrev pub mark_all : List Item → List (List Bool) × List Item → List (List Bool) × List Item
+mark_all [] s = s
+mark_all (x ∷ xs) s = mark_all xs (mark x s)

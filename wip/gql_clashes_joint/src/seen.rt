@@ -1,0 +1,82 @@
+//! Which items a search has seen.
+ghost use Rattle.std.specs.Prelude.{◌≡◌, ◌<◌, ◌≤◌, ◌*◌, ◌+◌, ◌^◌, false, length, replicate, IfOk, OnOk, Contains};
+ghost use Rattle.gql_clashes.specs.declared.search.Item as item;
+ghost use Rattle.gql_clashes.specs.Seen.{IsInside, IsSquare, column, is_seen, mark_all, place_of, rows_of, see};
+
+use crate::search::Item;
+use crate::sets::Mode;
+use std::alloc::{AllocError, Global};
+
+/// A row for each left body, and in it two places for each right body.
+#[derive(Drop)]
+pub struct Seen {
+    pub rows: Vec<Vec<bool>>,
+}
+
+// The place of a mode in a pair of columns.
+fn mode_place(mode: Mode) -> usize
+    ensures value { result ≡ place_of mode }
+    ensures bound { result ≤ 1 }
+{
+    match mode {
+        Mode::Merge => 0,
+        Mode::Shape => 1,
+    }
+}
+
+// The column of an item in its row.
+fn column_of(item: Item) -> usize
+    requires { 2 * item.right + 1 < 2 ^ 64 }
+    ensures { result ≡ column item }
+{
+    2 * item.right + mode_place(item.mode)
+}
+
+/// Nothing, for so many bodies.
+pub fn nothing_seen(alloc: Global, count: usize) -> Result<Seen, AllocError>
+    requires { 2 * count < 2 ^ 64 }
+    ensures { IfOk result (λ seen. rows_of seen ≡ replicate count (replicate (2 * count) false)) }
+{
+    let mut rows = Vec::new(alloc);
+    for _ in 0..count {
+        rows.push(vec![in alloc; false; 2 * count]?)?;
+    }
+    Ok(Seen { rows })
+}
+
+// Whether an item was seen.
+fn was_seen(seen: &Seen, item: Item) -> bool
+    requires square { IsSquare (length seen.now.rows.items) (rows_of seen.now) }
+    requires inside { IsInside (length seen.now.rows.items) item }
+    ensures { result ≡ is_seen (rows_of seen.now) item }
+{
+    seen.rows[item.left][column_of(item)]
+}
+
+// Sees an item.
+fn see_one(seen: &mut Seen, item: Item)
+    requires square { IsSquare (length seen.old.rows.items) (rows_of seen.old) }
+    requires inside { IsInside (length seen.old.rows.items) item }
+    ensures { rows_of seen.new ≡ see (rows_of seen.old) item }
+{
+    let column = column_of(item);
+    let row = &mut seen.rows[item.left];
+    row[column] = true;
+}
+
+/// Sees these items; what is new goes to `todo`.
+pub fn mark(items: &[Item], seen: &mut Seen, todo: &mut Vec<Item>) -> Result<(), AllocError>
+    requires square { IsSquare (length seen.old.rows.items) (rows_of seen.old) }
+    requires inside { (x : item.Item) → Contains items.now x → IsInside (length seen.old.rows.items) x }
+    ensures seen { OnOk result (rows_of seen.new ≡ (mark_all items.now (rows_of seen.old, todo.old.items)).0) }
+    ensures todo { OnOk result (todo.new.items ≡ (mark_all items.now (rows_of seen.old, todo.old.items)).1) }
+{
+    for item in items {
+        let item = *item;
+        if !was_seen(seen, item) {
+            see_one(seen, item);
+            todo.push(item)?;
+        }
+    }
+    Ok(())
+}
