@@ -9,6 +9,7 @@ mod documents;
 mod edits;
 mod facts;
 mod lexer;
+mod rules;
 mod schemas;
 mod speed;
 mod values;
@@ -29,6 +30,7 @@ fn main(rt: HostRuntime) -> Result<()> {
         documents::measure(&rt)?;
         schemas::measure(&rt)?;
         facts::measure(&rt)?;
+        rules::measure(&rt)?;
         edits::measure(&rt)?;
         values::measure(&rt)?;
     }
