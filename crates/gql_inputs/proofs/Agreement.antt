@@ -89,7 +89,7 @@ module _ (u v : InputLookup) where
 
   mutual
     pub same_misfits : (x : Value) (t : Written) → Agree u v t → misfits u t x ≡ misfits v t x
-    same_misfits (variable p) t agree = refl
+    same_misfits (variable p name) t agree = refl
     same_misfits (null p) t agree = ap (λ r. if is_non_null t then r else []) (never_law p t agree)
     same_misfits (int p text) t agree = where_law t (single_at t (int p text)) agree
     same_misfits (float p) t agree = where_law t (single_at t (float p)) agree

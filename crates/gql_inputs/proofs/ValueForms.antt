@@ -10,7 +10,7 @@ use Rattle.gql_ast.specs.declared.literal.Literal.TheVariants as l
 use Rattle.gql_inputs.specs.Values.{Value, variable, null, int, float, string, boolean, enum, list, object, GivenField, values_of, fields_of, all_fields, value_of, value_at, field_at, given_field}
 
 module _ (place : Place) where
-  pub value_variable : (name : List ℕ) → value_of (l.Variable place name) ≡ variable place
+  pub value_variable : (name : List ℕ) → value_of (l.Variable place name) ≡ variable place name
   unfolding value_of
   value_variable name = ap value_of (sym (l.rolls-Variable place name)) ∙ fold-roll-Literal Value GivenField value_at field_at (Literal-F.Variable place name)
 

@@ -115,7 +115,7 @@ null_misfits look p t = if is_non_null t then never_fits look p t else []
 abbrev mutual
   -- in a value
   pub within : List ℕ → Value → List BadValue
-  within name (variable p) = []
+  within name (variable p n) = []
   within name (null p) = []
   within name (int p text) = if is_whole 63 text then [] else bad rule.V18 p name
   within name (float p) = bad rule.V18 p name
@@ -202,7 +202,7 @@ object_by p t given inside misfits (input_object fields) =
 abbrev mutual
   -- of a value; a variable is judged by its own type elsewhere
   pub misfits : InputLookup → Written → Value → List BadValue
-  misfits look t (variable p) = []
+  misfits look t (variable p name) = []
   misfits look t (null p) = null_misfits look p t
   misfits look t (int p text) = single_misfits look t (int p text)
   misfits look t (float p) = single_misfits look t (float p)
@@ -262,7 +262,7 @@ field_repeats given =
 abbrev mutual
   -- in a value: an object's own come before those within its fields
   pub repeats : Value → List BadValue
-  repeats (variable p) = []
+  repeats (variable p name) = []
   repeats (null p) = []
   repeats (int p text) = []
   repeats (float p) = []

@@ -9,7 +9,8 @@ use Rattle.gql_ast.specs.declared.text.Name.{Name}
 -- a value with its place, the items of a list, and the fields of an object
 mutual
   pub data Value : Type 0 where
-    variable : Place → Value
+    -- a variable, by its name
+    variable : Place → List ℕ → Value
     null : Place → Value
     -- an integer, as it is written
     int : Place → List ℕ → Value
@@ -51,7 +52,7 @@ all_fields (field n x fs) = record { name = n; value = x } ∷ all_fields fs
 
 -- a literal, by its form and its parts as values
 abbrev pub value_at : Literal-F Value GivenField → Value
-value_at (Literal-F.Variable place name) = variable place
+value_at (Literal-F.Variable place name) = variable place name
 value_at (Literal-F.Null place) = null place
 value_at (Literal-F.Int place text) = int place text
 value_at (Literal-F.Float place text) = float place
@@ -75,7 +76,7 @@ given_field f = record { name = f.name; value = value_of f.value }
 
 -- where a value starts
 abbrev pub place_of : Value → Place
-place_of (variable p) = p
+place_of (variable p name) = p
 place_of (null p) = p
 place_of (int p text) = p
 place_of (float p) = p
@@ -94,5 +95,5 @@ is_null _ = false
 abbrev pub may_be_list : Value → Bool
 may_be_list (list p xs) = true
 may_be_list (null p) = true
-may_be_list (variable p) = true
+may_be_list (variable p name) = true
 may_be_list _ = false
