@@ -1,6 +1,6 @@
 -- The usages of variables (GraphQL 5.8.5): the uses at a location whose type is known. A location is
 -- the type that is expected there, and whether a default value takes the place of none.
-use Rattle.std.specs.Prelude.{ℕ, List, [], ◌∷◌, ◌++◌, ◌&&◌, false, not, flat_map, Contains, Option, Some, None, if◌then◌else◌}
+use Rattle.std.specs.Prelude.{ℕ, List, [], ◌∷◌, ◌++◌, ◌&&◌, Bool, false, not, flat_map, Contains, Option, Some, None, if◌then◌else◌}
 use Rattle.std.specs.Option.{option_map_or}
 use Rattle.gql_ast.specs.declared.definition.Definition.{Definition}
 use Rattle.gql_ast.specs.declared.definition.Tree.{Tree}

@@ -7,11 +7,14 @@
 mod faults;
 pub mod laws;
 mod operation;
+mod parents;
 mod p04_float_variables;
 mod selections;
 mod tables;
 mod type_fits;
 mod usage_check;
+mod usage_nodes;
+mod usages;
 mod uses;
 mod v25_variable_uniqueness;
 mod v26_variables_are_input_types;

@@ -45,17 +45,30 @@ pub fn nullable(of_type: ExpectedType<'_>) -> ExpectedType<'_>
 }
 
 /// Whether the type of a variable fits that of a location.
+#[tactic(auto, using(crate::proofs::TypeFits::non_null_fits, crate::proofs::TypeFits::list_fits, crate::proofs::TypeFits::list_at_non_null, crate::proofs::TypeFits::list_at_one, crate::proofs::TypeFits::name_fits, crate::proofs::TypeFits::name_at_non_null, crate::proofs::TypeFits::name_at_list))]
 pub fn fits(of_type: &TypeRef, location: ExpectedType<'_>) -> bool
     ensures { result ≡ spec.fits (written of_type.now) (written_of location.entry) }
 {
     match of_type {
         TypeRef::NonNull(inner) => fits(inner.get(), nullable(location)),
         TypeRef::List { item, .. } => match location.item() {
-            Some(expected) => !location.is_non_null() && fits(item.get(), expected),
+            Some(expected) => {
+                if location.is_non_null() {
+                    false
+                } else {
+                    fits(item.get(), expected)
+                }
+            }
             None => false,
         },
         TypeRef::Named(name) => {
-            !location.is_non_null() && !location.is_list() && name.text == *location.name()
+            if location.is_non_null() {
+                false
+            } else if location.is_list() {
+                false
+            } else {
+                name.text == *location.name()
+            }
         }
     }
 }
