@@ -3,6 +3,8 @@ pub mod Lookups
 pub mod SelectionUses
 pub mod TypeFits
 pub mod TypeNames
+pub mod UsageParts
+pub mod UsageVisits
 pub mod ValueUsages
 pub mod View
 pub mod Whole

@@ -49,10 +49,10 @@ module _ (facts : Facts) (c : UsageCheck) where
       (item_usages (known_inputs facts) c.file.now item (values_of (map value_of items)))
       ∙ ap (λ r. item_misuses facts c item (value_of x) ++ r) (items_are item items)
 
-  pub in_items : (t item : Written) (items : List Literal) → item_of t ≡ Some item
+  pub in_items : (t item : Written) (items : List Literal) → Some item ≡ item_of t
       → list_misuses facts c t (values_of (map value_of items)) ≡ flat_map (λ (x : Literal). item_misuses facts c item (value_of x)) items
   in_items t item items is =
-      ap (λ o. misuses facts c (by_item (λ i. item_usages (known_inputs facts) c.file.now i (values_of (map value_of items))) o)) is ∙ items_are item items
+      ap (λ o. misuses facts c (by_item (λ i. item_usages (known_inputs facts) c.file.now i (values_of (map value_of items))) o)) (sym is) ∙ items_are item items
 
   -- the fields of an object, one after the other
   pub fields_are : (fields : List FieldForm) (given : List GivenField) → misuses facts c (field_usages (known_inputs facts) c.file.now fields (fields_of given))

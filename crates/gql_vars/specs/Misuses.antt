@@ -1,7 +1,6 @@
 -- Helper definitions for private contracts: the faults by V29, part by part.
 use Rattle.std.specs.Prelude.{ℕ, List, [], ◌∷◌, ◌++◌, ◌&&◌, not, flat_map, bytes_eq, Option, Some, None, option_map, if◌then◌else◌}
 use Rattle.std.specs.HashMap as hash
-use Rattle.gql_ast.specs.declared.definition.Definition.{Definition}
 use Rattle.gql_ast.specs.declared.executable.Field.{Field}
 use Rattle.gql_ast.specs.declared.executable.Fragment.{Fragment}
 use Rattle.gql_ast.specs.declared.executable.InlineFragment.{InlineFragment}
@@ -155,13 +154,15 @@ fragment_misuses facts c f =
 abbrev pub misuse : Facts → FilePlace → List VariableDefinition → Usage → List Fault
 misuse facts owner variables = misuse_by facts owner (variable_named variables)
 
--- the usages in an operation of this file, and in these fragments
-abbrev pub usages_in : Facts → List ℕ → Operation → List FragmentFact → List Usage
-usages_in facts file o members = operation_usages facts file o
-    ++ flat_map (λ (g : FragmentFact). fragment_usages facts g.file g.fragment) members
+-- V29 in a fragment
+abbrev pub misuses_of_member : Facts → FilePlace → List VariableDefinition → FragmentFact
+    → List Fault
+misuses_of_member facts owner variables g =
+    flat_map (misuse facts owner variables) (fragment_usages facts g.file g.fragment)
 
--- V29 of an operation with these variables, by the fragments that it reaches
-abbrev pub usage_faults : Facts → FilePlace → Definition → Operation → List FragmentFact
+-- V29 of an operation of this file with these variables, by the fragments that it reaches
+abbrev pub usage_faults : Facts → FilePlace → List ℕ → Operation → List FragmentFact
     → List VariableDefinition → List Fault
-usage_faults facts owner d o members variables =
-    flat_map (misuse facts owner variables) (usages_in facts d.file o members)
+usage_faults facts owner file o members variables =
+    flat_map (misuse facts owner variables) (operation_usages facts file o)
+    ++ flat_map (misuses_of_member facts owner variables) members

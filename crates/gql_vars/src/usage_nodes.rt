@@ -1,10 +1,13 @@
 //! The usages of variables in selections, in definitions, and in what a definition reaches.
-ghost use Rattle.std.specs.Prelude.{◌≡◌, ◌++◌, IfOk, OnOk, flat_map, map};
+ghost use Rattle.std.specs.Prelude.{◌≡◌, ◌++◌, ℕ, List, IfOk, OnOk, bytes_eq, flat_map, option_map};
+ghost use Rattle.std.specs.HashMap as hash;
 ghost use Rattle.std.specs.Option.{option_copied};
 ghost use Rattle.gql_ast.specs.declared.executable.VariableDefinition.{VariableDefinition as AVariable};
 ghost use Rattle.gql_facts.specs.Nodes as nodes;
 ghost use Rattle.gql_rules.specs.LocalFaults.{of_field};
 ghost use Rattle.gql_vars.specs.Misuses as spec;
+ghost use Rattle.gql_vars.specs.Usages.{fragment_usages, operation_usages};
+ghost use Rattle.gql_vars.specs.Variables.{variable_named};
 
 use crate::parents::{composite, parent_of_operation, parent_within, type_of};
 use crate::usage_check::UsageCheck;
@@ -185,5 +188,108 @@ fn check_fragment<W: World>(
     let parent = composite(alloc, world, Some(&fragment.condition.text))?;
     let selected = fragment.selections.as_slice();
     check_set(alloc, world, check, &parent, selected, faults)?;
+    Ok(())
+}
+
+/// Adds the faults in a fragment of this file.
+fn check_member<W: World>(
+    alloc: Global,
+    world: &mut W,
+    owner: &FilePlace,
+    first: &HashMap<&str, &VariableDefinition>,
+    file: &FileName,
+    fragment: &Fragment,
+    faults: &mut Vec<Fault>,
+) -> Result<(), AllocError>
+    ensures facts { W.facts world.new ≡ W.facts world.old }
+    ensures names { W.names world.new ≡ W.names world.old }
+    ensures lent { W.lent world.new ≡ W.lent world.old }
+    ensures found { OnOk result ((variables : List AVariable)
+        → ((q : List ℕ) → option_map (λ v. v.now) (hash.get_by (λ k. bytes_eq q k.now) first.now)
+        ≡ variable_named variables q)
+        → faults.new.items ≡ faults.old.items
+        ++ flat_map (spec.misuse (W.facts world.old) owner.now variables)
+        (fragment_usages (W.facts world.old) file.now fragment.now)) }
+{
+    let check = UsageCheck { owner, file, first };
+    check_fragment(alloc, world, &check, fragment, faults)?;
+    Ok(())
+}
+
+/// Adds the faults in an operation of this file.
+fn check_own<W: World>(
+    alloc: Global,
+    world: &mut W,
+    owner: &FilePlace,
+    first: &HashMap<&str, &VariableDefinition>,
+    file: &FileName,
+    operation: &Operation,
+    faults: &mut Vec<Fault>,
+) -> Result<(), AllocError>
+    ensures facts { W.facts world.new ≡ W.facts world.old }
+    ensures names { W.names world.new ≡ W.names world.old }
+    ensures lent { W.lent world.new ≡ W.lent world.old }
+    ensures found { OnOk result ((variables : List AVariable)
+        → ((q : List ℕ) → option_map (λ v. v.now) (hash.get_by (λ k. bytes_eq q k.now) first.now)
+        ≡ variable_named variables q)
+        → faults.new.items ≡ faults.old.items
+        ++ flat_map (spec.misuse (W.facts world.old) owner.now variables)
+        (operation_usages (W.facts world.old) file.now operation.now)) }
+{
+    let check = UsageCheck { owner, file, first };
+    check_operation(alloc, world, &check, operation, faults)?;
+    Ok(())
+}
+
+/// Adds the faults in these fragments.
+fn check_members<W: World>(
+    alloc: Global,
+    world: &mut W,
+    owner: &FilePlace,
+    first: &HashMap<&str, &VariableDefinition>,
+    members: &[FragmentFact],
+    faults: &mut Vec<Fault>,
+) -> Result<(), AllocError>
+    ensures facts { W.facts world.new ≡ W.facts world.old }
+    ensures names { W.names world.new ≡ W.names world.old }
+    ensures lent { W.lent world.new ≡ W.lent world.old }
+    ensures found { OnOk result ((variables : List AVariable)
+        → ((q : List ℕ) → option_map (λ v. v.now) (hash.get_by (λ k. bytes_eq q k.now) first.now)
+        ≡ variable_named variables q)
+        → faults.new.items ≡ faults.old.items
+        ++ flat_map (spec.misuses_of_member (W.facts world.old) owner.now variables)
+        members.now) }
+{
+    for member in members {
+        let fragment = member.fragment.get();
+        check_member(alloc, world, owner, first, &member.file, fragment, faults)?;
+    }
+    Ok(())
+}
+
+/// Adds the faults of an operation of this file, by the first variable of each name and the
+/// fragments that it reaches.
+pub fn check<W: World>(
+    alloc: Global,
+    world: &mut W,
+    owner: &FilePlace,
+    first: &HashMap<&str, &VariableDefinition>,
+    file: &FileName,
+    operation: &Operation,
+    members: &[FragmentFact],
+    faults: &mut Vec<Fault>,
+) -> Result<(), AllocError>
+    ensures facts { W.facts world.new ≡ W.facts world.old }
+    ensures names { W.names world.new ≡ W.names world.old }
+    ensures lent { W.lent world.new ≡ W.lent world.old }
+    ensures found { OnOk result ((variables : List AVariable)
+        → ((q : List ℕ) → option_map (λ v. v.now) (hash.get_by (λ k. bytes_eq q k.now) first.now)
+        ≡ variable_named variables q)
+        → faults.new.items ≡ faults.old.items
+        ++ spec.usage_faults (W.facts world.old) owner.now file.now operation.now members.now
+        variables) }
+{
+    check_own(alloc, world, owner, first, file, operation, faults)?;
+    check_members(alloc, world, owner, first, members, faults)?;
     Ok(())
 }

@@ -126,7 +126,7 @@ fn check_value<W: World>(
 
 /// Adds those in a list. Where no list is expected, there are none.
 #[cycle(usages)]
-#[tactic(auto, using(crate::proofs::ValueUsages::in_items, crate::proofs::ValueUsages::no_list))]
+#[tactic(auto, using(crate::proofs::ValueUsages::no_list))]
 fn check_list<W: World>(
     alloc: Global,
     items: &[Literal],
