@@ -4,6 +4,7 @@ pub mod SelectionUses
 pub mod TypeFits
 pub mod TypeNames
 pub mod UsageParts
+pub mod UsageView
 pub mod UsageVisits
 pub mod ValueUsages
 pub mod View

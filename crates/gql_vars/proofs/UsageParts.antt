@@ -1,22 +1,24 @@
 -- The faults by V29 of all usages are those of their parts.
 use Rattle.std.specs.Prelude.{◌≡◌, ℕ, List, [], ◌∷◌, ◌++◌, flat_map, refl, Option, Some, None}
-use Rattle.std.proofs.Common.{ap, sym, ◌∙◌}
+use Rattle.std.proofs.Common.{ap, sym, ◌∙◌, append-nil}
 use Rattle.gql_ast.specs.declared.executable.Fragment.{Fragment}
 use Rattle.gql_ast.specs.declared.executable.Operation.{Operation}
 use Rattle.gql_ast.specs.declared.executable.VariableDefinition.{VariableDefinition}
 use Rattle.gql_ast.specs.declared.literal.Argument.{Argument}
 use Rattle.gql_ast.specs.declared.literal.Directive.{Directive}
 use Rattle.gql_ast.specs.declared.fault.Fault.{Fault}
+use Rattle.gql_ast.specs.declared.fault.FilePlace.{FilePlace}
 use Rattle.gql_facts.specs.Nodes.{Node, field, spread, inline}
 use Rattle.gql_facts.specs.OwnReads.{operation_nodes, fragment_nodes}
 use Rattle.gql_facts.specs.Worlds.{Facts}
+use Rattle.gql_facts.specs.declared.fact.FragmentFact.{FragmentFact}
 use Rattle.gql_facts.specs.declared.fact.InputFact.{InputFact}
 use Rattle.gql_rules.specs.Answers.{field_of, directive_of}
 use Rattle.gql_rules.specs.KnownInputs.{known_inputs}
 use Rattle.gql_rules.specs.LocalFaults.{of_field, of_directive}
 use Rattle.gql_rules.specs.V18ToV21Values.{definition_of}
 use Rattle.gql_vars.specs.declared.usage_check.UsageCheck.{UsageCheck}
-use Rattle.gql_vars.specs.Misuses.{first_named, misuse_of, misuse_by, misuse, misuses, misuses_by, misuses_of_argument, argument_misuses, misuses_of_directive, directive_misuses, node_misuses, nodes_misuses, operation_misuses, fragment_misuses}
+use Rattle.gql_vars.specs.Misuses.{first_named, misuse_of, misuse_by, misuse, misuses, misuses_by, misuses_of_member, usage_faults, misuses_of_argument, argument_misuses, misuses_of_directive, directive_misuses, node_misuses, nodes_misuses, operation_misuses, fragment_misuses}
 use Rattle.gql_vars.specs.Usages.{Usage, usages_by, usages_of_argument, argument_usages, usages_of_directive, directive_usages, node_usages, part_usages, operation_usages, fragment_usages}
 use Rattle.gql_vars.specs.Variables.{variable_named}
 use Rattle.gql_vars.proofs.ValueUsages.{flat_append}
@@ -77,3 +79,19 @@ module _ (facts : Facts) (c : UsageCheck) where
 
     pub of_fragment : (f : Fragment) → fragment_misuses facts c f ≡ flat_map (misuse facts c.owner.now vs) (fragment_usages facts file f)
     of_fragment f = sym (of_parts f.directives (fragment_nodes facts f)) ∙ by_variables (fragment_usages facts file f)
+
+-- an operation without variables
+none_used : (facts : Facts) (owner : FilePlace) (xs : List Usage) → flat_map (misuse facts owner []) xs ≡ []
+none_used facts owner [] = refl
+none_used facts owner (x ∷ xs) = none_used facts owner xs
+
+none_in : (facts : Facts) (owner : FilePlace) (members : List FragmentFact) → flat_map (misuses_of_member facts owner []) members ≡ []
+none_in facts owner [] = refl
+none_in facts owner (g ∷ members) = ap (λ l. l ++ flat_map (misuses_of_member facts owner []) members) (none_used facts owner (fragment_usages facts g.file g.fragment))
+    ∙ none_in facts owner members
+
+pub no_variables : (old : List Fault) (facts : Facts) (owner : FilePlace) (file : List ℕ) (o : Operation) (members : List FragmentFact) (vs : List VariableDefinition) → vs ≡ []
+    → old ≡ old ++ usage_faults facts owner file o members vs
+no_variables old facts owner file o members vs is =
+    sym (ap (λ l. old ++ l) (ap (usage_faults facts owner file o members) is
+    ∙ (ap (λ l. l ++ flat_map (misuses_of_member facts owner []) members) (none_used facts owner (operation_usages facts file o)) ∙ none_in facts owner members)) ∙ append-nil old)

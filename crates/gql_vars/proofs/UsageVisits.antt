@@ -91,3 +91,7 @@ selected_after F F1 c below p ys xs head f0 f1 f2 same entered listed first seco
     ∙ ap (λ f. f0 ++ (head ++ set_misuses f c below ys)) same
     ∙ ap (λ q. f0 ++ (head ++ set_misuses F c q ys)) entered
     ∙ ap (λ l. f0 ++ (head ++ set_misuses F c p l)) listed
+
+-- one part after the other
+pub two : {A : Type 0} (old mid new a b : List A) → mid ≡ old ++ a → new ≡ mid ++ b → new ≡ old ++ (a ++ b)
+two old mid new a b first second = second ∙ ap (λ l. l ++ b) first ∙ append_assoc old a b

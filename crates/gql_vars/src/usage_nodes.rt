@@ -10,6 +10,7 @@ ghost use Rattle.gql_vars.specs.Usages.{fragment_usages, operation_usages};
 ghost use Rattle.gql_vars.specs.Variables.{variable_named};
 
 use crate::parents::{composite, parent_of_operation, parent_within, type_of};
+use crate::tables::first_variables;
 use crate::usage_check::UsageCheck;
 use crate::usages::{check_arguments, check_directives};
 use gql_ast::{
@@ -267,13 +268,13 @@ fn check_members<W: World>(
     Ok(())
 }
 
-/// Adds the faults of an operation of this file, by the first variable of each name and the
-/// fragments that it reaches.
+/// Adds the faults of an operation of this file, by the fragments that it reaches. An operation
+/// without variables has none.
+#[tactic(auto, using(crate::proofs::UsageParts::no_variables))]
 pub fn check<W: World>(
     alloc: Global,
     world: &mut W,
     owner: &FilePlace,
-    first: &HashMap<&str, &VariableDefinition>,
     file: &FileName,
     operation: &Operation,
     members: &[FragmentFact],
@@ -282,14 +283,16 @@ pub fn check<W: World>(
     ensures facts { W.facts world.new ≡ W.facts world.old }
     ensures names { W.names world.new ≡ W.names world.old }
     ensures lent { W.lent world.new ≡ W.lent world.old }
-    ensures found { OnOk result ((variables : List AVariable)
-        → ((q : List ℕ) → option_map (λ v. v.now) (hash.get_by (λ k. bytes_eq q k.now) first.now)
-        ≡ variable_named variables q)
-        → faults.new.items ≡ faults.old.items
+    ensures found { OnOk result (faults.new.items ≡ faults.old.items
         ++ spec.usage_faults (W.facts world.old) owner.now file.now operation.now members.now
-        variables) }
+        operation.now.variables) }
 {
-    check_own(alloc, world, owner, first, file, operation, faults)?;
-    check_members(alloc, world, owner, first, members, faults)?;
+    let variables = operation.variables.as_slice();
+    if variables.is_empty() {
+        return Ok(());
+    }
+    let first = first_variables(alloc, variables)?;
+    check_own(alloc, world, owner, &first, file, operation, faults)?;
+    check_members(alloc, world, owner, &first, members, faults)?;
     Ok(())
 }

@@ -1,6 +1,6 @@
 use Rattle.std.proofs.Common.{◌++◌, ◌∙◌, ap, sym, arith}
-use Rattle.gql_facts.specs.Nodes.{field, field_node, inline, inline_node}
-use Rattle.gql_vars.specs.Misuses.{node_misuses, selection_misuses}
+use Rattle.gql_facts.specs.Nodes.{field, field_node}
+use Rattle.gql_vars.specs.Misuses.{directive_misuses, node_misuses, selection_misuses}
 use Rattle.gql_vars.proofs.UsageVisits.{of_field, of_inline, of_spread, visited_more, selected_after}
 use Rattle.gql_vars.proofs.usage_nodes.+usages.Goals as goal
 
@@ -14,6 +14,20 @@ pub check_selection-returns-in_ok-check_field-in-Field-clause-found :
     goal.check_selection-returns-in_ok-check_field-in-Field-clause-found
 check_selection-returns-in_ok-check_field-in-Field-clause-found g t c = c.in_ok-check_field-in-Field.ensures.found
     ∙ ap (λ l. c.args.faults.now.items ++ l) (sym (of_field (g.W.World.facts c.args.world.now) c.args.check.now c.args.parent.now c.args.selection.now c.in-Field.field c.in-Field.is))
+
+pub check_selection-returns-in_ok-check_directives-in-Spread-clause-found :
+    goal.check_selection-returns-in_ok-check_directives-in-Spread-clause-found
+check_selection-returns-in_ok-check_directives-in-Spread-clause-found g t c =
+    let F = g.W.World.facts c.args.world.now in
+    c.in_ok-check_directives-in-Spread.ensures.found
+    ∙ ap (λ ds. c.args.faults.now.items ++ directive_misuses F c.args.check.now ds) c.as_slice.ensures
+    ∙ ap (λ l. c.args.faults.now.items ++ l) (sym (of_spread F c.args.check.now c.args.parent.now c.args.selection.now c.in-Spread.spread c.in-Spread.is))
+
+pub check_selection-returns-in_ok-check_inline-in-InlineFragment-clause-found :
+    goal.check_selection-returns-in_ok-check_inline-in-InlineFragment-clause-found
+check_selection-returns-in_ok-check_inline-in-InlineFragment-clause-found g t c = c.in_ok-check_inline-in-InlineFragment.ensures.found
+    ∙ ap (λ l. c.args.faults.now.items ++ l)
+    (sym (of_inline (g.W.World.facts c.args.world.now) c.args.check.now c.args.parent.now c.args.selection.now c.in-InlineFragment.inline c.in-InlineFragment.is))
 
 pub check_set-loop-selection-preserved : goal.check_set-loop-selection-preserved
 check_set-loop-selection-preserved g t c =
