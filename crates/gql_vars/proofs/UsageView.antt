@@ -122,8 +122,8 @@ module _ (P : Key → Type 0) (v u : Facts) (agree : (k : Key) → P k → u k �
     AsksInput t = P (key.KindOf t) × (P (key.InputOf t) × P (key.EnumOf t))
 
     asks_type : (j : Key) (t : List ℕ) → P j → Contains (types_in (v j)) t → AsksInput t
-    asks_type j t asked named =
-        let ks : Within (type_reads t) = λ k h. closed j k t asked named h in
+    asks_type j t asked has =
+        let ks : Within (type_reads t) = λ k h. closed j k t asked has h in
         let after = rest (key.PossibleOf t) (key.InputOf t ∷ key.EnumOf t ∷ []) (rest (key.KindOf t) (key.PossibleOf t ∷ key.InputOf t ∷ key.EnumOf t ∷ []) ks) in
         (
           at_first (key.KindOf t) (key.PossibleOf t ∷ key.InputOf t ∷ key.EnumOf t ∷ []) ks,
@@ -207,7 +207,7 @@ module _ (P : Key → Type 0) (v u : Facts) (agree : (k : Key) → P k → u k �
         let k = key.DirectiveOf d.name.text in
         let asked = at_first k (directive_reads ds) within in
         ap (λ f. argument_usages u file (of_directive (directive_in f)) d.arguments ++ directive_usages u file ds) (agree k asked)
-        ∙ ap (λ l. l ++ directive_usages u file ds) (directive_same (v k) d.arguments (λ t named. asks_type k t asked named))
+        ∙ ap (λ l. l ++ directive_usages u file ds) (directive_same (v k) d.arguments (λ t has. asks_type k t asked has))
         ∙ ap (λ l. usages_of_directive v file d ++ l) (directives_same ds (rest k (directive_reads ds) within))
 
     arguments_same : (p : Option (List ℕ)) (n : List ℕ) (given : List Argument) → Within (field_reads v p n)
@@ -217,7 +217,7 @@ module _ (P : Key → Type 0) (v u : Facts) (agree : (k : Key) → P k → u k �
         let k = key.FieldOf t n in
         let asked = at_first k (composite_reads (field_type v (Some t) n)) within in
         ap (λ f. argument_usages u file (of_field (field_in f)) given) (agree k asked)
-        ∙ field_same (v k) given (λ m named. asks_type k m asked named)
+        ∙ field_same (v k) given (λ m has. asks_type k m asked has)
 
     node_same : (n : Node) → Within (node_reads v n) → node_usages u file n ≡ node_usages v file n
     node_same (field f) within =

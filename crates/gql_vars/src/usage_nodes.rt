@@ -270,7 +270,6 @@ fn check_members<W: World>(
 
 /// Adds the faults of an operation of this file, by the fragments that it reaches. An operation
 /// without variables has none.
-#[tactic(auto, using(crate::proofs::UsageParts::no_variables))]
 pub fn check<W: World>(
     alloc: Global,
     world: &mut W,
