@@ -124,8 +124,7 @@ module _ (P : Key → Type 0) (v u : Facts) (agree : (k : Key) → P k → u k �
     asks_type : (j : Key) (t : List ℕ) → P j → Contains (types_in (v j)) t → AsksInput t
     asks_type j t asked has =
         let ks : Within (type_reads t) = λ k h. closed j k t asked has h in
-        let after = rest (key.PossibleOf t) (key.InputOf t ∷ key.EnumOf t ∷ []) (rest (key.KindOf t) (key.PossibleOf t ∷ key.InputOf t ∷ key.EnumOf t ∷ []) ks) in
-        (
+        let after = rest (key.PossibleOf t) (key.InputOf t ∷ key.EnumOf t ∷ []) (rest (key.KindOf t) (key.PossibleOf t ∷ key.InputOf t ∷ key.EnumOf t ∷ []) ks) in (
           at_first (key.KindOf t) (key.PossibleOf t ∷ key.InputOf t ∷ key.EnumOf t ∷ []) ks,
           (
             at_first (key.InputOf t) (key.EnumOf t ∷ []) after,

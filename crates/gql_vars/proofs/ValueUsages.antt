@@ -1,5 +1,5 @@
 -- The faults by V29 in each form of a value.
-use Rattle.std.specs.Prelude.{◌≡◌, ℕ, List, [], ◌∷◌, ◌++◌, map, flat_map, refl, Bool, true, false, Option, Some, None, option_map}
+use Rattle.std.specs.Prelude.{◌≡◌, ℕ, List, [], ◌∷◌, ◌++◌, map, flat_map, refl, Bool, Some, None}
 use Rattle.std.specs.Option.{option_map_or}
 use Rattle.std.proofs.Common.{ap, sym, ◌∙◌, append-nil}
 use Rattle.gql_text.specs.declared.place.Place.{Place}
@@ -11,12 +11,12 @@ use Rattle.gql_types.specs.Written.{Written}
 use Rattle.gql_facts.specs.Worlds.{Facts}
 use Rattle.gql_inputs.specs.InputTypes.{name_in, item_of}
 use Rattle.gql_inputs.specs.Lookups.{InputForm, FieldForm, field_named, fields_in}
-use Rattle.gql_inputs.specs.Values.{Value, variable, GivenField, Fields, value_of, values_of, fields_of, given_field}
+use Rattle.gql_inputs.specs.Values.{variable, GivenField, value_of, values_of, fields_of, given_field}
 use Rattle.gql_inputs.proofs.ValueForms.{value_variable, value_int, value_float, value_string, value_boolean, value_null, value_enum, value_list, value_object}
 use Rattle.gql_rules.specs.KnownInputs.{known_inputs}
 use Rattle.gql_vars.specs.declared.usage_check.UsageCheck.{UsageCheck}
 use Rattle.gql_vars.specs.Misuses.{first_named, misuse_by, misuses, value_misuses, list_misuses, item_misuses, object_misuses, field_misuses}
-use Rattle.gql_vars.specs.Usages.{Location, Usage, value_usages, item_usages, field_usages, by_item, if_item, by_field, fields_at, location_of_item}
+use Rattle.gql_vars.specs.Usages.{Location, Usage, value_usages, item_usages, field_usages, by_item, if_item, by_field, location_of_item}
 
 append_assoc : {A : Type 0} (a b c : List A) → (a ++ b) ++ c ≡ a ++ (b ++ c)
 append_assoc [] b c = refl

@@ -1,5 +1,5 @@
 -- Worked examples of V29: the specification's (GraphQL 5.8.5), and near misses.
-use Rattle.std.specs.Prelude.{◌≡◌, Bool, true, false, codes, refl}
+use Rattle.std.specs.Prelude.{◌≡◌, true, false, codes, refl}
 use Rattle.gql_types.specs.Written.{Written, named, listed, required}
 use Rattle.gql_vars.specs.Usages.{Location}
 use Rattle.gql_vars.specs.V29AllVariableUsagesAreAllowed.{fits, allows}

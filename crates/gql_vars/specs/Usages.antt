@@ -3,8 +3,6 @@
 use Rattle.std.specs.Prelude.{ℕ, List, [], ◌∷◌, ◌++◌, ◌&&◌, Bool, false, not, flat_map, Contains, Option, Some, None, if◌then◌else◌}
 use Rattle.std.specs.Option.{option_map_or}
 use Rattle.gql_ast.specs.declared.definition.Definition.{Definition}
-use Rattle.gql_ast.specs.declared.definition.Tree.{Tree}
-use Rattle.gql_ast.specs.declared.definition.Tree.TheVariants as tree
 use Rattle.gql_ast.specs.declared.executable.Fragment.{Fragment}
 use Rattle.gql_ast.specs.declared.executable.Operation.{Operation}
 use Rattle.gql_ast.specs.declared.literal.Argument.{Argument}
@@ -18,7 +16,7 @@ use Rattle.gql_facts.specs.Worlds.{Facts}
 use Rattle.gql_facts.specs.declared.fact.FragmentFact.{FragmentFact}
 use Rattle.gql_facts.specs.declared.fact.InputFact.{InputFact}
 use Rattle.gql_inputs.specs.InputTypes.{name_in, item_of, is_list}
-use Rattle.gql_inputs.specs.Lookups.{InputForm, FieldForm, InputLookup, field_named, fields_in}
+use Rattle.gql_inputs.specs.Lookups.{FieldForm, InputLookup, field_named, fields_in}
 use Rattle.gql_inputs.specs.Values as v
 use Rattle.gql_inputs.specs.Values.{Value, Values, Fields, value_of, may_be_list}
 use Rattle.gql_rules.specs.Answers.{field_of, directive_of}

@@ -7,8 +7,8 @@
 mod faults;
 pub mod laws;
 mod operation;
-mod parents;
 mod p04_float_variables;
+mod parents;
 mod selections;
 mod tables;
 mod type_fits;

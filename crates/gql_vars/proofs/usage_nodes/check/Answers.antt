@@ -22,6 +22,6 @@ returns-clause-found g c =
 pub returns-then-is_empty-clause-found : goal.returns-then-is_empty-clause-found
 returns-then-is_empty-clause-found g c =
     let none : c.args.operation.now.variables ≡ [] =
-        sym c.as_slice-variables.ensures ∙ nil_from_length c.as_slice-variables.result.now (grind (arith, nat_tests, c.is_empty.ensures, c.if-is_empty.true)) in
+    sym c.as_slice-variables.ensures ∙ nil_from_length c.as_slice-variables.result.now (grind (arith, nat_tests, c.is_empty.ensures, c.if-is_empty.true)) in
     no_variables c.args.faults.now.items (g.W.World.facts c.args.world.now) c.args.owner.now c.args.file.now c.args.operation.now c.args.members.now
     c.args.operation.now.variables none
