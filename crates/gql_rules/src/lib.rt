@@ -37,7 +37,9 @@ mod v23_directives_in_valid_locations;
 mod v24_directives_unique_per_location;
 mod visit;
 
-pub use asking::kind_of;
+pub use answers::{directive_in, field_in};
+pub use asking::{ask_directive, ask_field, kind_of};
 pub use definition::{local_faults, owner_of};
 pub use faults::{add_fault, add_fault_of};
 pub use known_inputs::{KnownInputType, OfWorld};
+pub use literals::is_null;

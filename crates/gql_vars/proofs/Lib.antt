@@ -1,6 +1,11 @@
 pub mod LiteralUses
 pub mod Lookups
 pub mod SelectionUses
+pub mod TypeFits
 pub mod TypeNames
+pub mod UsageParts
+pub mod UsageView
+pub mod UsageVisits
+pub mod ValueUsages
 pub mod View
 pub mod Whole

@@ -1,5 +1,5 @@
 -- The lists that the code makes have just the faults of the operation.
-use Rattle.std.specs.Prelude.{◌≡◌, ℕ, List, [], ◌∷◌, ◌++◌, flat_map, map, refl, bytes_eq, is_some, Bool, true, false, Contains, Option, Some, None, if◌then◌else◌}
+use Rattle.std.specs.Prelude.{◌≡◌, ◌&&◌, not, ℕ, List, [], ◌∷◌, ◌++◌, flat_map, map, refl, bytes_eq, is_some, Bool, true, false, Contains, Option, Some, None, if◌then◌else◌}
 use Rattle.std.specs.List.{list_any}
 use Rattle.std.proofs.Common.{ap, sym, ◌∙◌, subst, inl, inr, true≢false}
 use Rattle.std.proofs.lemmas.List.Elements.{Contains-append_left, Contains-append_right, Contains-append_cases}
@@ -22,13 +22,17 @@ use Rattle.gql_rules.specs.LocalFaults.{owner_of}
 use Rattle.gql_vars.specs.declared.uses.VariableUse.{VariableUse}
 use Rattle.gql_vars.specs.Faults.{fault_of_use}
 use Rattle.gql_vars.specs.Lists.{use_of, uses_in, type_faults, undefined, is_used, unused, unused_first, use_faults}
+use Rattle.gql_vars.specs.Misuses.{misuse, misuse_of, misuses_of_member, usage_faults}
 use Rattle.gql_vars.specs.P04FloatVariables as p04
+use Rattle.gql_vars.specs.Usages.{Usage, Usages, in_operation, in_fragment as in_member, operation_usages, fragment_usages}
 use Rattle.gql_vars.specs.Uses.{Use, Uses, in_definition, in_fragment, tree_uses, fragment_uses}
 use Rattle.gql_vars.specs.V25VariableUniqueness as v25
 use Rattle.gql_vars.specs.V26VariablesAreInputTypes as v26
 use Rattle.gql_vars.specs.V27AllVariableUsesDefined as v27
 use Rattle.gql_vars.specs.V28AllVariablesUsed as v28
-use Rattle.gql_vars.specs.VariableFaults.{IsFaultOf, by_v25, by_v26, by_v27, by_v28, by_p04, IsVariableFault, of_operation}
+use Rattle.gql_vars.specs.V29AllVariableUsagesAreAllowed as v29
+use Rattle.gql_vars.specs.V29AllVariableUsagesAreAllowed.{is_allowed, is_judged}
+use Rattle.gql_vars.specs.VariableFaults.{IsFaultOf, by_v25, by_v26, by_v27, by_v28, by_v29, by_p04, IsVariableFault, of_operation}
 use Rattle.gql_vars.specs.Variables.{variable_named, variable_name}
 
 -- ---- lists
@@ -146,6 +150,46 @@ module _ (facts : Facts) (d : Definition) (o : Operation) (members : List Fragme
       (subst (λ b. Contains (if b then [] else unused_first owner (variable_named vs n)) g) (sym (not_used n none))
       (subst (λ w. Contains (unused_first owner w) g) (sym is) (Contains-here g [])))
 
+  -- ---- V29
+
+  abbrev own : List Usage
+  own = operation_usages facts d.file o
+
+  misused_if : (x : Usage) (f : Fault) (v : VariableDefinition) (allowed judged : Bool) → Usages facts d o x → variable_named vs x.used.name ≡ Some v
+      → is_allowed v x.location ≡ allowed → is_judged facts v ≡ judged
+      → Contains (if not allowed && judged then fault_of_use owner rule.V29 x.used ∷ [] else []) f → v29.IsFault facts d o f
+  misused_if x f v true judged u is a j h = absurd (Contains-nil f h)
+  misused_if x f v false false u is a j h = absurd (Contains-nil f h)
+  misused_if x f v false true u is a j h = subst (λ g. v29.IsFault facts d o g) (sym (one (fault_of_use owner rule.V29 x.used) f h)) (v29.not_allowed u is j a)
+
+  misused_by : (x : Usage) (f : Fault) (v : Option VariableDefinition) → Usages facts d o x → variable_named vs x.used.name ≡ v
+      → Contains (misuse_of facts owner x v) f → v29.IsFault facts d o f
+  misused_by x f None u is h = absurd (Contains-nil f h)
+  misused_by x f (Some v) u is h = misused_if x f v (is_allowed v x.location) (is_judged facts v) u is refl refl h
+
+  sound29 : (f : Fault) → Contains (usage_faults facts owner d.file o members vs) f → v29.IsFault facts d o f
+  sound29 f h = elim (Contains-append_cases (flat_map (misuse facts owner vs) own) (flat_map (misuses_of_member facts owner vs) members) f h) [
+    | inl a ↦ let r = Contains-flat_map_from (misuse facts owner vs) own f a in misused_by r.0 f (variable_named vs r.0.used.name) (in_operation r.1) refl r.2
+    | inr b ↦ let m = Contains-flat_map_from (misuses_of_member facts owner vs) members f b in
+        let r = Contains-flat_map_from (misuse facts owner vs) (fragment_usages facts m.0.file m.0.fragment) f m.2 in
+        misused_by r.0 f (variable_named vs r.0.used.name) (in_member (reached.sound m.0 m.1) r.1) refl r.2
+  ]
+
+  at_usage : (x : Usage) (f : Fault) → Usages facts d o x → Contains (misuse facts owner vs x) f → Contains (usage_faults facts owner d.file o members vs) f
+  at_usage x f (in_operation h) m = Contains-append_left (flat_map (misuse facts owner vs) own) (flat_map (misuses_of_member facts owner vs) members) f
+      (Contains-flat_map (misuse facts owner vs) own x f h m)
+  at_usage x f (in_member {g = g} r h) m = Contains-append_right (flat_map (misuse facts owner vs) own) (flat_map (misuses_of_member facts owner vs) members) f
+      (Contains-flat_map (misuses_of_member facts owner vs) members g f (reached.complete g r)
+      (Contains-flat_map (misuse facts owner vs) (fragment_usages facts g.file g.fragment) x f h m))
+
+  complete29 : (f : Fault) → v29.IsFault facts d o f → Contains (usage_faults facts owner d.file o members vs) f
+  complete29 f (v29.not_allowed {x = x} {v = v} u is judged off) =
+      let g = fault_of_use owner rule.V29 x.used in
+      at_usage x g u
+      (subst (λ w. Contains (misuse_of facts owner x w) g) (sym is)
+      (subst (λ a. Contains (if not a && is_judged facts v then g ∷ [] else []) g) (sym off)
+      (subst (λ j. Contains (if j then g ∷ [] else []) g) (sym judged) (Contains-here g []))))
+
   -- ---- V26 and P04
 
   sound_types : (f : Fault) → Contains (flat_map (type_faults facts owner) vs) f → IsFaultOf facts d o f
@@ -166,56 +210,74 @@ module _ (facts : Facts) (d : Definition) (o : Operation) (members : List Fragme
 
   -- ---- all
 
-  abbrev pub all_faults : List Fault
-  all_faults = v25.faults owner vs ++ (flat_map (type_faults facts owner) vs ++ use_faults owner d members vs)
+  abbrev typed : List Fault
+  typed = flat_map (type_faults facts owner) vs
 
-  abbrev rest : List Fault
-  rest = flat_map (type_faults facts owner) vs ++ use_faults owner d members vs
+  abbrev at_uses : List Fault
+  at_uses = use_faults owner d members vs
+
+  abbrev at_usages : List Fault
+  at_usages = usage_faults facts owner d.file o members vs
+
+  abbrev pub all_faults : List Fault
+  all_faults = v25.faults owner vs ++ (typed ++ (at_uses ++ at_usages))
 
   sound : (f : Fault) → Contains all_faults f → IsFaultOf facts d o f
-  sound f h = elim (Contains-append_cases (v25.faults owner vs) rest f h) [
+  sound f h = elim (Contains-append_cases (v25.faults owner vs) (typed ++ (at_uses ++ at_usages)) f h) [
     | inl a ↦ by_v25 a
-    | inr b ↦ elim (Contains-append_cases (flat_map (type_faults facts owner) vs) (use_faults owner d members vs) f b) [
+    | inr b ↦ elim (Contains-append_cases typed (at_uses ++ at_usages) f b) [
       | inl t ↦ sound_types f t
-      | inr u ↦ elim (Contains-append_cases (flat_map (undefined owner vs) us) (flat_map (unused owner vs us) vs) f u) [
-        | inl x ↦ by_v27 (sound27 f x)
-        | inr y ↦ by_v28 (sound28 f y)
+      | inr r ↦ elim (Contains-append_cases at_uses at_usages f r) [
+        | inl u ↦ elim (Contains-append_cases (flat_map (undefined owner vs) us) (flat_map (unused owner vs us) vs) f u) [
+          | inl x ↦ by_v27 (sound27 f x)
+          | inr y ↦ by_v28 (sound28 f y)
+        ]
+        | inr z ↦ by_v29 (sound29 f z)
       ]
     ]
   ]
 
-  later : (f : Fault) → Contains rest f → Contains all_faults f
-  later f h = Contains-append_right (v25.faults owner vs) rest f h
+  types : (f : Fault) → Contains typed f → Contains all_faults f
+  types f h = Contains-append_right (v25.faults owner vs) (typed ++ (at_uses ++ at_usages)) f (Contains-append_left typed (at_uses ++ at_usages) f h)
 
-  types : (f : Fault) → Contains (flat_map (type_faults facts owner) vs) f → Contains all_faults f
-  types f h = later f (Contains-append_left (flat_map (type_faults facts owner) vs) (use_faults owner d members vs) f h)
+  later : (f : Fault) → Contains (at_uses ++ at_usages) f → Contains all_faults f
+  later f h = Contains-append_right (v25.faults owner vs) (typed ++ (at_uses ++ at_usages)) f (Contains-append_right typed (at_uses ++ at_usages) f h)
 
-  uses : (f : Fault) → Contains (use_faults owner d members vs) f → Contains all_faults f
-  uses f h = later f (Contains-append_right (flat_map (type_faults facts owner) vs) (use_faults owner d members vs) f h)
+  uses : (f : Fault) → Contains at_uses f → Contains all_faults f
+  uses f h = later f (Contains-append_left at_uses at_usages f h)
 
   complete : (f : Fault) → IsFaultOf facts d o f → Contains all_faults f
-  complete f (by_v25 h) = Contains-append_left (v25.faults owner vs) rest f h
+  complete f (by_v25 h) = Contains-append_left (v25.faults owner vs) (typed ++ (at_uses ++ at_usages)) f h
   complete f (by_v26 h) = types f (complete26 f h)
   complete f (by_p04 h) = types f (complete04 f h)
   complete f (by_v27 h) = uses f (Contains-append_left (flat_map (undefined owner vs) us) (flat_map (unused owner vs us) vs) f (complete27 f h))
   complete f (by_v28 h) = uses f (Contains-append_right (flat_map (undefined owner vs) us) (flat_map (unused owner vs us) vs) f (complete28 f h))
+  complete f (by_v29 h) = later f (Contains-append_right at_uses at_usages f (complete29 f h))
 
   pub lists : (found : List Fault) → found ≡ all_faults → Lists found (IsFaultOf facts d o)
   lists found is = subst (λ l. Lists l (IsFaultOf facts d o)) (sym is) (record { sound = λ f h. sound f h; complete = λ f h. complete f h })
 
+four : {A : Type 0} (none a b c e : List A) → none ≡ [] → (((none ++ a) ++ b) ++ c) ++ e ≡ a ++ (b ++ (c ++ e))
+four none a b c e empty = ap (λ l. (((l ++ a) ++ b) ++ c) ++ e) empty ∙ append_assoc (a ++ b) c e ∙ append_assoc a b (c ++ e)
+
 -- the parts as the code adds them, one after the other
-pub all_of : (facts : Facts) (d : Definition) (o : Operation) (members : List FragmentFact) (at : FilePlace) (vs : List VariableDefinition) (ms : List FragmentFact)
-    (none first second third : List Fault) → at ≡ owner_of d → vs ≡ o.variables → ms ≡ members → none ≡ []
+pub all_of : (facts later : Facts) (d : Definition) (o : Operation) (members : List FragmentFact) (at : FilePlace) (vs : List VariableDefinition) (ms : List FragmentFact)
+    (none first second third fourth : List Fault) → at ≡ owner_of d → vs ≡ o.variables → ms ≡ members → later ≡ facts → none ≡ []
     → first ≡ none ++ v25.faults at vs
     → second ≡ first ++ flat_map (type_faults facts at) vs
     → third ≡ second ++ use_faults at d ms vs
-    → third ≡ v25.faults (owner_of d) o.variables ++ (flat_map (type_faults facts (owner_of d)) o.variables ++ use_faults (owner_of d) d members o.variables)
-all_of facts d o members at vs ms none first second third here these those empty a b c =
-    c ∙ ap (λ l. l ++ use_faults at d ms vs) (b ∙ ap (λ l. l ++ flat_map (type_faults facts at) vs) (a ∙ ap (λ l. l ++ v25.faults at vs) empty))
-    ∙ append_assoc (v25.faults at vs) (flat_map (type_faults facts at) vs) (use_faults at d ms vs)
-    ∙ ap (λ p. v25.faults p vs ++ (flat_map (type_faults facts p) vs ++ use_faults p d ms vs)) here
-    ∙ ap (λ xs. v25.faults (owner_of d) xs ++ (flat_map (type_faults facts (owner_of d)) xs ++ use_faults (owner_of d) d ms xs)) these
-    ∙ ap (λ gs. v25.faults (owner_of d) o.variables ++ (flat_map (type_faults facts (owner_of d)) o.variables ++ use_faults (owner_of d) d gs o.variables)) those
+    → fourth ≡ third ++ usage_faults later at d.file o ms o.variables
+    → fourth ≡ v25.faults (owner_of d) o.variables ++ (flat_map (type_faults facts (owner_of d)) o.variables
+    ++ (use_faults (owner_of d) d members o.variables ++ usage_faults facts (owner_of d) d.file o members o.variables))
+all_of facts later d o members at vs ms none first second third fourth here these those same empty a b c e =
+    e ∙ ap (λ l. l ++ usage_faults later at d.file o ms o.variables) (c ∙ ap (λ l. l ++ use_faults at d ms vs)
+    (b ∙ ap (λ l. l ++ flat_map (type_faults facts at) vs) a))
+    ∙ four none (v25.faults at vs) (flat_map (type_faults facts at) vs) (use_faults at d ms vs) (usage_faults later at d.file o ms o.variables) empty
+    ∙ ap (λ f. v25.faults at vs ++ (flat_map (type_faults facts at) vs ++ (use_faults at d ms vs ++ usage_faults f at d.file o ms o.variables))) same
+    ∙ ap (λ p. v25.faults p vs ++ (flat_map (type_faults facts p) vs ++ (use_faults p d ms vs ++ usage_faults facts p d.file o ms o.variables))) here
+    ∙ ap (λ xs. v25.faults (owner_of d) xs ++ (flat_map (type_faults facts (owner_of d)) xs ++ (use_faults (owner_of d) d ms xs ++ usage_faults facts (owner_of d) d.file o ms o.variables))) these
+    ∙ ap (λ gs. v25.faults (owner_of d) o.variables ++ (flat_map (type_faults facts (owner_of d)) o.variables
+    ++ (use_faults (owner_of d) d gs o.variables ++ usage_faults facts (owner_of d) d.file o gs o.variables))) those
 
 -- ---- the faults of a definition that is an operation
 

@@ -1,10 +1,14 @@
+pub mod Examples
 pub mod Faults
 pub mod Lists
+pub mod Misuses
 pub mod P04FloatVariables
+pub mod Usages
 pub mod Uses
 pub mod V25VariableUniqueness
 pub mod V26VariablesAreInputTypes
 pub mod V27AllVariableUsesDefined
 pub mod V28AllVariablesUsed
+pub mod V29AllVariableUsagesAreAllowed
 pub mod VariableFaults
 pub mod Variables

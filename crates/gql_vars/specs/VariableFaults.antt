@@ -11,6 +11,7 @@ use Rattle.gql_vars.specs.V25VariableUniqueness as v25
 use Rattle.gql_vars.specs.V26VariablesAreInputTypes as v26
 use Rattle.gql_vars.specs.V27AllVariableUsesDefined as v27
 use Rattle.gql_vars.specs.V28AllVariablesUsed as v28
+use Rattle.gql_vars.specs.V29AllVariableUsagesAreAllowed as v29
 
 -- the faults of an operation, which is the definition d
 pub data IsFaultOf (facts : Facts) (d : Definition) (o : Operation) : Fault → Type 0 where
@@ -19,6 +20,7 @@ pub data IsFaultOf (facts : Facts) (d : Definition) (o : Operation) : Fault → 
       → IsFaultOf facts d o f
   by_v27 : {f : Fault} → v27.IsFault facts d o f → IsFaultOf facts d o f
   by_v28 : {f : Fault} → v28.IsFault facts d o f → IsFaultOf facts d o f
+  by_v29 : {f : Fault} → v29.IsFault facts d o f → IsFaultOf facts d o f
   by_p04 : {f : Fault} → Contains (flat_map (p04.faults (owner_of d)) o.variables) f
       → IsFaultOf facts d o f
 

@@ -8,12 +8,18 @@ mod faults;
 pub mod laws;
 mod operation;
 mod p04_float_variables;
+mod parents;
 mod selections;
 mod tables;
+mod type_fits;
+mod usage_check;
+mod usage_nodes;
+mod usages;
 mod uses;
 mod v25_variable_uniqueness;
 mod v26_variables_are_input_types;
 mod v27_all_variable_uses_defined;
 mod v28_all_variables_used;
+mod v29_all_variable_usages_are_allowed;
 
 pub use operation::variable_faults;

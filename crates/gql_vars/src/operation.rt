@@ -7,7 +7,7 @@ ghost use Rattle.gql_vars.specs.VariableFaults as spec;
 use crate::selections::uses_in;
 use crate::tables::first_variables;
 use crate::{
-    p04_float_variables, v25_variable_uniqueness, v26_variables_are_input_types,
+    p04_float_variables, usage_nodes, v25_variable_uniqueness, v26_variables_are_input_types,
     v27_all_variable_uses_defined, v28_all_variables_used,
 };
 use gql_ast::{Definition, Fault, FilePlace, Operation, Tree, VariableDefinition};
@@ -76,10 +76,12 @@ fn operation_faults<W: World>(
     let walk = walk_reads(alloc, world, definition)?;
     let members = walk.members.as_slice();
     check_uses(alloc, &owner, definition, members, variables, &mut faults)?;
+    let file = &definition.file;
+    usage_nodes::check(alloc, world, &owner, file, operation, members, &mut faults)?;
     Ok(faults)
 }
 
-/// The faults of an operation by the rules on its variables: V25 to V28 and P04 (GraphQL
+/// The faults of an operation by the rules on its variables: V25 to V29 and P04 (GraphQL
 /// specification, 5.8). Another definition has none. An error leaves what the world answers as it
 /// was.
 pub fn variable_faults<W: World>(
