@@ -1,0 +1,93 @@
+-- What a world recorded of what a definition reads, with the faults, makes a verdict.
+use Rattle.std.specs.Prelude.{◌≡◌, ◌⊎◌, List, ◌++◌, refl, map, Contains}
+use Rattle.std.proofs.Common.{ap, sym, ◌∙◌, subst, inl, inr}
+use Rattle.std.proofs.lemmas.List.Elements.{Contains-append_left, Contains-append_right, Contains-append_cases}
+use Rattle.gql_ast.specs.declared.definition.Definition.{Definition}
+use Rattle.gql_ast.specs.declared.fault.Fault.{Fault}
+use Rattle.gql_facts.specs.ListMembers.{Contains-map}
+use Rattle.gql_facts.specs.Members.{Lists}
+use Rattle.gql_facts.specs.Reads.{Agree, Reads}
+use Rattle.gql_facts.specs.Worlds.{Facts}
+use Rattle.gql_facts.specs.declared.key.Key.{Key}
+use Rattle.gql_rules.specs.LocalFaults.{IsFault}
+use Rattle.gql_rules.proofs.View as definitions
+use Rattle.gql_vars.specs.VariableFaults.{IsVariableFault}
+use Rattle.gql_vars.proofs.View as variables
+use Rattle.gql_verdict.specs.Faults.{IsFaultIn, by_definition, by_variables}
+use Rattle.gql_verdict.specs.Verdicts.{Hold, IsCertificate, Judges, keys_of, observed}
+use Rattle.gql_verdict.specs.declared.observation.Observation.{Observation}
+use Rattle.gql_verdict.proofs.Members.{Contains-map_from}
+
+-- ---- what was observed
+
+module _ (F : Facts) (P : Key → Type 0) (keys : List Key) (os : List Observation) (is : os ≡ map (observed F) keys) (lists : Lists keys P) where
+  pub observed_hold : Hold F os
+  observed_hold o c =
+      let m = Contains-map_from (observed F) keys o (subst (λ l. Contains l o) is c) in
+      subst (λ (p : Observation). F p.key ≡ p.fact) m.2 refl
+
+  pub observed_keys : Lists (keys_of os) P
+  observed_keys = record {
+    sound = λ k c.
+        let m = Contains-map_from (λ (o : Observation). o.key) os k c in
+        let n = Contains-map_from (observed F) keys m.0 (subst (λ l. Contains l m.0) is m.1) in
+        lists.sound k (subst (λ j. Contains keys j) (ap (λ (o : Observation). o.key) n.2 ∙ m.2) n.1);
+    complete = λ k p. Contains-map (λ (o : Observation). o.key) os (observed F k)
+        (subst (λ l. Contains l (observed F k)) (sym is) (Contains-map (observed F) keys k (lists.complete k p)));
+  }
+
+-- ---- faults by all rules
+
+-- facts that agree on what d reads give it the same faults
+module _ (v u : Facts) (d : Definition) (agree : Agree v u d) where
+  pub faults_there : (f : Fault) → IsFaultIn v d f → IsFaultIn u d f
+  faults_there f (by_definition h) = by_definition ((definitions.same_faults v u d agree f).0 h)
+  faults_there f (by_variables h) = by_variables ((variables.same_faults v u d agree f).0 h)
+
+  pub faults_back : (f : Fault) → IsFaultIn u d f → IsFaultIn v d f
+  faults_back f (by_definition h) = by_definition ((definitions.same_faults v u d agree f).1 h)
+  faults_back f (by_variables h) = by_variables ((variables.same_faults v u d agree f).1 h)
+
+-- two lists together have the members of both
+pub Lists-append : {A : Type 0} {P Q : A → Type 0} (xs ys zs : List A) → Lists xs P → Lists ys Q → zs ≡ xs ++ ys
+    → Lists zs (λ x. P x ⊎ Q x)
+Lists-append xs ys zs first second is = rw is (record {
+  sound = λ x c. elim (Contains-append_cases xs ys x c) [
+    | inl a ↦ inl (first.sound x a)
+    | inr b ↦ inr (second.sound x b)
+  ];
+  complete = λ x q. elim q [
+    | inl p ↦ Contains-append_left xs ys x (first.complete x p)
+    | inr p ↦ Contains-append_right xs ys x (second.complete x p)
+  ];
+})
+
+-- the faults by the rules of each crate are those by all rules
+pub by_all : (F : Facts) (d : Definition) (found : List Fault) → Lists found (λ f. IsFault F d f ⊎ IsVariableFault F d f)
+    → Lists found (IsFaultIn F d)
+by_all F d found lists = record {
+  sound = λ f c. elim (lists.sound f c) [ inl h ↦ by_definition h | inr h ↦ by_variables h ];
+  complete = λ f q. lists.complete f (by_one f q);
+} where
+  by_one : (f : Fault) → IsFaultIn F d f → IsFault F d f ⊎ IsVariableFault F d f
+  by_one f (by_definition h) = inl h
+  by_one f (by_variables h) = inr h
+
+-- ---- the verdict
+
+module _ (F : Facts) (d : Definition) (os : List Observation) (holds : Hold F os) (keys : Lists (keys_of os) (Reads F d)) where
+  -- where the observations hold, the facts agree on what d reads
+  agrees : (u : Facts) → Hold u os → Agree F u d
+  agrees u h k r =
+      let m = Contains-map_from (λ (o : Observation). o.key) os k (keys.complete k r) in
+      subst (λ j. u j ≡ F j) m.2 (h m.0 m.1 ∙ sym (holds m.0 m.1))
+
+  pub certificate : (e : Definition) (faults : List Fault) → e ≡ d → Lists faults (IsFaultIn F d) → IsCertificate e faults os
+  certificate e faults is l = rw is (λ u h. record {
+    sound = λ f c. faults_there F u d (agrees u h) f (l.sound f c);
+    complete = λ f q. l.complete f (faults_back F u d (agrees u h) f q);
+  })
+
+  pub judged : (e : Definition) (faults : List Fault) → e ≡ d → Lists faults (IsFaultIn F d)
+      → Judges F d (record { def = e; faults = faults; observations = os })
+  judged e faults is l = record { def = is; certificate = certificate e faults is l; holds = holds; keys = keys }

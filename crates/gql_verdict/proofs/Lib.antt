@@ -1,0 +1,12 @@
+pub mod Adding
+pub mod Answered
+pub mod Certified
+pub mod Edited
+pub mod FileLists
+pub mod Filled
+pub mod Members
+pub mod Ordered
+pub mod Refreshed
+pub mod Seen
+pub mod SpreadForms
+pub mod Steps

@@ -1,0 +1,106 @@
+-- One more definition, kept or examined.
+use Rattle.std.proofs.Common.{◌≡◌, ℕ, ◌+◌, ◌<◌, ◌⊎◌, inl, inr, List, [], ◌∷◌, ◌++◌, length, map, take, drop, get_or, sym, ◌∙◌, ap, subst, refl, Contains, append_assoc, append-nil, IsTrue, ◌↔◌, Bool, true, false, None, MatchBool}
+use Rattle.std.specs.List.{AllZip}
+use Rattle.std.proofs.lemmas.List.{take-append-drop, map-append}
+use Rattle.std.proofs.lemmas.List.Elements.{Contains-push_cases}
+use Rattle.gql_ast.specs.Trees.{id_of}
+use Rattle.gql_ast.specs.declared.definition.Definition.{Definition}
+use Rattle.gql_ast.specs.declared.definition.DefinitionId.{DefinitionId}
+use Rattle.gql_facts.specs.Worlds.{Facts}
+use Rattle.gql_facts.specs.declared.fact.Fact.{Fact}
+use Rattle.gql_verdict.specs.declared.observation.Observation.{Observation}
+use Rattle.gql_facts.specs.ListMembers.{Contains-nil, either}
+use Rattle.gql_verdict.specs.Verdicts.{Hold, Judgement}
+use Rattle.gql_verdict.specs.Shelves.{IsDue, IsBroken, Picks, pick_none, skip, pick, IsWork, IsStepWork}
+use Rattle.gql_verdict.specs.TouchedFacts.{touches, HoldWhere, IsKnown}
+use Rattle.gql_verdict.specs.declared.touched.Touched.{Touched}
+use Rattle.gql_verdict.specs.declared.touched.Touched.TheVariants.{All, Fragments}
+use Rattle.gql_verdict.specs.Plans.{IsAt, IsStep}
+use Rattle.gql_verdict.specs.Slots.{verdicts, IsInOrder, IsFound}
+use Rattle.gql_verdict.specs.declared.slot.Slot.{Slot}
+use Rattle.gql_verdict.specs.declared.slot.Slot.TheVariants.{Here, At}
+use Rattle.gql_verdict.proofs.Seen.{take_next}
+use Rattle.gql_verdict.proofs.Ordered.{same_verdict, kept_at}
+
+picks_rest : (xs ys zs : List Definition) → Picks xs ys → Picks xs (ys ++ zs)
+picks_rest xs ys [] p = subst (λ ws. Picks xs ws) (sym (append-nil ys)) p
+picks_rest xs ys (z ∷ zs) p = subst (λ ws. Picks xs ws) (append_assoc ys (z ∷ []) zs) (picks_rest xs (ys ++ z ∷ []) zs (skip z p))
+
+module _ (F : Facts) (kept : List Judgement) (ds : List Definition) where
+  pub work_none : (m : List DefinitionId) → IsWork F kept [] m m
+  work_none m = record { work = []; picks = pick_none; entries = sym (append-nil m); due = λ d c. absurd (Contains-nil d c) }
+
+  -- what was written down so far is for all as well
+  pub work_all : (i : ℕ) (old new : List DefinitionId) → IsWork F kept (take i ds) old new → IsWork F kept ds old new
+  work_all i old new w = record { work = w.work; picks = subst (λ ws. Picks w.work ws) (take-append-drop i ds) (picks_rest w.work (take i ds) (drop i ds) w.picks); entries = w.entries; due = w.due }
+
+  -- one more definition, whether it was examined or not
+  pub work_more : (i : ℕ) (d : Definition) → i < length ds → d ≡ get_or ds i d → (old mid new : List DefinitionId) → IsWork F kept (take i ds) old mid → IsStepWork F kept d mid new → IsWork F kept (take (i + 1) ds) old new
+  work_more i d lt is old mid new w (inl e) = record { work = w.work; picks = subst (λ ws. Picks w.work ws) (sym (take_next ds i d lt is)) (skip d w.picks); entries = e ∙ w.entries; due = w.due }
+  work_more i d lt is old mid new w (inr s) = record {
+    work = w.work ++ d ∷ [];
+    picks = subst (λ ws. Picks (w.work ++ d ∷ []) ws) (sym (take_next ds i d lt is)) (pick d w.picks);
+    entries = s.1 ∙ (ap (λ xs. xs ++ id_of d ∷ []) w.entries ∙ (append_assoc old (map id_of w.work) (id_of d ∷ []) ∙ ap (λ xs. old ++ xs) (sym (map-append id_of w.work (d ∷ [])))));
+    due = λ c h. elim (Contains-push_cases w.work d c h) [ inl o ↦ w.due c o | inr q ↦ subst (λ z. IsDue F kept z) q s.0 ];
+  }
+
+-- both lists grow by a pair that is related
+pub zip_push : {A B : Type 0} (R : A → B → Type 0) (xs : List A) (ys : List B) (x : A) (y : B) → AllZip R xs ys → R x y → AllZip R (xs ++ x ∷ []) (ys ++ y ∷ [])
+zip_push R [] [] x y h r = (r, tt)
+zip_push R [] (b ∷ bs) x y h r = absurd h
+zip_push R (a ∷ us) [] x y h r = absurd h
+zip_push R (a ∷ us) (b ∷ bs) x y h r = (h.0, zip_push R us bs x y h.1 r)
+
+pub zip_more : {A B : Type 0} (R : A → B → Type 0) (xs : List A) (ys zs : List B) (i : ℕ) (x : A) (y : B) → i < length xs → x ≡ get_or xs i x → AllZip R (take i xs) ys → R x y → zs ≡ ys ++ y ∷ [] → AllZip R (take (i + 1) xs) zs
+zip_more R xs ys zs i x y lt is h r e = subst (λ ws. AllZip R ws zs) (sym (take_next xs i x lt is)) (subst (λ ws. AllZip R (take i xs ++ x ∷ []) ws) (sym e) (zip_push R (take i xs) ys x y h r))
+
+-- an observation that was read differently
+pub broken_at : (F : Facts) (os : List Observation) (i : ℕ) (o : Observation) → i < length os → o ≡ get_or os i o → (F o.key ≡ o.fact → ⊥) → IsBroken F os
+broken_at F os i o lt is bad = (o, (i, lt, sym is), bad)
+
+pub differs : (b : Bool) → b ≡ true → b ≡ false → ⊥
+differs b t f = cc
+
+-- what was read is not what was observed
+pub not_same : (F : Facts) (G : Facts) (o : Observation) (f : Fact) (b : Bool) → G ≡ F → f ≡ G o.key → (IsTrue b ↔ (f ≡ o.fact)) → b ≡ false → F o.key ≡ o.fact → ⊥
+not_same F G o f b e told same n h = differs b (same.1 (told ∙ (ap (λ (H : Facts). H o.key) e ∙ h))) n
+
+-- all that was observed holds, where it holds in what the edit may have changed
+pub holds_all : (F : Facts) (kept : List Judgement) (t : Touched) → IsKnown F kept t → (v : Judgement) → Contains kept v → HoldWhere F t v.observations → Hold F v.observations
+holds_all F kept All known v c h = λ o m. h o m refl
+holds_all F kept (Fragments names) known v c h = λ o m. elim (either (touches (Fragments names) o.key)) [
+  | inl y ↦ h o m y
+  | inr n ↦ known.1.unchanged o.key n ∙ known.1.held v c o m
+]
+
+-- nothing was found for d
+pub none_kept : (F : Facts) (slots : List Slot) (d : Definition) → IsFound slots (id_of d) None → IsDue F (verdicts slots) d
+none_kept F slots d lacks = inl (λ v c e. lacks v c (ap id_of e))
+
+-- the verdict found there is not of d, or has an observation that does not hold
+pub found_bad : (F : Facts) (slots : List Slot) → IsInOrder slots → (d : Definition) (j : ℕ) (v : Judgement) → IsAt slots j v → id_of v.def ≡ id_of d → (v.def ≡ d → ⊥) ⊎ ((v.def ≡ d) × IsBroken F v.observations) → IsDue F (verdicts slots) d
+found_bad F slots o d j v at p (inl other) = inl (λ w c e.
+    let s : w ≡ v = same_verdict (verdicts slots) o.order w v c (kept_at slots o j v at) (ap id_of e ∙ sym p) in
+    other (ap (λ (z : Judgement). z.def) (sym s) ∙ e))
+found_bad F slots o d j v at p (inr broken) = inr (v, kept_at slots o j v at, broken.0, broken.1)
+
+-- the verdict found there is of d and holds
+pub found_good : (F : Facts) (slots : List Slot) → IsInOrder slots → (t : Touched) → IsKnown F (verdicts slots) t → (d : Definition) (j : ℕ) (v w : Judgement) → IsAt slots j v → v ≡ w → (w.def ≡ d) × HoldWhere F t w.observations → IsStep F slots d (At j)
+found_good F slots o t known d j v w at e good =
+    let g : (v.def ≡ d) × HoldWhere F t v.observations = subst (λ (z : Judgement). (z.def ≡ d) × HoldWhere F t z.observations) (sym e) good in
+    (v, at, record { def = g.0; holds = holds_all F (verdicts slots) t known v (kept_at slots o j v at) g.1 })
+
+-- what was read at an index is the verdict there
+pub read_at : (slots : List Slot) (j : ℕ) (v w : Judgement) (s : Slot) → IsAt slots j v → s ≡ get_or slots j s → s ≡ Here w → v ≡ w
+read_at slots j v w s at is e = let q : Here v ≡ Here w = sym (at.is s) ∙ (sym is ∙ e) in cc
+
+pub read_other : (slots : List Slot) (j k : ℕ) (v : Judgement) (s : Slot) → IsAt slots j v → s ≡ get_or slots j s → s ≡ At k → ⊥
+read_other slots j k v s at is e = let q : Here v ≡ At k = sym (at.is s) ∙ (sym is ∙ e) in cc
+
+pub at_true : (b : Bool) (P Q : Type 0) → MatchBool b P Q → b ≡ true → P
+at_true true P Q h e = h
+at_true false P Q h e = cc
+
+pub at_false : (b : Bool) (P Q : Type 0) → MatchBool b P Q → b ≡ false → Q
+at_false true P Q h e = cc
+at_false false P Q h e = h

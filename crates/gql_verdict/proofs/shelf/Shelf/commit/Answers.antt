@@ -1,0 +1,32 @@
+use Rattle.std.proofs.Common.{◌≡◌, ap, sym, ◌∙◌, subst, List, map}
+use Rattle.std.specs.Vec.{with_items}
+use Rattle.std.proofs.lemmas.List.{with_items_is}
+use Rattle.gql_ast.specs.declared.definition.Definition.{Definition}
+use Rattle.gql_facts.specs.Worlds.{Facts}
+use Rattle.gql_verdict.specs.Plans.{IsPlanned}
+use Rattle.gql_verdict.specs.Slots.{resolve, IsApart}
+use Rattle.gql_verdict.specs.declared.slot.Slot.{Slot}
+use Rattle.gql_verdict.specs.declared.slot.Slot.TheVariants.{Here}
+use Rattle.gql_verdict.proofs.Refreshed.{IsServed, planned_apart, planned_served, served_in_order, served_current}
+use Rattle.gql_verdict.proofs.shelf.Shelf.commit.Goals as goal
+use Rattle.gql_verdict.proofs.shelf.Shelf.commit.Goals.{After-drop-self-inside}
+
+pub fill-requires : goal.fill-requires
+fill-requires c = subst (λ (ss : List Slot). IsApart ss) (sym (c.deref_mut.ensures.value ∙ c.prepared.view_is))
+    (planned_apart c.requires.0 c.requires.1 c.args.self.now c.args.prepared c.requires.2)
+
+-- the slots that were filled in serve the definitions
+filled : (c : After-drop-self-inside) (F : Facts) (ds : List Definition) → IsPlanned F ds c.args.self.now c.args.prepared
+    → IsServed F ds (with_items c.prepared.inside.steps c.fill.new.steps).items
+filled c F ds planned =
+    let kept : c.deref_mut-2.result.now ≡ map Here c.args.self.now = c.deref_mut-2.ensures.value ∙ (c.self.invariant.all_here ∙ ap (map Here) c.self.view_is) in
+    let is : c.fill.new.steps ≡ map (resolve c.deref_mut-2.result.now) c.args.prepared =
+    c.fill.ensures ∙ ap (map (resolve c.deref_mut-2.result.now)) (c.deref_mut.ensures.value ∙ c.prepared.view_is) in
+    subst (λ (ss : List Slot). IsServed F ds ss) (sym (with_items_is c.prepared.inside.steps c.fill.new.steps (c.fill.auto.steps ∙ c.deref_mut.ensures.len) ∙ is))
+    (planned_served F ds c.args.self.now c.args.prepared planned c.deref_mut-2.result.now kept)
+
+pub invariant_of-self : goal.invariant_of-self
+invariant_of-self c = served_in_order c.requires.0 c.requires.1 _ c.requires.2.order (filled c c.requires.0 c.requires.1 c.requires.2)
+
+pub returns : goal.returns
+returns c = λ F ds planned. served_current F ds _ (filled c F ds planned)

@@ -1,0 +1,12 @@
+use Rattle.std.proofs.Common.{subst}
+use Rattle.gql_facts.specs.Members.{Lists}
+use Rattle.gql_vars.specs.VariableFaults.{IsVariableFault}
+use Rattle.gql_verdict.proofs.Certified.{Lists-append, by_all}
+use Rattle.gql_verdict.proofs.verdict.faults_in.Goals as goal
+
+pub returns-clause-faults : goal.returns-clause-faults
+returns-clause-faults g c =
+    let F = g.W.World.facts c.args.world.now in
+    let d = c.args.definition.now in
+    let of_variables = subst (λ f. Lists c.in_ok-of_variables.of_variables.items (IsVariableFault f d)) c.local_faults.ensures.facts c.in_ok-of_variables.ensures.found in
+    by_all F d _ (Lists-append _ _ _ c.in_ok-faults.ensures.found of_variables c.in_ok-append.ensures.items)

@@ -1,0 +1,7 @@
+-- Helper definitions for private contracts: names as the code borrows them.
+use Rattle.gql_verdict.specs.Naming.{Named}
+use Rattle.gql_verdict.specs.declared.naming.NamedDefinition.{NamedDefinition}
+
+-- a borrowed definition and its name
+abbrev pub named : NamedDefinition → Named
+named n = record { definition = n.definition.now; name = n.name.now }

@@ -1,0 +1,44 @@
+-- What an edit of a document file may change: only the fragments that the file has or had (GraphQL
+-- 2.8).
+use Rattle.std.specs.Prelude.{◌≡◌, ℕ, List, [], ◌++◌, flat_map, map, false, Option, Some, None}
+use Rattle.gql_ast.specs.FileMaps.{with_file, without_file}
+use Rattle.gql_ast.specs.declared.definition.Definition.{Definition}
+use Rattle.gql_ast.specs.declared.definition.Document.{Document}
+use Rattle.gql_ast.specs.declared.files.Files.{Files}
+use Rattle.gql_facts.specs.Facts.{fact_of, fragment_in}
+use Rattle.gql_facts.specs.declared.fact.FragmentFact.{FragmentFact}
+use Rattle.gql_facts.specs.declared.key.Key.{Key}
+use Rattle.gql_verdict.specs.TouchedFacts.{touches}
+use Rattle.gql_verdict.specs.declared.touched.Touched.{Touched}
+use Rattle.gql_verdict.specs.declared.touched.Touched.TheVariants as touched
+
+-- the name of a fragment
+abbrev pub name_of : FragmentFact → List ℕ
+name_of f = f.fragment.name.text
+
+-- the name of a definition that is a fragment
+abbrev pub fragment_name_in : Definition → List (List ℕ)
+fragment_name_in d = map name_of (fragment_in d)
+
+-- the names of the fragments in a file, or none if there is no file
+abbrev pub fragment_names : Option Document → List (List ℕ)
+fragment_names None = []
+fragment_names (Some document) = flat_map fragment_name_in document.definitions
+
+-- what the edit of a document file touches, by the file before and after it
+abbrev pub touched_by : Option Document → Option Document → Touched
+touched_by before after = touched.Fragments (fragment_names before ++ fragment_names after)
+
+-- the files with this document file in the place of any of its name
+abbrev pub with_document : Files → List ℕ → Document → Files
+with_document files name document =
+    record { schema = files.schema; documents = with_file files.documents name document }
+
+-- the files without the document file of that name
+abbrev pub without_document : Files → List ℕ → Files
+without_document files name =
+    record { schema = files.schema; documents = without_file files.documents name }
+
+-- an edit of the files changes only the answers that are touched
+abbrev pub ChangesOnly : Touched → Files → Files → Type 0
+ChangesOnly t before after = (k : Key) → touches t k ≡ false → fact_of after k ≡ fact_of before k

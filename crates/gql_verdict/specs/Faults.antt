@@ -1,0 +1,12 @@
+-- The faults of one definition (GraphQL 5): by the rules on one definition, and by those on the
+-- variables of an operation.
+use Rattle.gql_ast.specs.declared.definition.Definition.{Definition}
+use Rattle.gql_ast.specs.declared.fault.Fault.{Fault}
+use Rattle.gql_facts.specs.Worlds.{Facts}
+use Rattle.gql_rules.specs.LocalFaults.{IsFault}
+use Rattle.gql_vars.specs.VariableFaults.{IsVariableFault}
+
+-- the faults of a definition, where these are the facts
+pub data IsFaultIn (facts : Facts) (d : Definition) : Fault → Type 0 where
+  by_definition : {f : Fault} → IsFault facts d f → IsFaultIn facts d f
+  by_variables : {f : Fault} → IsVariableFault facts d f → IsFaultIn facts d f

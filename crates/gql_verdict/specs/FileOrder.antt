@@ -1,0 +1,33 @@
+-- The order of definitions: by the bytes of the names of their files, then by their places.
+use Rattle.std.specs.Prelude.{◌≡◌, ◌<◌, ℕ, List, Contains}
+use Rattle.std.specs.List.{AllPairs}
+use Rattle.std.specs.Ordering.{nat_cmp, ordering_then}
+use Rattle.std.specs.declared.cmp.Ordering.{Ordering}
+use Rattle.std.specs.declared.cmp.Ordering.TheVariants.{Less}
+use Rattle.gql_ast.specs.FileMaps.{name_order}
+use Rattle.gql_ast.specs.Trees.{id_of}
+use Rattle.gql_ast.specs.declared.definition.Definition.{Definition}
+use Rattle.gql_ast.specs.declared.definition.DefinitionId.{DefinitionId}
+use Rattle.gql_ast.specs.declared.definition.Document.{Document}
+
+-- what names a definition is ordered by the name of the file, then by the offset
+abbrev pub id_order : DefinitionId → DefinitionId → Ordering
+id_order a b = ordering_then (name_order a.file b.file) (nat_cmp a.offset b.offset)
+
+-- a definition is before another
+abbrev pub IsBefore : Definition → Definition → Type 0
+IsBefore d e = id_order (id_of d) (id_of e) ≡ Less
+
+-- each definition is before all later ones
+abbrev pub InFileOrder : List Definition → Type 0
+InFileOrder = AllPairs IsBefore
+
+-- the definitions of a file have its name, and their offsets rise
+pub record ArePlaced (name : List ℕ) (definitions : List Definition) : Type 0 where
+  pub named : (d : Definition) → Contains definitions d → d.file ≡ name
+  pub rising : AllPairs (λ (d e : Definition). (id_of d).offset < (id_of e).offset) definitions
+
+-- so it is in each of these files
+abbrev pub AreFilesPlaced : List (List ℕ × Document) → Type 0
+AreFilesPlaced documents = (file : List ℕ × Document) → Contains documents file
+    → ArePlaced file.0 file.1.definitions

@@ -1,0 +1,80 @@
+-- What a shelf of verdicts answers, and what an edit examines.
+use Rattle.std.specs.Prelude.{◌≡◌, ◌⊎◌, List, [], ◌∷◌, ◌++◌, map, Contains, Option, Some, None, MatchOption}
+use Rattle.gql_ast.specs.Trees.{id_of}
+use Rattle.gql_ast.specs.declared.definition.Definition.{Definition}
+use Rattle.gql_ast.specs.declared.definition.DefinitionId.{DefinitionId}
+use Rattle.gql_ast.specs.declared.fault.Fault.{Fault}
+use Rattle.gql_facts.specs.Worlds.{Facts}
+use Rattle.gql_verdict.specs.Faults.{IsFaultIn}
+use Rattle.gql_verdict.specs.Verdicts.{Hold, Judgement}
+use Rattle.gql_verdict.specs.declared.observation.Observation.{Observation}
+
+-- ---- what a shelf answers
+
+-- the definitions that have a verdict
+abbrev pub defs : List Judgement → List Definition
+defs shelf = map (λ (v : Judgement). v.def) shelf
+
+-- one verdict for each definition, in the order of the definitions, and each holds
+pub record IsCurrent (facts : Facts) (definitions : List Definition) (shelf : List Judgement)
+    : Type 0 where
+  pub each : defs shelf ≡ definitions
+  pub holds : (v : Judgement) → Contains shelf v → Hold facts v.observations
+
+-- a verdict on d that holds
+pub record Serves (facts : Facts) (d : Definition) (v : Judgement) : Type 0 where
+  pub def : v.def ≡ d
+  pub holds : Hold facts v.observations
+
+-- the verdict on the definition of that name, or none where no verdict is on such a definition
+abbrev pub IsVerdictAt : List Judgement → DefinitionId → Option Judgement → Type 0
+IsVerdictAt shelf id found = MatchOption found
+    ((v : Judgement) → Contains shelf v → id_of v.def ≡ id → ⊥)
+    (λ v. Contains shelf v × (id_of v.def ≡ id))
+
+-- For a definition that is present the answer is its verdict, which holds. Where no definition is,
+-- the answer is none.
+pub record Answers (facts : Facts) (definitions : List Definition) (id : DefinitionId)
+    (answer : Option Judgement) : Type 0 where
+  pub present : (d : Definition) → Contains definitions d → id_of d ≡ id
+      → (v : Judgement) × (answer ≡ Some v) × Serves facts d v
+  pub absent : ((d : Definition) → Contains definitions d → id_of d ≡ id → ⊥) → answer ≡ None
+
+-- a fault of one of these definitions
+abbrev pub IsFaultOfAny : Facts → List Definition → Fault → Type 0
+IsFaultOfAny facts definitions f =
+    (d : Definition) × Contains definitions d × IsFaultIn facts d f
+
+-- ---- what an edit examines
+
+-- an observation that does not hold
+abbrev pub IsBroken : Facts → List Observation → Type 0
+IsBroken facts observations =
+    (o : Observation) × Contains observations o × (facts o.key ≡ o.fact → ⊥)
+
+-- a definition is examined only if no verdict on it is kept, place included, or if one is kept with
+-- an observation that does not hold
+abbrev pub IsDue : Facts → List Judgement → Definition → Type 0
+IsDue facts kept d = ((v : Judgement) → Contains kept v → v.def ≡ d → ⊥)
+    ⊎ ((v : Judgement) × Contains kept v × (v.def ≡ d) × IsBroken facts v.observations)
+
+-- some of the definitions, in their order, each at most once
+pub data Picks : List Definition → List Definition → Type 0 where
+  pick_none : Picks [] []
+  skip : {xs ys : List Definition} (y : Definition) → Picks xs ys → Picks xs (ys ++ y ∷ [])
+  pick : {xs ys : List Definition} (y : Definition) → Picks xs ys
+      → Picks (xs ++ y ∷ []) (ys ++ y ∷ [])
+
+-- the meter gained only entries at its end, for definitions that were due, each at most once
+pub record IsWork (facts : Facts) (kept : List Judgement) (definitions : List Definition)
+    (old new : List DefinitionId) : Type 0 where
+  pub work : List Definition
+  pub picks : Picks work definitions
+  pub entries : new ≡ old ++ map id_of work
+  pub due : (d : Definition) → Contains work d → IsDue facts kept d
+
+-- the same for one definition
+abbrev pub IsStepWork : Facts → List Judgement → Definition → List DefinitionId → List DefinitionId
+    → Type 0
+IsStepWork facts kept d old new =
+    (new ≡ old) ⊎ (IsDue facts kept d × (new ≡ old ++ id_of d ∷ []))

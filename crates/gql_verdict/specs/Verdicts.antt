@@ -1,0 +1,41 @@
+-- What a verdict is worth: the faults of a definition are known wherever its observations hold.
+use Rattle.std.specs.Prelude.{◌≡◌, List, map, Contains}
+use Rattle.gql_ast.specs.declared.definition.Definition.{Definition}
+use Rattle.gql_ast.specs.declared.fault.Fault.{Fault}
+use Rattle.gql_facts.specs.Members.{Lists}
+use Rattle.gql_facts.specs.Reads.{Reads}
+use Rattle.gql_facts.specs.Worlds.{Facts}
+use Rattle.gql_facts.specs.declared.key.Key.{Key}
+use Rattle.gql_verdict.specs.Faults.{IsFaultIn}
+use Rattle.gql_verdict.specs.declared.observation.Observation.{Observation}
+
+-- each observed key has the answer that it had
+abbrev pub Hold : Facts → List Observation → Type 0
+Hold facts observations = (o : Observation) → Contains observations o → facts o.key ≡ o.fact
+
+-- wherever the observations hold, these are the faults of d
+abbrev pub IsCertificate : Definition → List Fault → List Observation → Type 0
+IsCertificate d faults observations = (facts : Facts) → Hold facts observations
+    → Lists faults (IsFaultIn facts d)
+
+-- a verdict as callers see it
+pub record Judgement : Type 0 where
+  pub def : Definition
+  pub faults : List Fault
+  pub observations : List Observation
+
+-- the answer to a key, where these are the facts
+abbrev pub observed : Facts → Key → Observation
+observed facts k = record { key = k; fact = facts k }
+
+-- the observed keys
+abbrev pub keys_of : List Observation → List Key
+keys_of observations = map (λ (o : Observation). o.key) observations
+
+-- The verdict on d, made where these are the facts: it is certified, its observations hold, and
+-- their keys are those that d reads.
+pub record Judges (facts : Facts) (d : Definition) (v : Judgement) : Type 0 where
+  pub def : v.def ≡ d
+  pub certificate : IsCertificate v.def v.faults v.observations
+  pub holds : Hold facts v.observations
+  pub keys : Lists (keys_of v.observations) (Reads facts d)

@@ -1,0 +1,30 @@
+//! The faults of names over all document files (GraphQL specification, 5), and verdicts: the faults
+//! of a definition with all that they depend on.
+//!
+//! A function that adds to a list may have added a part where it fails for memory.
+#![tactic(auto)]
+
+mod definitions;
+pub mod laws;
+mod meter;
+mod names;
+mod naming;
+mod observation;
+mod plan;
+mod shelf;
+mod slot;
+mod spreads;
+mod touched;
+mod v01_executable_definitions;
+mod v02_operation_name_uniqueness;
+mod v03_lone_anonymous_operation;
+mod v11_fragment_name_uniqueness;
+mod v14_fragments_must_be_used;
+mod verdict;
+
+pub use meter::Meter;
+pub use names::name_faults;
+pub use observation::Observation;
+pub use shelf::{Prepared, Shelf};
+pub use touched::Touched;
+pub use verdict::{Verdict, examine};

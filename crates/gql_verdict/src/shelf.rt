@@ -1,0 +1,217 @@
+//! The verdicts that are kept, one for each definition that is present.
+ghost use Rattle.std.specs.Prelude.{◌≡◌, ◌++◌, [], List, IfOk, OnOk, OnErr, flat_map};
+ghost use Rattle.std.specs.Option.{option_copied};
+ghost use Rattle.gql_ast.specs.declared.definition.Definition.{Definition};
+ghost use Rattle.gql_facts.specs.Members.{Lists};
+ghost use Rattle.gql_facts.specs.Worlds.{Facts};
+ghost use Rattle.gql_verdict.specs.Definitions.{all_definitions as definitions_of};
+ghost use Rattle.gql_verdict.specs.FileOrder.{AreFilesPlaced};
+ghost use Rattle.gql_verdict.specs.Shelves.{Answers, IsCurrent, IsFaultOfAny, IsVerdictAt, IsWork};
+ghost use Rattle.gql_verdict.specs.Plans.{IsPlanned, IsPrepared};
+ghost use Rattle.gql_verdict.specs.Slots.{IsSlotCertified, slot_faults};
+ghost use Rattle.gql_verdict.specs.TouchedFacts.{IsKnown};
+
+use crate::meter::Meter;
+use crate::plan::plan;
+use crate::slot::{Slot, fill, find, resolved};
+use crate::touched::Touched;
+use crate::verdict::Verdict;
+use gql_ast::{DefinitionId, Fault, Files};
+use gql_facts::World;
+use std::alloc::{AllocError, Global};
+use std::marker::Model;
+
+/// Adds copies of faults.
+fn add_all(alloc: Global, faults: &[Fault], found: &mut Vec<Fault>) -> Result<(), AllocError>
+    ensures { OnOk result (found.new.items ≡ found.old.items ++ faults.now) }
+{
+    for fault in faults {
+        found.push(fault.copy(alloc)?)?;
+    }
+    Ok(())
+}
+
+/// Adds copies of the faults of a verdict.
+fn add_slot(alloc: Global, slot: &Slot, found: &mut Vec<Fault>) -> Result<(), AllocError>
+    ensures found { OnOk result (found.new.items ≡ found.old.items ++ slot_faults slot.now) }
+    ensures certificate { IsSlotCertified slot.now }
+{
+    match slot {
+        Slot::Here(verdict) => add_all(alloc, verdict.faults(), found),
+        Slot::At(_) => Ok(()),
+    }
+}
+
+/// A verdict for each definition of the document files, in their order. Contracts see the list of
+/// the verdicts.
+#[derive(Drop)]
+pub struct Shelf {
+    slots: Vec<Slot>,
+}
+
+impl Model for Shelf {
+    ghost use Rattle.std.specs.Coded.{codes};
+    ghost use Rattle.gql_ast.specs.contracts.definition.Definition as definition;
+    ghost use Rattle.gql_ast.specs.contracts.fault.Fault as fault;
+    ghost use Rattle.gql_facts.specs.contracts.key.Key as key;
+    ghost use Rattle.gql_facts.specs.contracts.fact.Fact as fact;
+    ghost use Rattle.std.specs.Prelude.{List};
+    ghost use Rattle.gql_verdict.specs.Verdicts.{Judgement};
+    ghost use Rattle.gql_verdict.specs.Slots.{verdicts, IsInOrder};
+
+    ghost Value = { List Judgement };
+
+    ghost coded = { Prim.hlevel (
+      codes,
+      definition.the_row.coded,
+      fault.the_row.coded,
+      key.the_row.coded,
+      fact.the_row.coded,
+    ) };
+
+    ghost view = { λ s. verdicts s.slots.items };
+
+    ghost invariant = { λ s. IsInOrder s.slots.items };
+}
+
+/// What makes a shelf current: for each definition a new verdict, or the index of one on the shelf.
+#[derive(Drop)]
+pub struct Prepared {
+    steps: Vec<Slot>,
+}
+
+impl Model for Prepared {
+    ghost use Rattle.std.specs.Prelude.{List};
+    ghost use Rattle.gql_verdict.specs.declared.slot.Slot.{Slot};
+    ghost use Rattle.std.specs.Coded.{codes};
+    ghost use Rattle.gql_verdict.specs.contracts.slot.Slot as slot;
+
+    ghost Value = { List Slot };
+
+    ghost coded = { Prim.hlevel (codes, slot.the_row.coded) };
+
+    ghost view = { λ p. p.steps.items };
+}
+
+impl Shelf {
+    /// A shelf with no verdicts.
+    pub fn new(alloc: Global) -> Shelf
+        ensures { result ≡ [] }
+    {
+        Shelf {
+            slots: Vec::new(alloc),
+        }
+    }
+
+    /// Prepares to make the shelf current after an edit: examines each definition that has no verdict
+    /// or whose verdict no longer holds. The shelf stays as it is.
+    pub fn prepare<W: World>(
+        &self,
+        alloc: Global,
+        world: &mut W,
+        files: &Files,
+        touched: &Touched,
+        meter: &mut Meter,
+    ) -> Result<Prepared, AllocError>
+        requires placed { AreFilesPlaced files.now.documents }
+        requires known { IsKnown (W.facts world.old) self.now touched.now }
+        ensures facts { W.facts world.new ≡ W.facts world.old }
+        ensures names { W.names world.new ≡ W.names world.old }
+        ensures lent { W.lent world.new ≡ W.lent world.old }
+        ensures planned { IfOk result (λ prepared. IsPlanned (W.facts world.old)
+            (definitions_of files.now.documents) self.now prepared) }
+        ensures work { IsWork (W.facts world.old) self.now
+            (definitions_of files.now.documents) meter.old meter.new }
+    {
+        let kept = self.slots.as_slice();
+        let steps = plan(alloc, world, kept, files, touched, meter)?;
+        Ok(Prepared { steps })
+    }
+
+    /// The faults of the verdicts that will be on the shelf once it is current.
+    pub fn prepared_faults(
+        &self,
+        alloc: Global,
+        prepared: &Prepared,
+    ) -> Result<Vec<Fault>, AllocError>
+        ensures { IfOk result (λ found. (facts : Facts) (definitions : List Definition)
+            → IsPlanned facts definitions self.now prepared.now
+            → Lists found.items (IsFaultOfAny facts definitions)) }
+    {
+        let kept = self.slots.as_slice();
+        let mut found = Vec::new(alloc);
+        for step in prepared.steps.as_slice() {
+            add_slot(alloc, resolved(kept, step), &mut found)?;
+        }
+        Ok(found)
+    }
+
+    /// Makes the shelf current: new verdicts take their places, those that still hold keep theirs, and
+    /// those on definitions that are gone are dropped. It takes no memory and cannot fail.
+    pub fn commit(&mut self, prepared: Prepared)
+        requires { IsPrepared self.old prepared }
+        ensures { (facts : Facts) (definitions : List Definition)
+            → IsPlanned facts definitions self.old prepared
+            → IsCurrent facts definitions self.new }
+    {
+        let mut steps = prepared.steps;
+        fill(&mut steps, &mut self.slots);
+        self.slots = steps;
+    }
+
+    /// Makes the shelf current after an edit. If an allocation fails, the shelf is as before.
+    pub fn refresh<W: World>(
+        &mut self,
+        alloc: Global,
+        world: &mut W,
+        files: &Files,
+        touched: &Touched,
+        meter: &mut Meter,
+    ) -> Result<(), AllocError>
+        requires placed { AreFilesPlaced files.now.documents }
+        requires known { IsKnown (W.facts world.old) self.old touched.now }
+        ensures facts { W.facts world.new ≡ W.facts world.old }
+        ensures names { W.names world.new ≡ W.names world.old }
+        ensures lent { W.lent world.new ≡ W.lent world.old }
+        ensures current { OnOk result (IsCurrent (W.facts world.old)
+            (definitions_of files.now.documents) self.new) }
+        ensures err { OnErr result (self.new ≡ self.old) }
+        ensures work { IsWork (W.facts world.old) self.old
+            (definitions_of files.now.documents) meter.old meter.new }
+    {
+        let prepared = self.prepare(alloc, world, files, touched, meter)?;
+        self.commit(prepared);
+        Ok(())
+    }
+
+    /// The verdict on the definition of that name.
+    pub fn get(&self, id: &DefinitionId) -> Option<&Verdict>
+        ensures value { IsVerdictAt self.now id.now (option_copied result) }
+        ensures current { (facts : Facts) (definitions : List Definition)
+            → IsCurrent facts definitions self.now
+            → Answers facts definitions id.now (option_copied result) }
+    {
+        let Some(j) = find(self.slots.as_slice(), id) else {
+            return None;
+        };
+        match &self.slots[j] {
+            Slot::Here(verdict) => Some(verdict),
+            Slot::At(_) => None,
+        }
+    }
+
+    /// The faults of all verdicts.
+    pub fn faults(&self, alloc: Global) -> Result<Vec<Fault>, AllocError>
+        ensures value { IfOk result (λ found.
+            found.items ≡ flat_map (λ v. v.faults) self.now) }
+        ensures current { IfOk result (λ found. (facts : Facts) (definitions : List Definition)
+            → IsCurrent facts definitions self.now
+            → Lists found.items (IsFaultOfAny facts definitions)) }
+    {
+        let mut found = Vec::new(alloc);
+        for slot in self.slots.as_slice() {
+            add_slot(alloc, slot, &mut found)?;
+        }
+        Ok(found)
+    }
+}

@@ -1,0 +1,74 @@
+//! Verdicts of a shelf, in the order of their definitions.
+ghost use Rattle.std.specs.Prelude.{◌≡◌, map};
+ghost use Rattle.gql_ast.specs.Trees.{id_of};
+ghost use Rattle.gql_verdict.specs.FileOrder.{id_order};
+ghost use Rattle.gql_verdict.specs.Slots.{IsApart, IsFound, IsInOrder, resolve, slot_order};
+
+use crate::verdict::Verdict;
+use gql_ast::{Definition, DefinitionId};
+use std::cmp::Ordering;
+use std::mem;
+
+/// A verdict, or the index of the one that comes here.
+#[derive(Drop)]
+pub enum Slot {
+    Here(Verdict),
+    At(usize),
+}
+
+/// The order of a definition, and of a name.
+fn definition_order(definition: &Definition, id: &DefinitionId) -> Ordering
+    ensures { result ≡ id_order (id_of definition.now) id.now }
+{
+    let by_file = definition.file.cmp(&id.file);
+    let by_place = definition.tree.place().offset.cmp(&id.offset);
+    by_file.then(by_place)
+}
+
+impl Slot {
+    /// The order of the definition here, and of a name.
+    fn order_to(&self, id: &DefinitionId) -> Ordering
+        ensures { result ≡ slot_order self.now id.now }
+    {
+        match self {
+            Slot::Here(verdict) => definition_order(verdict.def(), id),
+            Slot::At(_) => Ordering::Less,
+        }
+    }
+}
+
+/// The index of the verdict on the definition of a name.
+pub fn find(slots: &[Slot], id: &DefinitionId) -> Option<usize>
+    requires { IsInOrder slots.now }
+    ensures { IsFound slots.now id.now result }
+{
+    slots.binary_search_by(|slot| slot.order_to(id)).ok()
+}
+
+/// The verdict that comes at a step.
+pub fn resolved<'s>(kept: &'s [Slot], step: &'s Slot) -> &'s Slot
+    ensures { result.now ≡ resolve kept.now step.now }
+{
+    match step {
+        Slot::Here(_) => step,
+        Slot::At(j) => match kept.get(*j) {
+            Some(slot) => slot,
+            None => step,
+        },
+    }
+}
+
+/// Fetches each verdict that is elsewhere. It cannot fail.
+pub fn fill(steps: &mut [Slot], kept: &mut [Slot])
+    requires { IsApart steps.old }
+    ensures { steps.new ≡ map (resolve kept.old) steps.old }
+{
+    for step in steps.iter_mut() {
+        if let Slot::At(j) = step {
+            let j = *j;
+            if j < kept.len() {
+                mem::swap(step, &mut kept[j]);
+            }
+        }
+    }
+}

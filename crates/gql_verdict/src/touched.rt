@@ -1,0 +1,81 @@
+//! What an edit may have changed.
+ghost use Rattle.std.specs.Prelude.{◌≡◌, ◌++◌, IfOk, OnOk, flat_map};
+ghost use Rattle.std.specs.Option.{option_copied};
+ghost use Rattle.gql_verdict.specs.DocumentEdits as edits;
+ghost use Rattle.gql_verdict.specs.TouchedFacts as spec;
+
+use gql_ast::{Definition, Document, Text, Tree};
+use gql_facts::Key;
+use gql_types::Named;
+use std::alloc::{AllocError, Global};
+
+/// The answers that an edit may have changed: all of them, or only the fragments of these names. An
+/// edit of a document file touches only the fragments that the file has or had.
+#[derive(Drop)]
+pub enum Touched {
+    All,
+    Fragments(Named<Text>),
+}
+
+/// Adds the name of a definition that is a fragment.
+fn add_name(definition: &Definition, names: &mut Vec<Text>) -> Result<(), AllocError>
+    ensures { OnOk result (names.new.items ≡ names.old.items
+        ++ edits.fragment_name_in definition.now) }
+{
+    if let Tree::Fragment(fragment) = &definition.tree {
+        names.push(fragment.get().name.text.copy()?)?;
+    }
+    Ok(())
+}
+
+/// Adds the names of fragments.
+fn add_names(definitions: &[Definition], names: &mut Vec<Text>) -> Result<(), AllocError>
+    ensures { OnOk result (names.new.items ≡ names.old.items
+        ++ flat_map edits.fragment_name_in definitions.now) }
+{
+    for definition in definitions {
+        add_name(definition, names)?;
+    }
+    Ok(())
+}
+
+/// Adds the names of the fragments in a file, if there is one.
+fn add_file(document: Option<&Document>, names: &mut Vec<Text>) -> Result<(), AllocError>
+    ensures { OnOk result (names.new.items ≡ names.old.items
+        ++ edits.fragment_names (option_copied document.entry)) }
+{
+    if let Some(document) = document {
+        add_names(document.definitions.as_slice(), names)?;
+    }
+    Ok(())
+}
+
+impl Touched {
+    /// What the edit of a document file touches, by the file before and after it.
+    pub fn by_edit(
+        alloc: Global,
+        before: Option<&Document>,
+        after: Option<&Document>,
+    ) -> Result<Touched, AllocError>
+        ensures { IfOk result (λ touched. touched
+            ≡ edits.touched_by (option_copied before.entry) (option_copied after.entry)) }
+    {
+        let mut names = Vec::new(alloc);
+        add_file(before, &mut names)?;
+        add_file(after, &mut names)?;
+        Ok(Touched::Fragments(Named::new(alloc, names)?))
+    }
+
+    /// Whether the answer to a key may have changed.
+    pub fn touches(&self, key: &Key) -> bool
+        ensures { result ≡ spec.touches self.now key.now }
+    {
+        match self {
+            Touched::All => true,
+            Touched::Fragments(names) => match key {
+                Key::FragmentOf(name) => names.get(name.as_str()).is_some(),
+                _ => false,
+            },
+        }
+    }
+}

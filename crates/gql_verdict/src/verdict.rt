@@ -1,0 +1,126 @@
+//! Verdicts: the faults of a definition, with all that they depend on.
+ghost use Rattle.std.specs.Prelude.{◌≡◌, ◌↔◌, ◌++◌, ◌∷◌, [], IfOk, OnOk, OnErr, IsTrue};
+ghost use Rattle.gql_ast.specs.Trees.{id_of};
+ghost use Rattle.gql_facts.specs.Members.{Lists};
+ghost use Rattle.gql_verdict.specs.Faults.{IsFaultIn};
+ghost use Rattle.gql_verdict.specs.Verdicts.{IsCertificate, Judges};
+
+use crate::meter::Meter;
+use crate::observation::{Observation, observe};
+use gql_ast::{Definition, Fault, Same};
+use gql_facts::World;
+use gql_rules::local_faults;
+use gql_vars::variable_faults;
+use std::alloc::{AllocError, Global};
+use std::marker::Model;
+
+/// A definition, its faults, and the answers that these depend on. Wherever a world gives the same
+/// answers, the faults are the same. Only `examine` makes one.
+#[derive(Drop)]
+pub struct Verdict {
+    def: Definition,
+    faults: Vec<Fault>,
+    observations: Vec<Observation>,
+}
+
+impl Model for Verdict {
+    ghost use Rattle.std.specs.Coded.{codes};
+    ghost use Rattle.gql_ast.specs.contracts.definition.Definition as definition;
+    ghost use Rattle.gql_ast.specs.contracts.fault.Fault as fault;
+    ghost use Rattle.gql_facts.specs.contracts.key.Key as key;
+    ghost use Rattle.gql_facts.specs.contracts.fact.Fact as fact;
+    ghost use Rattle.gql_verdict.specs.Verdicts.{Judgement, IsCertificate};
+
+    ghost Value = { Judgement };
+
+    ghost coded = { Prim.hlevel (
+      codes,
+      definition.the_row.coded,
+      fault.the_row.coded,
+      key.the_row.coded,
+      fact.the_row.coded,
+    ) };
+
+    ghost view = { λ v. record {
+      def = v.def;
+      faults = v.faults.items;
+      observations = v.observations.items;
+    } };
+
+    ghost invariant = { λ v. IsCertificate v.def v.faults.items v.observations.items };
+}
+
+impl Verdict {
+    /// The definition, as it was when it was examined.
+    pub fn def(&self) -> &Definition
+        ensures { result.now ≡ self.now.def }
+    {
+        &self.def
+    }
+
+    /// The faults of the definition.
+    pub fn faults(&self) -> &[Fault]
+        ensures value { result.now ≡ self.now.faults }
+        ensures certificate { IsCertificate self.now.def self.now.faults self.now.observations }
+    {
+        self.faults.as_slice()
+    }
+
+    /// The answers that the faults depend on, absences too.
+    pub fn observations(&self) -> &[Observation]
+        ensures { result.now ≡ self.now.observations }
+    {
+        self.observations.as_slice()
+    }
+
+    /// Whether it is the verdict on this definition, at this place.
+    pub fn is_of(&self, definition: &Definition) -> bool
+        ensures { IsTrue result ↔ (self.now.def ≡ definition.now) }
+    {
+        self.def.same(definition)
+    }
+}
+
+/// The faults of a definition by all rules on one definition.
+fn faults_in<W: World>(
+    alloc: Global,
+    world: &mut W,
+    definition: &Definition,
+) -> Result<Vec<Fault>, AllocError>
+    ensures facts { W.facts world.new ≡ W.facts world.old }
+    ensures names { W.names world.new ≡ W.names world.old }
+    ensures lent { W.lent world.new ≡ W.lent world.old }
+    ensures faults { IfOk result (λ found.
+        Lists found.items (IsFaultIn (W.facts world.old) definition.now)) }
+{
+    let mut faults = local_faults(alloc, world, definition)?;
+    let mut of_variables = variable_faults(alloc, world, definition)?;
+    faults.append(&mut of_variables)?;
+    Ok(faults)
+}
+
+/// Examines a definition: records the answers to all keys that it reads, and finds its faults. If
+/// an allocation fails, nothing is added to the meter. The world answers as before either way.
+pub fn examine<W: World>(
+    alloc: Global,
+    world: &mut W,
+    definition: &Definition,
+    meter: &mut Meter,
+) -> Result<Verdict, AllocError>
+    ensures facts { W.facts world.new ≡ W.facts world.old }
+    ensures names { W.names world.new ≡ W.names world.old }
+    ensures lent { W.lent world.new ≡ W.lent world.old }
+    ensures verdict { IfOk result (Judges (W.facts world.old) definition.now) }
+    ensures ok { OnOk result (meter.new ≡ meter.old ++ id_of definition.now ∷ []) }
+    ensures err { OnErr result (meter.new ≡ meter.old) }
+{
+    let observations = observe(alloc, world, definition)?;
+    let faults = faults_in(alloc, world, definition)?;
+    let def = definition.copy()?;
+    meter.add(definition.id())?;
+    Ok(Verdict {
+        def,
+        faults,
+        observations,
+    })
+}
