@@ -94,27 +94,33 @@ field_misuses facts c fields g = misuses facts c
 
 -- ---- arguments and directives
 
+-- in an argument, by its definition, if it is known
 abbrev pub misuses_by : Facts → UsageCheck → Argument → Option InputFact → List Fault
 misuses_by facts c a None = []
 misuses_by facts c a (Some i) = value_misuses facts c (location_of i) (value_of a.value)
 
+-- in an argument of a field or a directive that defines these, if it is known
 abbrev pub misuses_of_argument : Facts → UsageCheck → Option (List InputFact) → Argument
     → List Fault
 misuses_of_argument facts c known a = misuses_by facts c a (definition_of known a.name.text)
 
+-- in the arguments of a field or a directive that defines these, if it is known
 abbrev pub argument_misuses : Facts → UsageCheck → Option (List InputFact) → List Argument
     → List Fault
 argument_misuses facts c known = flat_map (misuses_of_argument facts c known)
 
+-- in a directive that is applied
 abbrev pub misuses_of_directive : Facts → UsageCheck → Directive → List Fault
 misuses_of_directive facts c d =
     argument_misuses facts c (of_directive (directive_of facts d.name.text)) d.arguments
 
+-- in directives that are applied
 abbrev pub directive_misuses : Facts → UsageCheck → List Directive → List Fault
 directive_misuses facts c = flat_map (misuses_of_directive facts c)
 
 -- ---- nodes
 
+-- in a node of a selection set
 abbrev pub node_misuses : Facts → UsageCheck → Node → List Fault
 node_misuses facts c (field f) =
     argument_misuses facts c (of_field (field_of facts f.parent f.name.text)) f.arguments
@@ -126,26 +132,32 @@ node_misuses facts c (inline i) = directive_misuses facts c i.directives
 abbrev pub nodes_misuses : Facts → UsageCheck → List Node → List Fault
 nodes_misuses facts c = flat_map (node_misuses facts c)
 
+-- in a selection set with this parent type
 abbrev pub set_misuses : Facts → UsageCheck → Option (List ℕ) → List Selection → List Fault
 set_misuses facts c parent set = nodes_misuses facts c (nodes facts parent set)
 
+-- in a selection, and in what it selects
 abbrev pub selection_misuses : Facts → UsageCheck → Option (List ℕ) → Selection → List Fault
 selection_misuses facts c parent x = nodes_misuses facts c (nodes_in facts x parent)
 
+-- in a field, and then in what it selects
 abbrev pub field_visit : Facts → UsageCheck → Option (List ℕ) → Field → List Fault
 field_visit facts c parent f = node_misuses facts c (field (field_node parent f))
     ++ set_misuses facts c (parent_below facts parent f.name.text) f.selections
 
+-- in an inline fragment, and then in what it selects
 abbrev pub inline_visit : Facts → UsageCheck → Option (List ℕ) → InlineFragment → List Fault
 inline_visit facts c parent i = node_misuses facts c (inline (inline_node parent i))
     ++ set_misuses facts c (parent_within facts parent i.condition) i.selections
 
 -- ---- definitions
 
+-- in an operation, without the fragments that it reaches
 abbrev pub operation_misuses : Facts → UsageCheck → Operation → List Fault
 operation_misuses facts c o =
     directive_misuses facts c o.directives ++ nodes_misuses facts c (operation_nodes facts o)
 
+-- in a fragment, without those that it reaches
 abbrev pub fragment_misuses : Facts → UsageCheck → Fragment → List Fault
 fragment_misuses facts c f =
     directive_misuses facts c f.directives ++ nodes_misuses facts c (fragment_nodes facts f)

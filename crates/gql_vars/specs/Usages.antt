@@ -1,5 +1,5 @@
--- The usages of variables (GraphQL 5.8.5): the uses at a location whose type is known. A location is
--- the type that is expected there, and whether a default value takes the place of none.
+-- The usages of variables (GraphQL 5.8.5): the uses at a location whose type is known. Nothing is
+-- a usage under a field, an argument, a directive or an input field that is not known.
 use Rattle.std.specs.Prelude.{ℕ, List, [], ◌∷◌, ◌++◌, ◌&&◌, Bool, false, not, flat_map, Contains, Option, Some, None, if◌then◌else◌}
 use Rattle.std.specs.Option.{option_map_or}
 use Rattle.gql_ast.specs.declared.definition.Definition.{Definition}
@@ -49,16 +49,17 @@ location_of_field f = record { expected = f.of_type; has_default = f.has_default
 abbrev pub fields_at : InputLookup → Written → List FieldForm
 fields_at look t = option_map_or fields_in (look (name_in t)) []
 
--- what is found by the type of the items, where a list is expected
+-- the usages in a list, by the type of its items, where a list is expected
 abbrev pub by_item : (Written → List Usage) → Option Written → List Usage
 by_item usages None = []
 by_item usages (Some item) = usages item
 
--- what is found in an item; nothing where it is refused as a whole, since it is no list
+-- the usages in an item; none where it is refused as a whole, since a list is expected and it
+-- is no list
 abbrev pub if_item : Written → Value → List Usage → List Usage
 if_item item x usages = if is_list item && not (may_be_list x) then [] else usages
 
--- what is found in a field of an object, where the type has the field
+-- the usages in a field of an object, where the type has the field
 abbrev pub by_field : (Location → List Usage) → Option FieldForm → List Usage
 by_field usages None = []
 by_field usages (Some f) = usages (location_of_field f)

@@ -57,6 +57,7 @@ allows t has_value at = if is_never_null t has_value at
     then fits t (nullable at.expected)
     else fits t at.expected
 
+-- a variable is allowed at a location
 abbrev pub is_allowed : VariableDefinition → Location → Bool
 is_allowed v at = allows (written v.of_type) (has_value v.default) at
 

@@ -22,7 +22,8 @@ fn nullable_placed(of_type: &TypeRef) -> &TypeRef
 
 /// The steps of a type, without its Non-Null.
 fn nullable_steps(steps: &[Wrapper]) -> &[Wrapper]
-    ensures { (n : List ℕ) → typed result.now (named n) ≡ spec.nullable (typed steps.now (named n)) }
+    ensures { (n : List ℕ) → typed result.now (named n)
+        ≡ spec.nullable (typed steps.now (named n)) }
 {
     match steps.split_first() {
         None => steps,

@@ -60,6 +60,7 @@ fn check_node<W: World>(
     Ok(below)
 }
 
+/// Adds the faults of a field, and in what it selects.
 #[cycle(usages)]
 fn check_field<W: World>(
     alloc: Global,
@@ -81,6 +82,7 @@ fn check_field<W: World>(
     Ok(())
 }
 
+/// Adds the faults of an inline fragment, and in what it selects.
 #[cycle(usages)]
 fn check_inline<W: World>(
     alloc: Global,
@@ -103,6 +105,7 @@ fn check_inline<W: World>(
     Ok(())
 }
 
+/// Adds the faults of a selection, and in what it selects.
 #[cycle(usages)]
 fn check_selection<W: World>(
     alloc: Global,
@@ -152,6 +155,7 @@ fn check_set<W: World>(
     Ok(())
 }
 
+/// Adds the faults in an operation, without the fragments that it reaches.
 fn check_operation<W: World>(
     alloc: Global,
     world: &mut W,
@@ -172,6 +176,7 @@ fn check_operation<W: World>(
     Ok(())
 }
 
+/// Adds the faults in a fragment, without those that it reaches.
 fn check_fragment<W: World>(
     alloc: Global,
     world: &mut W,

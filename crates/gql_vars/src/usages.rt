@@ -348,6 +348,7 @@ fn arguments_of(known: Option<&DirectiveFact>) -> Option<&Named<InputFact>>
     }
 }
 
+/// Adds the faults of the variables in a directive that is applied.
 fn check_directive<W: World>(
     alloc: Global,
     world: &mut W,
