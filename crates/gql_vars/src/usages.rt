@@ -99,22 +99,14 @@ fn check_value<W: World>(
         Literal::Variable { place, name } => {
             check_variable(alloc, world, check, *place, name, location, faults)
         }
-        Literal::List { items, .. } => check_list(
-            alloc,
-            items.as_slice(),
-            world,
-            check,
-            location.expected,
-            faults,
-        ),
-        Literal::Object { fields, .. } => check_object(
-            alloc,
-            fields.as_slice(),
-            world,
-            check,
-            location.expected,
-            faults,
-        ),
+        Literal::List { items, .. } => {
+            let items = items.as_slice();
+            check_list(alloc, items, world, check, location.expected, faults)
+        }
+        Literal::Object { fields, .. } => {
+            let fields = fields.as_slice();
+            check_object(alloc, fields, world, check, location.expected, faults)
+        }
         Literal::Int { .. }
         | Literal::Float { .. }
         | Literal::String { .. }
