@@ -12,7 +12,8 @@ use Rattle.gql_verdict.specs.V14FragmentsMustBeUsed as v14
 
 -- the faults of these definitions
 abbrev pub faults_of : List Definition → List Fault
-faults_of ds = v01.faults ds ++ (v02.faults ds ++ (v03.faults ds ++ (v11.faults ds ++ v14.faults ds)))
+faults_of ds = v01.faults ds
+    ++ (v02.faults ds ++ (v03.faults ds ++ (v11.faults ds ++ v14.faults ds)))
 
 -- the faults of the definitions of all document files
 abbrev pub name_faults : Files → List Fault

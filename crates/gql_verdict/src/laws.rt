@@ -7,7 +7,8 @@ ghost use Rattle.gql_ast.specs.declared.fault.Fault.{Fault};
 ghost use Rattle.gql_ast.specs.declared.files.Files.{Files};
 ghost use Rattle.gql_facts.specs.Reads.{Agree};
 ghost use Rattle.gql_facts.specs.Worlds.{Facts};
-ghost use Rattle.gql_verdict.specs.DocumentEdits.{ChangesOnly, touched_by, with_document, without_document};
+ghost use Rattle.gql_verdict.specs.DocumentEdits.{ChangesOnly, touched_by};
+ghost use Rattle.gql_verdict.specs.DocumentEdits.{with_document, without_document};
 ghost use Rattle.gql_verdict.specs.Faults.{IsFaultIn};
 
 /// The faults of a definition by all rules on it depend on what it reads alone: facts that agree

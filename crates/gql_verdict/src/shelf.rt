@@ -103,8 +103,8 @@ impl Shelf {
         }
     }
 
-    /// Prepares to make the shelf current after an edit: examines each definition that has no verdict
-    /// or whose verdict no longer holds. The shelf stays as it is.
+    /// Prepares to make the shelf current after an edit: examines each definition that has no
+    /// verdict, or whose verdict no longer holds. The shelf stays as it is.
     pub fn prepare<W: World>(
         &self,
         alloc: Global,
@@ -146,8 +146,8 @@ impl Shelf {
         Ok(found)
     }
 
-    /// Makes the shelf current: new verdicts take their places, those that still hold keep theirs, and
-    /// those on definitions that are gone are dropped. It takes no memory and cannot fail.
+    /// Makes the shelf current: new verdicts take their places, those that still hold keep theirs,
+    /// and those on definitions that are gone are dropped. It takes no memory and cannot fail.
     pub fn commit(&mut self, prepared: Prepared)
         requires { IsPrepared self.old prepared }
         ensures { (facts : Facts) (definitions : List Definition)

@@ -15,7 +15,8 @@ fn add_selection_spreads<'t>(
     selection: &'t Selection,
     names: &mut Vec<&'t Name>,
 ) -> Result<(), AllocError>
-    ensures { OnOk result (map (λ n. n.now.text) names.new.items ≡ map (λ n. n.now.text) names.old.items
+    ensures { OnOk result (map (λ n. n.now.text) names.new.items
+        ≡ map (λ n. n.now.text) names.old.items
         ++ spec.selection_spreads selection.now) }
 {
     match selection {
@@ -28,7 +29,8 @@ fn add_selection_spreads<'t>(
 
 #[cycle(selections)]
 fn add_set_spreads<'t>(set: &'t [Selection], names: &mut Vec<&'t Name>) -> Result<(), AllocError>
-    ensures { OnOk result (map (λ n. n.now.text) names.new.items ≡ map (λ n. n.now.text) names.old.items
+    ensures { OnOk result (map (λ n. n.now.text) names.new.items
+        ≡ map (λ n. n.now.text) names.old.items
         ++ spec.set_spreads set.now) }
 {
     for selection in set {
@@ -39,7 +41,8 @@ fn add_set_spreads<'t>(set: &'t [Selection], names: &mut Vec<&'t Name>) -> Resul
 
 /// Adds the names that are spread in a definition.
 fn add_tree_spreads<'t>(tree: &'t Tree, names: &mut Vec<&'t Name>) -> Result<(), AllocError>
-    ensures { OnOk result (map (λ n. n.now.text) names.new.items ≡ map (λ n. n.now.text) names.old.items
+    ensures { OnOk result (map (λ n. n.now.text) names.new.items
+        ≡ map (λ n. n.now.text) names.old.items
         ++ spec.tree_spreads tree.now) }
 {
     match tree {
