@@ -1,0 +1,9 @@
+pub mod Calls
+pub mod Conflicts
+pub mod FieldNodes
+pub mod FieldSets
+pub mod MergeFaults
+pub mod MergedNodes
+pub mod Shapes
+pub mod V05DifferentCalls
+pub mod V06DifferentShapes
