@@ -1,7 +1,7 @@
 -- The selection sets of a definition (GraphQL 5.3.2). What is in an inline fragment is part of the
 -- set around it. A field whose definition is not known takes no part; the set that it selects is
 -- there all the same, as a type is known again in an inline fragment with a condition.
-use Rattle.std.specs.Prelude.{◌≡◌, ℕ, List, [], ◌∷◌, ◌++◌, map, flat_map, Bool, true, false, Option, Some, None, refl, if◌then◌else◌}
+use Rattle.std.specs.Prelude.{◌≡◌, ℕ, List, [], ◌∷◌, ◌++◌, map, flat_map, Bool, true, false, Option, Some, None, option_map, refl}
 use Rattle.std.proofs.Common.{ap, sym, ◌∙◌}
 use Rattle.gql_text.specs.declared.place.Place.{Place}
 use Rattle.gql_ast.specs.declared.executable.Field.{Field}
@@ -19,10 +19,8 @@ use Rattle.gql_types.specs.declared.kind.TypeKind.{TypeKind}
 use Rattle.gql_types.specs.declared.kind.TypeKind.TheVariants as kind
 use Rattle.gql_facts.specs.Nodes.{has_any, parent_below, parent_within}
 use Rattle.gql_facts.specs.Worlds.{Facts}
-use Rattle.gql_facts.specs.declared.fact.Fact.{Fact}
-use Rattle.gql_facts.specs.declared.fact.Fact.TheVariants as fact
 use Rattle.gql_facts.specs.declared.fact.FieldFact.{FieldFact}
-use Rattle.gql_facts.specs.declared.key.Key.TheVariants as key
+use Rattle.gql_rules.specs.Answers.{field_of, kind_of}
 use Rattle.gql_merge.specs.Calls.{call_text}
 use Rattle.gql_merge.specs.FieldNodes.{FieldInfo, FieldNode, SetNode, selection_set, listed}
 use Rattle.gql_merge.specs.Shapes.{shape_text}
@@ -40,12 +38,8 @@ abbrev pub own_name : Option Name → Name → Name
 own_name None name = name
 own_name (Some alias) name = alias
 
-abbrev pub kind_in : Fact → Option TypeKind
-kind_in (fact.Kind k) = Some k
-kind_in _ = None
-
-abbrev pub is_object : Fact → Bool
-is_object (fact.Kind kind.Object) = true
+abbrev pub is_object : Option TypeKind → Bool
+is_object (Some kind.Object) = true
 is_object _ = false
 
 -- what is compared of a field of the type `parent`, whose definition is d
@@ -55,20 +49,16 @@ info_of facts file parent f d = record {
   start = (own_name f.alias f.name).place;
   response_name = (own_name f.alias f.name).text;
   parent = parent;
-  of_object = is_object (facts (key.KindOf parent));
+  of_object = is_object (kind_of facts parent);
   call = call_text f.name.text f.arguments;
-  shape = shape_text d.of_type (kind_in (facts (key.KindOf d.of_type.name)));
+  shape = shape_text d.of_type (kind_of facts d.of_type.name);
 }
 
 -- none where the definition is not known
-abbrev pub info_by : Facts → List ℕ → List ℕ → WrittenField → Fact → Option FieldInfo
-info_by facts file parent f (fact.Field d) = Some (info_of facts file parent f d)
-info_by facts file parent f _ = None
-
 abbrev pub known_info : Facts → List ℕ → Option (List ℕ) → WrittenField → Option FieldInfo
 known_info facts file None f = None
 known_info facts file (Some t) f =
-    info_by facts file t f (facts (key.FieldOf t f.name.text))
+    option_map (info_of facts file t f) (field_of facts (Some t) f.name.text)
 
 -- ---- parts
 

@@ -2,3 +2,6 @@
 //!
 //! A function that adds to a list may have added a part where it fails for memory.
 #![tactic(auto)]
+
+mod orders;
+mod texts;
