@@ -8,7 +8,7 @@
 -- their texts. Arguments are a set: each text is there once. The fields of an object are as many as
 -- are written. Numbers and names are equal where they are written alike, strings where their values
 -- are.
-use Rattle.std.specs.Prelude.{◌≡◌, ℕ, suc, List, [], ◌∷◌, ◌++◌, map, flat_map, fold, length, decimal, codes, Bool, true, false, refl}
+use Rattle.std.specs.Prelude.{◌≡◌, ◌+◌, ℕ, List, [], ◌∷◌, ◌++◌, map, flat_map, fold, length, decimal, codes, Bool, true, false, refl}
 use Rattle.std.proofs.Common.{ap, sym, ◌∙◌}
 use Rattle.std.specs.BTreeMap.{insert_entry}
 use Rattle.std.specs.Ordering.{nat_cmp, ordering_then}
@@ -28,10 +28,13 @@ Text = List ℕ
 
 -- ---- texts in order
 
+-- with one text more, unless it is there
+abbrev pub with_text : List (Text × Unit {0}) → Text → List (Text × Unit {0})
+with_text entries t = insert_entry name_order entries t tt
+
 -- these texts, each once, in the order of their bytes
 abbrev pub each_once : List Text → List Text
-each_once texts = map (λ (e : Text × Unit {0}). e.0)
-    (fold (λ (entries : List (Text × Unit {0})) (t : Text). insert_entry name_order entries t tt) [] texts)
+each_once texts = map (λ (e : Text × Unit {0}). e.0) (fold with_text [] texts)
 
 -- a text and the number of texts before it, by the text and then by the number
 abbrev pub numbered_order : Text × ℕ → Text × ℕ → Ordering
@@ -42,7 +45,7 @@ abbrev pub ordered_from : List ((Text × ℕ) × Unit {0}) → ℕ → List Text
     → List ((Text × ℕ) × Unit {0})
 ordered_from entries n [] = entries
 ordered_from entries n (t ∷ texts) =
-    ordered_from (insert_entry numbered_order entries (t, n) tt) (suc n) texts
+    ordered_from (insert_entry numbered_order entries (t, n) tt) (n + 1) texts
 
 -- these texts in the order of their bytes, each as often as it is there
 abbrev pub in_order : List Text → List Text

@@ -42,17 +42,24 @@ abbrev pub is_object : Option TypeKind → Bool
 is_object (Some kind.Object) = true
 is_object _ = false
 
--- what is compared of a field of the type `parent`, whose definition is d
-abbrev pub info_of : Facts → List ℕ → List ℕ → WrittenField → FieldFact → FieldInfo
-info_of facts file parent f d = record {
+-- What is compared of a field of the type `parent`, whose definition is d, where these are the kinds
+-- of the parent and of the field's type.
+abbrev pub info_by : List ℕ → List ℕ → WrittenField → FieldFact → Option TypeKind
+    → Option TypeKind → FieldInfo
+info_by file parent f d own of_field = record {
   file = file;
   start = (own_name f.alias f.name).place;
   response_name = (own_name f.alias f.name).text;
   parent = parent;
-  of_object = is_object (kind_of facts parent);
+  of_object = is_object own;
   call = call_text f.name.text f.arguments;
-  shape = shape_text d.of_type (kind_of facts d.of_type.name);
+  shape = shape_text d.of_type of_field;
 }
+
+-- the same, by the kinds that are known
+abbrev pub info_of : Facts → List ℕ → List ℕ → WrittenField → FieldFact → FieldInfo
+info_of facts file parent f d =
+    info_by file parent f d (kind_of facts parent) (kind_of facts d.of_type.name)
 
 -- none where the definition is not known
 abbrev pub known_info : Facts → List ℕ → Option (List ℕ) → WrittenField → Option FieldInfo

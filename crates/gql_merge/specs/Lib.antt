@@ -2,6 +2,7 @@ pub mod Calls
 pub mod Conflicts
 pub mod FieldNodes
 pub mod FieldSets
+pub mod Known
 pub mod MergeFaults
 pub mod MergedNodes
 pub mod Shapes
