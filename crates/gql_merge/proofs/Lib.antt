@@ -1,2 +1,6 @@
 pub mod Appending
+pub mod Below
+pub mod Drawing
+pub mod FlatParts
+pub mod Indexing
 pub mod Ordered

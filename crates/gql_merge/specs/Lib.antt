@@ -2,6 +2,8 @@ pub mod Calls
 pub mod Conflicts
 pub mod FieldNodes
 pub mod FieldSets
+pub mod Flat
+pub mod Flattened
 pub mod Known
 pub mod MergeFaults
 pub mod MergedNodes

@@ -3,6 +3,8 @@
 //! A function that adds to a list may have added a part where it fails for memory.
 #![tactic(auto)]
 
+mod flat;
+mod flatten;
 mod known;
 mod orders;
 mod parents;
