@@ -6,6 +6,10 @@ use Rattle.std.proofs.Common.{ap, sym, ◌∙◌, subst, inl, inr, get_or}
 use Rattle.std.proofs.lemmas.List.{take_more}
 use Rattle.std.proofs.lemmas.List.Elements.{Contains-append_left, Contains-append_right, Contains-append_cases}
 use Rattle.std.proofs.lemmas.Slice.Eq.{bytes_eq-Decides}
+use Rattle.gql_ast.specs.declared.definition.Definition.{Definition}
+use Rattle.gql_ast.specs.declared.definition.Tree.TheVariants as tree
+use Rattle.gql_ast.specs.declared.executable.Fragment.{Fragment}
+use Rattle.gql_ast.specs.declared.executable.Operation.{Operation}
 use Rattle.gql_facts.specs.ListMembers.{Contains-cases, Contains-here, Contains-nil, either}
 use Rattle.gql_facts.specs.Worlds.{Facts}
 use Rattle.gql_facts.specs.declared.fact.FragmentFact.{FragmentFact}
@@ -14,13 +18,14 @@ use Rattle.gql_merge.proofs.Drawing.{flat_end, get_more}
 use Rattle.gql_merge.specs.FieldNodes.{SetNode}
 use Rattle.gql_merge.specs.Flat.{AddsSet, Draws}
 use Rattle.gql_merge.specs.Flattened.{AddsMember, AddsMembers, IsIndex, IsIndexAt, fragment_sets}
-use Rattle.gql_merge.specs.MergedNodes.{fragment_part, fragment_set, sets_of}
+use Rattle.gql_merge.specs.FieldSets.{list_of}
+use Rattle.gql_merge.specs.MergedNodes.{fragment_part, fragment_set, operation_part, sets_in, sets_of, tree_part}
 use Rattle.gql_merge.specs.declared.flat.FlatSet.{FlatSet}
 
 -- a number is right with more sets, and with a fragment more that has another name
 index_more : (F : Facts) (ns ms : List SetNode) (members : List FragmentFact) (g : FragmentFact) (q : List ℕ) (o : Option ℕ)
     → bytes_eq g.fragment.name.text q ≡ false → IsIndexAt F ns members q o → IsIndexAt F (ns ++ ms) (members ++ g ∷ []) q o
-index_more F ns ms members g q None other at h c e = elim (Contains-append_cases members (g ∷ []) h c) [
+index_more F ns ms members g q None other at = λ h c e. elim (Contains-append_cases members (g ∷ []) h c) [
   | inl a ↦ at h a e
   | inr b ↦ elim (Contains-cases h g [] b) [
     | inl same ↦ absurd (let t = (bytes_eq-Decides g.fragment.name.text q).1 (ap (λ x. x.fragment.name.text) (sym same) ∙ e) in cc)
@@ -48,6 +53,21 @@ member_added F F1 g sets after f h bs i same added named is before members drawn
           (index_more F before (fragment_sets F g) members g q (f q) (ap (λ x. bytes_eq x q) (sym named) ∙ n) (index q))
     ])
 
+-- the sets of a definition
+pub own_operation : (F : Facts) (d : Definition) (o o' : Operation) (old sets : List FlatSet) (i : ℕ) → d.tree ≡ tree.Operation o → o' ≡ o → old ≡ []
+    → AddsSet (operation_part F d.file o') old sets i → Draws sets (sets_in F d)
+own_operation F d o o' old sets i is same empty added =
+    let r = (added [] (subst (λ l. Draws l []) (sym empty) tt)).0 in
+    subst (λ t. Draws sets (flat_map sets_of (list_of (tree_part F d.file t)))) (sym is)
+    (subst (Draws sets) (sym (append_end (sets_of (operation_part F d.file o)))) (subst (λ x. Draws sets (sets_of (operation_part F d.file x))) same r))
+
+pub own_fragment : (F : Facts) (d : Definition) (o o' : Fragment) (old sets : List FlatSet) (i : ℕ) → d.tree ≡ tree.Fragment o → o' ≡ o → old ≡ []
+    → AddsSet (fragment_part F d.file o') old sets i → Draws sets (sets_in F d)
+own_fragment F d o o' old sets i is same empty added =
+    let r = (added [] (subst (λ l. Draws l []) (sym empty) tt)).0 in
+    subst (λ t. Draws sets (flat_map sets_of (list_of (tree_part F d.file t)))) (sym is)
+    (subst (Draws sets) (sym (append_end (sets_of (fragment_part F d.file o)))) (subst (λ x. Draws sets (sets_of (fragment_part F d.file x))) same r))
+
 -- no fragments
 pub members_none : (F : Facts) (sets : List FlatSet) (f : List ℕ → Option ℕ) → ((q : List ℕ) → f q ≡ None) → AddsMembers F [] sets sets f
 members_none F sets f none before drawn =
@@ -68,3 +88,13 @@ members_more F F1 gs i g s0 s1 s2 f h within item same before step own drawn =
         ∙ ap (λ l. own ++ l) (sym (flat_end (fragment_sets F) (take i gs) g)) in
     subst (λ l. Draws s2 (own ++ flat_map (fragment_sets F) l) × IsIndex F (own ++ flat_map (fragment_sets F) l) l h) (sym taken)
     (subst (Draws s2) all t.0, subst (λ l. IsIndex F l (take i gs ++ g ∷ []) h) all t.1)
+
+-- the fragment as it is read
+pub member_from : (F : Facts) (g : FragmentFact) (fragment : Fragment) (sets after : List FlatSet) (f h : List ℕ → Option ℕ) (bs : List ℕ) (i : ℕ)
+    → fragment ≡ g.fragment → AddsSet (fragment_part F g.file fragment) sets after i → bs ≡ fragment.name.text
+    → ((q : List ℕ) → h q ≡ update bytes_eq f bs (Some i) q)
+    → AddsMember F g sets f after h
+member_from F g fragment sets after f h bs i same added named is =
+    member_added F F g sets after f h bs i refl
+    (subst (λ x. AddsSet (fragment_part F g.file x) sets after i) same added)
+    (named ∙ ap (λ x. x.name.text) same) is
