@@ -7,6 +7,7 @@ pub mod Flattened
 pub mod Known
 pub mod MergeFaults
 pub mod MergedNodes
+pub mod Numbers
 pub mod Shapes
 pub mod V05DifferentCalls
 pub mod V06DifferentShapes

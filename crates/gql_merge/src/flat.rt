@@ -18,6 +18,18 @@ pub struct FlatField<'t> {
     pub below: Option<usize>,
 }
 
+impl<'t> FlatField<'t> {
+    /// An equal field.
+    pub fn copy(&self) -> Result<FlatField<'t>, AllocError>
+        ensures { IfOk result (λ f. f ≡ self.now) }
+    {
+        Ok(FlatField {
+            known: self.known.copy()?,
+            below: self.below,
+        })
+    }
+}
+
 /// The fields of a selection set and of its inline fragments, and the names of the fragments that
 /// these spread.
 #[derive(Drop)]

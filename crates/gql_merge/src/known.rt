@@ -25,6 +25,21 @@ pub struct KnownField<'t> {
     pub shape: Text,
 }
 
+impl<'t> KnownField<'t> {
+    /// An equal field.
+    pub fn copy(&self) -> Result<KnownField<'t>, AllocError>
+        ensures { IfOk result (λ f. f ≡ self.now) }
+    {
+        Ok(KnownField {
+            file: self.file,
+            field: self.field,
+            parent: self.parent.copy()?,
+            of_object: self.of_object,
+            shape: self.shape.copy()?,
+        })
+    }
+}
+
 /// What is known of a field, and the parent type of what it selects.
 #[derive(Drop)]
 pub struct SeenField<'t> {

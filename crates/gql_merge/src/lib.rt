@@ -3,9 +3,11 @@
 //! A function that adds to a list may have added a part where it fails for memory.
 #![tactic(auto)]
 
+mod columns;
 mod flat;
 mod flatten;
 mod known;
+mod numbers;
 mod orders;
 mod parents;
 mod shapes;
