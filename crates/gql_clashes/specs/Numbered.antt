@@ -6,7 +6,7 @@ use Rattle.gql_clashes.specs.declared.sets.Sets.{Sets}
 use Rattle.gql_clashes.specs.Clashes.{Nodes, IsClash}
 
 -- what a number without a field is read as
-abbrev no_field : NumberedField
+abbrev pub no_field : NumberedField
 no_field = record {
   file = 0;
   start = 0;

@@ -1,8 +1,15 @@
 pub mod Appending
+pub mod BeforeFields
 pub mod Below
 pub mod Drawing
+pub mod Final
+pub mod FlatNodes
 pub mod FlatParts
 pub mod Indexing
+pub mod Matching
+pub mod NamesRead
 pub mod NumberedFields
 pub mod Ordered
 pub mod Places
+pub mod Resolved
+pub mod Together

@@ -8,23 +8,23 @@ use Rattle.gql_ast.specs.declared.rule.Rule.{Rule}
 use Rattle.gql_clashes.specs.Clashes.{IsClash, SeedsOf}
 use Rattle.gql_clashes.specs.declared.sets.Mode.{Mode}
 use Rattle.gql_facts.specs.Worlds.{Facts}
-use Rattle.gql_merge.specs.FieldNodes.{FieldNode}
+use Rattle.gql_merge.specs.FieldNodes.{FieldInfo, FieldNode}
 use Rattle.gql_merge.specs.MergedNodes.{is_before, nodes, sets_in}
 
 -- two fields of one response name, in their order, that may not be merged
 abbrev pub IsConflict : Facts → Definition → FieldNode → FieldNode → Mode → Type 0
 IsConflict facts d f g m = IsClash (nodes facts) (SeedsOf (nodes facts) (sets_in facts d)) f g m
-    × (is_before f g ≡ true)
+    × (is_before f.its g.its ≡ true)
 
 -- where a field starts
-abbrev pub place_of : FieldNode → FilePlace
-place_of f = record { side = Documents; file = f.its.file; place = f.its.start }
+abbrev pub place_of : FieldInfo → FilePlace
+place_of i = record { side = Documents; file = i.file; place = i.start }
 
 -- the fault of two fields
-abbrev pub fault_of_pair : FilePlace → Rule → FieldNode → FieldNode → Fault
-fault_of_pair owner rule f g = record {
+abbrev pub fault_of_pair : FilePlace → Rule → FieldInfo → FieldInfo → Fault
+fault_of_pair owner rule i j = record {
   rule = rule;
-  about = f.its.response_name;
-  places = place_of f ∷ place_of g ∷ [];
+  about = i.response_name;
+  places = place_of i ∷ place_of j ∷ [];
   owner = Some owner;
 }

@@ -1,7 +1,6 @@
 -- Helper definitions for private contracts: a field whose definition is known, as definitions see
 -- it.
 use Rattle.std.specs.Prelude.{ℕ, List}
-use Rattle.gql_merge.specs.Calls.{call_text}
 use Rattle.gql_merge.specs.FieldNodes.{FieldInfo}
 use Rattle.gql_merge.specs.FieldSets.{own_name}
 use Rattle.gql_merge.specs.declared.known.KnownField.{KnownField}
@@ -14,6 +13,6 @@ info_in x = record {
   response_name = (own_name x.field.now.alias x.field.now.name).text;
   parent = x.parent;
   of_object = x.of_object;
-  call = call_text x.field.now.name.text x.field.now.arguments;
+  call = x.call;
   shape = x.shape;
 }

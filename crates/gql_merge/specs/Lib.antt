@@ -8,6 +8,7 @@ pub mod Known
 pub mod MergeFaults
 pub mod MergedNodes
 pub mod Numbers
+pub mod PairFaults
 pub mod Shapes
 pub mod V05DifferentCalls
 pub mod V06DifferentShapes

@@ -16,7 +16,7 @@ use Rattle.gql_facts.specs.declared.fact.Fact.{Fact}
 use Rattle.gql_facts.specs.declared.fact.Fact.TheVariants as fact
 use Rattle.gql_facts.specs.declared.fact.FragmentFact.{FragmentFact}
 use Rattle.gql_facts.specs.declared.key.Key.TheVariants as key
-use Rattle.gql_merge.specs.FieldNodes.{FieldNode, SetNode, direct, names_spread}
+use Rattle.gql_merge.specs.FieldNodes.{FieldInfo, FieldNode, SetNode, direct, names_spread}
 use Rattle.gql_merge.specs.FieldSets.{Part, part_within, set_of, list_of}
 
 -- ---- definitions
@@ -69,9 +69,8 @@ is_before_by Equal within = within
 is_before_by Greater within = false
 
 -- files are in the order of their names, and fields of one file in that of their places
-abbrev pub is_before : FieldNode → FieldNode → Bool
-is_before f g = is_before_by (name_order f.its.file g.its.file)
-    (nat_lt f.its.start.offset g.its.start.offset)
+abbrev pub is_before : FieldInfo → FieldInfo → Bool
+is_before i j = is_before_by (name_order i.file j.file) (nat_lt i.start.offset j.start.offset)
 
 -- what the merging of fields asks of them
 abbrev pub nodes : Facts → Nodes FieldNode SetNode

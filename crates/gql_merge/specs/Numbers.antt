@@ -1,6 +1,7 @@
 -- Helper definitions for private contracts: numbers for the fields and the sets that are kept.
 use Rattle.std.specs.Prelude.{◌≡◌, ◌+◌, ℕ, suc, List, [], ◌∷◌, ◌++◌, map, flat_map, length, bytes_eq, cond, Option, Some, None, option_map}
 use Rattle.std.proofs.Common.{get_or}
+use Rattle.std.specs.List.{range_with_len}
 use Rattle.gql_clashes.specs.declared.sets.NumberedField.{NumberedField}
 use Rattle.gql_clashes.specs.declared.sets.Sets.{Sets}
 use Rattle.gql_merge.specs.FieldNodes.{FieldInfo}
@@ -82,6 +83,10 @@ AreNumbersOf all (x ∷ xs) [] = ⊥
 AreNumbersOf all (x ∷ xs) (n ∷ ns) = IsNumberOf all x n × AreNumbersOf all xs ns
 
 -- ---- numbers of sets
+
+-- the numbers below n
+abbrev pub numbers_to : ℕ → List ℕ
+numbers_to n = range_with_len 0 n
 
 -- the numbers of these fields, from this one on
 abbrev pub numbers_from : ℕ → List FlatField → List ℕ

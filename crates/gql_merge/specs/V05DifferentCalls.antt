@@ -17,4 +17,4 @@ use Rattle.gql_merge.specs.MergedNodes.{nodes}
 pub data IsFault (facts : Facts) (d : Definition) : Fault → Type 0 where
   differ : {f g : FieldNode} {m : Mode} → IsConflict facts d f g m
       → is_bad_call (nodes facts) m f g ≡ true
-      → IsFault facts d (fault_of_pair (owner_of d) rule.V05 f g)
+      → IsFault facts d (fault_of_pair (owner_of d) rule.V05 f.its g.its)

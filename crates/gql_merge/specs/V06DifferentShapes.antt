@@ -16,4 +16,4 @@ use Rattle.gql_merge.specs.MergedNodes.{nodes}
 pub data IsFault (facts : Facts) (d : Definition) : Fault → Type 0 where
   differ : {f g : FieldNode} {m : Mode} → IsConflict facts d f g m
       → is_bad_shape (nodes facts) f g ≡ true
-      → IsFault facts d (fault_of_pair (owner_of d) rule.V06 f g)
+      → IsFault facts d (fault_of_pair (owner_of d) rule.V06 f.its g.its)

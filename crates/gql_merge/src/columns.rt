@@ -6,7 +6,6 @@ ghost use Rattle.gql_merge.specs.Known.{info_in};
 ghost use Rattle.gql_merge.specs.Numbers as spec;
 
 use crate::flat::FlatField;
-use crate::texts::call_text;
 use gql_ast::{Field, Name, Text};
 use std::alloc::{AllocError, Global};
 use std::collections::HashMap;
@@ -49,7 +48,7 @@ fn aspect_of(alloc: Global, aspect: Aspect, field: &FlatField<'_>) -> Result<Tex
         Aspect::File => Text::from_str(alloc, known.file.as_str()),
         Aspect::ResponseName => own_name(known.field).text.copy(),
         Aspect::Parent => known.parent.copy(),
-        Aspect::Call => call_text(alloc, &known.field.name.text, known.field.arguments.as_slice()),
+        Aspect::Call => known.call.copy(),
         Aspect::Shape => known.shape.copy(),
     }
 }

@@ -8,6 +8,7 @@ ghost use Rattle.gql_rules.specs.Answers as answers;
 
 use crate::parents::composite_by_kind;
 use crate::shapes::shape_text;
+use crate::texts::call_text;
 use gql_ast::{Field, FileName, Text};
 use gql_facts::{Fact, FieldFact, Key, World};
 use gql_rules::kind_of;
@@ -22,6 +23,9 @@ pub struct KnownField<'t> {
     /// The type in whose selections it is.
     pub parent: Text,
     pub of_object: bool,
+    /// Its name and arguments.
+    pub call: Text,
+    /// That of its type.
     pub shape: Text,
 }
 
@@ -35,6 +39,7 @@ impl<'t> KnownField<'t> {
             field: self.field,
             parent: self.parent.copy()?,
             of_object: self.of_object,
+            call: self.call.copy()?,
             shape: self.shape.copy()?,
         })
     }
@@ -85,12 +90,14 @@ fn known_field<'t>(
         (written_field field.now) definition.now own kind) }
 {
     let parent = of_type.copy()?;
+    let call = call_text(alloc, &field.name.text, field.arguments.as_slice())?;
     let shape = shape_text(alloc, &definition.of_type, kind)?;
     Ok(KnownField {
         file,
         field,
         parent,
         of_object: is_object(own),
+        call,
         shape,
     })
 }

@@ -4,11 +4,17 @@
 #![tactic(auto)]
 
 mod columns;
+mod faults;
 mod flat;
 mod flatten;
 mod known;
+mod merging;
 mod numbers;
 mod orders;
 mod parents;
 mod shapes;
 mod texts;
+mod v05_different_calls;
+mod v06_different_shapes;
+
+pub use merging::merge_faults;
