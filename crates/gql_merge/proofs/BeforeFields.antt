@@ -1,5 +1,5 @@
 -- The order of fields, and tests of two fields that do not see their order.
-use Rattle.std.specs.Prelude.{◌≡◌, ◌<◌, ℕ, List, Bool, true, false, ◌&&◌, ◌||◌, not, nat_eq, nat_lt, bytes_eq, refl}
+use Rattle.std.specs.Prelude.{◌≡◌, ℕ, List, Bool, true, false, ◌&&◌, ◌||◌, not, nat_eq, nat_lt, bytes_eq, refl}
 use Rattle.std.proofs.Common.{ap, sym, ◌∙◌, true≢false, arith}
 use Rattle.std.proofs.lemmas.Bool.Decides.{nat_tests}
 use Rattle.std.proofs.lemmas.Map.Text.{is_eq-slice_cmp}

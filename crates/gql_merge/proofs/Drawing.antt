@@ -1,5 +1,5 @@
 -- Selection sets by numbers: what is drawn stays drawn as sets are added.
-use Rattle.std.specs.Prelude.{◌≡◌, ◌+◌, ◌<◌, ℕ, suc, List, [], ◌∷◌, ◌++◌, map, flat_map, length, take, Bool, true, false, refl, Option, Some, None, option_map}
+use Rattle.std.specs.Prelude.{◌≡◌, ◌+◌, ◌<◌, ℕ, suc, List, [], ◌∷◌, ◌++◌, map, flat_map, length, take, Bool, true, refl, Option, Some, None, option_map}
 use Rattle.std.specs.List.{slice_get}
 use Rattle.std.proofs.Common.{ap, sym, ◌∙◌, subst, get_or, arith, Bor}
 use Rattle.std.proofs.lemmas.List.{take_more, length-append, get_or_append_left, get_or-append-add}
@@ -8,7 +8,7 @@ use Rattle.gql_ast.specs.declared.executable.Selection.{Selection}
 use Rattle.gql_facts.specs.Nodes.{has_any}
 use Rattle.gql_facts.specs.Worlds.{Facts}
 use Rattle.gql_merge.proofs.Appending.{append_assoc, append_end, two}
-use Rattle.gql_merge.specs.FieldNodes.{FieldInfo, FieldNode, SetNode, direct, listed, fields_in, fields_listed, names_spread}
+use Rattle.gql_merge.specs.FieldNodes.{FieldInfo, FieldNode, SetNode, direct, fields_listed}
 use Rattle.gql_merge.specs.FieldSets.{Part, field_if, joined, list_of, part_in, part_of_field, part_of_spread, part_within, set_if, set_of}
 use Rattle.gql_merge.specs.Flat.{AddsBelow, AddsSet, AreDrawn, AreSetsDrawn, Draws, Grows, IsDrawn, IsSetDrawn, flat_if}
 use Rattle.gql_merge.specs.Known.{info_in}
@@ -91,11 +91,10 @@ set_added p sets within after own done number no_fields no_names grows is pushed
     let d : Draws (within ++ done ∷ []) all = sets_end all within ns done (set_of p) (sets_more ns (set_of p ∷ []) within ns r.0) (set_more ns (set_of p ∷ []) done (set_of p) own) in
     let there : all ≡ before ++ sets_of p = append_assoc before p.sets (set_of p ∷ []) in
     let at : number ≡ length ns + 0 = is ∙ same_length ns within ns r.0 ∙ omega arith in
-    let inside : number < length all = rw (length-append ns (set_of p ∷ [])) (omega (arith, at)) in
-    (
+    let inside : number < length all = rw (length-append ns (set_of p ∷ [])) (omega (arith, at)) in (
       subst (λ l. Draws l (before ++ sets_of p)) (sym pushed) (subst (Draws (within ++ done ∷ [])) there d),
       subst (λ l. slice_get l number ≡ Some (set_of p)) there
-      (slice_get-get_or all number (set_of p) inside ∙ ap Some (ap (λ i. get_or all i (set_of p)) at ∙ get_or-append-add ns (set_of p ∷ []) 0 (set_of p))),
+          (slice_get-get_or all number (set_of p) inside ∙ ap Some (ap (λ i. get_or all i (set_of p)) at ∙ get_or-append-add ns (set_of p ∷ []) 0 (set_of p))),
     )
 
 -- ---- what a field selects
@@ -130,11 +129,10 @@ grows_then p q s0 s1 s2 o0 o1 o2 first second = record {
   names = two (map (λ n. n.now) o0.names.items) _ _ p.names q.names first.names second.names;
   drawn = λ before fields d a.
       let r = first.drawn before fields d a in
-      let t = second.drawn (before ++ p.sets) (fields ++ p.fields) r.0 r.1 in
-      (
+      let t = second.drawn (before ++ p.sets) (fields ++ p.fields) r.0 r.1 in (
         subst (Draws s2) (append_assoc before p.sets q.sets) t.0,
         subst (λ l. AreDrawn l o2.fields.items (fields ++ (p.fields ++ q.fields))) (append_assoc before p.sets q.sets)
-        (subst (AreDrawn ((before ++ p.sets) ++ q.sets) o2.fields.items) (append_assoc fields p.fields q.fields) t.1),
+            (subst (AreDrawn ((before ++ p.sets) ++ q.sets) o2.fields.items) (append_assoc fields p.fields q.fields) t.1),
       );
 }
 
@@ -166,9 +164,9 @@ grows_more F F1 file parent xs i x s0 s1 s2 o0 o1 o2 within item same before ste
     let q = part_in F file x parent in
     let step' : Grows q s1 o1 s2 o2 = subst (λ f. Grows (part_in f file x parent) s1 o1 s2 o2) same step in
     let is : part_within F file parent (take (i + 1) xs) ≡ both p q =
-        ap (λ l. joined (map (λ y. part_in F file y parent) l)) (take_more xs i x within ∙ ap (λ y. take i xs ++ y ∷ []) item)
-        ∙ ap joined (map_end (λ y. part_in F file y parent) (take i xs) x)
-        ∙ joined_end (map (λ y. part_in F file y parent) (take i xs)) q in
+    ap (λ l. joined (map (λ y. part_in F file y parent) l)) (take_more xs i x within ∙ ap (λ y. take i xs ++ y ∷ []) item)
+    ∙ ap joined (map_end (λ y. part_in F file y parent) (take i xs) x)
+    ∙ joined_end (map (λ y. part_in F file y parent) (take i xs)) q in
     subst (λ r. Grows r s0 o0 s2 o2) (sym is) (grows_then p q s0 s1 s2 o0 o1 o2 before step')
 
 -- a field
@@ -191,11 +189,10 @@ grows_field info selects p known number sets after own done is added same_names 
   names = ap (map (λ n. n.now)) same_names ∙ sym (append_end (map (λ n. n.now) own.names.items));
   drawn = λ before fields d a.
       let r = added before d in
-      let ns = before ++ (p.sets ++ list_of (set_if selects p)) in
-      (
+      let ns = before ++ (p.sets ++ list_of (set_if selects p)) in (
         r.0,
         subst (λ l. AreDrawn ns l (fields ++ field_if info (set_if selects p))) (sym more)
-        (field_drawn ns own.fields.items fields known info number (set_if selects p) is r.1 (drawn_more before (p.sets ++ list_of (set_if selects p)) own.fields.items fields a)),
+            (field_drawn ns own.fields.items fields known info number (set_if selects p) is r.1 (drawn_more before (p.sets ++ list_of (set_if selects p)) own.fields.items fields a)),
       );
 }
 
@@ -208,6 +205,6 @@ grows_spread name sets own done x is same more = record {
   drawn = λ before fields d a. (
     subst (Draws sets) (sym (append_end before)) d,
     subst (λ l. AreDrawn l done.fields.items (fields ++ [])) (sym (append_end before))
-    (subst (AreDrawn before done.fields.items) (sym (append_end fields)) (subst (λ l. AreDrawn before l fields) (sym same) a)),
+        (subst (AreDrawn before done.fields.items) (sym (append_end fields)) (subst (λ l. AreDrawn before l fields) (sym same) a)),
   );
 }

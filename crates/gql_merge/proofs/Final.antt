@@ -1,5 +1,5 @@
 -- The faults of a definition, by all that was made of it.
-use Rattle.std.specs.Prelude.{◌≡◌, ◌<◌, ◌+◌, ℕ, List, ◌++◌, flat_map, length, Option, Contains}
+use Rattle.std.specs.Prelude.{◌≡◌, ◌<◌, ℕ, List, flat_map, length, Option, Contains}
 use Rattle.std.proofs.Common.{ap, sym, ◌∙◌, subst, arith}
 use Rattle.std.proofs.lemmas.List.{length-append}
 use Rattle.gql_ast.specs.declared.definition.Definition.{Definition}

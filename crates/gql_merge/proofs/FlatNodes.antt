@@ -1,10 +1,9 @@
 -- The fields and the sets that numbers are for.
-use Rattle.std.specs.Prelude.{◌≡◌, ◌+◌, ◌<◌, ℕ, zero, suc, List, [], ◌∷◌, ◌++◌, map, flat_map, length, Bool, false, refl, Option, Some, None, option_map, Contains}
+use Rattle.std.specs.Prelude.{◌≡◌, ◌+◌, ◌<◌, ℕ, zero, suc, List, [], ◌∷◌, ◌++◌, map, flat_map, length, false, refl, Option, Some, None, option_map, Contains}
 use Rattle.std.specs.List.{slice_get}
-use Rattle.std.proofs.Common.{ap, sym, ◌∙◌, subst, inl, inr, get_or, arith}
+use Rattle.std.proofs.Common.{ap, sym, ◌∙◌, inl, inr, get_or, arith}
 use Rattle.std.proofs.lemmas.List.{length-append}
 use Rattle.std.proofs.Math.Seq.{get_or-append_seam}
-use Rattle.std.proofs.lemmas.List.Elements.{Contains-append_cases}
 use Rattle.std.proofs.lemmas.Option.{get_or_from_slice_get, slice_get-get_or, slice_get_within}
 use Rattle.gql_clashes.specs.Numbered.{no_field}
 use Rattle.gql_clashes.specs.declared.sets.NumberedField.{NumberedField}

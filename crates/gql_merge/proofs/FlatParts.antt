@@ -33,8 +33,8 @@ pub field_added : (F F1 : Facts) (file : List ℕ) (parent : Option (List ℕ)) 
     → Grows (part_in F file (s.Field f) parent) sets own after done
 field_added F F1 file parent f below set known number sets after own done same entered listed is added same_names more =
     let e = ap (λ g. part_of_field (known_info F file parent (written_field f)) (has_any set) (part_within g file below set)) same
-        ∙ ap (λ q. part_of_field (known_info F file parent (written_field f)) (has_any set) (part_within F file q set)) entered
-        ∙ ap (λ l. part_of_field (known_info F file parent (written_field f)) (has_any l) (part_within F file (parent_below F parent f.name.text) l)) listed
-        ∙ sym (part_field F file f parent) in
+    ∙ ap (λ q. part_of_field (known_info F file parent (written_field f)) (has_any set) (part_within F file q set)) entered
+    ∙ ap (λ l. part_of_field (known_info F file parent (written_field f)) (has_any l) (part_within F file (parent_below F parent f.name.text) l)) listed
+    ∙ sym (part_field F file f parent) in
     subst (λ p. Grows p sets own after done) e
     (grows_field (known_info F file parent (written_field f)) (has_any set) (part_within F1 file below set) known number sets after own done is added same_names more)

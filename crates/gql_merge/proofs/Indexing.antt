@@ -1,5 +1,5 @@
 -- The sets of fragments, and the numbers of their own sets.
-use Rattle.std.specs.Prelude.{◌≡◌, ◌+◌, ◌<◌, ℕ, List, [], ◌∷◌, ◌++◌, flat_map, length, take, bytes_eq, cond, false, refl, Option, Some, None, Contains}
+use Rattle.std.specs.Prelude.{◌≡◌, ◌+◌, ◌<◌, ℕ, List, [], ◌∷◌, ◌++◌, flat_map, length, take, bytes_eq, cond, false, refl, Option, Some, None}
 use Rattle.std.specs.List.{slice_get}
 use Rattle.std.specs.Map.{update}
 use Rattle.std.proofs.Common.{ap, sym, ◌∙◌, subst, inl, inr, get_or}
@@ -45,13 +45,15 @@ pub member_added : (F F1 : Facts) (g : FragmentFact) (sets after : List FlatSet)
     → AddsMember F g sets f after h
 member_added F F1 g sets after f h bs i same added named is before members drawn index =
     let r = added before drawn in
-    let ns = before ++ fragment_sets F g in
-    (r.0, λ q. elim (either (bytes_eq bs q)) [
-      | inl t ↦ subst (IsIndexAt F ns (members ++ g ∷ []) q) (sym (is q ∙ ap (λ b. cond b (Some i) (f q)) t))
-          (index_here F ns members g q i (sym named ∙ (bytes_eq-Decides bs q).0 t) r.1)
-      | inr n ↦ subst (IsIndexAt F ns (members ++ g ∷ []) q) (sym (is q ∙ ap (λ b. cond b (Some i) (f q)) n))
-          (index_more F before (fragment_sets F g) members g q (f q) (ap (λ x. bytes_eq x q) (sym named) ∙ n) (index q))
-    ])
+    let ns = before ++ fragment_sets F g in (
+      r.0,
+      λ q. elim (either (bytes_eq bs q)) [
+        | inl t ↦ subst (IsIndexAt F ns (members ++ g ∷ []) q) (sym (is q ∙ ap (λ b. cond b (Some i) (f q)) t))
+            (index_here F ns members g q i (sym named ∙ (bytes_eq-Decides bs q).0 t) r.1)
+        | inr n ↦ subst (IsIndexAt F ns (members ++ g ∷ []) q) (sym (is q ∙ ap (λ b. cond b (Some i) (f q)) n))
+            (index_more F before (fragment_sets F g) members g q (f q) (ap (λ x. bytes_eq x q) (sym named) ∙ n) (index q))
+      ],
+    )
 
 -- the sets of a definition
 pub own_operation : (F : Facts) (d : Definition) (o o' : Operation) (old sets : List FlatSet) (i : ℕ) → d.tree ≡ tree.Operation o → o' ≡ o → old ≡ []
@@ -84,8 +86,8 @@ members_more F F1 gs i g s0 s1 s2 f h within item same before step own drawn =
     let t = step' (own ++ flat_map (fragment_sets F) (take i gs)) (take i gs) r.0 r.1 in
     let taken : take (i + 1) gs ≡ take i gs ++ g ∷ [] = take_more gs i g within ∙ ap (λ y. take i gs ++ y ∷ []) item in
     let all : (own ++ flat_map (fragment_sets F) (take i gs)) ++ fragment_sets F g ≡ own ++ flat_map (fragment_sets F) (take i gs ++ g ∷ []) =
-        append_assoc own (flat_map (fragment_sets F) (take i gs)) (fragment_sets F g)
-        ∙ ap (λ l. own ++ l) (sym (flat_end (fragment_sets F) (take i gs) g)) in
+    append_assoc own (flat_map (fragment_sets F) (take i gs)) (fragment_sets F g)
+    ∙ ap (λ l. own ++ l) (sym (flat_end (fragment_sets F) (take i gs) g)) in
     subst (λ l. Draws s2 (own ++ flat_map (fragment_sets F) l) × IsIndex F (own ++ flat_map (fragment_sets F) l) l h) (sym taken)
     (subst (Draws s2) all t.0, subst (λ l. IsIndex F l (take i gs ++ g ∷ []) h) all t.1)
 

@@ -1,9 +1,8 @@
 -- The numbers of sets and fields are numbers for the sets and fields of the definition.
-use Rattle.std.specs.Prelude.{◌≡◌, ◌+◌, ◌<◌, ℕ, zero, suc, cond, List, [], ◌∷◌, ◌++◌, map, flat_map, length, Bool, true, false, ◌&&◌, nat_eq, bytes_eq, refl, Option, Some, None, option_map, Contains}
+use Rattle.std.specs.Prelude.{◌≡◌, ◌<◌, ℕ, zero, suc, cond, List, [], ◌∷◌, map, flat_map, length, Bool, true, false, ◌&&◌, nat_eq, bytes_eq, refl, Option, Some, None, option_map, Contains}
 use Rattle.std.specs.List.{slice_get}
 use Rattle.std.proofs.Common.{ap, sym, ◌∙◌, subst, inl, inr, get_or, arith, true≢false}
 use Rattle.std.proofs.lemmas.List.{get_or_past, length-map}
-use Rattle.std.proofs.lemmas.Option.{get_or_from_slice_get}
 use Rattle.std.proofs.lemmas.Slice.Eq.{bytes_eq-Decides}
 use Rattle.std.proofs.lemmas.Bool.{cases_lt}
 use Rattle.std.proofs.lemmas.Bool.Decides.{Decides-eqb}
@@ -11,13 +10,12 @@ use Rattle.gql_clashes.specs.Clashes.{Nodes}
 use Rattle.gql_clashes.proofs.Members.{Contains-map, Contains-map_from}
 use Rattle.gql_clashes.specs.Numbered.{IsWhole, field_at, no_field, nodes_of}
 use Rattle.gql_clashes.specs.Numbering.{IsNumbered, IsUsed}
-use Rattle.gql_clashes.specs.declared.sets.NumberedField.{NumberedField}
 use Rattle.gql_clashes.specs.declared.sets.Sets.{Sets}
 use Rattle.gql_facts.specs.ListMembers.{Contains-cases, Contains-flat_map_from, Contains-nil, some_same}
 use Rattle.gql_facts.specs.Worlds.{Facts}
 use Rattle.gql_merge.proofs.Drawing.{same_length}
 use Rattle.gql_merge.proofs.FlatNodes.{AreRight, IsKept, all_drawn, all_nodes, below_at, below_inside, direct_below, direct_map, flat, kept_at, node_at, numbers_length, set_at, spreads_map}
-use Rattle.gql_merge.specs.FieldNodes.{FieldInfo, FieldNode, SetNode, direct, names_spread}
+use Rattle.gql_merge.specs.FieldNodes.{FieldNode, SetNode, direct, names_spread}
 use Rattle.gql_merge.specs.FieldSets.{list_of}
 use Rattle.gql_merge.specs.Flat.{AreDrawn, Draws}
 use Rattle.gql_merge.specs.Known.{info_in}

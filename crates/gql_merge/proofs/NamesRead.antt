@@ -1,8 +1,7 @@
 -- The names that a set spreads are among what its definition asks.
-use Rattle.std.specs.Prelude.{◌≡◌, ℕ, List, [], ◌∷◌, ◌++◌, map, flat_map, Bool, true, false, refl, Option, Some, None, Contains}
-use Rattle.std.proofs.Common.{ap, sym, ◌∙◌, subst, inl, inr}
+use Rattle.std.specs.Prelude.{◌≡◌, ℕ, List, [], ◌∷◌, ◌++◌, flat_map, Bool, true, false, Option, Some, Contains}
+use Rattle.std.proofs.Common.{sym, subst, inl, inr}
 use Rattle.std.proofs.lemmas.List.Elements.{Contains-append_left, Contains-append_right, Contains-append_cases}
-use Rattle.gql_ast.specs.declared.definition.Definition.{Definition}
 use Rattle.gql_ast.specs.declared.definition.Tree.{Tree}
 use Rattle.gql_ast.specs.declared.definition.Tree.TheVariants as tree
 use Rattle.gql_ast.specs.declared.executable.Field.{Field}
@@ -14,16 +13,15 @@ use Rattle.gql_ast.specs.declared.executable.Selection.TheVariants as s
 use Rattle.gql_ast.specs.declared.executable.Spread.{Spread}
 use Rattle.gql_facts.proofs.Parts.{scan_cons, scan_field, scan_inline, scan_spread}
 use Rattle.gql_facts.proofs.Trees.{Each, by_set}
-use Rattle.gql_facts.specs.ListMembers.{Contains-cases, Contains-flat_map_from, Contains-here, Contains-nil, Contains-there}
+use Rattle.gql_facts.specs.ListMembers.{Contains-cases, Contains-here, Contains-nil, Contains-there}
 use Rattle.gql_facts.specs.Nodes.{composite, has_any, parent_below, parent_within}
-use Rattle.gql_facts.specs.OwnReads.{composite_reads, condition_reads, directive_reads, field_reads, field_scan, fragment_reads, inline_scan, operation_reads, own_reads, root_parent, selected_root, selection_scan, set_scan, spread_scan, tree_reads, variable_reads}
+use Rattle.gql_facts.specs.OwnReads.{composite_reads, condition_reads, directive_reads, field_reads, field_scan, fragment_reads, inline_scan, operation_reads, root_parent, selected_root, selection_scan, set_scan, spread_scan, tree_reads, variable_reads}
 use Rattle.gql_facts.specs.Worlds.{Facts}
-use Rattle.gql_facts.specs.declared.fact.FragmentFact.{FragmentFact}
 use Rattle.gql_facts.specs.declared.key.Key.{Key}
 use Rattle.gql_facts.specs.declared.key.Key.TheVariants as key
 use Rattle.gql_merge.specs.FieldNodes.{FieldInfo, SetNode, names_spread}
-use Rattle.gql_merge.specs.FieldSets.{Part, known_info, list_of, part_field, part_in, part_inline, part_of_field, part_of_spread, part_spread, part_within, set_if, set_of, written_field}
-use Rattle.gql_merge.specs.MergedNodes.{fragment_part, operation_part, sets_in, sets_of, tree_part}
+use Rattle.gql_merge.specs.FieldSets.{Part, known_info, list_of, part_field, part_in, part_inline, part_of_field, part_of_spread, part_spread, part_within, set_of, written_field}
+use Rattle.gql_merge.specs.MergedNodes.{fragment_part, operation_part, sets_of, tree_part}
 
 -- what a part spreads, itself and in its sets, is among these keys
 pub record AreAsked (keys : List Key) (p : Part) : Type 0 where

@@ -6,7 +6,7 @@ use Rattle.std.proofs.lemmas.List.{take_more, take-append-drop}
 use Rattle.std.proofs.lemmas.Slice.Eq.{bytes_eq-Decides}
 use Rattle.gql_facts.specs.ListMembers.{either}
 use Rattle.gql_merge.proofs.Drawing.{map_end}
-use Rattle.gql_merge.specs.Numbers.{AddsText, HasPlaces, IsIndexed, place_in}
+use Rattle.gql_merge.specs.Numbers.{AddsText, IsIndexed, place_in}
 
 abbrev Text : Type 0
 Text = List ℕ
@@ -49,22 +49,26 @@ place_other q t (x ∷ xs) n = ap (λ o. cond (bytes_eq q x) (Some 0) (option_ma
 pub known_added : (number : Text → Option ℕ) (t : Text) (place n : ℕ) → Some n ≡ number t → AddsText number t place number n
 known_added number t place n is texts index at =
     let there : place_in t texts ≡ Some n = sym (index t) ∙ sym is in
-    let kept : place_in t (texts ++ t ∷ []) ≡ Some n = place_kept t texts (t ∷ []) n there in
-    (λ q. elim (either (bytes_eq q t)) [
-      | inl y ↦ let e : q ≡ t = (bytes_eq-Decides q t).0 y in subst (λ z. number z ≡ place_in z (texts ++ t ∷ [])) (sym e) (sym is ∙ sym kept)
-      | inr m ↦ index q ∙ sym (place_other q t texts m)
-    ], kept)
+    let kept : place_in t (texts ++ t ∷ []) ≡ Some n = place_kept t texts (t ∷ []) n there in (
+      λ q. elim (either (bytes_eq q t)) [
+        | inl y ↦ let e : q ≡ t = (bytes_eq-Decides q t).0 y in subst (λ z. number z ≡ place_in z (texts ++ t ∷ [])) (sym e) (sym is ∙ sym kept)
+        | inr m ↦ index q ∙ sym (place_other q t texts m)
+      ],
+      kept,
+    )
 
 -- and one that gets its number
 pub new_added : (number after : Text → Option ℕ) (t : Text) (place : ℕ) → number t ≡ None → ((q : Text) → after q ≡ update bytes_eq number t (Some place) q)
     → AddsText number t place after place
 new_added number after t place none is texts index at =
-    let last : place_in t (texts ++ t ∷ []) ≡ Some place = place_new t texts (sym (index t) ∙ none) ∙ ap Some (sym at) in
-    (λ q. elim (either (bytes_eq t q)) [
-      | inl y ↦ is q ∙ ap (λ b. cond b (Some place) (number q)) y
-          ∙ subst (λ z. Some place ≡ place_in z (texts ++ t ∷ [])) ((bytes_eq-Decides t q).0 y) (sym last)
-      | inr m ↦ is q ∙ ap (λ b. cond b (Some place) (number q)) m ∙ index q ∙ sym (place_other q t texts (apart t q m))
-    ], last)
+    let last : place_in t (texts ++ t ∷ []) ≡ Some place = place_new t texts (sym (index t) ∙ none) ∙ ap Some (sym at) in (
+      λ q. elim (either (bytes_eq t q)) [
+        | inl y ↦ is q ∙ ap (λ b. cond b (Some place) (number q)) y
+            ∙ subst (λ z. Some place ≡ place_in z (texts ++ t ∷ [])) ((bytes_eq-Decides t q).0 y) (sym last)
+        | inr m ↦ is q ∙ ap (λ b. cond b (Some place) (number q)) m ∙ index q ∙ sym (place_other q t texts (apart t q m))
+      ],
+      last,
+    )
 
 -- one text more
 pub numbered_more : (all : List Text) (i : ℕ) (t : Text) (number after : Text → Option ℕ) (n : ℕ) (old new : List ℕ)
@@ -74,9 +78,8 @@ pub numbered_more : (all : List Text) (i : ℕ) (t : Text) (number after : Text 
 numbered_more all i t number after n old new within item at index added before pushed =
     let taken : take (i + 1) all ≡ take i all ++ t ∷ [] = take_more all i t within ∙ ap (λ y. take i all ++ y ∷ []) item in
     let r = added (take i all) index at in
-    let here : place_in t all ≡ Some n = ap (λ l. place_in t l) (sym (take-append-drop (i + 1) all)) ∙ place_kept t (take (i + 1) all) (drop (i + 1) all) n (ap (place_in t) taken ∙ r.1) in
-    (
+    let here : place_in t all ≡ Some n = ap (λ l. place_in t l) (sym (take-append-drop (i + 1) all)) ∙ place_kept t (take (i + 1) all) (drop (i + 1) all) n (ap (place_in t) taken ∙ r.1) in (
       subst (IsIndexed after) (sym taken) r.0,
       ap (map Some) pushed ∙ map_end Some old n ∙ ap (λ l. l ++ Some n ∷ []) before ∙ ap (λ o. map (λ x. place_in x all) (take i all) ++ o ∷ []) (sym here)
-      ∙ sym (ap (map (λ x. place_in x all)) taken ∙ map_end (λ x. place_in x all) (take i all) t),
+          ∙ sym (ap (map (λ x. place_in x all)) taken ∙ map_end (λ x. place_in x all) (take i all) t),
     )

@@ -1,7 +1,7 @@
 -- The faults of the pairs of numbers are those of the definition.
-use Rattle.std.specs.Prelude.{◌≡◌, ◌<◌, ℕ, List, [], ◌∷◌, ◌++◌, map, flat_map, length, Bool, true, false, refl, Option, Some, None, Contains, if◌then◌else◌}
+use Rattle.std.specs.Prelude.{◌≡◌, ℕ, List, [], ◌∷◌, map, flat_map, Bool, true, false, refl, Some, Contains, if◌then◌else◌}
 use Rattle.std.specs.List.{slice_get}
-use Rattle.std.proofs.Common.{ap, sym, ◌∙◌, subst, inl, inr, get_or, arith}
+use Rattle.std.proofs.Common.{ap, sym, ◌∙◌, subst, inl, inr}
 use Rattle.std.proofs.lemmas.Bool.{cases_lt}
 use Rattle.std.proofs.lemmas.List.Elements.{Contains-append_left, Contains-append_right, Contains-append_cases}
 use Rattle.gql_ast.specs.declared.definition.Definition.{Definition}
@@ -13,7 +13,7 @@ use Rattle.gql_clashes.proofs.Carrying as carrying
 use Rattle.gql_clashes.proofs.Cover.{bad_turns, two_turn}
 use Rattle.gql_clashes.proofs.Reading.{number_tests}
 use Rattle.gql_clashes.proofs.Searching.{clash_of, pair_less, pair_more}
-use Rattle.gql_clashes.specs.Clashes.{AreTwo, IsClash, Nodes, Reached, SeedsOf, is_bad_call, is_bad_shape, seed, step, turn}
+use Rattle.gql_clashes.specs.Clashes.{AreTwo, IsClash, Nodes, Reached, SeedsOf, seed, step, turn}
 use Rattle.gql_clashes.specs.Compared.{pair_of}
 use Rattle.gql_clashes.specs.Numbered as numbered
 use Rattle.gql_clashes.specs.Numbered.{IsClashPair, nodes_of}

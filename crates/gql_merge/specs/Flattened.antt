@@ -1,6 +1,6 @@
 -- Helper definitions for private contracts: the sets of a definition and of the fragments that it
 -- reaches, by their numbers.
-use Rattle.std.specs.Prelude.{◌≡◌, ℕ, List, [], ◌∷◌, ◌++◌, flat_map, take, length, bytes_eq, Option, Some, None, Contains}
+use Rattle.std.specs.Prelude.{◌≡◌, ℕ, List, [], ◌∷◌, ◌++◌, flat_map, Option, Some, None, Contains}
 use Rattle.std.specs.List.{slice_get}
 use Rattle.gql_ast.specs.declared.definition.Definition.{Definition}
 use Rattle.gql_facts.specs.Worlds.{Facts}

@@ -1,6 +1,5 @@
 -- Helper definitions for private contracts: a field whose definition is known, as definitions see
 -- it.
-use Rattle.std.specs.Prelude.{ℕ, List}
 use Rattle.gql_merge.specs.FieldNodes.{FieldInfo}
 use Rattle.gql_merge.specs.FieldSets.{own_name}
 use Rattle.gql_merge.specs.declared.known.KnownField.{KnownField}

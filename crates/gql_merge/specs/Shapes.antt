@@ -1,7 +1,7 @@
 -- The shape of a type, by which results are compared (GraphQL 5.3.2, SameResponseShape): its lists
 -- and Non-Nulls, and its name where it is a scalar or an enum. A name of no type, and that of a
 -- composite type, is left out.
-use Rattle.std.specs.Prelude.{◌≡◌, ℕ, List, [], ◌∷◌, ◌++◌, flat_map, codes, refl, Option, Some, None}
+use Rattle.std.specs.Prelude.{◌≡◌, ℕ, List, [], ◌∷◌, ◌++◌, flat_map, codes, refl, Option, Some}
 use Rattle.gql_types.specs.declared.kind.TypeKind.{TypeKind}
 use Rattle.gql_types.specs.declared.kind.TypeKind.TheVariants as kind
 use Rattle.gql_types.specs.declared.written_type.Wrapper.{Wrapper}

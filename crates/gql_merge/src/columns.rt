@@ -53,11 +53,7 @@ fn aspect_of(alloc: Global, aspect: Aspect, field: &FlatField<'_>) -> Result<Tex
     }
 }
 
-fn aspects_of(
-    alloc: Global,
-    aspect: Aspect,
-    all: &[FlatField<'_>],
-) -> Result<Vec<Text>, AllocError>
+fn aspects_of(alloc: Global, aspect: Aspect, all: &[FlatField<'_>]) -> Result<Vec<Text>, AllocError>
     ensures { IfOk result (λ texts. texts.items
         ≡ spec.aspects_of aspect all.now) }
 {
@@ -110,11 +106,7 @@ fn numbers_of(alloc: Global, texts: &[Text]) -> Result<Vec<usize>, AllocError>
 }
 
 /// The numbers of an aspect of these fields.
-fn column_of(
-    alloc: Global,
-    aspect: Aspect,
-    all: &[FlatField<'_>],
-) -> Result<Vec<usize>, AllocError>
+fn column_of(alloc: Global, aspect: Aspect, all: &[FlatField<'_>]) -> Result<Vec<usize>, AllocError>
     ensures { IfOk result (λ numbers. spec.HasPlaces
         (spec.aspects_of aspect all.now) numbers.items) }
 {

@@ -111,10 +111,7 @@ fn numbered_field(all: &[FlatField<'_>], columns: &Columns, place: usize) -> Num
 }
 
 /// All fields by their numbers.
-fn numbered_fields(
-    alloc: Global,
-    all: &[FlatField<'_>],
-) -> Result<Vec<NumberedField>, AllocError>
+fn numbered_fields(alloc: Global, all: &[FlatField<'_>]) -> Result<Vec<NumberedField>, AllocError>
     ensures { IfOk result (λ fields. spec.AreNumbersOf all.now
         all.now fields.items) }
 {

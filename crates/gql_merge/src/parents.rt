@@ -11,10 +11,7 @@ use gql_types::TypeKind;
 use std::alloc::{AllocError, Global};
 
 /// The type of this name, where its kind is composite.
-pub fn composite_by_kind(
-    of_type: &Text,
-    kind: Option<TypeKind>,
-) -> Result<Option<Text>, AllocError>
+pub fn composite_by_kind(of_type: &Text, kind: Option<TypeKind>) -> Result<Option<Text>, AllocError>
     ensures { IfOk result (λ t. t ≡ composite_by of_type.now kind) }
 {
     let Some(kind) = kind else {

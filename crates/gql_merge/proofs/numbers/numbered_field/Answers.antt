@@ -1,5 +1,4 @@
-use Rattle.std.proofs.Common.{◌≡◌, ap, get_or, refl, rules, sym, ◌∙◌}
-use Rattle.gql_clashes.specs.declared.sets.NumberedField.{NumberedField}
+use Rattle.std.proofs.Common.{◌≡◌, ap, get_or, refl, rules, sym}
 use Rattle.gql_merge.proofs.NumberedFields.{number_at}
 use Rattle.gql_merge.proofs.numbers.numbered_field.Goals as goal
 
