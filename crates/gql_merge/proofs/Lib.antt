@@ -1,6 +1,7 @@
 pub mod Appending
 pub mod BeforeFields
 pub mod Below
+pub mod Closed
 pub mod Drawing
 pub mod Final
 pub mod FlatNodes
@@ -12,4 +13,6 @@ pub mod NumberedFields
 pub mod Ordered
 pub mod Places
 pub mod Resolved
+pub mod SameParts
 pub mod Together
+pub mod View

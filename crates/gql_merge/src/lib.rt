@@ -8,6 +8,7 @@ mod faults;
 mod flat;
 mod flatten;
 mod known;
+pub mod laws;
 mod merging;
 mod numbers;
 mod orders;
