@@ -73,7 +73,7 @@ module _ (F S : Type 0) (v : Nodes F S) (w : Nodes ℕ ℕ) (node : ℕ → F) (
   ]
 
   module _ (few : ℕ → ℕ → Type 0) (many : F → F → Type 0) (are_used : (f g : ℕ) → few f g → IsUsed w f × IsUsed w g) where
-    both_used : {f g : ℕ} {m : Mode} → Reached w few f g m → IsUsed w f × IsUsed w g
+    pub both_used : {f g : ℕ} {m : Mode} → Reached w few f g m → IsUsed w f × IsUsed w g
     both_used (seed {f} {g} two b) = are_used f g b
     both_used (turn r) = let u = both_used r in (u.1, u.0)
     both_used (step {f} {g} {h} {k} r fine is a b two) = (below_used f g h a, below_used f g k b)
@@ -101,7 +101,7 @@ module _ (F S : Type 0) (v : Nodes F S) (w : Nodes ℕ ℕ) (node : ℕ → F) (
         let two' : AreTwo v (node h.0) (node k.0) = subst (λ z. AreTwo v z (node k.0)) (sym h.2) (subst (λ z. AreTwo v x' z) (sym k.2) two) in
         (h.0, k.0, step p.2 (sym (bad_is m p.0 p.1 u.0 u.1) ∙ fine') (sym (mode_is m p.0 p.1 u.0 u.1) ∙ is') h.1 k.1 (two_back h.0 k.0 (below_used p.0 p.1 h.0 h.1) (below_used p.0 p.1 k.0 k.1) two'), h.2, k.2)
 
-  of_used : (bodies : List ℕ) (f g : ℕ) → SeedsOf w bodies f g → IsUsed w f × IsUsed w g
+  pub of_used : (bodies : List ℕ) (f g : ℕ) → SeedsOf w bodies f g → IsUsed w f × IsUsed w g
   of_used bodies f g b = (used b.2, used b.3)
 
   between_used : (s t f g : ℕ) → SeedsBetween w s t f g → IsUsed w f × IsUsed w g

@@ -52,7 +52,8 @@ eq_turns a b = grind (arith, nat_tests)
 
 pub number_tests : (z : Sets) → AreTests (nodes_of z)
 number_tests z = record {
-  one = λ f g. eq_turns (field_at z f).node (field_at z g).node;
+  one = λ f g. ap (λ b. b && nat_eq (field_at z f).start (field_at z g).start) (eq_turns (field_at z f).file (field_at z g).file)
+      ∙ ap (λ b. nat_eq (field_at z g).file (field_at z f).file && b) (eq_turns (field_at z f).start (field_at z g).start);
   name = λ f g. eq_turns (field_at z f).response_name (field_at z g).response_name;
   parent = λ f g. eq_turns (field_at z f).parent (field_at z g).parent;
   call = λ f g. eq_turns (field_at z f).call (field_at z g).call;

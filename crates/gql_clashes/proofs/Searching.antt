@@ -1,5 +1,5 @@
 -- A search goes on until nothing waits, and has then found the pairs that clash.
-use Rattle.std.proofs.Common.{◌≡◌, ◌≢◌, ℕ, ◌<◌, ◌≤◌, inl, inr, List, [], ◌∷◌, ◌++◌, Bool, true, false, nat_eq, nat_lt, cond, map, length, replicate, ap, sym, subst, ◌∙◌, refl, arith, length-append, Contains, ◌*◌}
+use Rattle.std.proofs.Common.{◌&&◌, ◌≡◌, ◌≢◌, ℕ, ◌<◌, ◌≤◌, inl, inr, List, [], ◌∷◌, ◌++◌, Bool, true, false, nat_eq, nat_lt, cond, map, length, replicate, ap, sym, subst, ◌∙◌, refl, arith, length-append, Contains, ◌*◌}
 use Rattle.std.proofs.lemmas.Bool.{cases_lt}
 use Rattle.std.proofs.lemmas.Bool.Decides.{Decides-eqb, Decides-ltb}
 use Rattle.std.proofs.lemmas.List.{length-map, length-replicate}
@@ -128,21 +128,24 @@ first_by count items todo0 todo1 rows0 rows1 i e f r t =
     )
 
 -- a pair in its order
-pair_less : (f g : ℕ) (m : Mode) → f < g → pair_of f g m ≡ record { first = f; second = g; mode = m }
+pub pair_less : (f g : ℕ) (m : Mode) → f < g → pair_of f g m ≡ record { first = f; second = g; mode = m }
 pair_less f g m h = let e : nat_lt f g ≡ true = (Decides-ltb f g).1 h in rw e refl
 
 under_test : (b : Bool) (p q : Pair) → (b ≡ true → ⊥) → cond b p q ≡ q
 under_test true p q h = absurd (h refl)
 under_test false p q h = refl
 
-pair_more : (f g : ℕ) (m : Mode) → g ≤ f → pair_of f g m ≡ record { first = g; second = f; mode = m }
+pub pair_more : (f g : ℕ) (m : Mode) → g ≤ f → pair_of f g m ≡ record { first = g; second = f; mode = m }
 pair_more f g m h = under_test (nat_lt f g) (record { first = f; second = g; mode = m }) (record { first = g; second = f; mode = m }) (λ e. let l : f < g = (Decides-ltb f g).0 e in omega arith)
 
 -- different fields have different numbers
-two_apart : (z : Sets) (f g : ℕ) → AreTwo (nodes_of z) f g → f ≢ g
+pub two_apart : (z : Sets) (f g : ℕ) → AreTwo (nodes_of z) f g → f ≢ g
 two_apart z f g two e =
-    let a : nat_eq (field_at z f).node (field_at z f).node ≡ true = (Decides-eqb (field_at z f).node (field_at z f).node).1 refl in
-    let b : nat_eq (field_at z f).node (field_at z f).node ≡ false = ap (λ x. nat_eq (field_at z f).node (field_at z x).node) e ∙ two.0 in
+    let a : (nat_eq (field_at z f).file (field_at z f).file && nat_eq (field_at z f).start (field_at z f).start) ≡ true =
+        ap (λ b. b && nat_eq (field_at z f).start (field_at z f).start) ((Decides-eqb (field_at z f).file (field_at z f).file).1 refl)
+        ∙ (Decides-eqb (field_at z f).start (field_at z f).start).1 refl in
+    let b : (nat_eq (field_at z f).file (field_at z f).file && nat_eq (field_at z f).start (field_at z f).start) ≡ false =
+        ap (λ x. nat_eq (field_at z f).file (field_at z x).file && nat_eq (field_at z f).start (field_at z x).start) e ∙ two.0 in
     let c : true ≡ false = sym a ∙ b in cc
 
 pair_turns : (z : Sets) (f g : ℕ) (m : Mode) → AreTwo (nodes_of z) f g → pair_of f g m ≡ pair_of g f m
@@ -152,7 +155,7 @@ pair_turns z f g m two = elim (cases_lt f g) [
 ]
 
 module _ (z : Sets) (seeds : ℕ → ℕ → Type 0) where
-  clash_of : (f g : ℕ) (m : Mode) → AreTwo (nodes_of z) f g → Reached (nodes_of z) seeds f g m → is_bad (nodes_of z) m f g ≡ true → IsClashPair z seeds (pair_of f g m)
+  pub clash_of : (f g : ℕ) (m : Mode) → AreTwo (nodes_of z) f g → Reached (nodes_of z) seeds f g m → is_bad (nodes_of z) m f g ≡ true → IsClashPair z seeds (pair_of f g m)
   clash_of f g m two r b = elim (cases_lt f g) [
     | inl l ↦ rw (pair_less f g m l) (l, (r, b))
     | inr h ↦ let l : g < f = let ne : f ≢ g = two_apart z f g two in omega arith in rw (pair_more f g m h) (l, (turn r, bad_turns (nodes_of z) (number_tests z) m g f ∙ b))

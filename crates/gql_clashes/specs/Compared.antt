@@ -33,14 +33,14 @@ items_below sets m f g =
     ++ between (field_at sets g).below (field_at sets g).below (mode_below (nodes_of sets) m f g)
     ++ between (field_at sets f).below (field_at sets g).below (mode_below (nodes_of sets) m f g)
 
--- a field but for its node
+-- a field but for its place
 abbrev pub kind_of : NumberedField → NumberedField
-kind_of f = record f { node = 0 }
+kind_of f = record f { file = 0; start = 0 }
 
 abbrev pub kind_at : Sets → ℕ → NumberedField
 kind_at sets f = kind_of (field_at sets f)
 
--- fields that differ in their nodes alone, with nothing below; or one field
+-- fields that differ in their places alone, with nothing below; or one field
 abbrev pub AreAlike : Sets → ℕ → ℕ → Type 0
 AreAlike sets f g =
     (f ≡ g) ⊎ ((kind_at sets f ≡ kind_at sets g) × ((field_at sets g).below ≡ None))

@@ -1,14 +1,15 @@
 -- Fields and selection sets that are numbers.
-use Rattle.std.specs.Prelude.{◌≡◌, ◌<◌, ℕ, List, [], false, nat_eq, None, Some, map, length, slice_index_or, Contains}
+use Rattle.std.specs.Prelude.{◌≡◌, ◌<◌, ◌&&◌, ℕ, List, [], false, nat_eq, None, Some, map, length, slice_index_or, Contains}
 use Rattle.gql_clashes.specs.declared.sets.NumberedField.{NumberedField}
 use Rattle.gql_clashes.specs.declared.sets.Pair.{Pair}
 use Rattle.gql_clashes.specs.declared.sets.Sets.{Sets}
 use Rattle.gql_clashes.specs.Clashes.{Nodes, IsClash}
 
 -- what a number without a field is read as
-abbrev no_field : NumberedField
+abbrev pub no_field : NumberedField
 no_field = record {
-  node = 0;
+  file = 0;
+  start = 0;
   response_name = 0;
   parent = 0;
   of_object = false;
@@ -27,7 +28,8 @@ nodes_of sets = record {
   direct = λ s. slice_index_or (map (λ b. b.fields.items) sets.bodies.items) s [];
   spreads = λ s. slice_index_or (map (λ b. b.spreads.items) sets.bodies.items) s [];
   below = λ f. (field_at sets f).below;
-  is_one = λ f g. nat_eq (field_at sets f).node (field_at sets g).node;
+  is_one = λ f g. nat_eq (field_at sets f).file (field_at sets g).file
+      && nat_eq (field_at sets f).start (field_at sets g).start;
   share_name = λ f g.
       nat_eq (field_at sets f).response_name (field_at sets g).response_name;
   share_parent = λ f g. nat_eq (field_at sets f).parent (field_at sets g).parent;

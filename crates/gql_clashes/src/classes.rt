@@ -1,4 +1,4 @@
-//! Classes of fields that differ in their nodes alone, so that one of them represents all.
+//! Classes of fields that differ in their places alone, so that one of them represents all.
 ghost use Rattle.std.specs.Prelude.{◌≡◌, ◌<◌, ◌++◌, ◌∷◌, [], ℕ, List, true, None, map, length, slice_index_or, IfOk, OnOk, Contains};
 ghost use Rattle.gql_clashes.specs.Compared.{IsClassed, IsClassing, classes_of, kind_at, kind_of};
 ghost use Rattle.gql_clashes.specs.Numbered.{IsWhole, field_at};
@@ -13,7 +13,7 @@ pub struct Table {
     pub rows: Vec<Vec<Vec<usize>>>,
 }
 
-// Whether two fields differ in their nodes alone, with nothing below.
+// Whether two fields differ in their places alone, with nothing below.
 fn are_alike(left: NumberedField, right: NumberedField) -> bool
     ensures { result ≡ true → (kind_of left ≡ kind_of right) × (right.below ≡ None) }
 {

@@ -1,6 +1,6 @@
 //! Two fields, and what is asked of them.
 ghost use Rattle.std.specs.Prelude.{◌≡◌, ◌<◌, ◌||◌, not, nat_eq, length};
-ghost use Rattle.gql_clashes.specs.Clashes.{is_bad, mode_below};
+ghost use Rattle.gql_clashes.specs.Clashes.{is_bad, is_bad_call, is_bad_shape, mode_below};
 ghost use Rattle.gql_clashes.specs.Numbered.{field_at, nodes_of};
 
 use crate::sets::{Mode, NumberedField, Sets};
@@ -35,7 +35,9 @@ pub fn are_one(sets: &Sets, left: usize, right: usize) -> bool
     requires right { right < length sets.now.fields.items }
     ensures { result ≡ (nodes_of sets.now).is_one left right }
 {
-    field_of(sets, left).node == field_of(sets, right).node
+    let first = field_of(sets, left);
+    let second = field_of(sets, right);
+    first.file == second.file && first.start == second.start
 }
 
 /// Whether two fields have one response name.
@@ -54,16 +56,33 @@ fn do_meet(left: NumberedField, right: NumberedField) -> bool
     left.parent == right.parent || !left.of_object || !right.of_object
 }
 
+/// Whether two fields differ in the shapes of their types.
+pub fn differ_in_shape(sets: &Sets, left: usize, right: usize) -> bool
+    requires left { left < length sets.now.fields.items }
+    requires right { right < length sets.now.fields.items }
+    ensures { result ≡ is_bad_shape (nodes_of sets.now) left right }
+{
+    field_of(sets, left).shape != field_of(sets, right).shape
+}
+
+/// Whether two fields whose results are merged differ in name or arguments.
+pub fn differ_in_call(sets: &Sets, mode: Mode, left: usize, right: usize) -> bool
+    requires left { left < length sets.now.fields.items }
+    requires right { right < length sets.now.fields.items }
+    ensures { result ≡ is_bad_call (nodes_of sets.now) mode left right }
+{
+    let first = field_of(sets, left);
+    let second = field_of(sets, right);
+    mode == Mode::Merge && do_meet(first, second) && first.call != second.call
+}
+
 /// Whether two fields are bad.
 pub fn are_bad(sets: &Sets, mode: Mode, left: usize, right: usize) -> bool
     requires left { left < length sets.now.fields.items }
     requires right { right < length sets.now.fields.items }
     ensures { result ≡ is_bad (nodes_of sets.now) mode left right }
 {
-    let first = field_of(sets, left);
-    let second = field_of(sets, right);
-    first.shape != second.shape
-        || (mode == Mode::Merge && do_meet(first, second) && first.call != second.call)
+    differ_in_shape(sets, left, right) || differ_in_call(sets, mode, left, right)
 }
 
 /// How the fields below two fields are compared.

@@ -16,6 +16,7 @@ mod search;
 mod seen;
 mod sets;
 
+pub use compare::{differ_in_call, differ_in_shape};
 pub use parts::clashes_by_parts;
 pub use search::{clashes, clashes_between};
 pub use sets::{Body, Mode, NumberedField, Pair, Sets};

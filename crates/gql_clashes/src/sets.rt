@@ -12,8 +12,10 @@ pub enum Mode {
 /// A field, by numbers that are equal where what they number is.
 #[derive(Clone, Copy)]
 pub struct NumberedField {
-    /// The field itself: two numbers of one field have one node.
-    pub node: usize,
+    /// The field itself, by a number of its file and its place there: two numbers of one field have
+    /// both in common.
+    pub file: usize,
+    pub start: usize,
     /// Its response name.
     pub response_name: usize,
     /// The type in whose selections it is.

@@ -1,0 +1,14 @@
+pub mod Calls
+pub mod Conflicts
+pub mod FieldNodes
+pub mod FieldSets
+pub mod Flat
+pub mod Flattened
+pub mod Known
+pub mod MergeFaults
+pub mod MergedNodes
+pub mod Numbers
+pub mod PairFaults
+pub mod Shapes
+pub mod V05DifferentCalls
+pub mod V06DifferentShapes

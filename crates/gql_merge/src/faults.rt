@@ -1,0 +1,78 @@
+//! Faults at two fields.
+ghost use Rattle.std.specs.Prelude.{◌≡◌, ◌++◌, ◌∷◌, [], IfOk, OnOk};
+ghost use Rattle.gql_merge.specs.Conflicts as conflicts;
+ghost use Rattle.gql_merge.specs.Known.{info_in};
+ghost use Rattle.gql_merge.specs.MergedNodes.{is_before as is_before_it};
+ghost use Rattle.gql_merge.specs.PairFaults as spec;
+
+use crate::columns::own_name;
+use crate::flat::FlatField;
+use gql_ast::{Fault, FilePlace, FileSide, Items, Rule};
+use std::alloc::{AllocError, Global};
+use std::cmp::Ordering;
+
+/// Whether a field is before another: by the names of their files, then by their places.
+fn is_before(first: &FlatField<'_>, second: &FlatField<'_>) -> bool
+    ensures { result ≡ is_before_it (info_in first.now.known) (info_in second.now.known) }
+{
+    let start = own_name(first.known.field).place.offset;
+    let other = own_name(second.known.field).place.offset;
+    match first.known.file.cmp(second.known.file) {
+        Ordering::Less => true,
+        Ordering::Equal => start < other,
+        Ordering::Greater => false,
+    }
+}
+
+/// Where a field starts.
+fn place_of(field: &FlatField<'_>) -> FilePlace
+    ensures { result ≡ conflicts.place_of (info_in field.now.known) }
+{
+    FilePlace {
+        side: FileSide::Documents,
+        file: field.known.file.copy(),
+        place: own_name(field.known.field).place,
+    }
+}
+
+fn fault_of_pair(
+    alloc: Global,
+    owner: &FilePlace,
+    rule: Rule,
+    first: &FlatField<'_>,
+    second: &FlatField<'_>,
+) -> Result<Fault, AllocError>
+    ensures { IfOk result (λ f. f ≡ conflicts.fault_of_pair owner.now rule
+        (info_in first.now.known) (info_in second.now.known)) }
+{
+    let mut places = Items::new(alloc);
+    places.push(place_of(first))?;
+    places.push(place_of(second))?;
+    Ok(Fault {
+        rule,
+        about: own_name(first.known.field).text.copy()?,
+        places,
+        owner: Some(owner.copy()),
+    })
+}
+
+/// Adds the fault of two fields, in their order.
+pub fn add_fault_of_pair(
+    alloc: Global,
+    owner: &FilePlace,
+    rule: Rule,
+    first: &FlatField<'_>,
+    second: &FlatField<'_>,
+    faults: &mut Vec<Fault>,
+) -> Result<(), AllocError>
+    ensures { OnOk result (faults.new.items ≡ faults.old.items
+        ++ spec.ordered_fault owner.now rule (info_in first.now.known)
+        (info_in second.now.known) ∷ []) }
+{
+    if is_before(first, second) {
+        faults.push(fault_of_pair(alloc, owner, rule, first, second)?)?;
+    } else {
+        faults.push(fault_of_pair(alloc, owner, rule, second, first)?)?;
+    }
+    Ok(())
+}

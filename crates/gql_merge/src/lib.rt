@@ -1,0 +1,21 @@
+//! The rules on the merging of fields (GraphQL specification, 5.3.2), over what a world answers.
+//!
+//! A function that adds to a list may have added a part where it fails for memory.
+#![tactic(auto)]
+
+mod columns;
+mod faults;
+mod flat;
+mod flatten;
+mod known;
+pub mod laws;
+mod merging;
+mod numbers;
+mod orders;
+mod parents;
+mod shapes;
+mod texts;
+mod v05_different_calls;
+mod v06_different_shapes;
+
+pub use merging::merge_faults;
