@@ -142,10 +142,10 @@ pair_more f g m h = under_test (nat_lt f g) (record { first = f; second = g; mod
 pub two_apart : (z : Sets) (f g : ℕ) → AreTwo (nodes_of z) f g → f ≢ g
 two_apart z f g two e =
     let a : (nat_eq (field_at z f).file (field_at z f).file && nat_eq (field_at z f).start (field_at z f).start) ≡ true =
-        ap (λ b. b && nat_eq (field_at z f).start (field_at z f).start) ((Decides-eqb (field_at z f).file (field_at z f).file).1 refl)
-        ∙ (Decides-eqb (field_at z f).start (field_at z f).start).1 refl in
+    ap (λ b. b && nat_eq (field_at z f).start (field_at z f).start) ((Decides-eqb (field_at z f).file (field_at z f).file).1 refl)
+    ∙ (Decides-eqb (field_at z f).start (field_at z f).start).1 refl in
     let b : (nat_eq (field_at z f).file (field_at z f).file && nat_eq (field_at z f).start (field_at z f).start) ≡ false =
-        ap (λ x. nat_eq (field_at z f).file (field_at z x).file && nat_eq (field_at z f).start (field_at z x).start) e ∙ two.0 in
+    ap (λ x. nat_eq (field_at z f).file (field_at z x).file && nat_eq (field_at z f).start (field_at z x).start) e ∙ two.0 in
     let c : true ≡ false = sym a ∙ b in cc
 
 pair_turns : (z : Sets) (f g : ℕ) (m : Mode) → AreTwo (nodes_of z) f g → pair_of f g m ≡ pair_of g f m
