@@ -1,13 +1,15 @@
 //! Document files (GraphQL specification, 2.2).
-ghost use Rattle.std.specs.Prelude.{◌≡◌, ◌<◌, ◌⊎◌, ℕ, List, IfOk, OnOk, Ok, Err, [], length, map};
+ghost use Rattle.std.specs.Prelude.{◌≡◌, ◌<◌, ◌⊎◌, ℕ, List, IfOk, OnOk, Ok, Err, Some, [], length, map};
 ghost use Rattle.gql_text.specs.Lexeme.{lexeme};
 ghost use Rattle.gql_text.specs.declared.place.Place.{Place as ThePlace};
 ghost use Rattle.gql_ast.specs.declared.definition.Document.{Document as TheDocument};
-ghost use Rattle.gql_grammar.specs.Symbol.{IsRest, Reads};
+ghost use Rattle.gql_grammar.specs.Symbol.{IsRest, Reads, place_of};
+ghost use Rattle.gql_ast.specs.Trees as trees;
 ghost use Rattle.gql_grammar.specs.Files.{Parses, OrMemory};
 ghost use Rattle.gql_grammar.specs.declared.fault.SyntaxFault.{SyntaxFault as TheFault};
 ghost use Rattle.gql_grammar.specs.declared.fault.SyntaxRefusal.{SyntaxRefusal as TheRefusal};
 ghost use Rattle.gql_parse_sdl.specs.DocumentFiles as spec;
+ghost use Rattle.gql_parse_sdl.specs.Placed.{ArePlaced, Rising};
 
 use crate::type_system::type_system;
 use gql_ast::{Definition, Document, FileName, Items, Tree};
@@ -52,6 +54,8 @@ fn definition(
     ensures value { Reads ((spec.definition file.now).read cursor.old) result cursor.new }
     ensures shorter { OnOk result (length cursor.new < length cursor.old) }
     ensures rest { IsRest cursor.new cursor.old }
+    ensures starts { IfOk result (λ d. (place_of cursor.old ≡ Some (trees.place_of d.tree))
+        × (d.file ≡ file.now)) }
 {
     let tree = any_definition(alloc, cursor)?;
     Ok(Definition {
@@ -66,9 +70,11 @@ fn definitions(
     file: &FileName,
     cursor: &mut Cursor<'_>,
 ) -> Result<Items<Definition>, ParseError>
+    requires rising { Rising cursor.old }
     ensures value { Reads ((spec.definitions file.now).read cursor.old) result cursor.new }
     ensures shorter { OnOk result (length cursor.new < length cursor.old) }
     ensures rest { IsRest cursor.new cursor.old }
+    ensures placed { IfOk result (ArePlaced file.now) }
 {
     let mut found = Items::new(alloc);
     found.push(definition(alloc, file, cursor)?)?;
@@ -80,8 +86,10 @@ fn definitions(
 
 #[tactic(auto, unfolding(crate::specs::DocumentFiles::document_file, crate::specs::DocumentFiles::document))]
 fn document(alloc: Global, file: &FileName, cursor: &mut Cursor<'_>) -> Result<Document, ParseError>
+    requires rising { Rising cursor.old }
     ensures value { Reads ((spec.document_file file.now).read cursor.old) result cursor.new }
     ensures all { OnOk result (cursor.new ≡ []) }
+    ensures placed { IfOk result (λ d. ArePlaced file.now d.definitions) }
 {
     let definitions = definitions(alloc, file, cursor)?;
     cursor.end()?;
@@ -94,7 +102,9 @@ fn from_tokens(
     tokens: &[Token<'_>],
     end: Place,
 ) -> Result<Document, SyntaxFault>
-    ensures { Parses (spec.document_file file.now) end (map lexeme tokens.now) result }
+    requires rising { Rising (map lexeme tokens.now) }
+    ensures parses { Parses (spec.document_file file.now) end (map lexeme tokens.now) result }
+    ensures placed { IfOk result (λ d. ArePlaced file.now d.definitions) }
 {
     let looked = looked_at(tokens);
     let mut cursor = Cursor::new(&tokens[..looked]);
@@ -117,6 +127,8 @@ pub fn parse_any(alloc: Global, file: FileName, source: &str) -> Result<Document
         → spec.IsDocumentFault file source.now (SyntaxFault.At number place) }
     // The fault of the source is reported.
     ensures faulty { (fault : TheFault) → spec.IsDocumentFault file source.now fault → OrMemory result (Err fault) }
+    // The definitions have the file's name, and stand at rising places.
+    ensures placed { IfOk result (λ d. ArePlaced file d.definitions) }
 {
     match lex(alloc, source) {
         Ok(tokens) => from_tokens(alloc, &file, tokens.as_slice(), end_place(source)),
