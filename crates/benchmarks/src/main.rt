@@ -9,6 +9,7 @@ mod documents;
 mod edits;
 mod facts;
 mod lexer;
+mod merging;
 mod rules;
 mod schemas;
 mod speed;
@@ -31,6 +32,7 @@ fn main(rt: HostRuntime) -> Result<()> {
         schemas::measure(&rt)?;
         facts::measure(&rt)?;
         rules::measure(&rt)?;
+        merging::measure(&rt)?;
         edits::measure(&rt)?;
         values::measure(&rt)?;
     }

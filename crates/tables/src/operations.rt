@@ -1,9 +1,10 @@
-//! The faults of operations and fragments, by the rules that check one of them by itself or by the
-//! rules on variables.
+//! The faults of operations and fragments, by the rules that check one of them by itself, by the
+//! rules on variables or by those on the merging of fields.
 use crate::facts::documents_in;
 use crate::faults::written_faults;
 use gql_ast::{Definition, Document, Fault, FileName};
 use gql_facts::{Fragments, Present, SchemaFacts};
+use gql_merge::merge_faults;
 use gql_report::in_order;
 use gql_rules::local_faults;
 use gql_types::Schema;
@@ -15,6 +16,7 @@ use std::alloc::Global;
 pub enum Rules {
     Local,
     Variables,
+    Merging,
 }
 
 fn faults_by(
@@ -26,6 +28,7 @@ fn faults_by(
     match rules {
         Rules::Local => local_faults(alloc, world, definition).ok(),
         Rules::Variables => variable_faults(alloc, world, definition).ok(),
+        Rules::Merging => merge_faults(alloc, world, definition).ok(),
     }
 }
 
