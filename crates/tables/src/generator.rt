@@ -74,6 +74,7 @@ impl Generator {
         }
     }
 
+    #[cycle(sets)]
     fn write_branch(&mut self, depth: u32) -> Result<(), AllocError> {
         self.write_alias()?;
         match self.choose(5) {
@@ -86,6 +87,7 @@ impl Generator {
         self.write_set(depth)
     }
 
+    #[cycle(sets)]
     fn write_inline(&mut self, depth: u32) -> Result<(), AllocError> {
         self.write("... ")?;
         if self.choose(4) != 0 {
@@ -102,6 +104,7 @@ impl Generator {
         self.write(" ")
     }
 
+    #[cycle(sets)]
     fn write_selection(&mut self, depth: u32) -> Result<(), AllocError> {
         let kind = self.choose(8);
         if kind < 2 {
@@ -114,6 +117,7 @@ impl Generator {
         }
     }
 
+    #[cycle(sets)]
     fn write_set(&mut self, depth: u32) -> Result<(), AllocError> {
         self.write("{ ")?;
         self.write_selection(depth)?;
