@@ -225,7 +225,7 @@ fn measure_case(rt: &HostRuntime, facts: &SchemaFacts, case: Case) -> Result<()>
     let title = title(case.form);
     let bytes = text.len();
     let found = faults.len();
-    println!(rt; "merging: {taken} micros for {count} {title} ({bytes} bytes, {found} faults)")?;
+    println!(rt; "merging: {taken} us for {count} {title} ({bytes} bytes, {found} faults)")?;
     Ok(())
 }
 
