@@ -1,5 +1,5 @@
-//! How long the rules on the merging of fields take, for one operation: copies of a field, fragments
-//! in one set, equal selections within each other, and fragments that double.
+//! How long the rules on the merging of fields take, for one operation: copies of a field,
+//! fragments in one set, equal selections within each other, and fragments that double.
 use crate::speed::micros;
 use anyhow::Result;
 use gql_ast::{FileMap, FileName, Files, Shared};

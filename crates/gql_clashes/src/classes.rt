@@ -14,7 +14,8 @@ use std::collections::HashMap;
 type Signature = (usize, usize, bool, usize, usize);
 
 fn signature_of(field: NumberedField) -> Signature
-    ensures { result ≡ (field.response_name, field.parent, field.of_object, field.call, field.shape) }
+    ensures { result
+        ≡ (field.response_name, field.parent, field.of_object, field.call, field.shape) }
 {
     (
         field.response_name,

@@ -1,5 +1,5 @@
-//! Documents that are generated: whether a search through all pairs finds the faults of merging that
-//! `merge_faults` finds.
+//! Documents that are generated: whether a search through all pairs finds the faults of merging
+//! that `merge_faults` finds.
 use crate::facts::documents_in;
 use crate::faults::written_faults;
 use crate::generator::Generator;

@@ -1,5 +1,5 @@
-//! The faults of the merging of fields as the specification states them (5.3.2), by a search through
-//! all pairs.
+//! The faults of the merging of fields as the specification states them (5.3.2), by a search
+//! through all pairs.
 use crate::naive_fields::{NaiveField, NaiveSet, Source};
 use gql_ast::{
     Definition, Fault, FileName, FilePlace, FileSide, Items, Literal, Rule, Selection, Text,
