@@ -1,3 +1,6 @@
+pub mod Covering
 pub mod Firsts
 pub mod GroupSteps
 pub mod Grouping
+pub mod Runs
+pub mod Visiting

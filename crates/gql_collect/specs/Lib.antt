@@ -1,7 +1,12 @@
 pub mod Borrowed
+pub mod BorrowedGroups
+pub mod Collection
+pub mod Conditions
+pub mod Contexts
 pub mod Groups
 pub mod Nodes
-pub mod SameFields
-pub mod BorrowedGroups
 pub mod Putting
-pub mod Collection
+pub mod SameFields
+pub mod Unfolding
+pub mod Visiting
+pub mod Walks

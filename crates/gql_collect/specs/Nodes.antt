@@ -16,3 +16,8 @@ pub record FieldNode : Type 0 where
 -- the selections of a set in a file
 abbrev pub in_file : List ℕ → List Selection → List FileSelection
 in_file file xs = map (λ x. record { file = file; selection = x }) xs
+
+-- what is in the place of a selection: a field, or other selections, which may be none
+pub data Part : Type 0 where
+  node : FieldNode → Part
+  selections : List FileSelection → Part

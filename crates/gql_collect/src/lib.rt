@@ -1,8 +1,15 @@
 //! The fields of selection sets in groups, as execution visits them (GraphQL specification, 6.3.2).
 #![tactic(auto)]
 
+mod collecting;
+mod conditions;
+mod context;
 mod group;
 mod node;
+mod unfold;
+mod visit;
 
+pub use collecting::collect;
+pub use context::Context;
 pub use group::{Group, Groups};
 pub use node::{FieldNode, SelectionSet};
