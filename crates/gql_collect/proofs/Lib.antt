@@ -4,3 +4,4 @@ pub mod GroupSteps
 pub mod Grouping
 pub mod Runs
 pub mod Visiting
+pub mod Walking

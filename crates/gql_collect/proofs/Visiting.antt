@@ -50,6 +50,14 @@ pub name_there : (ns : List (Bor (List ℕ))) (n : List ℕ)
     → list_any (λ q. bytes_eq n q.now) ns ≡ is_in n (names_of ns)
 name_there ns n = sym (any_map (bytes_eq n) (λ (p : Bor (List ℕ)). p.now) ns)
 
+pub not_true : (b : Bool) → not b ≡ true → b ≡ false
+not_true true e = sym e
+not_true false e = refl
+
+pub not_false : (b : Bool) → not b ≡ false → b ≡ true
+not_false true e = refl
+not_false false e = sym e
+
 -- ---- sizes
 
 pub sizes_in_file : (file : List ℕ) (xs : List Selection) → sizes_in (in_file file xs) ≡ sizes xs
@@ -57,6 +65,19 @@ sizes_in_file file [] = refl
 sizes_in_file file (x ∷ xs) = ap (λ n. size x + n) (sizes_in_file file xs)
 
 -- ---- by form
+
+or_true : (b : Bool) → (b || true) ≡ true
+or_true true = refl
+or_true false = refl
+
+pub skipped : (a b : Bool) → a ≡ true → (a || not b) ≡ true
+skipped a b e = rw e refl
+
+pub not_met : (a b : Bool) → b ≡ false → (a || not b) ≡ true
+not_met a b e = rw e (or_true a)
+
+pub counts : (a b : Bool) → a ≡ false → b ≡ true → (a || not b) ≡ false
+counts a b e f = rw (e, f) refl
 
 module _ (g : Given) (t : List ℕ) (names : List (List ℕ)) (fields : List FieldNode) where
   -- the selection x in a file was visited, and nothing was met
@@ -127,10 +148,6 @@ module _ (g : Given) (t : List ℕ) (names : List (List ℕ)) (fields : List Fie
       (subst (λ ns. Visits g t (record { file = file; selection = s.Spread x }) names fields ns fields_after []) (sym equal)
       (subst (λ fs. Visits g t (record { file = file; selection = s.Spread x }) names fields names fs []) (sym same) (passes name e there)))
 
-  or_true : (b : Bool) → (b || true) ≡ true
-  or_true true = refl
-  or_true false = refl
-
   by_test : (file : List ℕ) (i : InlineFragment) (b : Bool)
       → (is_left_out g.values i.directives || not (applies g t i.condition)) ≡ b
       → part g t (record { file = file; selection = s.InlineFragment i })
@@ -152,12 +169,3 @@ module _ (g : Given) (t : List ℕ) (names : List (List ℕ)) (fields : List Fie
       let same = sizes_in_file file i.selections in
       subst (λ l. Left file (s.InlineFragment i) l) (sym content)
       (opens (by_test file i false kept) (omega (arith, whole, same)))
-
-  pub skipped : (a b : Bool) → a ≡ true → (a || not b) ≡ true
-  skipped a b e = rw e refl
-
-  pub not_met : (a b : Bool) → b ≡ false → (a || not b) ≡ true
-  not_met a b e = rw e (or_true a)
-
-  pub counts : (a b : Bool) → a ≡ false → b ≡ true → (a || not b) ≡ false
-  counts a b e f = rw (e, f) refl

@@ -1,5 +1,5 @@
 -- Helper definitions for private contracts: a walk over selections that enters each fragment once.
-use Rattle.std.specs.Prelude.{◌≡◌, ◌+◌, ◌<◌, ◌≤◌, ℕ, List, [], ◌∷◌, ◌++◌, map, flat_map, fold, reverse, sum, Bool, true, false, bytes_eq, if◌then◌else◌}
+use Rattle.std.specs.Prelude.{◌≡◌, ◌+◌, ◌<◌, ◌≤◌, ℕ, List, [], ◌∷◌, ◌++◌, map, Bool, true, false, bytes_eq, if◌then◌else◌}
 use Rattle.std.specs.List.{list_any}
 use Rattle.std.proofs.Common.{ap, sym, ◌∙◌, refl}
 use Rattle.gql_ast.specs.declared.executable.Field.{Field}
@@ -20,6 +20,11 @@ use Rattle.gql_collect.specs.declared.node.SelectionSet.{SelectionSet}
 abbrev pub is_in : List ℕ → List (List ℕ) → Bool
 is_in name names = list_any (bytes_eq name) names
 
+-- all of them together
+abbrev pub total : List ℕ → ℕ
+total [] = 0
+total (n ∷ ns) = n + total ns
+
 -- ---- how large selections are
 
 -- two for each selection that is not below a field
@@ -32,14 +37,14 @@ abbrev pub size_of_field : Field-F ℕ ℕ ℕ → ℕ
 size_of_field f = 2
 
 abbrev pub size_of_inline : InlineFragment-F ℕ ℕ ℕ → ℕ
-size_of_inline i = sum i.selections
+size_of_inline i = total i.selections
 
 unfoldable pub size : Selection → ℕ
 size = fold-Selection ℕ ℕ ℕ size_at size_of_field size_of_inline
 
 -- of all of these
 abbrev pub sizes : List Selection → ℕ
-sizes xs = sum (map size xs)
+sizes xs = total (map size xs)
 
 pub size_field : (f : Field) → size (s.Field f) ≡ 2
 unfolding size
@@ -57,7 +62,7 @@ size_inline i = ap size (sym (s.rolls-InlineFragment i))
 
 -- the fragments whose names are not among these
 abbrev pub left : List FragmentFact → List (List ℕ) → ℕ
-left fragments names = sum (map (λ (f : FragmentFact).
+left fragments names = total (map (λ (f : FragmentFact).
     if is_in f.fragment.name.text names then 0 else sizes f.fragment.selections) fragments)
 
 -- of a set that is still to be visited
@@ -66,13 +71,13 @@ set_size s = sizes s.selections.now + 1
 
 -- of the sets that are still to be visited, and of the fragments that may still be entered
 abbrev pub work : List FragmentFact → List SelectionSet → List (List ℕ) → ℕ
-work fragments pending names = sum (map set_size pending) + left fragments names
+work fragments pending names = total (map set_size pending) + left fragments names
 
 -- ---- one selection
 
 -- of file selections
 abbrev pub sizes_in : List FileSelection → ℕ
-sizes_in xs = sum (map (λ (x : FileSelection). size x.selection) xs)
+sizes_in xs = total (map (λ (x : FileSelection). size x.selection) xs)
 
 -- A walk has visited the selection x: it has the fields and the names of fragments that it has now,
 -- and is to visit these next.
