@@ -1,5 +1,5 @@
 -- A walk over selections: what it has met, and how much is left of it.
-use Rattle.std.proofs.Common.{◌≡◌, ◌⊎◌, ◌+◌, ◌≤◌, ◌<◌, ℕ, zero, suc, List, [], ◌∷◌, ◌++◌, Bool, true, false, not, ◌||◌, Option, Some, None, map, find, bytes_eq, reverse, if◌then◌else◌, refl, sym, ap, ◌∙◌, subst, inl, inr, arith, append_assoc}
+use Rattle.std.proofs.Common.{◌≡◌, ◌⊎◌, ◌+◌, ◌≤◌, ◌<◌, ℕ, zero, suc, List, [], ◌∷◌, ◌++◌, Bool, true, false, not, ◌||◌, Option, Some, None, map, find, bytes_eq, reverse, if◌then◌else◌, refl, sym, ap, ◌∙◌, subst, inl, inr, arith, append-nil, length}
 use Rattle.std.proofs.lemmas.Grind.{flat_map-append}
 use Rattle.std.proofs.lemmas.List.{reverse-append}
 use Rattle.std.proofs.lemmas.List.Folds.{list_any-append}
@@ -32,7 +32,7 @@ use Rattle.gql_collect.proofs.Visiting.{sizes_in_file}
 -- how a walk goes on, where the fields are to be these in the end
 abbrev pub Goes : Given → List ℕ → List (List ℕ) → List FieldNode → List FileSelection → List FieldNode → Type 0
 Goes g t names fields items target =
-    Going (part g t) is_same_field (held g t) (λ q. is_in q names) fields items target
+    Going (part g t) is_same_field same_field_laws (held g t) (λ q. is_in q names) fields items target
 
 module _ (g : Given) (t : List ℕ) where
   -- with its number of steps
@@ -54,6 +54,13 @@ module _ (g : Given) (t : List ℕ) where
         tracks = λ k v. absurd (cc v);
       }
 
+  pub begins_at : (xs items : List FileSelection) (names : List (List ℕ)) (fields ns : List FieldNode)
+      → names ≡ [] → fields ≡ [] → items ≡ xs → Unfolds g t xs ns → Goes g t names fields items (firsts is_same_field ns)
+  begins_at xs items names fields ns none no_fields same u =
+      subst (λ l. Goes g t names fields l (firsts is_same_field ns)) (sym same)
+      (subst (λ l. Goes g t l fields xs (firsts is_same_field ns)) (sym none)
+      (subst (λ l. Goes g t [] l xs (firsts is_same_field ns)) (sym no_fields) (begins xs ns u)))
+
   grown : (names : List (List ℕ)) (name q : List ℕ) → is_in q (names ++ name ∷ []) ≡ true
       → (is_in q names ≡ true) ⊎ (q ≡ name)
   grown names name q e = by (is_in q names) (bytes_eq q name) (bytes_eq-Decides q name).0 (sym (list_any-append (bytes_eq q) names (name ∷ [])) ∙ e) where
@@ -63,18 +70,21 @@ module _ (g : Given) (t : List ℕ) where
     by false false same f = absurd (cc f)
 
   -- one selection more
-  pub goes_on : {x : FileSelection} {rest : List FileSelection} {names after : List (List ℕ)} {fields more : List FieldNode}
-      {next : List FileSelection} {target : List FieldNode}
+  pub goes_on : {x : FileSelection} {names after : List (List ℕ)} {fields more : List FieldNode}
+      {next : List FileSelection} (rest : List FileSelection) (target : List FieldNode)
       → Visits g t x names fields after more next → Goes g t names fields (x ∷ rest) target
       → Goes g t after more (next ++ rest) target
-  goes_on (keeps e) w = going_kept (part g t) is_same_field same_field_laws (held g t) e w
-  goes_on (opens {xs = xs} e small) w = going_opened (part g t) is_same_field (held g t) xs e w
-  goes_on {names = names} (enters name e fresh) w =
-      going_entered (part g t) is_same_field (held g t) name e (grown names name) w
-  goes_on (passes name e there) w = going_skipped (part g t) is_same_field (held g t) name e there w
+  goes_on rest target (keeps e) w = going_kept (part g t) is_same_field same_field_laws (held g t) e w
+  goes_on rest target (opens {xs = xs} e small) w = going_opened (part g t) is_same_field same_field_laws (held g t) xs e w
+  goes_on {names = names} rest target (enters name e fresh) w =
+      going_entered (part g t) is_same_field same_field_laws (held g t) name e (grown names name) w
+  goes_on rest target (passes name e there) w = going_skipped (part g t) is_same_field same_field_laws (held g t) name e there w
 
-  pub ends : {names : List (List ℕ)} {fields target : List FieldNode} → Goes g t names fields [] target → fields ≡ target
-  ends w = going_ended (part g t) is_same_field (held g t) w
+  pub ends : (names : List (List ℕ)) (fields target : List FieldNode) (items : List FileSelection) → items ≡ []
+      → Goes g t names fields items target → fields ≡ target
+  ends names fields target items none w = ended (subst (λ xs. Goes g t names fields xs target) none w) where
+    ended : Goes g t names fields [] target → fields ≡ target
+    ended w = going_ended (part g t) is_same_field same_field_laws (held g t) w
 
 -- ---- how much is left
 
@@ -152,8 +162,60 @@ total_end : (xs : List SelectionSet) (s : SelectionSet)
 total_end [] s = omega arith
 total_end (x ∷ xs) s = let e = total_end xs s in omega (arith, e)
 
-pub top_of : (xs : List SelectionSet) (s : SelectionSet)
+top_of : (xs : List SelectionSet) (s : SelectionSet)
     → all_selections (reverse (xs ++ s ∷ [])) ≡ selections_of s ++ all_selections (reverse xs)
 top_of xs s = ap all_selections (reverse-append xs (s ∷ []))
     ∙ flat_map-append selections_of (reverse (s ∷ [])) (reverse xs)
-    ∙ ?
+    ∙ ap (λ l. l ++ all_selections (reverse xs)) (append-nil (selections_of s))
+
+-- no sets
+pub none_left : (xs : List SelectionSet) → length xs ≡ 0 → all_selections (reverse xs) ≡ []
+none_left [] e = refl
+none_left (x ∷ xs) e = absurd (omega (arith, e))
+
+-- a set without selections
+pub passed : (old pending : List SelectionSet) (s : SelectionSet) → old ≡ pending ++ s ∷ [] → s.selections.now ≡ []
+    → all_selections (reverse old) ≡ all_selections (reverse pending)
+passed old pending s is none = ap (λ l. all_selections (reverse l)) is ∙ top_of pending s
+    ∙ ap (λ xs. in_file s.file.now xs ++ all_selections (reverse pending)) none
+
+pub passed_shrinks : (fs : List FragmentFact) (names : List (List ℕ)) (old pending : List SelectionSet) (s : SelectionSet)
+    → old ≡ pending ++ s ∷ [] → work fs pending names < work fs old names
+passed_shrinks fs names old pending s is =
+    let e : total (map set_size old) ≡ total (map set_size pending) + set_size s = ap (λ l. total (map set_size l)) is ∙ total_end pending s in
+    omega (arith, e)
+
+module _ (g : Given) (t : List ℕ) (old pending middle last : List SelectionSet) (s rest next : SelectionSet) (x : Selection)
+    (was : old ≡ pending ++ s ∷ []) (half : middle ≡ pending ++ rest ∷ []) (is : last ≡ middle ++ next ∷ [])
+    (first : s.selections.now ≡ x ∷ rest.selections.now) (file : rest.file.now ≡ s.file.now) where
+  top_was : all_selections (reverse old)
+      ≡ record { file = s.file.now; selection = x } ∷ (selections_of rest ++ all_selections (reverse pending))
+  top_was = ap (λ l. all_selections (reverse l)) was ∙ top_of pending s
+      ∙ ap (λ xs. in_file s.file.now xs ++ all_selections (reverse pending)) first
+      ∙ ap (λ f. record { file = s.file.now; selection = x } ∷ (in_file f rest.selections.now ++ all_selections (reverse pending))) (sym file)
+
+  top_is : all_selections (reverse last)
+      ≡ selections_of next ++ (selections_of rest ++ all_selections (reverse pending))
+  top_is = ap (λ l. all_selections (reverse l)) is ∙ top_of middle next
+      ∙ ap (λ l. selections_of next ++ l) (ap (λ l. all_selections (reverse l)) half ∙ top_of pending rest)
+
+  pub walk_step : {names after : List (List ℕ)} {fields more : List FieldNode} (target : List FieldNode)
+      → Visits g t (record { file = s.file.now; selection = x }) names fields after more (selections_of next)
+      → Goes g t names fields (all_selections (reverse old)) target
+      → Goes g t after more (all_selections (reverse last)) target
+  walk_step {names = names} {after = after} {fields = fields} {more = more} target v w =
+      subst (λ l. Goes g t after more l target) (sym top_is)
+      (goes_on g t (selections_of rest ++ all_selections (reverse pending)) target v
+      (subst (λ l. Goes g t names fields l target) top_was w))
+
+  pub walk_shrinks : {names after : List (List ℕ)} {fields more : List FieldNode}
+      → Visits g t (record { file = s.file.now; selection = x }) names fields after more (selections_of next)
+      → work g.fragments last after < work g.fragments old names
+  walk_shrinks v =
+      let a : total (map set_size old) ≡ total (map set_size pending) + set_size s = ap (λ l. total (map set_size l)) was ∙ total_end pending s in
+      let b : total (map set_size middle) ≡ total (map set_size pending) + set_size rest = ap (λ l. total (map set_size l)) half ∙ total_end pending rest in
+      let d : total (map set_size last) ≡ total (map set_size middle) + set_size next = ap (λ l. total (map set_size l)) is ∙ total_end middle next in
+      let sizes_first : sizes s.selections.now ≡ size x + sizes rest.selections.now = ap sizes first in
+      let same = sizes_in_file next.file.now next.selections.now in
+      let less = shrinks g t v in
+      omega (arith, a, b, d, sizes_first, same, less)

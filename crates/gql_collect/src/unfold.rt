@@ -1,5 +1,5 @@
 //! The fields that selections unfold into.
-ghost use Rattle.std.specs.Prelude.{◌≡◌, List, IfOk, reverse};
+ghost use Rattle.std.specs.Prelude.{◌≡◌, ◌∷◌, [], List, IfOk, IfSome, IfNone, reverse};
 ghost use Rattle.gql_collect.specs.Borrowed.{all_selections, nodes_of};
 ghost use Rattle.gql_collect.specs.Contexts.{given};
 ghost use Rattle.gql_collect.specs.Groups.{firsts, is_same_field};
@@ -9,6 +9,7 @@ ghost use Rattle.gql_collect.specs.Unfolding.{Unfolds};
 use crate::context::Context;
 use crate::node::{FieldNode, SelectionSet};
 use crate::visit::{Met, visit};
+use gql_ast::Selection;
 use indexmap::IndexSet;
 use std::alloc::{AllocError, Global};
 
@@ -22,6 +23,25 @@ fn stacked<'a>(
     let mut pending = Vec::from_slice(alloc, sets)?;
     pending.reverse();
     Ok(pending)
+}
+
+/// The first selection of a set, and the set of the others.
+fn split_first(set: SelectionSet<'_>) -> Option<(&Selection, SelectionSet<'_>)>
+    ensures some { IfSome result (λ parts.
+        (set.entry.selections.now ≡ parts.0.now ∷ parts.1.selections.now)
+        × (parts.1.file.now ≡ set.entry.file.now)) }
+    ensures none { IfNone result (set.entry.selections.now ≡ []) }
+{
+    match set.selections {
+        [first, rest @ ..] => {
+            let rest = SelectionSet {
+                file: set.file,
+                selections: rest,
+            };
+            Some((first, rest))
+        }
+        [] => None,
+    }
 }
 
 /// The fields that the selections of these sets unfold into for an object of a type, each field
@@ -42,11 +62,8 @@ pub fn unfold<'a>(
         fields: IndexSet::new(alloc),
     };
     while let Some(set) = pending.pop() {
-        if let [first, rest @ ..] = set.selections {
-            pending.push(SelectionSet {
-                file: set.file,
-                selections: rest,
-            })?;
+        if let Some((first, rest)) = split_first(set) {
+            pending.push(rest)?;
             let next = visit(context, of_type, set.file, first, &mut met)?;
             pending.push(next)?;
         }
