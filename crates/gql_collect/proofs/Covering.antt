@@ -1,13 +1,13 @@
 -- A walk that opens what a name stands for once only: the fields that it has met are the first of each
 -- of those that the selections unfold into.
-use Rattle.std.proofs.Common.{◌≡◌, ◌⊎◌, ◌≤◌, ◌+◌, ◌||◌, ℕ, zero, suc, List, [], ◌∷◌, ◌++◌, Bool, true, refl, ap, sym, ◌∙◌, subst, inl, inr, arith, append_assoc}
+use Rattle.std.proofs.Common.{◌≡◌, ◌⊎◌, ◌≤◌, ℕ, suc, List, [], ◌∷◌, ◌++◌, Bool, true, refl, ap, sym, ◌∙◌, subst, inl, inr, arith, append_assoc}
 use Rattle.std.proofs.lemmas.List.Folds.{list_any-append}
 use Rattle.std.specs.Cmp.{IsEquivalence}
 use Rattle.std.specs.List.{list_any}
 use Rattle.indexmap.specs.IndexSet.{insert_key, insert_all}
 use Rattle.gql_collect.specs.Nodes.{FileSelection, FieldNode, Part, node, selections}
 use Rattle.gql_collect.proofs.Firsts.{either, insert_all-append}
-use Rattle.gql_collect.proofs.Runs.{Runs, done, kept, replaced, Both, split, one_run, clash, same_node, same_selections}
+use Rattle.gql_collect.proofs.Runs.{Runs, done, kept, replaced, split, one_run, clash, same_node, same_selections}
 
 -- u is among these
 abbrev pub In : {A : Type 0} → A → List A → Type 0
@@ -50,7 +50,6 @@ module _ (same : FieldNode → FieldNode → Bool) where
 
 module _ (part : FileSelection → Part) (same : FieldNode → FieldNode → Bool) (laws : IsEquivalence same)
     (body : List ℕ → List FileSelection) where
-
   -- what is left of what the name k stands for
   pub record Covered (out : List FieldNode) (top : List FileSelection) (us : List FieldNode) (n : ℕ) : Type 0 where
     pub ts : List FieldNode
@@ -76,13 +75,18 @@ module _ (part : FileSelection → Part) (same : FieldNode → FieldNode → Boo
 
   covered_here : (out : List FieldNode) (us : List FieldNode) (n : ℕ) → ((u : FieldNode) → In u us → has same out u ≡ true) → Covered out [] us n
   covered_here out us n there = record {
-    ts = []; m = 0; runs = done; within = omega arith; all = λ u h. inl (there u h);
+    ts = [];
+    m = 0;
+    runs = done;
+    within = omega arith;
+    all = λ u h. inl (there u h);
   }
 
   covered_end : {out us : List FieldNode} {n : ℕ} → Covered out [] us n → (u : FieldNode) → In u us → has same out u ≡ true
   covered_end {out = out} c u h = by c.runs (c.all u h) where
     none : {ts : List FieldNode} {m : ℕ} → Runs part [] ts m → In u ts → ⊥
     none done i = i
+
     by : {ts : List FieldNode} {m : ℕ} → Runs part [] ts m → (has same out u ≡ true) ⊎ In u ts → has same out u ≡ true
     by r (inl e) = e
     by r (inr i) = absurd (none r i)
@@ -106,7 +110,10 @@ module _ (part : FileSelection → Part) (same : FieldNode → FieldNode → Boo
   joined : {out more : List FieldNode} {items : List FileSelection} {us : List FieldNode} {n : ℕ} → Grows out more → (c : Covered out items us n)
       → (zs : List FileSelection) → Covered more zs c.ts c.m → Covered more zs us n
   joined {out = out} {more = more} {us = us} grows c zs d = record {
-    ts = d.ts; m = d.m; runs = d.runs; within = let a = c.within in let b = d.within in omega (arith, a, b);
+    ts = d.ts;
+    m = d.m;
+    runs = d.runs;
+    within = let a = c.within in let b = d.within in omega (arith, a, b);
     all = λ u h. by u (c.all u h);
   } where
     by : (u : FieldNode) → (has same out u ≡ true) ⊎ In u c.ts → (has same more u ≡ true) ⊎ In u d.ts
@@ -117,26 +124,33 @@ module _ (part : FileSelection → Part) (same : FieldNode → FieldNode → Boo
       → Replaces more x zs → Tracks out (x ∷ rest) k → Tracks more (zs ++ rest) k
   tracks_step {out = out} {more = more} {x = x} {rest = rest} {k = k} grows zs replaces t =
       by t.top t.is t.covered where
-    by : (top : List FileSelection) → top ++ t.bottom ≡ x ∷ rest
-        → ((us : List FieldNode) (n : ℕ) → Runs part (body k) us n → Covered out top us n) → Tracks more (zs ++ rest) k
-    by [] e covered = record {
-      top = []; bottom = zs ++ rest; is = refl;
-      covered = λ us n r. covered_here more us n (λ u h. grows u (covered_end (covered us n r) u h));
-    }
-    by (y ∷ top) e covered = record {
-      top = zs ++ top; bottom = t.bottom;
-      is = append_assoc zs top t.bottom ∙ ap (λ l. zs ++ l) (tails e);
-      covered = λ us n r.
-          let c = covered us n r in
-          joined grows c (zs ++ top)
-          (replaces top c.ts c.m (subst (λ z. Runs part (z ∷ top) c.ts c.m) (heads e) c.runs));
-    }
+        by : (top : List FileSelection) → top ++ t.bottom ≡ x ∷ rest
+            → ((us : List FieldNode) (n : ℕ) → Runs part (body k) us n → Covered out top us n) → Tracks more (zs ++ rest) k
+        by [] e covered = record {
+          top = [];
+          bottom = zs ++ rest;
+          is = refl;
+          covered = λ us n r. covered_here more us n (λ u h. grows u (covered_end (covered us n r) u h));
+        }
+        by (y ∷ top) e covered = record {
+          top = zs ++ top;
+          bottom = t.bottom;
+          is = append_assoc zs top t.bottom ∙ ap (λ l. zs ++ l) (tails e);
+          covered = λ us n r.
+              let c = covered us n r in
+              joined grows c (zs ++ top)
+              (replaces top c.ts c.m (subst (λ z. Runs part (z ∷ top) c.ts c.m) (heads e) c.runs));
+        }
 
   -- ---- a node
 
   kept_replaces : (out : List FieldNode) (x : FileSelection) (o : FieldNode) → part x ≡ node o → Replaces (insert_key same out o) x []
   kept_replaces out x o e top ts m (kept {o = q} {os = os} {n = n} f r) = record {
-    ts = os; m = n; runs = r; within = omega arith; all = by;
+    ts = os;
+    m = n;
+    runs = r;
+    within = omega arith;
+    all = by;
   } where
     by : (u : FieldNode) → In u (q ∷ os) → (has same (insert_key same out o) u ≡ true) ⊎ In u os
     by u (inl i) = inl (subst (λ v. has same (insert_key same out o) v ≡ true) (same_node part x e f ∙ sym i) (has_added same laws out o))
@@ -148,7 +162,9 @@ module _ (part : FileSelection → Part) (same : FieldNode → FieldNode → Boo
   going_kept {visited = visited} {out = out} {x = x} {o = o} {rest = rest} {target = target} e g = by g.runs g.total where
     by : {os : List FieldNode} {n : ℕ} → Runs part (x ∷ rest) os n → insert_all same out os ≡ target → Going visited (insert_key same out o) rest target
     by (kept {o = q} {os = os} {n = n} f r) total = record {
-      rest = os; n = n; runs = r;
+      rest = os;
+      n = n;
+      runs = r;
       total = subst (λ p. insert_all same (insert_key same out p) os ≡ target) (sym (same_node part x e f)) total;
       tracks = λ k v. tracks_step (λ u h. has_still same out o u h) [] (kept_replaces out x o e) (g.tracks k v);
     }
@@ -158,8 +174,11 @@ module _ (part : FileSelection → Part) (same : FieldNode → FieldNode → Boo
 
   opened_replaces : (out : List FieldNode) (x : FileSelection) (zs : List FileSelection) → part x ≡ selections zs → Replaces out x zs
   opened_replaces out x zs e top ts m (replaced {n = n} f r) = record {
-    ts = ts; m = n; runs = subst (λ l. Runs part (l ++ top) ts n) (sym (same_selections part x e f)) r;
-    within = omega arith; all = λ u i. inr i;
+    ts = ts;
+    m = n;
+    runs = subst (λ l. Runs part (l ++ top) ts n) (sym (same_selections part x e f)) r;
+    within = omega arith;
+    all = λ u i. inr i;
   }
   opened_replaces out x zs e top ts m (kept f r) = clash part x f e
 
@@ -173,7 +192,10 @@ module _ (part : FileSelection → Part) (same : FieldNode → FieldNode → Boo
   going_opened {out = out} {x = x} zs e g =
       let r = opened_runs e g.runs in
       record {
-        rest = g.rest; n = r.0; runs = r.2; total = g.total;
+        rest = g.rest;
+        n = r.0;
+        runs = r.2;
+        total = g.total;
         tracks = λ k v. tracks_step (λ u h. h) zs (opened_replaces out x zs e) (g.tracks k v);
       }
 
@@ -181,7 +203,9 @@ module _ (part : FileSelection → Part) (same : FieldNode → FieldNode → Boo
 
   tracked : (out : List FieldNode) (k : List ℕ) (rest : List FileSelection) → Tracks out (body k ++ rest) k
   tracked out k rest = record {
-    top = body k; bottom = rest; is = refl;
+    top = body k;
+    bottom = rest;
+    is = refl;
     covered = λ us n r. record { ts = us; m = n; runs = r; within = omega arith; all = λ u i. inr i };
   }
 
@@ -191,12 +215,15 @@ module _ (part : FileSelection → Part) (same : FieldNode → FieldNode → Boo
   going_entered {visited = visited} {more = more} {out = out} {rest = rest} k e grown g =
       let h = going_opened (body k) e g in
       record {
-        rest = h.rest; n = h.n; runs = h.runs; total = h.total;
+        rest = h.rest;
+        n = h.n;
+        runs = h.runs;
+        total = h.total;
         tracks = λ q v. by h.tracks q (grown q v);
       } where
-    by : ((j : List ℕ) → visited j ≡ true → Tracks out (body k ++ rest) j) → (q : List ℕ) → (visited q ≡ true) ⊎ (q ≡ k) → Tracks out (body k ++ rest) q
-    by old q (inl v) = old q v
-    by old q (inr same_name) = subst (λ j. Tracks out (body k ++ rest) j) (sym same_name) (tracked out k rest)
+        by : ((j : List ℕ) → visited j ≡ true → Tracks out (body k ++ rest) j) → (q : List ℕ) → (visited q ≡ true) ⊎ (q ≡ k) → Tracks out (body k ++ rest) q
+        by old q (inl v) = old q v
+        by old q (inr same_name) = subst (λ j. Tracks out (body k ++ rest) j) (sym same_name) (tracked out k rest)
 
   -- ---- a name that was opened before
 
@@ -219,13 +246,16 @@ module _ (part : FileSelection → Part) (same : FieldNode → FieldNode → Boo
       let b = split part s.0 (body k) top ts s.2 in
       let q = s.1 in let count = b.count in
       record {
-        ts = b.qs; m = b.k; runs = b.second; within = omega (arith, q, count);
+        ts = b.qs;
+        m = b.k;
+        runs = b.second;
+        within = omega (arith, q, count);
         all = λ u i. by b.ps b.m b.first b.qs u (in_append u b.ps b.qs (subst (λ l. In u l) (sym b.outs) i));
       } where
-    by : (ps : List FieldNode) (n : ℕ) → Runs part (body k) ps n → (qs : List FieldNode) (u : FieldNode) → In u ps ⊎ In u qs
-        → (has same out u ≡ true) ⊎ In u qs
-    by ps n first qs u (inl i) = inl (there ps n first u i)
-    by ps n first qs u (inr i) = inr i
+        by : (ps : List FieldNode) (n : ℕ) → Runs part (body k) ps n → (qs : List FieldNode) (u : FieldNode) → In u ps ⊎ In u qs
+            → (has same out u ≡ true) ⊎ In u qs
+        by ps n first qs u (inl i) = inl (there ps n first u i)
+        by ps n first qs u (inr i) = inr i
 
   pub going_skipped : {visited : List ℕ → Bool} {out : List FieldNode} {x : FileSelection} {rest : List FileSelection} {target : List FieldNode} (k : List ℕ)
       → part x ≡ selections (body k) → visited k ≡ true
@@ -235,7 +265,9 @@ module _ (part : FileSelection → Part) (same : FieldNode → FieldNode → Boo
       let s = opened_runs e g.runs in
       let b = split part s.0 (body k) rest g.rest s.2 in
       record {
-        rest = b.qs; n = b.k; runs = b.second;
+        rest = b.qs;
+        n = b.k;
+        runs = b.second;
         total = sym (ap (λ l. insert_all same l b.qs) (all_there same out b.ps (there b.ps b.m b.first)))
             ∙ sym (insert_all-append same laws out b.ps b.qs) ∙ ap (λ l. insert_all same out l) b.outs ∙ g.total;
         tracks = λ j w. tracks_step (λ u h. h) [] (skipped_replaces out x k e there) (g.tracks j w);

@@ -1,5 +1,5 @@
 -- The first of each, found one after the other.
-use Rattle.std.proofs.Common.{◌≡◌, ◌⊎◌, List, [], ◌∷◌, ◌++◌, Bool, true, false, not, ◌||◌, filter, if◌then◌else◌, refl, sym, ap, ◌∙◌, inl, inr, append_assoc, append-nil, arith}
+use Rattle.std.proofs.Common.{◌≡◌, ◌⊎◌, List, [], ◌∷◌, ◌++◌, Bool, true, false, not, ◌||◌, filter, if◌then◌else◌, refl, sym, ap, ◌∙◌, inl, inr, append_assoc, append-nil}
 use Rattle.std.proofs.lemmas.List.Folds.{list_any-append}
 use Rattle.std.specs.Cmp.{IsEquivalence}
 use Rattle.std.specs.List.{list_any}
@@ -64,6 +64,7 @@ module _ {A : Type 0} (same : A → A → Bool) (laws : IsEquivalence same) wher
     not_false : (b : Bool) → not b ≡ false → b ≡ true
     not_false true e = refl
     not_false false e = sym e
+
     dropped : (y : A) → not (same y x) ≡ false → new out y ≡ false
     dropped y e = ap not (has_alike x y out (not_false (same y x) e) ∙ h)
 
@@ -73,17 +74,22 @@ module _ {A : Type 0} (same : A → A → Bool) (laws : IsEquivalence same) wher
   new_one out x xs h = rw h (ap (λ l. x ∷ l) (sym (filter_both (new out) (λ y. not (same y x)) (new (out ++ x ∷ [])) xs kept dropped))) where
     split : (y : A) → has (out ++ x ∷ []) y ≡ (has out y || same y x)
     split y = list_any-append (same y) out (x ∷ []) ∙ ap (λ b. has out y || b) (or_false (same y x))
+
     not_true : (b : Bool) → not b ≡ true → b ≡ false
     not_true true e = sym e
     not_true false e = refl
+
     not_false : (b : Bool) → not b ≡ false → b ≡ true
     not_false true e = refl
     not_false false e = sym e
+
     or_true : (b : Bool) → (b || true) ≡ true
     or_true true = refl
     or_true false = refl
+
     kept : (y : A) → not (same y x) ≡ true → new (out ++ x ∷ []) y ≡ new out y
     kept y e = ap not (split y ∙ ap (λ b. has out y || b) (not_true (same y x) e) ∙ or_false (has out y))
+
     dropped : (y : A) → not (same y x) ≡ false → new (out ++ x ∷ []) y ≡ false
     dropped y e = ap not (split y ∙ ap (λ b. has out y || b) (not_false (same y x) e) ∙ or_true (has out y))
 

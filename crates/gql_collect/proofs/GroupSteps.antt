@@ -1,5 +1,5 @@
 -- One more field in the groups, beside a write to the map.
-use Rattle.std.proofs.Common.{◌≡◌, ℕ, ◌+◌, ◌<◌, length, get_or, take, List, [], ◌∷◌, ◌++◌, Bool, Option, None, Some, map, flat_map, bytes_eq, refl, sym, ap, ◌∙◌, append_assoc, subst, Bor, arith}
+use Rattle.std.proofs.Common.{◌≡◌, ℕ, ◌+◌, ◌<◌, length, get_or, take, List, [], ◌∷◌, ◌++◌, Bool, Option, None, Some, bytes_eq, refl, sym, ap, ◌∙◌, append_assoc, subst, Bor, arith}
 use Rattle.std.proofs.lemmas.List.{take_more}
 use Rattle.std.specs.Map.{lookup, set_value}
 use Rattle.indexmap.specs.IndexMap.{insert_entry}
@@ -7,7 +7,7 @@ use Rattle.gql_collect.specs.Borrowed.{all_selections, node_of, selections_of}
 use Rattle.gql_collect.specs.BorrowedGroups.{groups_in, nodes_in, others_of}
 use Rattle.gql_collect.specs.Collection.{selections_below}
 use Rattle.gql_collect.specs.Groups.{key_of}
-use Rattle.gql_collect.specs.Nodes.{FileSelection, FieldNode, in_file}
+use Rattle.gql_collect.specs.Nodes.{FieldNode, in_file}
 use Rattle.gql_collect.specs.Putting.{put}
 use Rattle.gql_collect.specs.declared.group.Group.{Group}
 use Rattle.gql_collect.specs.declared.node.FieldNode.{FieldNode as Node}

@@ -24,26 +24,44 @@ module _ (part : FileSelection → Part) where
   kept_first : {x : FileSelection} {o : FieldNode} {xs ys : List FileSelection} {os : List FieldNode} {n : ℕ}
       → part x ≡ node o → Both xs ys os n → Both (x ∷ xs) ys (o ∷ os) (suc n)
   kept_first {o = o} e b = record {
-    m = suc b.m; k = b.k; ps = o ∷ b.ps; qs = b.qs; first = kept e b.first; second = b.second;
-    count = let c = b.count in omega (arith, c); outs = ap (λ r. o ∷ r) b.outs;
+    m = suc b.m;
+    k = b.k;
+    ps = o ∷ b.ps;
+    qs = b.qs;
+    first = kept e b.first;
+    second = b.second;
+    count = let c = b.count in omega (arith, c);
+    outs = ap (λ r. o ∷ r) b.outs;
   }
 
   replaced_first : {x : FileSelection} {zs xs ys : List FileSelection} {os : List FieldNode} {n : ℕ}
       → part x ≡ selections zs → Both (zs ++ xs) ys os n → Both (x ∷ xs) ys os (suc n)
   replaced_first e b = record {
-    m = suc b.m; k = b.k; ps = b.ps; qs = b.qs; first = replaced e b.first; second = b.second;
-    count = let c = b.count in omega (arith, c); outs = b.outs;
+    m = suc b.m;
+    k = b.k;
+    ps = b.ps;
+    qs = b.qs;
+    first = replaced e b.first;
+    second = b.second;
+    count = let c = b.count in omega (arith, c);
+    outs = b.outs;
   }
 
   pub split : (n : ℕ) (xs ys : List FileSelection) (os : List FieldNode) → Runs (xs ++ ys) os n → Both xs ys os n
   split n [] ys os h = record {
-    m = 0; k = n; ps = []; qs = os; first = done; second = h; count = omega arith; outs = refl;
+    m = 0;
+    k = n;
+    ps = [];
+    qs = os;
+    first = done;
+    second = h;
+    count = omega arith;
+    outs = refl;
   }
   split zero (x ∷ xs) ys os h = elim h [ ]
   split (suc n) (x ∷ xs) ys os (kept {os = os'} e r) = kept_first e (split n xs ys os' r)
   split (suc n) (x ∷ xs) ys os (replaced {xs = zs} e r) = replaced_first e (split n (zs ++ xs) ys os
       (subst (λ l. Runs l os n) (sym (append_assoc zs xs ys)) r))
-
 
   -- one outcome
   pub record Same (os qs : List FieldNode) (n k : ℕ) : Type 0 where

@@ -1,5 +1,5 @@
 -- One selection of a walk, by its form.
-use Rattle.std.proofs.Common.{◌≡◌, ◌+◌, ◌≤◌, ℕ, List, [], ◌∷◌, ◌++◌, Bool, true, false, not, ◌||◌, map, bytes_eq, if◌then◌else◌, refl, sym, ap, ◌∙◌, subst, arith}
+use Rattle.std.proofs.Common.{◌≡◌, ◌+◌, ℕ, List, [], ◌∷◌, ◌++◌, Bool, true, false, not, ◌||◌, map, bytes_eq, if◌then◌else◌, refl, sym, ap, ◌∙◌, subst, arith}
 use Rattle.std.specs.Borrow.{Bor}
 use Rattle.std.specs.List.{list_any}
 use Rattle.indexmap.specs.IndexSet.{insert_key}
@@ -11,7 +11,7 @@ use Rattle.gql_ast.specs.declared.executable.Spread.{Spread}
 use Rattle.gql_collect.specs.Borrowed.{names_of, node_of, nodes_of}
 use Rattle.gql_collect.specs.Conditions.{is_left_out}
 use Rattle.gql_collect.specs.Groups.{is_same_field}
-use Rattle.gql_collect.specs.Nodes.{FileSelection, FieldNode, Part, node, selections, in_file}
+use Rattle.gql_collect.specs.Nodes.{FileSelection, FieldNode, node, selections, in_file}
 use Rattle.gql_collect.specs.Unfolding.{Given, part, part_at, held, applies, field_part, spread_part, inline_part}
 use Rattle.gql_collect.specs.Walks.{Visits, keeps, opens, enters, passes, is_in, size, sizes, sizes_in, size_field, size_spread, size_inline}
 use Rattle.gql_collect.specs.declared.node.FieldNode.{FieldNode as Node}
@@ -97,7 +97,7 @@ module _ (g : Given) (t : List ℕ) (names : List (List ℕ)) (fields : List Fie
       → next ≡ [] → Left file (s.Field f) next
   field_left file f next out none =
       let e : part g t (record { file = file; selection = s.Field f }) ≡ selections [] =
-          field_is file f ∙ ap (λ b. if b then selections [] else node (record { file = file; field = f })) out in
+      field_is file f ∙ ap (λ b. if b then selections [] else node (record { file = file; field = f })) out in
       let two = size_field f in
       subst (λ l. Left file (s.Field f) l) (sym none) (opens e (omega (arith, two)))
 
@@ -107,7 +107,7 @@ module _ (g : Given) (t : List ℕ) (names : List (List ℕ)) (fields : List Fie
       → Visits g t (record { file = file; selection = s.Field f }) names fields names_after fields_after next
   field_kept file f names_after fields_after next kept none same more =
       let e : part g t (record { file = file; selection = s.Field f }) ≡ node (record { file = file; field = f }) =
-          field_is file f ∙ ap (λ b. if b then selections [] else node (record { file = file; field = f })) kept in
+      field_is file f ∙ ap (λ b. if b then selections [] else node (record { file = file; field = f })) kept in
       subst (λ l. Visits g t (record { file = file; selection = s.Field f }) names fields names_after fields_after l) (sym none)
       (subst (λ ns. Visits g t (record { file = file; selection = s.Field f }) names fields ns fields_after []) (sym same)
       (subst (λ fs. Visits g t (record { file = file; selection = s.Field f }) names fields names fs []) (sym more) (keeps e)))
@@ -116,7 +116,7 @@ module _ (g : Given) (t : List ℕ) (names : List (List ℕ)) (fields : List Fie
       → next ≡ [] → Left file (s.Spread x) next
   spread_left file x next out none =
       let e : part g t (record { file = file; selection = s.Spread x }) ≡ selections [] =
-          spread_is file x ∙ ap (λ b. if b then selections [] else selections (held g t x.name.text)) out in
+      spread_is file x ∙ ap (λ b. if b then selections [] else selections (held g t x.name.text)) out in
       let two = size_spread x in
       subst (λ l. Left file (s.Spread x) l) (sym none) (opens e (omega (arith, two)))
 
@@ -130,7 +130,7 @@ module _ (g : Given) (t : List ℕ) (names : List (List ℕ)) (fields : List Fie
       → Visits g t (record { file = file; selection = s.Spread x }) names fields names_after fields_after next
   spread_entered file x name names_after fields_after next kept is fresh more same content =
       let e : part g t (record { file = file; selection = s.Spread x }) ≡ selections (held g t name) =
-          held_is file x kept ∙ ap (λ n. selections (held g t n)) (sym is) in
+      held_is file x kept ∙ ap (λ n. selections (held g t n)) (sym is) in
       let longer : names_after ≡ names ++ name ∷ [] = more ∙ ap (λ b. if b then names else names ++ name ∷ []) fresh in
       subst (λ l. Visits g t (record { file = file; selection = s.Spread x }) names fields names_after fields_after l) (sym content)
       (subst (λ ns. Visits g t (record { file = file; selection = s.Spread x }) names fields ns fields_after (held g t name)) (sym longer)
@@ -142,7 +142,7 @@ module _ (g : Given) (t : List ℕ) (names : List (List ℕ)) (fields : List Fie
       → Visits g t (record { file = file; selection = s.Spread x }) names fields names_after fields_after next
   spread_passed file x name names_after fields_after next kept is there more same none =
       let e : part g t (record { file = file; selection = s.Spread x }) ≡ selections (held g t name) =
-          held_is file x kept ∙ ap (λ n. selections (held g t n)) (sym is) in
+      held_is file x kept ∙ ap (λ n. selections (held g t n)) (sym is) in
       let equal : names_after ≡ names = more ∙ ap (λ b. if b then names else names ++ name ∷ []) there in
       subst (λ l. Visits g t (record { file = file; selection = s.Spread x }) names fields names_after fields_after l) (sym none)
       (subst (λ ns. Visits g t (record { file = file; selection = s.Spread x }) names fields ns fields_after []) (sym equal)

@@ -1,24 +1,20 @@
 -- A walk over selections: what it has met, and how much is left of it.
-use Rattle.std.proofs.Common.{◌≡◌, ◌⊎◌, ◌+◌, ◌≤◌, ◌<◌, ℕ, zero, suc, List, [], ◌∷◌, ◌++◌, Bool, true, false, not, ◌||◌, Option, Some, None, map, find, bytes_eq, reverse, if◌then◌else◌, refl, sym, ap, ◌∙◌, subst, inl, inr, arith, append-nil, length}
+use Rattle.std.proofs.Common.{◌≡◌, ◌⊎◌, ◌+◌, ◌≤◌, ◌<◌, ℕ, suc, List, [], ◌∷◌, ◌++◌, Bool, true, false, ◌||◌, Some, map, find, bytes_eq, reverse, if◌then◌else◌, refl, sym, ap, ◌∙◌, subst, inl, inr, arith, append-nil, length}
 use Rattle.std.proofs.lemmas.Grind.{flat_map-append}
 use Rattle.std.proofs.lemmas.List.{reverse-append}
 use Rattle.std.proofs.lemmas.List.Folds.{list_any-append}
 use Rattle.std.proofs.lemmas.Slice.Eq.{bytes_eq-Decides}
 use Rattle.std.specs.Cmp.Lexicographic.{nat_list_eq_equiv}
-use Rattle.std.specs.List.{list_any}
-use Rattle.indexmap.specs.IndexSet.{insert_key, insert_all}
-use Rattle.gql_ast.specs.declared.executable.Selection.{Selection, fold-Selection, out-Selection}
-use Rattle.gql_ast.specs.declared.executable.Field.{Field}
-use Rattle.gql_ast.specs.declared.executable.InlineFragment.{InlineFragment}
+use Rattle.gql_ast.specs.declared.executable.Selection.{Selection}
 use Rattle.gql_ast.specs.declared.executable.Selection.TheOpen.{Selection-F}
 use Rattle.gql_ast.specs.declared.executable.Selection.TheFolds.{fold_out-Selection}
 use Rattle.gql_facts.specs.declared.fact.FragmentFact.{FragmentFact}
 use Rattle.gql_collect.specs.Borrowed.{all_selections, selections_of}
 use Rattle.gql_collect.specs.Conditions.{is_possible}
 use Rattle.gql_collect.specs.Groups.{firsts, is_same_field}
-use Rattle.gql_collect.specs.Nodes.{FileSelection, FieldNode, Part, node, selections, in_file}
+use Rattle.gql_collect.specs.Nodes.{FileSelection, FieldNode, in_file}
 use Rattle.gql_collect.specs.SameFields.{same_field_laws}
-use Rattle.gql_collect.specs.Unfolding.{Given, Unfolds, nothing, kept, replaced, part, held, held_by, fragment_named}
+use Rattle.gql_collect.specs.Unfolding.{Given, Unfolds, nothing, kept, replaced, part, held, held_by}
 use Rattle.gql_collect.specs.Walks.{Visits, keeps, opens, enters, passes, is_in, total, size, size_at, size_of_field, size_of_inline, sizes, sizes_in, left, work, set_size}
 use Rattle.gql_collect.specs.declared.node.SelectionSet.{SelectionSet}
 use Rattle.gql_collect.proofs.Covering.{Going, going_kept, going_opened, going_entered, going_skipped, going_ended}
@@ -50,7 +46,10 @@ module _ (g : Given) (t : List ℕ) where
   begins xs ns u =
       let c = counted u in
       record {
-        rest = ns; n = c.n; runs = c.runs; total = inserted is_same_field same_field_laws ns;
+        rest = ns;
+        n = c.n;
+        runs = c.runs;
+        total = inserted is_same_field same_field_laws ns;
         tracks = λ k v. absurd (cc v);
       }
 
@@ -102,12 +101,12 @@ fewer : (fs : List FragmentFact) (names : List (List ℕ)) (name : List ℕ) →
 fewer [] names name = omega arith
 fewer (f ∷ fs) names name = by (is_in f.fragment.name.text names) (is_in f.fragment.name.text (names ++ name ∷ []))
     (list_any-append (bytes_eq f.fragment.name.text) names (name ∷ [])) (fewer fs names name) where
-  by : (a b : Bool) → b ≡ (a || (bytes_eq f.fragment.name.text name || false)) → left fs (names ++ name ∷ []) ≤ left fs names
-      → (if b then 0 else sizes f.fragment.selections) + left fs (names ++ name ∷ []) ≤ (if a then 0 else sizes f.fragment.selections) + left fs names
-  by true true e h = omega (arith, h)
-  by true false e h = absurd (cc e)
-  by false true e h = omega (arith, h)
-  by false false e h = omega (arith, h)
+      by : (a b : Bool) → b ≡ (a || (bytes_eq f.fragment.name.text name || false)) → left fs (names ++ name ∷ []) ≤ left fs names
+          → (if b then 0 else sizes f.fragment.selections) + left fs (names ++ name ∷ []) ≤ (if a then 0 else sizes f.fragment.selections) + left fs names
+      by true true e h = omega (arith, h)
+      by true false e h = absurd (cc e)
+      by false true e h = omega (arith, h)
+      by false false e h = omega (arith, h)
 
 module _ (g : Given) (t : List ℕ) where
   held_small : (f : FragmentFact) → sizes_in (held_by g t (Some f)) ≤ sizes f.fragment.selections
@@ -128,7 +127,7 @@ module _ (g : Given) (t : List ℕ) where
         let before : is_in f.fragment.name.text names ≡ false = ap (λ q. is_in q names) (sym same) ∙ fresh in
         let hit : bytes_eq f.fragment.name.text name ≡ true = nat_list_eq_equiv.symm f.fragment.name.text name ∙ h in
         let after : is_in f.fragment.name.text (names ++ name ∷ []) ≡ true =
-            list_any-append (bytes_eq f.fragment.name.text) names (name ∷ []) ∙ rw (before, hit) refl in
+        list_any-append (bytes_eq f.fragment.name.text) names (name ∷ []) ∙ rw (before, hit) refl in
         let small = held_small f in
         let less = fewer fs names name in
         rw (h, before, after) (omega (arith, small, less))
@@ -136,7 +135,7 @@ module _ (g : Given) (t : List ℕ) where
         let miss : bytes_eq f.fragment.name.text name ≡ false = nat_list_eq_equiv.symm f.fragment.name.text name ∙ h in
         let more = entered fs names name fresh in
         let alike : is_in f.fragment.name.text (names ++ name ∷ []) ≡ is_in f.fragment.name.text names =
-            list_any-append (bytes_eq f.fragment.name.text) names (name ∷ []) ∙ rw miss (or_false (is_in f.fragment.name.text names)) in
+        list_any-append (bytes_eq f.fragment.name.text) names (name ∷ []) ∙ rw miss (or_false (is_in f.fragment.name.text names)) in
         rw (h, alike) (omega (arith, more))
   ] where
     or_false : (b : Bool) → (b || false) ≡ b

@@ -1,5 +1,5 @@
 -- Helper definitions: what clauses see of borrowed selection sets, fields and groups.
-use Rattle.std.specs.Prelude.{ℕ, List, [], ◌∷◌, map, flat_map, Option, Some, None}
+use Rattle.std.specs.Prelude.{ℕ, List, map, flat_map}
 use Rattle.std.specs.Borrow.{Bor}
 use Rattle.gql_collect.specs.Nodes.{FileSelection, FieldNode, in_file}
 use Rattle.gql_collect.specs.declared.node.FieldNode.{FieldNode as Node}

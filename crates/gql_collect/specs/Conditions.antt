@@ -1,6 +1,6 @@
 -- Which selections of a set count, by their directives `@skip` and `@include` (GraphQL 3.13.1 and
 -- 3.13.2), and for which types of objects (GraphQL 6.3.2, DoesFragmentTypeApply).
-use Rattle.std.specs.Prelude.{ℕ, List, codes, Bool, false, not, ◌&&◌, ◌||◌, Option, Some, None, option_map, find, bytes_eq}
+use Rattle.std.specs.Prelude.{ℕ, List, codes, Bool, false, not, ◌&&◌, ◌||◌, Option, Some, None, find, bytes_eq}
 use Rattle.std.specs.List.{list_any}
 use Rattle.std.specs.Option.{option_map_or}
 use Rattle.gql_ast.specs.declared.literal.Argument.{Argument}

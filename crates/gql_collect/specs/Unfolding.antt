@@ -1,7 +1,7 @@
 -- What the selections of a set unfold into, for an object of some type (GraphQL 6.3.2,
 -- CollectFields): each inline fragment and each spread that counts is replaced by the selections
 -- that it holds, without remembering any fragment, until there are only fields.
-use Rattle.std.specs.Prelude.{◌≡◌, ℕ, List, [], ◌∷◌, ◌++◌, map, Bool, true, not, ◌||◌, Option, Some, None, find, bytes_eq, if◌then◌else◌}
+use Rattle.std.specs.Prelude.{◌≡◌, ℕ, List, [], ◌∷◌, ◌++◌, Bool, true, not, ◌||◌, Option, Some, None, find, bytes_eq, if◌then◌else◌}
 use Rattle.gql_ast.specs.declared.executable.Field.{Field}
 use Rattle.gql_ast.specs.declared.executable.InlineFragment.{InlineFragment}
 use Rattle.gql_ast.specs.declared.executable.Selection.{Selection, out-Selection}

@@ -1,16 +1,15 @@
 -- Helper definitions for private contracts: a walk over selections that enters each fragment once.
-use Rattle.std.specs.Prelude.{◌≡◌, ◌+◌, ◌<◌, ◌≤◌, ℕ, List, [], ◌∷◌, ◌++◌, map, Bool, true, false, bytes_eq, if◌then◌else◌}
+use Rattle.std.specs.Prelude.{◌≡◌, ◌+◌, ◌≤◌, ℕ, List, [], ◌∷◌, ◌++◌, map, Bool, true, false, bytes_eq, if◌then◌else◌}
 use Rattle.std.specs.List.{list_any}
-use Rattle.std.proofs.Common.{ap, sym, ◌∙◌, refl}
+use Rattle.std.proofs.Common.{ap, sym, ◌∙◌}
 use Rattle.gql_ast.specs.declared.executable.Field.{Field}
 use Rattle.gql_ast.specs.declared.executable.InlineFragment.{InlineFragment}
 use Rattle.gql_ast.specs.declared.executable.Selection.{Selection, fold-Selection}
-use Rattle.gql_ast.specs.declared.executable.Selection.TheFolds.{fold-roll-Selection, fold_out-Field, fold_out-InlineFragment}
+use Rattle.gql_ast.specs.declared.executable.Selection.TheFolds.{fold-roll-Selection, fold_out-InlineFragment}
 use Rattle.gql_ast.specs.declared.executable.Selection.TheOpen.{Selection-F, Field-F, InlineFragment-F}
 use Rattle.gql_ast.specs.declared.executable.Selection.TheVariants as s
 use Rattle.gql_ast.specs.declared.executable.Spread.{Spread}
 use Rattle.gql_facts.specs.declared.fact.FragmentFact.{FragmentFact}
-use Rattle.gql_collect.specs.Borrowed.{selections_of}
 use Rattle.gql_collect.specs.Groups.{is_same_field}
 use Rattle.gql_collect.specs.Nodes.{FileSelection, FieldNode, node, selections}
 use Rattle.gql_collect.specs.Unfolding.{Given, part, held}

@@ -1,9 +1,9 @@
-use Rattle.std.proofs.Common.{◌≡◌, rules, ap, sym, ◌∙◌, subst}
+use Rattle.std.proofs.Common.{◌≡◌, rules, ap, ◌∙◌}
 use Rattle.gql_collect.specs.Borrowed.{node_of}
-use Rattle.gql_collect.specs.BorrowedGroups.{groups_in, nodes_in, others_of}
+use Rattle.gql_collect.specs.BorrowedGroups.{groups_in}
 use Rattle.gql_collect.specs.Putting.{put}
 use Rattle.gql_collect.specs.declared.group.Group.{Group}
-use Rattle.gql_collect.proofs.GroupSteps.{found, found_at, absent, others_more}
+use Rattle.gql_collect.proofs.GroupSteps.{found_at, absent}
 use Rattle.gql_collect.proofs.group.add_field.Goals as goal
 
 pub returns-in-Some : goal.returns-in-Some

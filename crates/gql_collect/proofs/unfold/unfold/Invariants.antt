@@ -1,4 +1,4 @@
-use Rattle.std.proofs.Common.{◌≡◌, List, reverse}
+use Rattle.std.proofs.Common.{List, reverse}
 use Rattle.gql_collect.specs.Borrowed.{all_selections, names_of, nodes_of}
 use Rattle.gql_collect.specs.Contexts.{given}
 use Rattle.gql_collect.specs.Groups.{firsts, is_same_field}

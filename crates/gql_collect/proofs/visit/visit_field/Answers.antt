@@ -1,5 +1,5 @@
 use Rattle.std.proofs.Common.{rules, refl, ◌∙◌, ap}
-use Rattle.gql_collect.specs.Borrowed.{names_of, node_of, nodes_of, selections_of}
+use Rattle.gql_collect.specs.Borrowed.{names_of, nodes_of, selections_of}
 use Rattle.gql_collect.specs.Contexts.{given}
 use Rattle.gql_collect.proofs.Visiting.{field_left, field_kept, node_inserted}
 use Rattle.gql_collect.proofs.visit.visit_field.Goals as goal

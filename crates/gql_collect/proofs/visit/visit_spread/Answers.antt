@@ -1,7 +1,6 @@
-use Rattle.std.proofs.Common.{◌≡◌, Bool, true, false, not, rules, refl, sym, ◌∙◌, ap}
+use Rattle.std.proofs.Common.{rules, refl, sym, ◌∙◌, ap}
 use Rattle.gql_collect.specs.Borrowed.{names_of, nodes_of, selections_of}
 use Rattle.gql_collect.specs.Contexts.{given}
-use Rattle.gql_collect.specs.Walks.{is_in}
 use Rattle.gql_collect.proofs.Visiting.{spread_left, spread_entered, spread_passed, name_inserted, name_there, not_true, not_false}
 use Rattle.gql_collect.proofs.visit.visit_spread.Goals as goal
 
