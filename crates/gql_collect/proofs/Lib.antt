@@ -1,4 +1,5 @@
 pub mod Covering
+pub mod Ending
 pub mod Firsts
 pub mod GroupSteps
 pub mod Grouping

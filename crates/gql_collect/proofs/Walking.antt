@@ -41,6 +41,10 @@ module _ (g : Given) (t : List ℕ) where
   counted (kept e u) = let c = counted u in record { n = suc c.n; runs = run.kept e c.runs }
   counted (replaced e u) = let c = counted u in record { n = suc c.n; runs = run.replaced e c.runs }
 
+  -- selections unfold in one way
+  pub one_unfolding : {xs : List FileSelection} {ns ms : List FieldNode} → Unfolds g t xs ns → Unfolds g t xs ms → ns ≡ ms
+  one_unfolding u v = (run.one_run (part g t) (counted u).runs (counted v).runs).outs
+
   pub begins : (xs : List FileSelection) (ns : List FieldNode) → Unfolds g t xs ns
       → Goes g t [] [] xs (firsts is_same_field ns)
   begins xs ns u =
@@ -60,7 +64,7 @@ module _ (g : Given) (t : List ℕ) where
       (subst (λ l. Goes g t l fields xs (firsts is_same_field ns)) (sym none)
       (subst (λ l. Goes g t [] l xs (firsts is_same_field ns)) (sym no_fields) (begins xs ns u)))
 
-  grown : (names : List (List ℕ)) (name q : List ℕ) → is_in q (names ++ name ∷ []) ≡ true
+  pub grown : (names : List (List ℕ)) (name q : List ℕ) → is_in q (names ++ name ∷ []) ≡ true
       → (is_in q names ≡ true) ⊎ (q ≡ name)
   grown names name q e = by (is_in q names) (bytes_eq q name) (bytes_eq-Decides q name).0 (sym (list_any-append (bytes_eq q) names (name ∷ [])) ∙ e) where
     by : (a b : Bool) → (b ≡ true → q ≡ name) → (a || (b || false)) ≡ true → (a ≡ true) ⊎ (q ≡ name)
@@ -117,7 +121,7 @@ module _ (g : Given) (t : List ℕ) where
     by false same = omega arith
 
   -- a fragment that is entered is left no more
-  entered : (fs : List FragmentFact) (names : List (List ℕ)) (name : List ℕ) → is_in name names ≡ false
+  pub entered : (fs : List FragmentFact) (names : List (List ℕ)) (name : List ℕ) → is_in name names ≡ false
       → left fs (names ++ name ∷ [])
       + sizes_in (held_by g t (find (λ (f : FragmentFact). bytes_eq name f.fragment.name.text) fs)) ≤ left fs names
   entered [] names name fresh = omega arith

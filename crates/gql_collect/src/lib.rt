@@ -5,6 +5,7 @@ mod collecting;
 mod conditions;
 mod context;
 mod group;
+pub mod laws;
 mod node;
 mod unfold;
 mod visit;
