@@ -1,8 +1,10 @@
 //! The execution of operations (GraphQL specification, 6).
 #![tactic(auto)]
 
+mod outcome;
 mod strings;
 mod values;
 
+pub use outcome::{Outcome, ResponseError, Step};
 pub use strings::write_string;
-pub use values::{write_integer, write_value};
+pub use values::{write_integer, write_unsigned, write_value};

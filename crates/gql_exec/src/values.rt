@@ -17,8 +17,8 @@ pub fn write_integer(number: i64, out: &mut Vec<u8>) -> Result<(), AllocError>
     Ok(())
 }
 
-/// Writes a number of no sign.
-fn write_unsigned(number: u64, out: &mut Vec<u8>) -> Result<(), AllocError>
+/// Writes a number without sign.
+pub fn write_unsigned(number: u64, out: &mut Vec<u8>) -> Result<(), AllocError>
     ensures { OnOk result (out.new.items ≡ out.old.items ++ decimal number) }
 {
     let mut buffer = itoa::Buffer::new();
