@@ -1,13 +1,13 @@
 -- Worked examples of the definitions.
 use Rattle.std.specs.Fmt.{signed_decimal}
-use Rattle.std.specs.Prelude.{◌≡◌, ℕ, ◌-◌, pos, List, [], ◌∷◌, codes, refl, Option, Some, None, bytes_eq, if◌then◌else◌}
+use Rattle.std.specs.Prelude.{◌≡◌, ℕ, ◌-◌, pos, List, [], ◌∷◌, codes, refl, Option, Some, bytes_eq, if◌then◌else◌}
 use Rattle.gql_text.specs.declared.place.Place.{Place}
 use Rattle.gql_types.specs.Written.{Written, named, listed, required}
 use Rattle.gql_types.specs.declared.kind.TypeKind.{TypeKind}
 use Rattle.gql_types.specs.declared.kind.TypeKind.TheVariants as kind
 use Rattle.serde_json.specs.Data as json
 use Rattle.serde_json.specs.Data.{Data, item, no_items, member, no_members}
-use Rattle.gql_exec.specs.Execution.{Answer, Arguments, given, refused, PlannedField, Plan, plan, Fields, no_fields, field, Types, answer}
+use Rattle.gql_exec.specs.Execution.{Arguments, given, refused, PlannedField, Plan, plan, Fields, no_fields, field, Types, answer}
 use Rattle.gql_exec.specs.Replies.{Error, Path, key, index}
 
 -- ---- terms for the examples

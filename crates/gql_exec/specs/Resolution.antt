@@ -1,6 +1,6 @@
 -- The value that a field has in an object of the data (GraphQL 6.4.2, ResolveFieldValue): this
 -- registry's own rule.
-use Rattle.std.specs.Prelude.{ℕ, ℤ, ◌&&◌, List, [], ◌∷◌, Bool, true, false, bytes_eq, filter, Option, Some, None, unwrap_or, if◌then◌else◌}
+use Rattle.std.specs.Prelude.{ℕ, ℤ, ◌&&◌, List, [], ◌∷◌, Bool, true, false, bytes_eq, filter, Option, Some, unwrap_or, if◌then◌else◌}
 use Rattle.std.specs.Bool.{beq}
 use Rattle.std.specs.Ordering.{int_eq}
 use Rattle.gql_inputs.specs.InputTypes.{is_list}

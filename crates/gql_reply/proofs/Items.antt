@@ -1,5 +1,5 @@
 -- One more item of an array.
-use Rattle.std.proofs.Common.{◌≡◌, ◌+◌, ◌<◌, ℕ, suc, List, [], ◌∷◌, ◌++◌, Bool, true, length, get_or, drop, map, refl, sym, ap, ◌∙◌, append_assoc, add-one, drop-cons}
+use Rattle.std.proofs.Common.{◌≡◌, ◌+◌, ◌<◌, ℕ, suc, List, ◌∷◌, ◌++◌, Bool, true, length, get_or, drop, map, sym, ap, ◌∙◌, append_assoc, add-one, drop-cons}
 use Rattle.serde_json.specs.Data.{Data}
 use Rattle.serde_json.specs.View.{items_of}
 use Rattle.serde_json.specs.Written.{comma_if, compact_text, items_text}
@@ -19,5 +19,5 @@ module _ {A B : Type 0} (f : B → Data) (g : A → B) where
       ∙ append_assoc old (comma_if later) (compact_text (f (g x)) ++ tail)
       ∙ ap (λ l. old ++ items_text later (items_of (map f (map g l)))) (sym (rest xs i x within is))
       ∙ before where
-    tail : List ℕ
-    tail = items_text true (items_of (map f (map g (drop (i + 1) xs))))
+        tail : List ℕ
+        tail = items_text true (items_of (map f (map g (drop (i + 1) xs))))

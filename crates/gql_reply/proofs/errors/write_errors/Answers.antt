@@ -1,4 +1,4 @@
-use Rattle.std.proofs.Common.{◌≡◌, ◌++◌, map, false, rules}
+use Rattle.std.proofs.Common.{◌++◌, map, false, rules}
 use Rattle.serde_json.specs.View.{items_of}
 use Rattle.serde_json.specs.Written.{items_text}
 use Rattle.gql_exec.specs.Outcomes.{error_of}
