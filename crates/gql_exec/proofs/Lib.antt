@@ -1,1 +1,4 @@
+pub mod Doing
 pub mod Escapes
+pub mod Leaving
+pub mod Parts

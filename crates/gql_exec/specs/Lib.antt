@@ -1,8 +1,11 @@
+pub mod Ended
 pub mod Examples
 pub mod Execution
 pub mod Leaves
 pub mod Outcomes
+pub mod Parts
 pub mod Plans
 pub mod Replies
 pub mod Requests
 pub mod Resolution
+pub mod States

@@ -1,7 +1,11 @@
 //! The execution of operations (GraphQL specification, 6).
 #![tactic(auto)]
 
+mod ended;
 mod outcome;
+mod run;
+mod steps;
+mod stop;
 mod strings;
 mod values;
 
