@@ -2,3 +2,4 @@ pub mod Doing
 pub mod Escapes
 pub mod Leaving
 pub mod Parts
+pub mod Texting

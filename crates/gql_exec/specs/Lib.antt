@@ -9,3 +9,4 @@ pub mod Replies
 pub mod Requests
 pub mod Resolution
 pub mod States
+pub mod Texts
