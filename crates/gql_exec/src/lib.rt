@@ -2,6 +2,7 @@
 #![tactic(auto)]
 
 mod ended;
+mod leaves;
 mod outcome;
 mod run;
 mod steps;
