@@ -1,5 +1,5 @@
 -- How steps of an execution come together.
-use Rattle.std.proofs.Common.{◌≡◌, ℕ, zero, suc, ◌+◌, ◌<◌, ◌≤◌, List, [], ◌∷◌, ◌++◌, map, length, take, get_or, Bool, true, false, Result, Ok, Err, codes, refl, sym, ap, subst, ◌∙◌, arith, append_assoc, add-one, add_assoc, rules}
+use Rattle.std.proofs.Common.{◌≡◌, ℕ, zero, suc, ◌+◌, ◌<◌, ◌≤◌, List, [], ◌∷◌, ◌++◌, map, length, take, get_or, false, Result, Ok, Err, codes, refl, sym, ap, subst, ◌∙◌, arith, append_assoc, add-one}
 use Rattle.std.proofs.Math.Seq.{take-append_seam}
 use Rattle.std.proofs.lemmas.List.{map-append}
 use Rattle.std.specs.Result.{IsErrAnd}
@@ -12,7 +12,7 @@ use Rattle.gql_exec.specs.declared.stop.Stop.TheVariants.{TooHeavy}
 use Rattle.gql_exec.specs.Ended.{both}
 use Rattle.gql_exec.specs.Outcomes.{segment_of}
 use Rattle.gql_exec.specs.Parts.{Outcome, text, bubble, joined, Part, followed_by, plain, one, counted, comma, after_comma, within, all, numbered, has_own, settled, caught, or_null}
-use Rattle.gql_exec.specs.Replies.{Segment, Error, Note, kept}
+use Rattle.gql_exec.specs.Replies.{Segment, kept}
 use Rattle.gql_exec.specs.States.{Leaves, Follows, Done, Executes, ended_of, path_of, error_of, errors_of}
 use Rattle.gql_exec.proofs.Leaving.{leaves-joined, leaves-cut}
 use Rattle.gql_exec.proofs.Parts.{kept-append, has_own-append, kept-below, has_own-below, all-more, weight-part}

@@ -2,7 +2,7 @@
 use Rattle.std.specs.Prelude.{◌≡◌, ℕ, ◌+◌, ◌<◌, List, ◌++◌, map, take, length, codes, string_bytes, Result, Ok, Err}
 use Rattle.gql_exec.specs.Outcomes.{segment_of}
 use Rattle.gql_exec.specs.Parts.{Outcome, text, bubble, Part, has_own}
-use Rattle.gql_exec.specs.Replies.{Segment, Error, Path, kept}
+use Rattle.gql_exec.specs.Replies.{Error, Path, kept}
 use Rattle.gql_exec.specs.declared.ended.Ended.{Ended}
 use Rattle.gql_exec.specs.declared.ended.Ended.TheVariants.{Written, Bubbled}
 use Rattle.gql_exec.specs.declared.run.FieldError.{FieldError}

@@ -106,10 +106,10 @@ pub fn raise(
     reason: Reason<'_>,
 ) -> Result<Ended, Stop>
     ensures { Executes (spec.raise (record {
-        message = message_of reason.entry;
-        place = place;
-        path = path_of run.old;
-        })) result run.old run.new }
+      message = message_of reason.entry;
+      place = place;
+      path = path_of run.old;
+    })) result run.old run.new }
 {
     if !run.raised {
         let message = message(alloc, reason)?;
