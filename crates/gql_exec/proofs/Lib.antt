@@ -2,4 +2,5 @@ pub mod Doing
 pub mod Escapes
 pub mod Leaving
 pub mod Parts
+pub mod Alike
 pub mod Texting

@@ -5,6 +5,7 @@ mod ended;
 mod leaves;
 mod outcome;
 mod run;
+mod same;
 mod steps;
 mod stop;
 mod strings;
