@@ -72,3 +72,12 @@ other_lengths (x ∷ xs) (y ∷ ys) differ =
   and_false : (b : Bool) → b && false ≡ false
   and_false true = refl
   and_false false = refl
+
+-- null is the same as null alone
+pub same_as_null : (d : Data) → same_data d json.null ≡ is_some (as_null d)
+same_as_null json.null = refl
+same_as_null (json.boolean b) = refl
+same_as_null (json.number n) = refl
+same_as_null (json.string s) = refl
+same_as_null (json.array ds) = refl
+same_as_null (json.object ms) = refl

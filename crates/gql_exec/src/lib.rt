@@ -2,6 +2,7 @@
 #![tactic(auto)]
 
 mod ended;
+mod filter;
 mod leaves;
 mod outcome;
 mod run;
