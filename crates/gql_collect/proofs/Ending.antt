@@ -1,6 +1,6 @@
 -- Selections that lead to no cycle of fragments unfold into fields.
-use Rattle.std.proofs.Common.{◌≡◌, ◌⊎◌, ◌+◌, ◌≤◌, ◌<◌, ℕ, zero, suc, List, [], ◌∷◌, ◌++◌, Bool, true, false, not, ◌||◌, if◌then◌else◌, Option, Some, None, map, flat_map, bytes_eq, Contains, refl, sym, ap, ◌∙◌, subst, inl, inr, arith, append_assoc}
-use Rattle.std.proofs.lemmas.List.Elements.{Contains-append_left, Contains-append_right, Contains-append_cases}
+use Rattle.std.proofs.Common.{◌≡◌, ◌⊎◌, ◌+◌, ◌≤◌, ℕ, zero, suc, List, [], ◌∷◌, ◌++◌, Bool, true, false, not, ◌||◌, if◌then◌else◌, Option, Some, None, map, Contains, refl, sym, ap, ◌∙◌, subst, inl, inr, arith, append_assoc}
+use Rattle.std.proofs.lemmas.List.Elements.{Contains-append_left, Contains-append_right}
 use Rattle.gql_ast.specs.declared.executable.Field.{Field}
 use Rattle.gql_ast.specs.declared.executable.InlineFragment.{InlineFragment}
 use Rattle.gql_ast.specs.declared.executable.Selection.{Selection, out-Selection, roll-Selection, roll-out-Selection}
@@ -106,6 +106,7 @@ module _ (g : Given) (t : List ℕ) (start : List Selection) (acyclic : NoCycles
         → Contains (spreads_of f.fragment.selections) m
     in_own f true c = subst (λ l. Contains (spreads_of l) m) (of_file f.file f.fragment.selections) c
     in_own f false c = absurd (Contains-nil m c)
+
     by : (o : Option FragmentFact) → Contains (spreads_of (of_all (held_by g t o))) m → Contains (spreads_of (selections_in o)) m
     by None c = absurd (Contains-nil m c)
     by (Some f) c = in_own f (is_possible g.schema t f.fragment.condition.text) c
@@ -163,6 +164,7 @@ module _ (g : Given) (t : List ℕ) (start : List Selection) (acyclic : NoCycles
     in_place zs e = by (form x.selection) where
       at : (y : Selection) → x.selection ≡ y → part_at g t x.file (out-Selection y) ≡ selections zs
       at y is = ap (λ z. part_at g t x.file (out-Selection z)) (sym is) ∙ e
+
       by : Form x.selection → Ends g t zs
       by (of_field f is) = in_field f zs (sym (ap (part_at g t x.file) (s.outs-Field f)) ∙ at (s.Field f) is)
       by (of_spread y is) = in_spread y zs is (sym (ap (part_at g t x.file) (s.outs-Spread y)) ∙ at (s.Spread y) is)

@@ -1,5 +1,5 @@
 -- What is the same as each form of a value.
-use Rattle.std.proofs.Common.{◌≡◌, ◌+◌, ◌<◌, ◌&&◌, ℕ, zero, suc, List, [], ◌∷◌, Bool, true, false, length, drop, get_or, map, is_some, bytes_eq, Option, Some, None, refl, sym, ap, ◌∙◌, arith}
+use Rattle.std.proofs.Common.{◌≡◌, ◌&&◌, ℕ, suc, List, [], ◌∷◌, Bool, true, false, length, is_some, bytes_eq, Option, Some, None, refl, sym, ap, ◌∙◌}
 use Rattle.std.specs.Bool.{beq}
 use Rattle.std.specs.Option.{option_map_or}
 use Rattle.std.specs.Prelude.{option_and_then, ℤ}
@@ -69,9 +69,9 @@ other_lengths [] (y ∷ ys) differ = refl
 other_lengths (x ∷ xs) [] differ = refl
 other_lengths (x ∷ xs) (y ∷ ys) differ =
     ap (λ b. same_data x y && b) (other_lengths xs ys (λ e. differ (ap suc e))) ∙ and_false (same_data x y) where
-  and_false : (b : Bool) → b && false ≡ false
-  and_false true = refl
-  and_false false = refl
+      and_false : (b : Bool) → b && false ≡ false
+      and_false true = refl
+      and_false false = refl
 
 -- null is the same as null alone
 pub same_as_null : (d : Data) → same_data d json.null ≡ is_some (as_null d)

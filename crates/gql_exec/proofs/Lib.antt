@@ -1,4 +1,5 @@
 pub mod Doing
+pub mod Enums
 pub mod Escapes
 pub mod Leaving
 pub mod Parts

@@ -24,14 +24,17 @@ use Rattle.gql_types.specs.declared.schema.Schema.{Schema}
 use Rattle.serde_json.specs.Data.{Data}
 use Rattle.gql_exec.specs.Execution.{Arguments, given, refused, PlannedField, Plan, plan, Fields, no_fields, field, Types}
 
+-- the possible types of a type
+abbrev pub possible_in : Schema → List ℕ → List (List ℕ)
+possible_in s n = option_map_or (λ (names : List (List ℕ)). names) (possible_named s n) []
+
+-- the names of the values of an enum
+abbrev pub values_in : Schema → List ℕ → List (List ℕ)
+values_in s n = option_map_or (map (λ (v : Sited EnumValueDefinition). v.node.name.text)) (enum_named s n) []
+
 -- what execution asks of a schema
 abbrev pub types_of : Schema → Types
-types_of s = record {
-  kind = kind_named s;
-  possible = λ n. option_map_or (λ (names : List (List ℕ)). names) (possible_named s n) [];
-  values = λ n. option_map_or
-      (map (λ (v : Sited EnumValueDefinition). v.node.name.text)) (enum_named s n) [];
-}
+types_of s = record { kind = kind_named s; possible = possible_in s; values = values_in s }
 
 -- ---- arguments
 

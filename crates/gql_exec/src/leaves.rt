@@ -6,14 +6,17 @@ ghost use Rattle.serde_json.specs.Written.{compact_text};
 ghost use Rattle.gql_exec.specs.Leaves as spec;
 ghost use Rattle.gql_exec.specs.LeafParts.{leaf_part};
 ghost use Rattle.gql_exec.specs.Parts.{plain};
+ghost use Rattle.gql_exec.specs.Plans.{values_in};
 ghost use Rattle.gql_exec.specs.States.{Executes, Follows, path_of};
 
 use crate::ended::Ended;
+use crate::kinds::is_enum_value;
 use crate::run::{Reason, Run};
 use crate::steps::{raise, write, write_any, write_text, write_whole};
 use crate::stop::Stop;
 use gql_inputs::{Scalar, scalar_named};
 use gql_text::Place;
+use gql_types::Schema;
 use serde_json::Value;
 use std::alloc::Global;
 
@@ -165,4 +168,26 @@ pub fn complete_scalar(
             Ok(Ended::Written)
         }
     }
+}
+
+/// Completes a value of an enum: a string among its values.
+pub fn complete_enum(
+    alloc: Global,
+    schema: &Schema,
+    leaf: Leaf<'_>,
+    value: &Value,
+    run: &mut Run<'_>,
+) -> Result<Ended, Stop>
+    ensures { Executes (leaf_part leaf.entry (path_of run.old)
+        (spec.as_enum (values_in schema.now leaf.entry.name.now) (view value.now)))
+        result run.old run.new }
+{
+    let Some(text) = value.as_str() else {
+        return not_of_type(alloc, leaf, run);
+    };
+    if !is_enum_value(schema, leaf.name, text) {
+        return not_of_type(alloc, leaf, run);
+    }
+    write_text(run, text)?;
+    Ok(Ended::Written)
 }

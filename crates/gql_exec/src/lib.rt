@@ -3,6 +3,7 @@
 
 mod ended;
 mod filter;
+mod kinds;
 mod leaves;
 mod outcome;
 mod run;
