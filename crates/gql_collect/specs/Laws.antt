@@ -14,4 +14,5 @@ OneCollection = (g : Given) → (t : List ℕ) → (xs : List FileSelection) →
 -- selections that lead to no fragment which leads back to itself have groups
 abbrev pub SomeCollection : Type 0
 SomeCollection = (g : Given) → (t : List ℕ) → (xs : List FileSelection)
-    → NoCycles g (map (λ (x : FileSelection). x.selection) xs) → (groups : List Group) × Collects g t xs groups
+    → NoCycles g (map (λ (x : FileSelection). x.selection) xs)
+    → (groups : List Group) × Collects g t xs groups

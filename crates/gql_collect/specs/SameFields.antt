@@ -1,4 +1,5 @@
--- Helper definitions: which field nodes are one is an equivalence, and one file and one start decide it.
+-- Helper definitions: which field nodes are one is an equivalence, and one file and one start
+-- decide it.
 use Rattle.std.specs.Prelude.{◌≡◌, ◌++◌, ◌&&◌, Bool, true, false, refl}
 use Rattle.std.proofs.Common.{ap, sym, ◌∙◌, true≢false}
 use Rattle.std.proofs.lemmas.Cmp.{nat_eq_equiv}
@@ -13,13 +14,15 @@ use Rattle.gql_collect.specs.declared.node.FieldNode.{FieldNode as Node}
 
 -- of field nodes
 pub same_field_laws : IsEquivalence is_same_field
-same_field_laws = and_equiv (on_equiv (λ (n : FieldNode). n.file) nat_list_eq_equiv) (on_equiv start_of nat_eq_equiv)
+same_field_laws = and_equiv (on_equiv (λ (n : FieldNode). n.file) nat_list_eq_equiv)
+    (on_equiv start_of nat_eq_equiv)
 
 -- of borrowed ones
 pub same_field_equiv : IsEquivalence (λ (a b : Node). is_same_field (node_of a) (node_of b))
 same_field_equiv = on_equiv node_of same_field_laws
 
-pub same_field_partial : IsPartialEquivalence (λ (a b : Node). is_same_field (node_of a) (node_of b))
+pub same_field_partial :
+    IsPartialEquivalence (λ (a b : Node). is_same_field (node_of a) (node_of b))
 same_field_partial = partial_equiv_from_equiv same_field_equiv
 
 both : (x y : Bool) → x && y ≡ true → (x ≡ true) × (y ≡ true)
@@ -29,7 +32,8 @@ both false y e = absurd (true≢false (sym e))
 
 -- equal ones are hashed alike
 pub same_field_hashes : (a b : Node) → is_same_field (node_of a) (node_of b) ≡ true
-    → fed.str a.file.now ++ fed.usize (start_of (node_of a)) ≡ fed.str b.file.now ++ fed.usize (start_of (node_of b))
+    → fed.str a.file.now ++ fed.usize (start_of (node_of a))
+    ≡ fed.str b.file.now ++ fed.usize (start_of (node_of b))
 same_field_hashes a b same =
     let e = both _ _ same in
     ap (λ file. fed.str file ++ fed.usize (start_of (node_of a)))

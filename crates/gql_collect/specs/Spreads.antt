@@ -1,4 +1,5 @@
--- The fragments that selections spread (GraphQL 2.8), anywhere in them, and those that these spread.
+-- The fragments that selections spread (GraphQL 2.8), anywhere in them, and those that these
+-- spread.
 use Rattle.std.specs.Prelude.{◌≡◌, ℕ, List, [], ◌∷◌, ◌++◌, map, flat_map, Option, Some, None, refl, Contains}
 use Rattle.std.proofs.Common.{ap, sym, ◌∙◌}
 use Rattle.gql_ast.specs.declared.executable.Field.{Field}
@@ -34,26 +35,30 @@ spreads = fold-Selection Names Names Names names_at names_of_field names_of_inli
 abbrev pub spreads_of : List Selection → Names
 spreads_of xs = flat_map spreads xs
 
-all_of : (f : Selection → Names) (xs : List Selection) → flat_map (λ names. names) (map f xs) ≡ flat_map f xs
+all_of : (f : Selection → Names) (xs : List Selection)
+    → flat_map (λ names. names) (map f xs) ≡ flat_map f xs
 all_of f [] = refl
 all_of f (x ∷ xs) = ap (λ r. f x ++ r) (all_of f xs)
 
 pub spreads_spread : (x : Spread) → spreads (s.Spread x) ≡ x.name.text ∷ []
 unfolding spreads
 spreads_spread x = ap spreads (sym (s.rolls-Spread x))
-    ∙ fold-roll-Selection Names Names Names names_at names_of_field names_of_inline (Selection-F.Spread x)
+    ∙ fold-roll-Selection Names Names Names names_at names_of_field names_of_inline
+    (Selection-F.Spread x)
 
 pub spreads_field : (f : Field) → spreads (s.Field f) ≡ spreads_of f.selections
 unfolding spreads
 spreads_field f = ap spreads (sym (s.rolls-Field f))
-    ∙ fold-roll-Selection Names Names Names names_at names_of_field names_of_inline (Selection-F.Field f)
+    ∙ fold-roll-Selection Names Names Names names_at names_of_field names_of_inline
+    (Selection-F.Field f)
     ∙ fold_out-Field Names Names Names names_at names_of_field names_of_inline f
     ∙ all_of spreads f.selections
 
 pub spreads_inline : (i : InlineFragment) → spreads (s.InlineFragment i) ≡ spreads_of i.selections
 unfolding spreads
 spreads_inline i = ap spreads (sym (s.rolls-InlineFragment i))
-    ∙ fold-roll-Selection Names Names Names names_at names_of_field names_of_inline (Selection-F.InlineFragment i)
+    ∙ fold-roll-Selection Names Names Names names_at names_of_field names_of_inline
+    (Selection-F.InlineFragment i)
     ∙ fold_out-InlineFragment Names Names Names names_at names_of_field names_of_inline i
     ∙ all_of spreads i.selections
 
@@ -72,7 +77,8 @@ own_selections g n = selections_in (fragment_named g n)
 -- again.
 pub data LeadsTo (g : Given) (xs : List Selection) : List ℕ → Type 0 where
   spread : {n : List ℕ} → Contains (spreads_of xs) n → LeadsTo g xs n
-  further : {m n : List ℕ} → LeadsTo g xs m → Contains (spreads_of (own_selections g m)) n → LeadsTo g xs n
+  further : {m n : List ℕ} → LeadsTo g xs m → Contains (spreads_of (own_selections g m)) n
+      → LeadsTo g xs n
 
 -- no fragment that the selections lead to leads back to itself (GraphQL 5.5.2.2)
 abbrev pub NoCycles : Given → List Selection → Type 0

@@ -47,11 +47,13 @@ sizes xs = total (map size xs)
 
 pub size_field : (f : Field) → size (s.Field f) ≡ 2
 unfolding size
-size_field f = ap size (sym (s.rolls-Field f)) ∙ fold-roll-Selection ℕ ℕ ℕ size_at size_of_field size_of_inline (Selection-F.Field f)
+size_field f = ap size (sym (s.rolls-Field f))
+    ∙ fold-roll-Selection ℕ ℕ ℕ size_at size_of_field size_of_inline (Selection-F.Field f)
 
 pub size_spread : (x : Spread) → size (s.Spread x) ≡ 2
 unfolding size
-size_spread x = ap size (sym (s.rolls-Spread x)) ∙ fold-roll-Selection ℕ ℕ ℕ size_at size_of_field size_of_inline (Selection-F.Spread x)
+size_spread x = ap size (sym (s.rolls-Spread x))
+    ∙ fold-roll-Selection ℕ ℕ ℕ size_at size_of_field size_of_inline (Selection-F.Spread x)
 
 pub size_inline : (i : InlineFragment) → size (s.InlineFragment i) ≡ sizes i.selections + 2
 unfolding size
@@ -80,11 +82,14 @@ sizes_in xs = total (map (λ (x : FileSelection). size x.selection) xs)
 
 -- A walk has visited the selection x: it has the fields and the names of fragments that it has now,
 -- and is to visit these next.
-pub data Visits (g : Given) (t : List ℕ) (x : FileSelection) (names : List (List ℕ)) (fields : List FieldNode)
+pub data Visits (g : Given) (t : List ℕ) (x : FileSelection)
+    (names : List (List ℕ)) (fields : List FieldNode)
     : List (List ℕ) → List FieldNode → List FileSelection → Type 0 where
   keeps : {n : FieldNode} → part g t x ≡ node n
-      → Visits g t x names fields names (if list_any (is_same_field n) fields then fields else fields ++ n ∷ []) []
-  opens : {xs : List FileSelection} → part g t x ≡ selections xs → sizes_in xs + 2 ≤ size x.selection
+      → Visits g t x names fields names
+      (if list_any (is_same_field n) fields then fields else fields ++ n ∷ []) []
+  opens : {xs : List FileSelection}
+      → part g t x ≡ selections xs → sizes_in xs + 2 ≤ size x.selection
       → Visits g t x names fields names fields xs
   enters : (name : List ℕ) → part g t x ≡ selections (held g t name) → is_in name names ≡ false
       → Visits g t x names fields (names ++ name ∷ []) fields (held g t name)

@@ -64,7 +64,8 @@ one_member name d = json.object (member name d no_members)
 -- `type Query { box: Box } type Box { n: [Item!] m: [Item!]! } type Item { id: Int }`
 abbrev box : List ℕ → Written → Plan
 box name t = on_any (field (simple (codes "box") 11 (named (codes "Box")))
-    (on_any (field (simple name 17 t) (leaf (simple (codes "id") 21 (named (codes "Int")))) no_fields))
+    (on_any (field (simple name 17 t)
+    (leaf (simple (codes "id") 21 (named (codes "Int")))) no_fields))
     no_fields)
 
 abbrev in_box : List ℕ → Data → Data
@@ -76,7 +77,8 @@ items = json.array (item (one_member (codes "id") (number 1)) (item json.null
     (item (one_member (codes "id") (number 3)) no_items)))
 
 -- `{ box { n { id } } }`: an item that is null makes its list null, which may be null
-null_list : answer types (box (codes "n") (listed (required (named (codes "Item"))))) (codes "Query")
+null_list : answer types (box (codes "n") (listed (required (named (codes "Item")))))
+    (codes "Query")
     (in_box (codes "n") items)
     ≡ record {
       value = in_box (codes "n") json.null;
@@ -98,8 +100,9 @@ null_object : answer types (box (codes "m") (required (listed (required (named (
 null_object = refl
 
 -- of two bad items of one list the first error is kept
-first_error : answer types (leaf (simple (codes "a") 3 (listed (named (codes "Int"))))) (codes "Query")
-    (one_member (codes "a") (json.array (item (json.string (codes "x")) (item (json.string (codes "y")) no_items))))
+first_error : answer types (leaf (simple (codes "a") 3 (listed (named (codes "Int")))))
+    (codes "Query") (one_member (codes "a")
+    (json.array (item (json.string (codes "x")) (item (json.string (codes "y")) no_items))))
     ≡ record {
       value = one_member (codes "a") (json.array (item json.null (item json.null no_items)));
       errors = error_at (codes "value is not of type Int") 3 (key (codes "a") ∷ index 0 ∷ []) ∷ [];
@@ -127,32 +130,42 @@ one_past_it = refl
 -- an ID of the data may be an integer
 integer_id : answer types (leaf (simple (codes "a") 3 (named (codes "ID")))) (codes "Query")
     (one_member (codes "a") (number 7))
-    ≡ record { value = one_member (codes "a") (json.string (signed_decimal (pos 7))); errors = []; weight = 1 }
+    ≡ record {
+      value = one_member (codes "a") (json.string (signed_decimal (pos 7)));
+      errors = [];
+      weight = 1;
+    }
 integer_id = refl
 
 -- ---- arguments
 
 -- arguments that are refused leave nothing to complete
 refused_arguments : answer types
-    (leaf (called (codes "twice") 20 (refused (codes "argument n: null for a Non-Null type")) (required (named (codes "Int")))))
+    (leaf (called (codes "twice") 20 (refused (codes "argument n: null for a Non-Null type"))
+    (required (named (codes "Int")))))
     (codes "Query") (one_member (codes "twice") (number 8))
     ≡ record {
       value = json.null;
-      errors = error_at (codes "argument n: null for a Non-Null type") 20 (key (codes "twice") ∷ []) ∷ [];
+      errors = error_at (codes "argument n: null for a Non-Null type") 20
+          (key (codes "twice") ∷ []) ∷ [];
       weight = 1;
     }
 refused_arguments = refl
 
 abbrev user : List ℕ → List ℕ → Data
-user i n = json.object (member (codes "id") (json.string i) (member (codes "name") (json.string n) no_members))
+user i n = json.object (member (codes "id") (json.string i)
+    (member (codes "name") (json.string n) no_members))
 
 abbrev user_2 : PlannedField
-user_2 = called (codes "user") 3 (given (one_member (codes "id") (json.string (codes "2")))) (named (codes "User"))
+user_2 = called (codes "user") 3 (given (one_member (codes "id") (json.string (codes "2"))))
+    (named (codes "User"))
 
 -- `{ user(id: 2) { name } }`: the object of the list that has this member
 filtered_object : answer types
-    (on_any (field user_2 (leaf (simple (codes "name") 17 (named (codes "String")))) no_fields)) (codes "Query")
-    (one_member (codes "user") (json.array (item (user (codes "1") (codes "Ann")) (item (user (codes "2") (codes "Bob")) no_items))))
+    (on_any (field user_2 (leaf (simple (codes "name") 17 (named (codes "String")))) no_fields))
+    (codes "Query") (one_member (codes "user")
+    (json.array (item (user (codes "1") (codes "Ann"))
+    (item (user (codes "2") (codes "Bob")) no_items))))
     ≡ record {
       value = one_member (codes "user") (one_member (codes "name") (json.string (codes "Bob")));
       errors = [];
@@ -172,14 +185,21 @@ abbrev pet : Plan
 pet = on_any (field (simple (codes "pet") 3 (named (codes "Pet"))) (plan of_pet) no_fields)
 
 a_cat : answer types pet (codes "Query") (one_member (codes "pet")
-    (json.object (member (codes "__typename") (json.string (codes "Cat")) (member (codes "age") (number 3) no_members))))
-    ≡ record { value = one_member (codes "pet") (one_member (codes "age") (number 3)); errors = []; weight = 2 }
+    (json.object (member (codes "__typename") (json.string (codes "Cat"))
+    (member (codes "age") (number 3) no_members))))
+    ≡ record {
+      value = one_member (codes "pet") (one_member (codes "age") (number 3));
+      errors = [];
+      weight = 2;
+    }
 a_cat = refl
 
-no_pet : answer types pet (codes "Query") (one_member (codes "pet") (one_member (codes "__typename") (json.string (codes "Box"))))
+no_pet : answer types pet (codes "Query")
+    (one_member (codes "pet") (one_member (codes "__typename") (json.string (codes "Box"))))
     ≡ record {
       value = one_member (codes "pet") json.null;
-      errors = error_at (codes "value names no possible type of Pet") 3 (key (codes "pet") ∷ []) ∷ [];
+      errors = error_at (codes "value names no possible type of Pet") 3
+          (key (codes "pet") ∷ []) ∷ [];
       weight = 1;
     }
 no_pet = refl

@@ -1,5 +1,5 @@
--- What the execution of an operation comes to, as the crates above see it: the text of its data, and
--- its errors.
+-- What the execution of an operation comes to, as the crates above see it: the text of its data,
+-- and its errors.
 use Rattle.std.specs.Prelude.{ℕ, List, map, string_bytes, Option, option_map}
 use Rattle.gql_text.specs.declared.place.Place.{Place}
 use Rattle.gql_exec.specs.Replies.{Segment, key, index, Path}

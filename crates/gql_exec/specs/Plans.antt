@@ -30,7 +30,8 @@ possible_in s n = option_map_or (λ (names : List (List ℕ)). names) (possible_
 
 -- the names of the values of an enum
 abbrev pub values_in : Schema → List ℕ → List (List ℕ)
-values_in s n = option_map_or (map (λ (v : Sited EnumValueDefinition). v.node.name.text)) (enum_named s n) []
+values_in s n = option_map_or (map (λ (v : Sited EnumValueDefinition). v.node.name.text))
+    (enum_named s n) []
 
 -- what execution asks of a schema
 abbrev pub types_of : Schema → Types
@@ -49,7 +50,7 @@ arguments_of (comes.refused why path) = refused (refusal_text (codes "argument "
 
 -- ---- fields
 
--- f is the field of a group, whose first node has the definition d, where its arguments come to this
+-- the field of a group, whose first node has the definition d, where its arguments come to this
 abbrev pub planned : Group → FieldNode → FieldDefinition → Outcome Data → PlannedField
 planned group n d arguments = record {
   response_name = group.key;
@@ -67,7 +68,8 @@ pub record IsPlanned (g : Given) (t : List ℕ) (group : Group) (f : PlannedFiel
   pub definition : Sited FieldDefinition
   pub defined : field_named g.schema t first.field.name.text ≡ Some definition
   pub arguments : Outcome Data
-  pub comes : ArgumentsCome g.schema definition.node.arguments first.field.arguments g.values arguments
+  pub comes :
+      ArgumentsCome g.schema definition.node.arguments first.field.arguments g.values arguments
   pub is : f ≡ planned group first definition.node arguments
 
 abbrev mutual

@@ -19,8 +19,8 @@ pub record Error : Type 0 where
   pub place : Place
   pub path : Path
 
--- an error that was raised in completing the value of the field at hand, its list items included, or
--- an error of a field that it selects
+-- an error that was raised in completing the value of the field at hand, its list items included,
+-- or an error of a field that it selects
 pub data Note : Type 0 where
   own : Error → Note
   below : Error → Note

@@ -68,7 +68,8 @@ taken t ds = if is_list t then json.array (items_of ds) else first_or_null ds
 
 -- the items that meet the arguments, where there are arguments
 abbrev pub filtered : Written → Members → Data → Data
-filtered t (member k v rest) (json.array ds) = taken t (filter (meets (member k v rest)) (list_of ds))
+filtered t (member k v rest) (json.array ds) =
+    taken t (filter (meets (member k v rest)) (list_of ds))
 filtered t arguments d = d
 
 abbrev pub members_in : Data → Members

@@ -59,7 +59,8 @@ fn is_possible_name(schema: &Schema, of_type: &str, name: &str) -> bool
 /// The possible type of an abstract type that an object names by its `__typename`.
 pub fn type_name<'v>(schema: &Schema, of_type: &str, value: &'v Value) -> Option<&'v str>
     ensures { option_map (λ n. n.now) result
-        ≡ among (plans.possible_in schema.now of_type.now) (get (codes "__typename") (view value.now)) }
+        ≡ among (plans.possible_in schema.now of_type.now)
+        (get (codes "__typename") (view value.now)) }
 {
     let Some(member) = value.get("__typename") else {
         return None;

@@ -9,8 +9,8 @@ pub enum Step<'d> {
     Index(usize),
 }
 
-/// An error of an answer (GraphQL specification, 7.1.2). The place is the start of the first node of
-/// its field; a request error has that of its variable, and no path.
+/// An error of an answer (GraphQL specification, 7.1.2). The place is the start of the first node
+/// of its field; a request error has that of its variable, and no path.
 #[derive(Drop)]
 pub struct ResponseError<'d> {
     pub message: String,

@@ -56,7 +56,8 @@ pub fn write_whole(run: &mut Run<'_>, number: i64) -> Result<(), Stop>
 
 /// Writes any value.
 pub fn write_any(run: &mut Run<'_>, value: &Value) -> Result<(), Stop>
-    ensures follows { OnOk result (Follows (plain (compact_text (view value.now))) run.old run.new) }
+    ensures follows { OnOk result
+        (Follows (plain (compact_text (view value.now))) run.old run.new) }
     ensures err { IfErr result (λ e. e ≡ Stop.Memory) }
 {
     write_value(value, &mut run.out)?;

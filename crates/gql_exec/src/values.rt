@@ -52,7 +52,8 @@ fn write_comma(later: bool, out: &mut Vec<u8>) -> Result<(), AllocError>
 /// Writes the items of an array, and its closing bracket.
 #[cycle(writes)]
 fn write_items(items: &[Value], out: &mut Vec<u8>) -> Result<(), AllocError>
-    ensures { OnOk result (out.new.items ≡ out.old.items ++ items_text false (items_view items.now)) }
+    ensures { OnOk result (out.new.items
+        ≡ out.old.items ++ items_text false (items_view items.now)) }
 {
     let mut later = false;
     for item in items {

@@ -33,14 +33,16 @@ path_member (Some p) = member (codes "path") (path p) no_members
 
 abbrev pub error : AnError → Data
 error e = json.object (member (codes "message") (json.string e.message)
-    (member (codes "locations") (json.array (item (location e.place) no_items)) (path_member e.path)))
+    (member (codes "locations") (json.array (item (location e.place) no_items))
+    (path_member e.path)))
 
 -- ---- the answer
 
 -- its errors, where there are some
 abbrev pub errors_text : List AnError → List ℕ
 errors_text [] = []
-errors_text (e ∷ es) = codes "\"errors\":" ++ compact_text (json.array (items_of (map error (e ∷ es))))
+errors_text (e ∷ es) =
+    codes "\"errors\":" ++ compact_text (json.array (items_of (map error (e ∷ es))))
 
 -- a comma, where something stands before
 abbrev pub comma_after : List AnError → List ℕ
