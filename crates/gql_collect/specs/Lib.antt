@@ -1,0 +1,14 @@
+pub mod Borrowed
+pub mod BorrowedGroups
+pub mod Collection
+pub mod Conditions
+pub mod Contexts
+pub mod Groups
+pub mod Laws
+pub mod Nodes
+pub mod Putting
+pub mod SameFields
+pub mod Spreads
+pub mod Unfolding
+pub mod Visiting
+pub mod Walks

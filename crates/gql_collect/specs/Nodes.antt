@@ -1,0 +1,23 @@
+-- Selections and fields, where they are in the documents.
+use Rattle.std.specs.Prelude.{ℕ, List, map}
+use Rattle.gql_ast.specs.declared.executable.Field.{Field}
+use Rattle.gql_ast.specs.declared.executable.Selection.{Selection}
+
+-- a selection, and the file that it is in
+pub record FileSelection : Type 0 where
+  pub file : List ℕ
+  pub selection : Selection
+
+-- a field, and the file that it is in
+pub record FieldNode : Type 0 where
+  pub file : List ℕ
+  pub field : Field
+
+-- the selections of a set in a file
+abbrev pub in_file : List ℕ → List Selection → List FileSelection
+in_file file xs = map (λ x. record { file = file; selection = x }) xs
+
+-- what is in the place of a selection: a field, or other selections, which may be none
+pub data Part : Type 0 where
+  node : FieldNode → Part
+  selections : List FileSelection → Part

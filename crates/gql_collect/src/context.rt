@@ -1,0 +1,13 @@
+use gql_facts::Fragments;
+use gql_types::Schema;
+use serde_json::Value;
+
+/// What selections are collected with.
+#[derive(Clone, Copy)]
+pub struct Context<'a> {
+    pub schema: &'a Schema,
+    /// The fragments of the documents.
+    pub fragments: &'a Fragments,
+    /// The values of the operation's variables, as an object.
+    pub values: &'a Value,
+}

@@ -1,0 +1,205 @@
+-- Worked examples of the definitions.
+use Rattle.std.specs.Fmt.{signed_decimal}
+use Rattle.std.specs.Prelude.{◌≡◌, ℕ, ◌-◌, pos, List, [], ◌∷◌, codes, refl, Option, Some, bytes_eq, if◌then◌else◌}
+use Rattle.gql_text.specs.declared.place.Place.{Place}
+use Rattle.gql_types.specs.Written.{Written, named, listed, required}
+use Rattle.gql_types.specs.declared.kind.TypeKind.{TypeKind}
+use Rattle.gql_types.specs.declared.kind.TypeKind.TheVariants as kind
+use Rattle.serde_json.specs.Data as json
+use Rattle.serde_json.specs.Data.{Data, item, no_items, member, no_members}
+use Rattle.gql_exec.specs.Execution.{Arguments, given, refused, PlannedField, Plan, plan, Fields, no_fields, field, Types, answer}
+use Rattle.gql_exec.specs.Replies.{Error, Path, key, index}
+
+-- ---- terms for the examples
+
+abbrev at : ℕ → Place
+at column = record { line = 1; column = column; offset = column - 1 }
+
+-- a field without an alias
+abbrev called : List ℕ → ℕ → Arguments → Written → PlannedField
+called name column arguments t = record {
+  response_name = name;
+  place = at column;
+  name = name;
+  arguments = arguments;
+  of_type = t;
+}
+
+-- one without arguments
+abbrev simple : List ℕ → ℕ → Written → PlannedField
+simple name column t = called name column (given (json.object no_members)) t
+
+abbrev number : ℕ → Data
+number n = json.number (json.unsigned n)
+
+abbrev kind_of : List ℕ → Option TypeKind
+kind_of n = if bytes_eq n (codes "Int") then Some kind.Scalar
+    else if bytes_eq n (codes "ID") then Some kind.Scalar
+    else if bytes_eq n (codes "String") then Some kind.Scalar
+    else if bytes_eq n (codes "Pet") then Some kind.Union
+    else Some kind.Object
+
+abbrev types : Types
+types = record {
+  kind = kind_of;
+  possible = λ n. codes "Dog" ∷ codes "Cat" ∷ [];
+  values = λ n. [];
+}
+
+-- the plan of fields on an object of any type
+abbrev on_any : Fields → Plan
+on_any fields = plan (λ t. fields)
+
+abbrev leaf : PlannedField → Plan
+leaf f = on_any (field f (on_any no_fields) no_fields)
+
+abbrev error_at : List ℕ → ℕ → Path → Error
+error_at message column path = record { message = message; place = at column; path = path }
+
+abbrev one_member : List ℕ → Data → Data
+one_member name d = json.object (member name d no_members)
+
+-- ---- nulls
+
+-- `type Query { box: Box } type Box { n: [Item!] m: [Item!]! } type Item { id: Int }`
+abbrev box : List ℕ → Written → Plan
+box name t = on_any (field (simple (codes "box") 11 (named (codes "Box")))
+    (on_any (field (simple name 17 t)
+    (leaf (simple (codes "id") 21 (named (codes "Int")))) no_fields))
+    no_fields)
+
+abbrev in_box : List ℕ → Data → Data
+in_box name d = one_member (codes "box") (one_member name d)
+
+-- three items, of which the second is null
+abbrev items : Data
+items = json.array (item (one_member (codes "id") (number 1)) (item json.null
+    (item (one_member (codes "id") (number 3)) no_items)))
+
+-- `{ box { n { id } } }`: an item that is null makes its list null, which may be null
+null_list : answer types (box (codes "n") (listed (required (named (codes "Item")))))
+    (codes "Query")
+    (in_box (codes "n") items)
+    ≡ record {
+      value = in_box (codes "n") json.null;
+      errors = error_at (codes "null for a Non-Null type") 17
+          (key (codes "box") ∷ key (codes "n") ∷ index 1 ∷ []) ∷ [];
+      weight = 7;
+    }
+null_list = refl
+
+-- `{ box { m { id } } }`: where the list may not be null, the object around it is
+null_object : answer types (box (codes "m") (required (listed (required (named (codes "Item"))))))
+    (codes "Query") (in_box (codes "m") items)
+    ≡ record {
+      value = one_member (codes "box") json.null;
+      errors = error_at (codes "null for a Non-Null type") 17
+          (key (codes "box") ∷ key (codes "m") ∷ index 1 ∷ []) ∷ [];
+      weight = 7;
+    }
+null_object = refl
+
+-- of two bad items of one list the first error is kept
+first_error : answer types (leaf (simple (codes "a") 3 (listed (named (codes "Int")))))
+    (codes "Query") (one_member (codes "a")
+    (json.array (item (json.string (codes "x")) (item (json.string (codes "y")) no_items))))
+    ≡ record {
+      value = one_member (codes "a") (json.array (item json.null (item json.null no_items)));
+      errors = error_at (codes "value is not of type Int") 3 (key (codes "a") ∷ index 0 ∷ []) ∷ [];
+      weight = 3;
+    }
+first_error = refl
+
+-- ---- leaves
+
+abbrev put : Plan
+put = leaf (simple (codes "put") 11 (named (codes "Int")))
+
+greatest_int : answer types put (codes "Query") (one_member (codes "put") (number 2147483647))
+    ≡ record { value = one_member (codes "put") (number 2147483647); errors = []; weight = 1 }
+greatest_int = refl
+
+one_past_it : answer types put (codes "Query") (one_member (codes "put") (number 2147483648))
+    ≡ record {
+      value = one_member (codes "put") json.null;
+      errors = error_at (codes "value is not of type Int") 11 (key (codes "put") ∷ []) ∷ [];
+      weight = 1;
+    }
+one_past_it = refl
+
+-- an ID of the data may be an integer
+integer_id : answer types (leaf (simple (codes "a") 3 (named (codes "ID")))) (codes "Query")
+    (one_member (codes "a") (number 7))
+    ≡ record {
+      value = one_member (codes "a") (json.string (signed_decimal (pos 7)));
+      errors = [];
+      weight = 1;
+    }
+integer_id = refl
+
+-- ---- arguments
+
+-- arguments that are refused leave nothing to complete
+refused_arguments : answer types
+    (leaf (called (codes "twice") 20 (refused (codes "argument n: null for a Non-Null type"))
+    (required (named (codes "Int")))))
+    (codes "Query") (one_member (codes "twice") (number 8))
+    ≡ record {
+      value = json.null;
+      errors = error_at (codes "argument n: null for a Non-Null type") 20
+          (key (codes "twice") ∷ []) ∷ [];
+      weight = 1;
+    }
+refused_arguments = refl
+
+abbrev user : List ℕ → List ℕ → Data
+user i n = json.object (member (codes "id") (json.string i)
+    (member (codes "name") (json.string n) no_members))
+
+abbrev user_2 : PlannedField
+user_2 = called (codes "user") 3 (given (one_member (codes "id") (json.string (codes "2"))))
+    (named (codes "User"))
+
+-- `{ user(id: 2) { name } }`: the object of the list that has this member
+filtered_object : answer types
+    (on_any (field user_2 (leaf (simple (codes "name") 17 (named (codes "String")))) no_fields))
+    (codes "Query") (one_member (codes "user")
+    (json.array (item (user (codes "1") (codes "Ann"))
+    (item (user (codes "2") (codes "Bob")) no_items))))
+    ≡ record {
+      value = one_member (codes "user") (one_member (codes "name") (json.string (codes "Bob")));
+      errors = [];
+      weight = 2;
+    }
+filtered_object = refl
+
+-- ---- types of objects
+
+-- `{ pet { ... on Dog { name } ... on Cat { age } } }`
+abbrev of_pet : List ℕ → Fields
+of_pet t = if bytes_eq t (codes "Dog")
+    then field (simple (codes "name") 22 (named (codes "String"))) (on_any no_fields) no_fields
+    else field (simple (codes "age") 43 (named (codes "Int"))) (on_any no_fields) no_fields
+
+abbrev pet : Plan
+pet = on_any (field (simple (codes "pet") 3 (named (codes "Pet"))) (plan of_pet) no_fields)
+
+a_cat : answer types pet (codes "Query") (one_member (codes "pet")
+    (json.object (member (codes "__typename") (json.string (codes "Cat"))
+    (member (codes "age") (number 3) no_members))))
+    ≡ record {
+      value = one_member (codes "pet") (one_member (codes "age") (number 3));
+      errors = [];
+      weight = 2;
+    }
+a_cat = refl
+
+no_pet : answer types pet (codes "Query")
+    (one_member (codes "pet") (one_member (codes "__typename") (json.string (codes "Box"))))
+    ≡ record {
+      value = one_member (codes "pet") json.null;
+      errors = error_at (codes "value names no possible type of Pet") 3
+          (key (codes "pet") ∷ []) ∷ [];
+      weight = 1;
+    }
+no_pet = refl

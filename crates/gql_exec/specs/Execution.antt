@@ -1,0 +1,172 @@
+-- The execution of a plan on the data (GraphQL 6.3, 6.4.3 and 6.4.4). A plan is what the documents
+-- ask of an object, for each type that it may have.
+use Rattle.std.specs.Prelude.{ℕ, ◌+◌, List, [], ◌∷◌, ◌++◌, Bool, true, false, bytes_eq, codes, Option, Some, None, if◌then◌else◌}
+use Rattle.std.specs.List.{list_any}
+use Rattle.gql_inputs.specs.InputTypes.{is_non_null}
+use Rattle.gql_text.specs.declared.place.Place.{Place}
+use Rattle.gql_types.specs.Written.{Written, named, listed, required}
+use Rattle.gql_types.specs.declared.kind.TypeKind.{TypeKind}
+use Rattle.gql_types.specs.declared.kind.TypeKind.TheVariants as kind
+use Rattle.serde_json.specs.Data as json
+use Rattle.serde_json.specs.Data.{Data, Members, no_members, member}
+use Rattle.serde_json.specs.Find.{get}
+use Rattle.serde_json.specs.View.{items_of}
+use Rattle.gql_exec.specs.Leaves.{as_enum, scalar_value}
+use Rattle.gql_exec.specs.Replies.{Path, key, index, Error, Reply, returns, raise, all, mapped, counted, caught, settled, kept, or_null}
+use Rattle.gql_exec.specs.Resolution.{list_of, resolved}
+
+-- ---- plans
+
+-- what a field is called with: an object, or the message of the refusal of its arguments
+pub data Arguments : Type 0 where
+  given : Data → Arguments
+  refused : List ℕ → Arguments
+
+-- a field of an answer: its response name, where its first node starts, its name, its arguments and
+-- its type
+pub record PlannedField : Type 0 where
+  pub response_name : List ℕ
+  pub place : Place
+  pub name : List ℕ
+  pub arguments : Arguments
+  pub of_type : Written
+
+mutual
+  -- for each type of an object, the fields of the answer
+  pub data Plan : Type 0 where
+    plan : (List ℕ → Fields) → Plan
+
+  -- each with the plan of what it selects
+  pub data Fields : Type 0 where
+    no_fields : Fields
+    field : PlannedField → Plan → Fields → Fields
+
+-- ---- types
+
+-- what execution asks of a schema: the kind of a type, the possible types of a composite one, and
+-- the values of an enum
+pub record Types : Type 0 where
+  pub kind : List ℕ → Option TypeKind
+  pub possible : List ℕ → List (List ℕ)
+  pub values : List ℕ → List (List ℕ)
+
+-- ---- values (CompleteValue)
+
+-- what a field selects, executed on an object of this type, at this path
+abbrev pub Below : Type 0
+Below = List ℕ → Path → Data → Reply Data
+
+-- where a value is completed
+pub record Site : Type 0 where
+  pub types : Types
+  pub place : Place
+  pub below : Below
+
+abbrev pub is_null : Data → Bool
+is_null json.null = true
+is_null _ = false
+
+-- an error at this path
+abbrev pub fault : Site → Path → List ℕ → Reply Data
+fault s p message = raise (record { message = message; place = s.place; path = p })
+
+abbrev pub not_of_type : Site → List ℕ → Path → Reply Data
+not_of_type s name p = fault s p (codes "value is not of type " ++ name)
+
+abbrev pub leaf : Site → List ℕ → Path → Option Data → Reply Data
+leaf s name p (Some d) = returns d
+leaf s name p None = not_of_type s name p
+
+-- an object
+abbrev pub on_object : Site → List ℕ → Path → Data → Reply Data
+on_object s name p (json.object ms) = s.below name p (json.object ms)
+on_object s name p d = fault s p (codes "value is not an object")
+
+-- the type that an object names, if it is among these
+abbrev pub among : List (List ℕ) → Option Data → Option (List ℕ)
+among names (Some (json.string n)) = if list_any (bytes_eq n) names then Some n else None
+among names _ = None
+
+-- an object of a type that an abstract type stands for (ResolveAbstractType), by its `__typename`
+abbrev pub on_abstract : Site → List ℕ → Path → Data → Option (List ℕ) → Reply Data
+on_abstract s name p d (Some n) = s.below n p d
+on_abstract s name p d None = fault s p (codes "value names no possible type of " ++ name)
+
+abbrev pub of_kind : Site → List ℕ → Path → Data → Option TypeKind → Reply Data
+of_kind s name p d (Some kind.Scalar) = leaf s name p (scalar_value name d)
+of_kind s name p d (Some kind.Enum) = leaf s name p (as_enum (s.types.values name) d)
+of_kind s name p d (Some kind.Object) = on_object s name p d
+of_kind s name p d (Some kind.Interface) =
+    on_abstract s name p d (among (s.types.possible name) (get (codes "__typename") d))
+of_kind s name p d (Some kind.Union) =
+    on_abstract s name p d (among (s.types.possible name) (get (codes "__typename") d))
+of_kind s name p d _ = not_of_type s name p
+
+-- at a Non-Null place a null bubbles
+abbrev pub placed : Written → Reply Data → Reply Data
+placed t r = if is_non_null t then r else caught r
+
+-- the items of a list, from this index on
+abbrev pub items_from : (Path → Data → Reply Data) → ℕ → Path → List Data → List (Reply Data)
+items_from each i p [] = []
+items_from each i p (d ∷ ds) = counted (each (p ++ index i ∷ []) d) ∷ items_from each (i + 1) p ds
+
+abbrev pub on_list : Site → (Path → Data → Reply Data) → Path → Data → Reply Data
+on_list s each p (json.array ds) =
+    mapped (λ xs. json.array (items_of xs)) (all (items_from each 0 p (list_of ds)))
+on_list s each p d = fault s p (codes "value is not a list")
+
+-- a value at a type
+abbrev pub complete : Site → Written → Path → Data → Reply Data
+complete s (named n) p d =
+    if is_null d then returns json.null else of_kind s n p d (s.types.kind n)
+complete s (listed t) p d = if is_null d then returns json.null
+    else on_list s (λ q x. placed t (complete s t q x)) p d
+complete s (required t) p d =
+    if is_null d then fault s p (codes "null for a Non-Null type") else complete s t p d
+
+-- ---- fields (ExecuteField)
+
+-- the value of a field in an object, at this path
+abbrev pub value_of : Site → PlannedField → Arguments → Path → Data → Reply Data
+value_of s f (given arguments) p d = complete s f.of_type p (resolved f.name f.of_type arguments d)
+value_of s f (refused message) p d = fault s p message
+
+-- a field under its response name
+abbrev pub executed : Types → PlannedField → Below → Path → Data → Reply (List ℕ × Data)
+executed types f below p d =
+    let s : Site = record { types = types; place = f.place; below = below } in
+    mapped (λ v. (f.response_name, v)) (counted (settled
+    (placed f.of_type (value_of s f f.arguments (p ++ key f.response_name ∷ []) d))))
+
+-- the members of an object, in this order
+abbrev pub members_of : List (List ℕ × Data) → Members
+members_of [] = no_members
+members_of (m ∷ ms) = member m.0 m.1 (members_of ms)
+
+abbrev mutual
+  -- what is asked of an object of this type (ExecuteSelectionSet)
+  pub execute : Types → Plan → Below
+  execute types (plan fields) t p d =
+      mapped (λ ms. json.object (members_of ms)) (all (each types (fields t) p d))
+
+  pub each : Types → Fields → Path → Data → List (Reply (List ℕ × Data))
+  each types no_fields p d = []
+  each types (field f below rest) p d =
+      executed types f (execute types below) p d ∷ each types rest p d
+
+-- ---- answers (ExecuteQuery, ExecuteMutation)
+
+-- the data of an answer, its errors in their order, and how many values were completed
+pub record Answer : Type 0 where
+  pub value : Data
+  pub errors : List Error
+  pub weight : ℕ
+
+-- a null that comes up to the data stays there
+abbrev pub answered : Reply Data → Answer
+answered r = record { value = or_null r.value; errors = kept false r.notes; weight = r.weight }
+
+-- a plan for an object of the root type, executed on the initial value
+abbrev pub answer : Types → Plan → List ℕ → Data → Answer
+answer types x root initial = answered (execute types x root [] initial)

@@ -1,0 +1,13 @@
+pub mod Ended
+pub mod Examples
+pub mod Execution
+pub mod LeafParts
+pub mod Leaves
+pub mod Outcomes
+pub mod Parts
+pub mod Plans
+pub mod Replies
+pub mod Requests
+pub mod Resolution
+pub mod States
+pub mod Texts

@@ -1,0 +1,40 @@
+-- What the execution of an operation comes to, as the crates above see it: the text of its data,
+-- and its errors.
+use Rattle.std.specs.Prelude.{ℕ, List, map, string_bytes, Option, option_map}
+use Rattle.gql_text.specs.declared.place.Place.{Place}
+use Rattle.gql_exec.specs.Replies.{Segment, key, index, Path}
+use Rattle.gql_exec.specs.declared.outcome.Outcome.{Outcome}
+use Rattle.gql_exec.specs.declared.outcome.ResponseError.{ResponseError}
+use Rattle.gql_exec.specs.declared.outcome.Step.{Step}
+use Rattle.gql_exec.specs.declared.outcome.Step.TheVariants as step
+
+-- an error; a request error has no path
+pub record AnError : Type 0 where
+  pub message : List ℕ
+  pub place : Place
+  pub path : Option Path
+
+-- the text of the data, which a request error has none of, and the errors in their order
+pub record AnOutcome : Type 0 where
+  pub text : Option (List ℕ)
+  pub errors : List AnError
+
+abbrev pub segment_of : Step → Segment
+segment_of (step.Key k) = key k.now
+segment_of (step.Index i) = index i
+
+abbrev pub path_of : List Step → Path
+path_of steps = map segment_of steps
+
+abbrev pub error_of : ResponseError → AnError
+error_of e = record {
+  message = string_bytes e.message;
+  place = e.place;
+  path = option_map (λ p. path_of p.items) e.path;
+}
+
+abbrev pub outcome_of : Outcome → AnOutcome
+outcome_of o = record {
+  text = option_map (λ t. t.items) o.«data»;
+  errors = map error_of o.errors.items;
+}

@@ -1,0 +1,98 @@
+-- What a request of an operation comes to (GraphQL 6.1, 6.2 and 7.1).
+use Rattle.std.specs.Prelude.{◌≡◌, ℕ, List, [], ◌∷◌, codes, map, find, bytes_eq, Option, Some, None, unwrap_or}
+use Rattle.gql_ast.specs.declared.executable.Operation.{Operation}
+use Rattle.gql_ast.specs.declared.executable.OperationKind.{OperationKind}
+use Rattle.gql_ast.specs.declared.executable.OperationKind.TheVariants as operation
+use Rattle.gql_ast.specs.declared.executable.VariableDefinition.{VariableDefinition}
+use Rattle.gql_coerce.specs.Comes as comes
+use Rattle.gql_coerce.specs.Requests.{VariablesCome}
+use Rattle.gql_coerce.specs.declared.refusal.Reason.{Reason}
+use Rattle.gql_coerce.specs.declared.refusal.Segment.{Segment}
+use Rattle.gql_coerce.specs.declared.refusal.Segment.TheVariants as segment
+use Rattle.gql_collect.specs.Nodes.{in_file}
+use Rattle.gql_facts.specs.declared.fact.FragmentFact.{FragmentFact}
+use Rattle.gql_types.specs.Schemas.{root_of}
+use Rattle.gql_types.specs.declared.roots.Root.{Root}
+use Rattle.gql_types.specs.declared.schema.Schema.{Schema}
+use Rattle.serde_json.specs.Data as json
+use Rattle.serde_json.specs.Data.{Data}
+use Rattle.serde_json.specs.Find.{get}
+use Rattle.serde_json.specs.Written.{compact_text}
+use Rattle.gql_exec.specs.Execution.{Answer, Plan, answer}
+use Rattle.gql_exec.specs.Outcomes.{AnError, AnOutcome}
+use Rattle.gql_exec.specs.Plans.{IsPlan, refusal_text, types_of}
+use Rattle.gql_exec.specs.Replies.{Error}
+
+-- what is executed: an operation of a file, with the schema and the fragments of the documents, the
+-- values that the request gives its variables, and the data
+pub record Request : Type 0 where
+  pub schema : Schema
+  pub fragments : List FragmentFact
+  pub file : List ℕ
+  pub operation : Operation
+  pub variables : Data
+  pub stored : Data
+
+-- what it comes to, and how many values were completed
+pub record Response : Type 0 where
+  pub outcome : AnOutcome
+  pub weight : ℕ
+
+-- ---- errors
+
+abbrev pub error_of : Error → AnError
+error_of e = record { message = e.message; place = e.place; path = Some e.path }
+
+-- the definition of the variable that a path begins with
+abbrev pub variable_at : List VariableDefinition → List Segment → Option VariableDefinition
+variable_at definitions (segment.Key name ∷ path) =
+    find (λ (v : VariableDefinition). bytes_eq name v.name.text) definitions
+variable_at definitions path = None
+
+-- a variable that is refused is a request error: there is no data, and nothing is executed
+abbrev pub request_error : VariableDefinition → Reason → List Segment → Response
+request_error v why path = record {
+  outcome = record {
+    text = None;
+    errors = record {
+      message = refusal_text (codes "variable $") why path;
+      place = v.place;
+      path = None;
+    } ∷ [];
+  };
+  weight = 0;
+}
+
+-- ---- data
+
+-- the member of the data that an operation begins with
+abbrev pub root_member : OperationKind → List ℕ
+root_member operation.Query = codes "query"
+root_member operation.Mutation = codes "mutation"
+root_member operation.Subscription = codes "subscription"
+
+abbrev pub initial_value : OperationKind → Data → Data
+initial_value kind stored = unwrap_or (get (root_member kind) stored) (json.object json.no_members)
+
+-- an answer, with its text
+abbrev pub response_of : Answer → Response
+response_of a = record {
+  outcome = record { text = Some (compact_text a.value); errors = map error_of a.errors };
+  weight = a.weight;
+}
+
+-- ---- requests
+
+-- The variables are coerced first (CoerceVariableValues). The first that is refused is a request
+-- error. Else the selections are executed on the initial value, for the root type.
+pub data Executes (r : Request) : Response → Type 0 where
+  refused : {why : Reason} {path : List Segment} {v : VariableDefinition}
+      → VariablesCome r.schema r.operation.variables r.variables (comes.refused why path)
+      → variable_at r.operation.variables path ≡ Some v → Executes r (request_error v why path)
+  executed : {values : Data} {root : Root} (x : Plan)
+      → VariablesCome r.schema r.operation.variables r.variables (comes.value values)
+      → root_of r.schema r.operation.kind ≡ Some root
+      → IsPlan (record { schema = r.schema; fragments = r.fragments; values = values })
+      root.name.node.text (in_file r.file r.operation.selections) x
+      → Executes r (response_of (answer (types_of r.schema) x root.name.node.text
+      (initial_value r.operation.kind r.stored)))

@@ -1,0 +1,81 @@
+-- The value that a field has in an object of the data (GraphQL 6.4.2, ResolveFieldValue): this
+-- registry's own rule.
+use Rattle.std.specs.Prelude.{ℕ, ℤ, ◌&&◌, List, [], ◌∷◌, Bool, true, false, bytes_eq, filter, Option, Some, unwrap_or, if◌then◌else◌}
+use Rattle.std.specs.Bool.{beq}
+use Rattle.std.specs.Ordering.{int_eq}
+use Rattle.gql_inputs.specs.InputTypes.{is_list}
+use Rattle.gql_types.specs.Written.{Written}
+use Rattle.serde_json.specs.Data as json
+use Rattle.serde_json.specs.Data.{Data, Num, Items, no_items, item, Members, no_members, member}
+use Rattle.serde_json.specs.Find.{get, as_i64}
+use Rattle.serde_json.specs.View.{items_of}
+
+-- ---- values that are the same
+
+abbrev pub same_integer : Option ℤ → Option ℤ → Bool
+same_integer (Some a) (Some b) = int_eq a b
+same_integer _ _ = false
+
+-- the same values; objects by their members, which are in the order of their keys
+abbrev mutual
+  pub same_data : Data → Data → Bool
+  same_data json.null json.null = true
+  same_data (json.boolean a) (json.boolean b) = beq a b
+  same_data (json.number a) (json.number b) = same_integer (as_i64 a) (as_i64 b)
+  same_data (json.string a) (json.string b) = bytes_eq a b
+  same_data (json.array a) (json.array b) = same_items a b
+  same_data (json.object a) (json.object b) = same_members a b
+  same_data _ _ = false
+
+  pub same_items : Items → Items → Bool
+  same_items no_items no_items = true
+  same_items (item a as') (item b bs) = same_data a b && same_items as' bs
+  same_items _ _ = false
+
+  pub same_members : Members → Members → Bool
+  same_members no_members no_members = true
+  same_members (member k a as') (member l b bs) =
+      bytes_eq k l && (same_data a b && same_members as' bs)
+  same_members _ _ = false
+
+-- ---- filters
+
+-- a member of an object, or null
+abbrev pub member_or_null : List ℕ → Data → Data
+member_or_null name d = unwrap_or (get name d) json.null
+
+-- an item has each of these members, where null also equals absence
+abbrev pub has_members : Members → Data → Bool
+has_members no_members d = true
+has_members (member k v rest) d = same_data v (member_or_null k d) && has_members rest d
+
+-- an item of a list is an object that has each argument as a member
+abbrev pub meets : Members → Data → Bool
+meets arguments (json.object ms) = has_members arguments (json.object ms)
+meets arguments _ = false
+
+abbrev pub list_of : Items → List Data
+list_of no_items = []
+list_of (item d ds) = d ∷ list_of ds
+
+abbrev pub first_or_null : List Data → Data
+first_or_null [] = json.null
+first_or_null (d ∷ ds) = d
+
+-- what a field of this type takes of the items: a list all of them, another type the first
+abbrev pub taken : Written → List Data → Data
+taken t ds = if is_list t then json.array (items_of ds) else first_or_null ds
+
+-- the items that meet the arguments, where there are arguments
+abbrev pub filtered : Written → Members → Data → Data
+filtered t (member k v rest) (json.array ds) =
+    taken t (filter (meets (member k v rest)) (list_of ds))
+filtered t arguments d = d
+
+abbrev pub members_in : Data → Members
+members_in (json.object ms) = ms
+members_in _ = no_members
+
+-- the value of the field of this name and type, called with these arguments, in an object
+abbrev pub resolved : List ℕ → Written → Data → Data → Data
+resolved name t arguments d = filtered t (members_in arguments) (member_or_null name d)

@@ -1,0 +1,64 @@
+//! The items of a list that a field takes by its arguments.
+ghost use Rattle.std.specs.Prelude.{◌≡◌, map, filter, IfOk};
+ghost use Rattle.serde_json.specs.View.{members_view, view};
+ghost use Rattle.gql_exec.specs.Resolution as spec;
+
+use crate::same::is_same;
+use serde_json::{Map, Value};
+use std::alloc::{AllocError, Global};
+
+/// Whether an argument equals a member, where null also equals absence.
+#[tactic(auto, using(crate::proofs::Alike::same_as_null))]
+fn equals_member(argument: &Value, object: &Value, name: &str) -> bool
+    ensures { result ≡ spec.same_data (view argument.now)
+        (spec.member_or_null name.now (view object.now)) }
+{
+    match object.get(name) {
+        Some(member) => is_same(argument, member),
+        None => argument.is_null(),
+    }
+}
+
+/// Whether an object has each argument as a member.
+fn has_members(arguments: &Map<String, Value>, object: &Value) -> bool
+    ensures { result ≡ spec.has_members (members_view arguments.now.entries) (view object.now) }
+{
+    for (name, argument) in arguments.iter() {
+        if !equals_member(argument, object, name.as_str()) {
+            return false;
+        }
+    }
+    true
+}
+
+/// Whether an item is an object that has each argument as a member.
+fn meets(arguments: &Map<String, Value>, item: &Value) -> bool
+    ensures { result ≡ spec.meets (members_view arguments.now.entries) (view item.now) }
+{
+    match item {
+        Value::Object(_) => has_members(arguments, item),
+        Value::Null => false,
+        Value::Bool(_) => false,
+        Value::Number(_) => false,
+        Value::String(_) => false,
+        Value::Array(_) => false,
+    }
+}
+
+/// The items that meet the arguments.
+pub fn kept<'v>(
+    alloc: Global,
+    arguments: &Map<String, Value>,
+    items: &'v [Value],
+) -> Result<Vec<&'v Value>, AllocError>
+    ensures { IfOk result (λ found. map (λ v. view v.now) found.items
+        ≡ filter (spec.meets (members_view arguments.now.entries)) (map view items.now)) }
+{
+    let mut found = Vec::new(alloc);
+    for item in items {
+        if meets(arguments, item) {
+            found.push(item)?;
+        }
+    }
+    Ok(found)
+}

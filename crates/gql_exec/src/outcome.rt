@@ -1,0 +1,27 @@
+//! What the execution of an operation comes to.
+
+use gql_text::Place;
+
+/// A step of the path to a value of an answer: a response name, or the index of an item.
+#[derive(Clone, Copy)]
+pub enum Step<'d> {
+    Key(&'d str),
+    Index(usize),
+}
+
+/// An error of an answer (GraphQL specification, 7.1.2). The place is the start of the first node
+/// of its field; a request error has that of its variable, and no path.
+#[derive(Drop)]
+pub struct ResponseError<'d> {
+    pub message: String,
+    pub place: Place,
+    pub path: Option<Vec<Step<'d>>>,
+}
+
+/// What the execution of an operation comes to: the text of its data, which a request error has
+/// none of, and the errors in their order.
+#[derive(Drop)]
+pub struct Outcome<'d> {
+    pub data: Option<Vec<u8>>,
+    pub errors: Vec<ResponseError<'d>>,
+}

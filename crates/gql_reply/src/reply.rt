@@ -1,0 +1,54 @@
+//! The text of an answer.
+ghost use Rattle.std.specs.Prelude.{◌≡◌, ◌++◌, map, option_map, IfOk, OnOk};
+ghost use Rattle.gql_exec.specs.Outcomes.{error_of, outcome_of};
+ghost use Rattle.gql_reply.specs.ReplyText as spec;
+
+use crate::errors::write_errors;
+use gql_exec::{Outcome, ResponseError};
+use std::alloc::{AllocError, Global};
+
+/// Writes the errors of an answer, if there are some.
+fn add_errors(errors: &[ResponseError<'_>], out: &mut Vec<u8>) -> Result<(), AllocError>
+    ensures { OnOk result (out.new.items
+        ≡ out.old.items ++ spec.errors_text (map error_of errors.now)) }
+{
+    if errors.is_empty() {
+        return Ok(());
+    }
+    out.extend_from_slice(b"\"errors\":[")?;
+    write_errors(errors, out)?;
+    Ok(())
+}
+
+/// Writes the data of an answer, if there are some.
+fn add_data(
+    errors: &[ResponseError<'_>],
+    text: &Option<Vec<u8>>,
+    out: &mut Vec<u8>,
+) -> Result<(), AllocError>
+    ensures { OnOk result (out.new.items ≡ out.old.items
+        ++ spec.data_text (map error_of errors.now) (option_map (λ t. t.items) text.now)) }
+{
+    let Some(text) = text else {
+        return Ok(());
+    };
+    if !errors.is_empty() {
+        out.push(b',')?;
+    }
+    out.extend_from_slice(b"\"data\":")?;
+    out.extend_from_slice(text.as_slice())?;
+    Ok(())
+}
+
+/// The text of an answer (GraphQL specification, 7.1), without blanks: its errors, if there are
+/// some, and its data, which a request error has none of.
+pub fn reply_text(alloc: Global, outcome: &Outcome<'_>) -> Result<Vec<u8>, AllocError>
+    ensures { IfOk result (λ text. text.items ≡ spec.reply_text (outcome_of outcome.now)) }
+{
+    let mut out = Vec::new(alloc);
+    out.push(b'{')?;
+    add_errors(outcome.errors.as_slice(), &mut out)?;
+    add_data(outcome.errors.as_slice(), &outcome.data, &mut out)?;
+    out.push(b'}')?;
+    Ok(out)
+}
