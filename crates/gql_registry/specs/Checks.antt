@@ -17,7 +17,7 @@ IsExpected s (Some expected) = expected ≡ s.revision
 
 -- the first two checks are passed
 pub record IsInTime (s : State) (expected : Option ℕ) : Type 0 where
-  pub expected : IsExpected s expected
+  pub present : IsExpected s expected
   pub left : s.revision < last_revision
 
 -- the definitions of a document file have its name, and their offsets rise

@@ -1,5 +1,5 @@
 //! Files, with a verdict on each definition of the document files.
-ghost use Rattle.std.specs.Prelude.{◌≡◌, ◌×◌, List, IfOk, OnOk, OnErr, length};
+ghost use Rattle.std.specs.Prelude.{◌≡◌, List, IfOk, OnOk, OnErr, length};
 ghost use Rattle.gql_ast.specs.declared.fault.Fault.{Fault};
 ghost use Rattle.gql_registry.specs.Keeping.{AreFactsOf, AreSchemaFaults, IsPlanFor, IsShelfOf};
 ghost use Rattle.gql_registry.specs.Keeping.{IsWorkOn, nothing_kept};
@@ -28,7 +28,7 @@ impl Model for Kept {
     ghost use Rattle.std.specs.Coded.{codes};
     ghost use Rattle.gql_ast.specs.contracts.definition.Definition as definition;
     ghost use Rattle.gql_ast.specs.contracts.fault.Fault as fault;
-    ghost use Rattle.gql_ast.specs.contracts.files.Files as files;
+    ghost use Rattle.gql_ast.specs.contracts.files.Files as present;
     ghost use Rattle.gql_facts.specs.contracts.key.Key as key;
     ghost use Rattle.gql_facts.specs.contracts.fact.Fact as fact;
     ghost use Rattle.gql_registry.specs.Keeping.{Keeping, IsKept};
@@ -37,7 +37,7 @@ impl Model for Kept {
 
     ghost coded = { Prim.hlevel (
       codes,
-      files.the_row.coded,
+      present.the_row.coded,
       definition.the_row.coded,
       fault.the_row.coded,
       key.the_row.coded,
@@ -51,12 +51,13 @@ impl Model for Kept {
 
 /// What an edit changes beside the files: the verdicts, and the report.
 #[derive(Drop)]
-struct Plan {
+struct Planned {
     verdicts: Prepared,
     report: Vec<Fault>,
 }
 
 /// Prepares the verdicts for files that are to be present.
+#[tactic(none)]
 fn prepared_verdicts(
     alloc: Global,
     shelf: &Shelf,
@@ -78,6 +79,7 @@ fn prepared_verdicts(
 }
 
 /// The report of files that are to be present.
+#[tactic(none)]
 fn prepared_report(
     alloc: Global,
     shelf: &Shelf,
@@ -97,26 +99,33 @@ fn prepared_report(
 }
 
 /// All that an edit changes beside the files, where these are to be present.
-fn plan(
+#[tactic(none)]
+fn planned_change(
     alloc: Global,
     shelf: &Shelf,
     files: &Files,
     touched: &Touched,
     meter: &mut Meter,
-) -> Result<Plan, AllocError>
+) -> Result<Planned, AllocError>
     requires placed { AreFilesPlaced files.now.documents }
     requires known { IsKnown (fact_of files.now) shelf.now touched.now }
-    ensures planned { IfOk result (λ plan. IsPlanFor files.now shelf.now plan.verdicts) }
-    ensures report { IfOk result (λ plan. IsReport files.now plan.report.items) }
+    ensures planned { IfOk result (λ planned. IsPlanFor files.now shelf.now planned.verdicts) }
+    ensures report { IfOk result (λ planned. IsReport files.now planned.report.items) }
     ensures work { IsWorkOn files.now shelf.now meter.old meter.new }
 {
     let schema = schema_side(alloc, files)?;
     let fragments = Fragments::new(alloc, &files.documents)?;
     let verdicts = prepared_verdicts(
-        alloc, shelf, &schema.facts, &fragments, files, touched, meter,
+        alloc,
+        shelf,
+        &schema.facts,
+        &fragments,
+        files,
+        touched,
+        meter,
     )?;
     let report = prepared_report(alloc, shelf, &verdicts, schema.faults.as_slice(), files)?;
-    Ok(Plan { verdicts, report })
+    Ok(Planned { verdicts, report })
 }
 
 impl Kept {
@@ -147,6 +156,7 @@ impl Kept {
     }
 
     /// The report of the files.
+    #[tactic(none)]
     pub fn report(&self, alloc: Global) -> Result<Vec<Fault>, AllocError>
         ensures { IfOk result (λ report. IsReport self.now.files report.items) }
     {
@@ -160,6 +170,7 @@ impl Kept {
 
     /// Takes these files in the place of those that are present, and returns how many faults the
     /// report then has. If an allocation fails, nothing is changed.
+    #[tactic(none)]
     pub fn change(
         &mut self,
         alloc: Global,
@@ -175,9 +186,9 @@ impl Kept {
         ensures err { OnErr result (self.new ≡ self.old) }
         ensures work { IsWorkOn files self.old.shelf meter.old meter.new }
     {
-        let plan = plan(alloc, &self.shelf, &files, touched, meter)?;
-        self.shelf.commit(plan.verdicts);
+        let planned = planned_change(alloc, &self.shelf, &files, touched, meter)?;
+        self.shelf.commit(planned.verdicts);
         self.files = files;
-        Ok(plan.report.len() as u64)
+        Ok(planned.report.len() as u64)
     }
 }

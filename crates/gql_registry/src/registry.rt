@@ -5,7 +5,9 @@ ghost use Rattle.gql_registry.specs.Checks.{IsRead, IsUnread};
 
 use crate::kept::Kept;
 use crate::refusal::Refusal;
-use crate::sides::{files_on, parse_on, touched_by_put, touched_by_removal, with_put, with_removed};
+use crate::sides::{
+    files_on, parse_on, touched_by_put, touched_by_removal, with_put, with_removed,
+};
 use gql_ast::{Document, Fault, FileMap, FileName, FileSide, Files, Shared};
 use gql_parse_sdl::{one_answer, one_document_answer};
 use gql_verdict::{Meter, Shelf, Touched};
@@ -42,6 +44,7 @@ fn has_room(files: &FileMap<Shared<Document>>, name: &FileName) -> bool
 }
 
 /// Reads bytes as a file of a side. Refused by 203, 202 and 201, in this order.
+#[tactic(none)]
 fn read_file(
     alloc: Global,
     side: FileSide,
@@ -133,6 +136,7 @@ impl Registry {
     }
 
     /// Takes these files, at this revision.
+    #[tactic(none)]
     fn accept(
         &mut self,
         files: Files,
@@ -155,6 +159,7 @@ impl Registry {
     }
 
     /// Puts bytes as the file of a name on a side.
+    #[tactic(none)]
     fn put(
         &mut self,
         side: FileSide,
@@ -184,6 +189,7 @@ impl Registry {
     }
 
     /// Removes the file of a name from a side.
+    #[tactic(none)]
     fn remove(
         &mut self,
         side: FileSide,

@@ -21,6 +21,7 @@ pub struct SchemaSide {
 }
 
 /// Puts the schema of the schema files together.
+#[tactic(none)]
 pub fn schema_side(alloc: Global, files: &Files) -> Result<SchemaSide, AllocError>
     ensures facts { IfOk result (λ side. AreFactsOf files.now side.facts) }
     ensures faults { IfOk result (λ side. AreSchemaFaults files.now side.faults.items) }
@@ -43,6 +44,7 @@ fn copies(alloc: Global, faults: &[Fault]) -> Result<Vec<Fault>, AllocError>
 }
 
 /// The report where the schema has faults, which are these.
+#[tactic(none)]
 pub fn schema_report(alloc: Global, faults: &[Fault]) -> Result<Vec<Fault>, AllocError>
     requires { faults.now ≢ [] }
     ensures { IfOk result (λ report. (files : TheFiles) → AreSchemaFaults files faults.now
@@ -53,6 +55,7 @@ pub fn schema_report(alloc: Global, faults: &[Fault]) -> Result<Vec<Fault>, Allo
 }
 
 /// The report where the schema has no faults, and the definitions of the document files have these.
+#[tactic(none)]
 pub fn documents_report(
     alloc: Global,
     files: &Files,
