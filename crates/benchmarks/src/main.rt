@@ -12,6 +12,7 @@ mod lexer;
 mod rules;
 mod schemas;
 mod speed;
+mod stored;
 mod values;
 
 fn is_wanted(rt: &HostRuntime) -> Result<bool> {
@@ -32,6 +33,7 @@ fn main(rt: HostRuntime) -> Result<()> {
         facts::measure(&rt)?;
         rules::measure(&rt)?;
         edits::measure(&rt)?;
+        stored::measure(&rt)?;
         values::measure(&rt)?;
     }
     Ok(())

@@ -75,7 +75,8 @@ fn prepared_verdicts(
     ensures work { IsWorkOn files.now shelf.now meter.old meter.new }
 {
     let mut world = Present::new(schema, fragments);
-    shelf.prepare(alloc, &mut world, files, touched, meter)
+    let prepared = shelf.prepare(alloc, &mut world, files, touched, meter)?;
+    Ok(prepared)
 }
 
 /// The report of files that are to be present.

@@ -51,7 +51,8 @@ pub fn schema_report(alloc: Global, faults: &[Fault]) -> Result<Vec<Fault>, Allo
         → IsReport files report.items) }
 {
     let copied = copies(alloc, faults)?;
-    in_order(alloc, copied)
+    let report = in_order(alloc, copied)?;
+    Ok(report)
 }
 
 /// The report where the schema has no faults, and the definitions of the document files have these.
@@ -68,5 +69,6 @@ pub fn documents_report(
     let mut of_definitions = of_definitions;
     let mut faults = name_faults(alloc, files)?;
     faults.append(&mut of_definitions)?;
-    in_order(alloc, faults)
+    let report = in_order(alloc, faults)?;
+    Ok(report)
 }
