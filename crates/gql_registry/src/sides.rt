@@ -25,7 +25,6 @@ pub fn files_on(files: &Files, side: FileSide) -> &FileMap<Shared<Document>>
 }
 
 /// The tree of a file of a side, or why the text is none.
-#[tactic(none)]
 pub fn parse_on(
     alloc: Global,
     side: FileSide,
