@@ -1,6 +1,7 @@
 pub mod Carrying
 pub mod Classing
 pub mod Cover
+pub mod Grouping
 pub mod Joining
 pub mod Looking
 pub mod Marking
@@ -8,3 +9,4 @@ pub mod Members
 pub mod Reading
 pub mod Searching
 pub mod Seeing
+pub mod Unlike

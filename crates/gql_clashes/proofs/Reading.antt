@@ -13,7 +13,8 @@ use Rattle.gql_clashes.specs.declared.search.Item.{Item}
 use Rattle.gql_clashes.specs.Clashes.{AreTwo, is_bad, is_merge, mode_below}
 use Rattle.gql_clashes.specs.Items.{HasPair, Joins, Asks}
 use Rattle.gql_clashes.specs.Numbered.{IsWhole, field_at, nodes_of}
-use Rattle.gql_clashes.specs.Compared.{AreAlike, IsClassing, IsClassed, kind_at, other_in, two_in, are_fine, pair_of, item_of, pair_if_two, pairs_of, between, items_below, bad_at, items_of, bad_among, items_among, asked_at}
+use Rattle.gql_clashes.specs.Compared.{AreAlike, IsApart, IsClassing, IsGrouped, IsJoined, IsPlanned, Plan, kind_at, other_in, two_in, are_fine, fields_in, fields_over, pair_of, item_of, pair_if_two, pairs_of, between, items_below, bad_at, items_by, items_of, bad_among, items_among, lefts_of, rights_of, selves, asked_at}
+use Rattle.gql_clashes.specs.declared.groups.Class.{Class}
 use Rattle.gql_clashes.specs.Seen.{IsInside}
 use Rattle.gql_clashes.proofs.Cover.{AreTests}
 use Rattle.gql_clashes.proofs.Members.{Contains-nil, Contains-here, Contains-there, Contains-cases, Contains-map, Contains-map_from, Contains-flat_map, Contains-flat_map_from}
@@ -125,32 +126,6 @@ between_from (Some u) (Some v) m y h = elim (Contains-cases y (item_of u v m) []
 ]
 
 module _ (z : Sets) where
-  below_has : (m : Mode) (f g u v : ℕ) → Joins (nodes_of z) f g u v → Contains (items_below z m f g) (item_of u v (mode_below (nodes_of z) m f g))
-  below_has m f g u v j =
-      let n : Mode = mode_below (nodes_of z) m f g in
-      let a : Option ℕ = (field_at z f).below in
-      let b : Option ℕ = (field_at z g).below in
-      elim j [
-        | inl p ↦ Contains-append_left (between a a n ++ between b b n) (between a b n) (item_of u v n) (Contains-append_left (between a a n) (between b b n) (item_of u v n) (between_has a a n u v p.0 p.1))
-        | inr o ↦ elim o [
-          | inl p ↦ Contains-append_left (between a a n ++ between b b n) (between a b n) (item_of u v n) (Contains-append_right (between a a n) (between b b n) (item_of u v n) (between_has b b n u v p.0 p.1))
-          | inr p ↦ Contains-append_right (between a a n ++ between b b n) (between a b n) (item_of u v n) (between_has a b n u v p.0 p.1)
-        ]
-      ]
-
-  below_from : (m : Mode) (f g : ℕ) (y : Item) → Contains (items_below z m f g) y → (u v : ℕ) × Joins (nodes_of z) f g u v × (y ≡ item_of u v (mode_below (nodes_of z) m f g))
-  below_from m f g y h =
-      let n : Mode = mode_below (nodes_of z) m f g in
-      let a : Option ℕ = (field_at z f).below in
-      let b : Option ℕ = (field_at z g).below in
-      elim (Contains-append_cases (between a a n ++ between b b n) (between a b n) y h) [
-        | inr c ↦ let r = between_from a b n y c in (r.0, r.1, inr (inr (r.2, r.3)), r.4)
-        | inl d ↦ elim (Contains-append_cases (between a a n) (between b b n) y d) [
-          | inl c ↦ let r = between_from a a n y c in (r.0, r.1, inl (r.2, r.3), r.4)
-          | inr c ↦ let r = between_from b b n y c in (r.0, r.1, inr (inl (r.2, r.3)), r.4)
-        ]
-      ]
-
   -- fields that are alike are of one kind
   pub alike_kinds : (f g : ℕ) → AreAlike z f g → kind_at z f ≡ kind_at z g
   alike_kinds f g a = elim a [ inl e ↦ ap (λ x. kind_at z x) e | inr p ↦ p.0 ]
@@ -181,15 +156,6 @@ module _ (z : Sets) (x y f g : ℕ) (ex : kind_at z x ≡ kind_at z f) (ey : kin
   unfolding name_as
   same_name = ap (λ a. name_as a (kind_at z y)) ex ∙ ap (λ a. name_as (kind_at z f) a) ey
 
-  pub same_joins : (u v : ℕ) → Joins (nodes_of z) f g u v → Joins (nodes_of z) x y u v
-  same_joins u v j =
-      let a : (field_at z x).below ≡ (field_at z f).below = ap (λ (b : NumberedField). b.below) ex in
-      let b : (field_at z y).below ≡ (field_at z g).below = ap (λ (b : NumberedField). b.below) ey in
-      elim j [
-        | inl p ↦ inl (a ∙ p.0, a ∙ p.1)
-        | inr o ↦ elim o [ inl p ↦ inr (inl (b ∙ p.0, b ∙ p.1)) | inr p ↦ inr (inr (a ∙ p.0, b ∙ p.1)) ]
-      ]
-
 -- pairs of two different fields
 if_two_has : (z : Sets) (m : Mode) (f g : ℕ) → (nodes_of z).is_one f g ≡ false → Contains (pair_if_two z m f g) (pair_of f g m)
 if_two_has z m f g e = rw e (Contains-here (pair_of f g m) [])
@@ -213,9 +179,33 @@ pairs_from z m fs gs p h =
 abbrev pub IsBadOf : Sets → Mode → List ℕ → List ℕ → Pair → Type 0
 IsBadOf z m fs gs p = (f g : ℕ) × Contains fs f × Contains gs g × AreTwo (nodes_of z) f g × (is_bad (nodes_of z) m f g ≡ true) × (p ≡ pair_of f g m)
 
--- an item for which two fields of two lists ask
-abbrev pub IsAskedOf : Sets → Mode → List ℕ → List ℕ → Item → Type 0
-IsAskedOf z m fs gs y = (f g u v : ℕ) × (n : Mode) × Contains fs f × Contains gs g × AreTwo (nodes_of z) f g × Asks (nodes_of z) m f g u v n × (y ≡ item_of u v n)
+-- two fields of two lists ask for two bodies
+abbrev pub IsAskedOf : Sets → Mode → List ℕ → List ℕ → ℕ → ℕ → Mode → Type 0
+IsAskedOf z m fs gs u v n = (f g : ℕ) × Contains fs f × Contains gs g × AreTwo (nodes_of z) f g × Asks (nodes_of z) m f g u v n
+
+-- an item of two groups, for each two bodies of which two fields of two lists ask
+abbrev pub IsAskedFor : Sets → ℕ → (ℕ → List ℕ) → Mode → List ℕ → List ℕ → Item → Type 0
+IsAskedFor z count bodies m fs gs y = (s t : ℕ) × (n : Mode) × (y ≡ item_of s t n) × (s < count) × (t < count)
+    × ((u v : ℕ) → Contains (bodies s) u → Contains (bodies t) v → IsAskedOf z m fs gs u v n)
+
+-- two groups of these two bodies, whose item is among some
+abbrev pub HasItemFor : (ℕ → List ℕ) → List Item → ℕ → ℕ → Mode → Type 0
+HasItemFor bodies items u v n = (s t : ℕ) × Contains (bodies s) u × Contains (bodies t) v × Contains items (item_of s t n)
+
+-- the classes of some fields
+module _ (z : Sets) (fs : List ℕ) (cs : List Class) (h : IsClassing z fs (map fields_in cs)) where
+  class_of : (f : ℕ) → Contains fs f → (c : Class) × Contains cs c × Contains (fields_in c) f
+  class_of f a =
+      let l = h.members f a in
+      let c = Contains-map_from fields_in cs l.0 l.1 in
+      (c.0, c.1, subst (λ y. Contains y f) (sym c.2) l.2)
+
+  module _ (c : Class) (a : Contains cs c) where
+    alike_in : (x y : ℕ) → Contains (fields_in c) x → Contains (fields_in c) y → AreAlike z x y
+    alike_in x y p q = h.alike (fields_in c) x y (Contains-map fields_in cs c a) p q
+
+    only_in : (f : ℕ) → Contains (fields_in c) f → Contains fs f
+    only_in f p = h.only (fields_in c) f (Contains-map fields_in cs c a) p
 
 module _ (z : Sets) (m : Mode) where
   module _ (c d : List ℕ) (hc : (x y : ℕ) → Contains c x → Contains c y → AreAlike z x y) (hd : (x y : ℕ) → Contains d x → Contains d y → AreAlike z x y) where
@@ -244,121 +234,305 @@ module _ (z : Sets) (m : Mode) where
       let ey = kinds_right (x ∷ xs) (y ∷ ys) hc hd r.1 y r.3 (Contains-here y ys) in
       (r.0, r.1, r.2, r.3, (r.4, same_name z r.0 r.1 x y ex ey ∙ u.0), same_bad z r.0 r.1 x y ex ey m ∙ u.1, r.5)
 
-  class_asks : (c d : List ℕ) (hc : (x y : ℕ) → Contains c x → Contains c y → AreAlike z x y) (hd : (x y : ℕ) → Contains d x → Contains d y → AreAlike z x y) (f g u v : ℕ) (n : Mode) → Contains c f → Contains d g → AreTwo (nodes_of z) f g → Asks (nodes_of z) m f g u v n → Contains (items_of z m c d) (item_of u v n)
-  class_asks [] d hc hd f g u v n a b two k = absurd (Contains-nil f a)
-  class_asks (x ∷ xs) [] hc hd f g u v n a b two k = absurd (Contains-nil g b)
-  class_asks (x ∷ xs) (y ∷ ys) hc hd f g u v n a b two k =
-      let ex = kinds_left (x ∷ xs) (y ∷ ys) hc hd x f (Contains-here x xs) a in
-      let ey = kinds_right (x ∷ xs) (y ∷ ys) hc hd y g (Contains-here y ys) b in
-      let fine : not (is_bad (nodes_of z) m x y) ≡ true = not_false (is_bad (nodes_of z) m x y) (same_bad z x y f g ex ey m ∙ k.0) in
-      let is : mode_below (nodes_of z) m x y ≡ n = same_mode z x y f g ex ey m ∙ k.1 in
-      subst (λ o. Contains (items_of z m (x ∷ xs) (y ∷ ys)) (item_of u v o)) is
-      (under_has (are_fine z m x y) (two_in z (x ∷ xs) (y ∷ ys)) (items_below z m x y) (item_of u v (mode_below (nodes_of z) m x y))
-      (both ((nodes_of z).share_name x y) (not (is_bad (nodes_of z) m x y)) (same_name z x y f g ex ey ∙ two.1) fine)
-      (two_has z (x ∷ xs) (y ∷ ys) f g a b two.0) (below_has z m x y u v (same_joins z x y f g ex ey u v k.2)))
-
-  class_items : (c d : List ℕ) (hc : (x y : ℕ) → Contains c x → Contains c y → AreAlike z x y) (hd : (x y : ℕ) → Contains d x → Contains d y → AreAlike z x y) (y : Item) → Contains (items_of z m c d) y → IsAskedOf z m c d y
-  class_items [] d hc hd i h = absurd (Contains-nil i h)
-  class_items (x ∷ xs) [] hc hd i h = absurd (Contains-nil i h)
-  class_items (x ∷ xs) (y ∷ ys) hc hd i h =
-      let u = under_from (are_fine z m x y) (two_in z (x ∷ xs) (y ∷ ys)) (items_below z m x y) i h in
-      let o = of_both ((nodes_of z).share_name x y) (not (is_bad (nodes_of z) m x y)) u.0 in
-      let t = two_from z (x ∷ xs) (y ∷ ys) u.1 in
-      let r = below_from z m x y i u.2 in
-      let ex = kinds_left (x ∷ xs) (y ∷ ys) hc hd t.0 x t.2 (Contains-here x xs) in
-      let ey = kinds_right (x ∷ xs) (y ∷ ys) hc hd t.1 y t.3 (Contains-here y ys) in (
-        t.0,
-        t.1,
-        r.0,
-        r.1,
-        mode_below (nodes_of z) m x y,
-        t.2,
-        t.3,
-        (t.4, same_name z t.0 t.1 x y ex ey ∙ o.0),
-        (same_bad z t.0 t.1 x y ex ey m ∙ was_false (is_bad (nodes_of z) m x y) o.1, same_mode z t.0 t.1 x y ex ey m, same_joins z t.0 t.1 x y ex ey r.0 r.1 r.2),
-        r.3,
-      )
-
   -- over all classes of some fields
-  module _ (fs gs : List ℕ) (cs ds : List (List ℕ)) (hc : IsClassing z fs cs) (hd : IsClassing z gs ds) where
+  module _ (fs gs : List ℕ) (cs ds : List Class) (hc : IsClassing z fs (map fields_in cs)) (hd : IsClassing z gs (map fields_in ds)) where
     pub bad_has : (f g : ℕ) → Contains fs f → Contains gs g → AreTwo (nodes_of z) f g → is_bad (nodes_of z) m f g ≡ true → Contains (bad_among z m cs ds) (pair_of f g m)
     bad_has f g a b two e =
-        let c = hc.members f a in
-        let d = hd.members g b in
-        Contains-flat_map (λ x. flat_map (bad_at z m x) ds) cs c.0 (pair_of f g m) c.1
-        (Contains-flat_map (bad_at z m c.0) ds d.0 (pair_of f g m) d.1 (class_has c.0 d.0 (λ x y p q. hc.alike c.0 x y c.1 p q) (λ x y p q. hd.alike d.0 x y d.1 p q) f g c.2 d.2 two e))
+        let c = class_of z fs cs hc f a in
+        let d = class_of z gs ds hd g b in
+        Contains-flat_map (λ x. flat_map (λ y. bad_at z m (fields_in x) (fields_in y)) ds) cs c.0 (pair_of f g m) c.1
+        (Contains-flat_map (λ y. bad_at z m (fields_in c.0) (fields_in y)) ds d.0 (pair_of f g m) d.1 (class_has (fields_in c.0) (fields_in d.0) (alike_in z fs cs hc c.0 c.1) (alike_in z gs ds hd d.0 d.1) f g c.2 d.2 two e))
 
     pub bad_from : (p : Pair) → Contains (bad_among z m cs ds) p → IsBadOf z m fs gs p
     bad_from p h =
-        let c = Contains-flat_map_from (λ x. flat_map (bad_at z m x) ds) cs p h in
-        let d = Contains-flat_map_from (bad_at z m c.0) ds p c.2 in
-        let r = class_from c.0 d.0 (λ x y a b. hc.alike c.0 x y c.1 a b) (λ x y a b. hd.alike d.0 x y d.1 a b) p d.2 in
-        (r.0, r.1, hc.only c.0 r.0 c.1 r.2, hd.only d.0 r.1 d.1 r.3, r.4, r.5, r.6)
+        let c = Contains-flat_map_from (λ x. flat_map (λ y. bad_at z m (fields_in x) (fields_in y)) ds) cs p h in
+        let d = Contains-flat_map_from (λ y. bad_at z m (fields_in c.0) (fields_in y)) ds p c.2 in
+        let r = class_from (fields_in c.0) (fields_in d.0) (alike_in z fs cs hc c.0 c.1) (alike_in z gs ds hd d.0 d.1) p d.2 in
+        (r.0, r.1, only_in z fs cs hc c.0 c.1 r.0 r.2, only_in z gs ds hd d.0 d.1 r.1 r.3, r.4, r.5, r.6)
 
-    pub items_has : (f g u v : ℕ) (n : Mode) → Contains fs f → Contains gs g → AreTwo (nodes_of z) f g → Asks (nodes_of z) m f g u v n → Contains (items_among z m cs ds) (item_of u v n)
+-- ---- what two classes ask for
+
+some_same : (o : Option ℕ) (u v : ℕ) → o ≡ Some u → o ≡ Some v → u ≡ v
+some_same o u v a b = let e : ◌≡◌ {A = Option ℕ} (Some u) (Some v) = sym a ∙ b in cc
+
+some_none : (o : Option ℕ) (u : ℕ) → o ≡ None → o ≡ Some u → ⊥
+some_none o u a b = let e : ◌≡◌ {A = Option ℕ} None (Some u) = sym a ∙ b in cc
+
+either : (b : Bool) → (b ≡ true) ⊎ (b ≡ false)
+either true = inl refl
+either false = inr refl
+
+true_false : (b : Bool) → b ≡ true → b ≡ false → ⊥
+true_false b e f = cc
+
+-- two fields of a class, of which one has selections
+same_or_apart : (z : Sets) (x y u : ℕ) → AreAlike z x y → (field_at z x).below ≡ Some u → (x ≡ y) ⊎ IsApart z
+same_or_apart z x y u a e = elim a [
+  | inl s ↦ inl s
+  | inr p ↦ elim p.1 [ inl l ↦ absurd (some_none (field_at z x).below u l.0 e) | inr q ↦ inr q ]
+]
+
+-- each body below some fields with itself
+selves_has : (z : Sets) (n : Mode) (fs : List ℕ) (f u : ℕ) → Contains fs f → (field_at z f).below ≡ Some u → Contains (selves z n fs) (item_of u u n)
+selves_has z n fs f u c e = Contains-flat_map (λ g. between (field_at z g).below (field_at z g).below n) fs f (item_of u u n) c (between_has (field_at z f).below (field_at z f).below n u u e e)
+
+selves_from : (z : Sets) (n : Mode) (fs : List ℕ) (y : Item) → Contains (selves z n fs) y → (f u : ℕ) × Contains fs f × ((field_at z f).below ≡ Some u) × (y ≡ item_of u u n)
+selves_from z n fs y h =
+    let r = Contains-flat_map_from (λ g. between (field_at z g).below (field_at z g).below n) fs y h in
+    let q = between_from (field_at z r.0).below (field_at z r.0).below n y r.2 in
+    (r.0, q.0, r.1, q.2, subst (λ v. y ≡ item_of q.0 v n) (sym (some_same (field_at z r.0).below q.0 q.1 q.2 q.3)) q.4)
+
+module _ (z : Sets) (whole : IsWhole z) (m : Mode) (count : ℕ) (bodies : ℕ → List ℕ) (groups : IsGrouped z count bodies) where
+  pub own_has : (u : ℕ) → u < length z.bodies.items → Contains (bodies u) u
+  own_has u lt = subst (λ l. Contains l u) (sym (groups.own u lt)) (Contains-here u [])
+
+  pub own_only : (u v : ℕ) → u < length z.bodies.items → Contains (bodies u) v → v ≡ u
+  own_only u v lt h = elim (Contains-cases v u [] (subst (λ l. Contains l v) (groups.own u lt) h)) [ inl e ↦ e | inr n ↦ absurd (Contains-nil v n) ]
+
+  module _ (c d : Class)
+      (hc : (x y : ℕ) → Contains (fields_in c) x → Contains (fields_in c) y → AreAlike z x y)
+      (hd : (x y : ℕ) → Contains (fields_in d) x → Contains (fields_in d) y → AreAlike z x y)
+      (jc : IsJoined z count bodies (fields_in c) c.below) (jd : IsJoined z count bodies (fields_in d) d.below)
+      (fc : (f : ℕ) → Contains (fields_in c) f → f < length z.fields.items)
+      (fd : (g : ℕ) → Contains (fields_in d) g → g < length z.fields.items) where
+    -- two fields of the two classes, which are apart, and the bodies below them
+    abbrev Partners : ℕ → ℕ → Type 0
+    Partners u v = (f g : ℕ) × Contains (fields_in c) f × Contains (fields_in d) g × ((nodes_of z).is_one f g ≡ false) × Joins (nodes_of z) f g u v
+
+    module _ (f0 g0 : ℕ) (a0 : Contains (fields_in c) f0) (b0 : Contains (fields_in d) g0) (two : (nodes_of z).is_one f0 g0 ≡ false) where
+      left_partner : (f u : ℕ) → Contains (fields_in c) f → (field_at z f).below ≡ Some u → Partners u u
+      left_partner f u a e = elim (either ((nodes_of z).is_one f g0)) [
+        | inr n ↦ (f, g0, a, b0, n, inl (e, e))
+        | inl y ↦ elim (same_or_apart z f f0 u (hc f f0 a a0) e) [
+          | inl s ↦ absurd (true_false ((nodes_of z).is_one f g0) y (ap (λ x. (nodes_of z).is_one x g0) s ∙ two))
+          | inr p ↦
+              let s : f ≡ g0 = p f g0 (fc f a) (fd g0 b0) y in
+              let h : (field_at z g0).below ≡ Some u = ap (λ x. (field_at z x).below) (sym s) ∙ e in
+              (f0, g0, a0, b0, two, inr (inl (h, h)))
+        ]
+      ]
+
+      right_partner : (g u : ℕ) → Contains (fields_in d) g → (field_at z g).below ≡ Some u → Partners u u
+      right_partner g u b e = elim (either ((nodes_of z).is_one f0 g)) [
+        | inr n ↦ (f0, g, a0, b, n, inr (inl (e, e)))
+        | inl y ↦ elim (same_or_apart z g g0 u (hd g g0 b b0) e) [
+          | inl s ↦ absurd (true_false ((nodes_of z).is_one f0 g) y (ap (λ x. (nodes_of z).is_one f0 x) s ∙ two))
+          | inr p ↦
+              let s : f0 ≡ g = p f0 g (fc f0 a0) (fd g b) y in
+              let h : (field_at z f0).below ≡ Some u = ap (λ x. (field_at z x).below) s ∙ e in
+              (f0, g0, a0, b0, two, inl (h, h))
+        ]
+      ]
+
+      one_partner : (f g u v : ℕ) → Contains (fields_in c) f → (field_at z f).below ≡ Some u → (field_at z g).below ≡ Some v → f ≡ g → Partners u v
+      one_partner f g u v a e h s = subst (λ x. Partners u x) (some_same (field_at z f).below u v e (ap (λ x. (field_at z x).below) s ∙ h)) (left_partner f u a e)
+
+      both_partner : (f g u v : ℕ) → Contains (fields_in c) f → Contains (fields_in d) g → (field_at z f).below ≡ Some u → (field_at z g).below ≡ Some v → Partners u v
+      both_partner f g u v a b e h = elim (either ((nodes_of z).is_one f g)) [
+        | inr n ↦ (f, g, a, b, n, inr (inr (e, h)))
+        | inl y ↦ elim (same_or_apart z f f0 u (hc f f0 a a0) e) [
+          | inr p ↦ one_partner f g u v a e h (p f g (fc f a) (fd g b) y)
+          | inl s ↦ elim (same_or_apart z g g0 v (hd g g0 b b0) h) [
+            | inr p ↦ one_partner f g u v a e h (p f g (fc f a) (fd g b) y)
+            | inl t ↦ absurd (true_false ((nodes_of z).is_one f g) y (ap (λ x. (nodes_of z).is_one x g) s ∙ ap (λ x. (nodes_of z).is_one f0 x) t ∙ two))
+          ]
+        ]
+      ]
+
+      -- by the first fields
+      module _ (x y : ℕ) (cx : Contains (fields_in c) x) (dy : Contains (fields_in d) y) (name : (nodes_of z).share_name x y ≡ true) (fine : is_bad (nodes_of z) m x y ≡ false) where
+        asked_by_partners : (u v : ℕ) → Partners u v → IsAskedOf z m (fields_in c) (fields_in d) u v (mode_below (nodes_of z) m x y)
+        asked_by_partners u v r =
+            let ex = alike_kinds z r.0 x (hc r.0 x r.2 cx) in
+            let ey = alike_kinds z r.1 y (hd r.1 y r.3 dy) in
+            (r.0, r.1, r.2, r.3, (r.4, same_name z r.0 r.1 x y ex ey ∙ name), (same_bad z r.0 r.1 x y ex ey m ∙ fine, same_mode z r.0 r.1 x y ex ey m, r.5))
+
+        -- a body with itself
+        self_asked : (u : ℕ) → u < length z.bodies.items → Partners u u → (i : Item) → i ≡ item_of u u (mode_below (nodes_of z) m x y) → IsAskedFor z count bodies m (fields_in c) (fields_in d) i
+        self_asked u lt p i e = (
+          u,
+          u,
+          mode_below (nodes_of z) m x y,
+          e,
+          omega (arith, lt, groups.size),
+          omega (arith, lt, groups.size),
+          λ a b ha hb. subst (λ k. IsAskedOf z m (fields_in c) (fields_in d) k b (mode_below (nodes_of z) m x y)) (sym (own_only u a lt ha))
+              (subst (λ k. IsAskedOf z m (fields_in c) (fields_in d) u k (mode_below (nodes_of z) m x y)) (sym (own_only u b lt hb)) (asked_by_partners u u p)),
+        )
+
+        below_from : (i : Item) → Contains (items_below z (mode_below (nodes_of z) m x y) c d) i → IsAskedFor z count bodies m (fields_in c) (fields_in d) i
+        below_from i h =
+            let n : Mode = mode_below (nodes_of z) m x y in
+            elim (Contains-append_cases (selves z n (fields_in c) ++ selves z n (fields_in d)) (between c.below d.below n) i h) [
+              | inr k ↦
+                  let r = between_from c.below d.below n i k in (
+                    r.0,
+                    r.1,
+                    n,
+                    r.4,
+                    jc.inside r.0 r.2,
+                    jd.inside r.1 r.3,
+                    λ u v hu hv.
+                        let p = jc.from r.0 u r.2 hu in
+                        let q = jd.from r.1 v r.3 hv in
+                        asked_by_partners u v (both_partner p.0 q.0 u v p.1 q.1 p.2 q.2),
+                  )
+              | inl k ↦ elim (Contains-append_cases (selves z n (fields_in c)) (selves z n (fields_in d)) i k) [
+                | inl l ↦ let r = selves_from z n (fields_in c) i l in self_asked r.1 (whole.below r.0 r.1 r.3) (left_partner r.0 r.1 r.2 r.3) i r.4
+                | inr l ↦ let r = selves_from z n (fields_in d) i l in self_asked r.1 (whole.below r.0 r.1 r.3) (right_partner r.0 r.1 r.2 r.3) i r.4
+              ]
+            ]
+
+    below_has : (n : Mode) (f g u v : ℕ) → Contains (fields_in c) f → Contains (fields_in d) g → Joins (nodes_of z) f g u v → HasItemFor bodies (items_below z n c d) u v n
+    below_has n f g u v a b j =
+        let cs : List Item = selves z n (fields_in c) in
+        let ds : List Item = selves z n (fields_in d) in
+        let both : List Item = between c.below d.below n in
+        elim j [
+          | inl p ↦
+              let e = some_same (field_at z f).below u v p.0 p.1 in
+              let lt = whole.below f u p.0 in
+              (u, u, own_has u lt, subst (λ k. Contains (bodies u) k) e (own_has u lt), Contains-append_left (cs ++ ds) both (item_of u u n) (Contains-append_left cs ds (item_of u u n) (selves_has z n (fields_in c) f u a p.0)))
+          | inr o ↦ elim o [
+            | inl p ↦
+                let e = some_same (field_at z g).below u v p.0 p.1 in
+                let lt = whole.below g u p.0 in
+                (u, u, own_has u lt, subst (λ k. Contains (bodies u) k) e (own_has u lt), Contains-append_left (cs ++ ds) both (item_of u u n) (Contains-append_right cs ds (item_of u u n) (selves_has z n (fields_in d) g u b p.0)))
+            | inr p ↦
+                let r = jc.has f u a p.0 in
+                let q = jd.has g v b p.1 in
+                (r.0, q.0, r.2, q.2, Contains-append_right (cs ++ ds) both (item_of r.0 q.0 n) (between_has c.below d.below n r.0 q.0 r.1 q.1))
+          ]
+        ]
+
+    -- by lists that are the fields of the two classes
+    class_items : (l r : List ℕ) → l ≡ fields_in c → r ≡ fields_in d → (i : Item) → Contains (items_by z m c d l r) i → IsAskedFor z count bodies m (fields_in c) (fields_in d) i
+    class_items [] r el er i h = absurd (Contains-nil i h)
+    class_items (x ∷ xs) [] el er i h = absurd (Contains-nil i h)
+    class_items (x ∷ xs) (y ∷ ys) el er i h =
+        let q = under_from (are_fine z m x y) (two_in z (x ∷ xs) (y ∷ ys)) (items_below z (mode_below (nodes_of z) m x y) c d) i h in
+        let o = of_both ((nodes_of z).share_name x y) (not (is_bad (nodes_of z) m x y)) q.0 in
+        let t = two_from z (x ∷ xs) (y ∷ ys) q.1 in
+        below_from t.0 t.1 (subst (λ k. Contains k t.0) el t.2) (subst (λ k. Contains k t.1) er t.3) t.4 x y (subst (λ k. Contains k x) el (Contains-here x xs)) (subst (λ k. Contains k y) er (Contains-here y ys)) o.0 (was_false (is_bad (nodes_of z) m x y) o.1) i q.2
+
+    class_asks : (l r : List ℕ) → l ≡ fields_in c → r ≡ fields_in d → (f g u v : ℕ) (n : Mode) → Contains (fields_in c) f → Contains (fields_in d) g → AreTwo (nodes_of z) f g → Asks (nodes_of z) m f g u v n → HasItemFor bodies (items_by z m c d l r) u v n
+    class_asks [] r el er f g u v n a b two k = absurd (Contains-nil f (subst (λ y. Contains y f) (sym el) a))
+    class_asks (x ∷ xs) [] el er f g u v n a b two k = absurd (Contains-nil g (subst (λ y. Contains y g) (sym er) b))
+    class_asks (x ∷ xs) (y ∷ ys) el er f g u v n a b two k =
+        let ex = alike_kinds z x f (hc x f (subst (λ y. Contains y x) el (Contains-here x xs)) a) in
+        let ey = alike_kinds z y g (hd y g (subst (λ k. Contains k y) er (Contains-here y ys)) b) in
+        let fine : not (is_bad (nodes_of z) m x y) ≡ true = not_false (is_bad (nodes_of z) m x y) (same_bad z x y f g ex ey m ∙ k.0) in
+        let is : mode_below (nodes_of z) m x y ≡ n = same_mode z x y f g ex ey m ∙ k.1 in
+        let r = below_has n f g u v a b k.2 in (
+          r.0,
+          r.1,
+          r.2,
+          r.3,
+          under_has (are_fine z m x y) (two_in z (x ∷ xs) (y ∷ ys)) (items_below z (mode_below (nodes_of z) m x y) c d) (item_of r.0 r.1 n)
+              (both ((nodes_of z).share_name x y) (not (is_bad (nodes_of z) m x y)) (same_name z x y f g ex ey ∙ two.1) fine)
+              (two_has z (x ∷ xs) (y ∷ ys) f g (subst (λ k. Contains k f) (sym el) a) (subst (λ k. Contains k g) (sym er) b) two.0)
+              (subst (λ o. Contains (items_below z o c d) (item_of r.0 r.1 n)) (sym is) r.4),
+        )
+
+  -- over all classes of some fields
+  module _ (fs gs : List ℕ) (cs ds : List Class) (hc : IsClassing z fs (map fields_in cs)) (hd : IsClassing z gs (map fields_in ds))
+      (jc : (c : Class) → Contains cs c → IsJoined z count bodies (fields_in c) c.below) (jd : (d : Class) → Contains ds d → IsJoined z count bodies (fields_in d) d.below)
+      (ff : (f : ℕ) → Contains fs f → f < length z.fields.items) (fg : (g : ℕ) → Contains gs g → g < length z.fields.items) where
+    pub items_has : (f g u v : ℕ) (n : Mode) → Contains fs f → Contains gs g → AreTwo (nodes_of z) f g → Asks (nodes_of z) m f g u v n → HasItemFor bodies (items_among z m cs ds) u v n
     items_has f g u v n a b two k =
-        let c = hc.members f a in
-        let d = hd.members g b in
-        Contains-flat_map (λ x. flat_map (items_of z m x) ds) cs c.0 (item_of u v n) c.1
-        (Contains-flat_map (items_of z m c.0) ds d.0 (item_of u v n) d.1 (class_asks c.0 d.0 (λ x y p q. hc.alike c.0 x y c.1 p q) (λ x y p q. hd.alike d.0 x y d.1 p q) f g u v n c.2 d.2 two k))
+        let c = class_of z fs cs hc f a in
+        let d = class_of z gs ds hd g b in
+        let r = class_asks c.0 d.0 (alike_in z fs cs hc c.0 c.1) (alike_in z gs ds hd d.0 d.1) (jc c.0 c.1) (jd d.0 d.1) (λ x h. ff x (only_in z fs cs hc c.0 c.1 x h)) (λ x h. fg x (only_in z gs ds hd d.0 d.1 x h))
+        (fields_in c.0) (fields_in d.0) refl refl f g u v n c.2 d.2 two k in
+        (r.0, r.1, r.2, r.3, Contains-flat_map (λ x. flat_map (items_of z m x) ds) cs c.0 (item_of r.0 r.1 n) c.1 (Contains-flat_map (items_of z m c.0) ds d.0 (item_of r.0 r.1 n) d.1 r.4))
 
-    pub items_from : (y : Item) → Contains (items_among z m cs ds) y → IsAskedOf z m fs gs y
+    pub items_from : (y : Item) → Contains (items_among z m cs ds) y → IsAskedFor z count bodies m fs gs y
     items_from y h =
         let c = Contains-flat_map_from (λ x. flat_map (items_of z m x) ds) cs y h in
         let d = Contains-flat_map_from (items_of z m c.0) ds y c.2 in
-        let r = class_items c.0 d.0 (λ x y a b. hc.alike c.0 x y c.1 a b) (λ x y a b. hd.alike d.0 x y d.1 a b) y d.2 in
-        (r.0, r.1, r.2, r.3, r.4, hc.only c.0 r.0 c.1 r.5, hd.only d.0 r.1 d.1 r.6, r.7, r.8, r.9)
+        let r = class_items c.0 d.0 (alike_in z fs cs hc c.0 c.1) (alike_in z gs ds hd d.0 d.1) (jc c.0 c.1) (jd d.0 d.1) (λ x k. ff x (only_in z fs cs hc c.0 c.1 x k)) (λ x k. fg x (only_in z gs ds hd d.0 d.1 x k))
+        (fields_in c.0) (fields_in d.0) refl refl y d.2 in
+        (r.0, r.1, r.2, r.3, r.4, r.5, λ u v hu hv. let q = r.6 u v hu hv in (q.0, q.1, only_in z fs cs hc c.0 c.1 q.0 q.2, only_in z gs ds hd d.0 d.1 q.1 q.3, q.4, q.5))
 
--- an item asks for its spreads
-module _ (z : Sets) (k : ℕ → List (List ℕ)) (known : IsClassed z k) (x : Item) where
-  abbrev lefts : List Item
-  lefts = map (λ u. item_of u x.right x.mode) ((nodes_of z).spreads x.left)
+-- ---- what an item asks for
 
-  abbrev rights : List Item
-  rights = map (λ u. item_of x.left u x.mode) ((nodes_of z).spreads x.right)
+module _ (z : Sets) (whole : IsWhole z) (count : ℕ) (p : Plan) (plan : IsPlanned z count p) where
+  -- the fields of a group are fields
+  over_inside : (u f : ℕ) → Contains (fields_over z (p.bodies u)) f → f < length z.fields.items
+  over_inside u f h = let r = Contains-flat_map_from (nodes_of z).direct (p.bodies u) f h in whole.fields r.0 f r.2
 
-  abbrev belows : List Item
-  belows = items_among z x.mode (k x.left) (k x.right)
+  pub group_items : (m : Mode) (s t : ℕ) (y : Item) → Contains (items_among z m (p.classes s) (p.classes t)) y → IsAskedFor z count p.bodies m (fields_over z (p.bodies s)) (fields_over z (p.bodies t)) y
+  group_items m s t y h = items_from z whole m count p.bodies plan.grouped (fields_over z (p.bodies s)) (fields_over z (p.bodies t)) (p.classes s) (p.classes t) (plan.classing s) (plan.classing t) (plan.joined s) (plan.joined t) (over_inside s) (over_inside t) y h
 
-  pub asked_left : (u : ℕ) → Contains ((nodes_of z).spreads x.left) u → Contains (asked_at z k x) (item_of u x.right x.mode)
-  asked_left u c = Contains-append_left (belows ++ lefts) rights (item_of u x.right x.mode) (Contains-append_right belows lefts (item_of u x.right x.mode) (Contains-map (λ (a : ℕ). item_of a x.right x.mode) ((nodes_of z).spreads x.left) u c))
+  pub group_asks : (m : Mode) (s t a b f g u v : ℕ) (n : Mode) → Contains (p.bodies s) a → Contains (p.bodies t) b → HasPair (nodes_of z) a b f g → Asks (nodes_of z) m f g u v n → HasItemFor p.bodies (items_among z m (p.classes s) (p.classes t)) u v n
+  group_asks m s t a b f g u v n ha hb h k = items_has z whole m count p.bodies plan.grouped (fields_over z (p.bodies s)) (fields_over z (p.bodies t)) (p.classes s) (p.classes t) (plan.classing s) (plan.classing t) (plan.joined s) (plan.joined t) (over_inside s) (over_inside t)
+      f g u v n (Contains-flat_map (nodes_of z).direct (p.bodies s) a f ha h.0) (Contains-flat_map (nodes_of z).direct (p.bodies t) b g hb h.1) h.2 k
 
-  pub asked_right : (u : ℕ) → Contains ((nodes_of z).spreads x.right) u → Contains (asked_at z k x) (item_of x.left u x.mode)
-  asked_right u c = Contains-append_right (belows ++ lefts) rights (item_of x.left u x.mode) (Contains-map (λ (a : ℕ). item_of x.left a x.mode) ((nodes_of z).spreads x.right) u c)
+  pub group_bad : (m : Mode) (s t a b f g : ℕ) → Contains (p.bodies s) a → Contains (p.bodies t) b → HasPair (nodes_of z) a b f g → is_bad (nodes_of z) m f g ≡ true → Contains (bad_among z m (p.classes s) (p.classes t)) (pair_of f g m)
+  group_bad m s t a b f g ha hb h e = bad_has z m (fields_over z (p.bodies s)) (fields_over z (p.bodies t)) (p.classes s) (p.classes t) (plan.classing s) (plan.classing t) f g
+      (Contains-flat_map (nodes_of z).direct (p.bodies s) a f ha h.0) (Contains-flat_map (nodes_of z).direct (p.bodies t) b g hb h.1) h.2 e
 
-  pub asked_below : (f g u v : ℕ) (n : Mode) → HasPair (nodes_of z) x.left x.right f g → Asks (nodes_of z) x.mode f g u v n → Contains (asked_at z k x) (item_of u v n)
-  asked_below f g u v n s q = Contains-append_left (belows ++ lefts) rights (item_of u v n) (Contains-append_left belows lefts (item_of u v n)
-      (items_has z x.mode ((nodes_of z).direct x.left) ((nodes_of z).direct x.right) (k x.left) (k x.right) (known x.left) (known x.right) f g u v n s.0 s.1 s.2 q))
+  pub group_found : (m : Mode) (s t : ℕ) (q : Pair) → Contains (bad_among z m (p.classes s) (p.classes t)) q → IsBadOf z m (fields_over z (p.bodies s)) (fields_over z (p.bodies t)) q
+  group_found m s t q h = bad_from z m (fields_over z (p.bodies s)) (fields_over z (p.bodies t)) (p.classes s) (p.classes t) (plan.classing s) (plan.classing t) q h
 
-  -- and for nothing else
-  pub asked_from : (y : Item) → Contains (asked_at z k x) y → IsAskedOf z x.mode ((nodes_of z).direct x.left) ((nodes_of z).direct x.right) y
-      ⊎ (((u : ℕ) × Contains ((nodes_of z).spreads x.left) u × (y ≡ item_of u x.right x.mode)) ⊎ ((u : ℕ) × Contains ((nodes_of z).spreads x.right) u × (y ≡ item_of x.left u x.mode)))
-  asked_from y h = elim (Contains-append_cases (belows ++ lefts) rights y h) [
-    | inr c ↦ let r = Contains-map_from (λ (a : ℕ). item_of x.left a x.mode) ((nodes_of z).spreads x.right) y c in inr (inr (r.0, r.1, sym r.2))
-    | inl d ↦ elim (Contains-append_cases belows lefts y d) [
-      | inr c ↦ let r = Contains-map_from (λ (a : ℕ). item_of a x.right x.mode) ((nodes_of z).spreads x.left) y c in inr (inl (r.0, r.1, sym r.2))
-      | inl c ↦ inl (items_from z x.mode ((nodes_of z).direct x.left) ((nodes_of z).direct x.right) (k x.left) (k x.right) (known x.left) (known x.right) y c)
+  module _ (x : Item) where
+    abbrev lefts : List Item
+    lefts = flat_map (lefts_of z x) (p.bodies x.left)
+
+    abbrev rights : List Item
+    rights = flat_map (rights_of z x) (p.bodies x.right)
+
+    abbrev belows : List Item
+    belows = items_among z x.mode (p.classes x.left) (p.classes x.right)
+
+    pub asked_left : (s u : ℕ) → Contains (p.bodies x.left) s → Contains ((nodes_of z).spreads s) u → Contains (asked_at z p x) (item_of u x.right x.mode)
+    asked_left s u h c = Contains-append_left (belows ++ lefts) rights (item_of u x.right x.mode) (Contains-append_right belows lefts (item_of u x.right x.mode)
+        (Contains-flat_map (lefts_of z x) (p.bodies x.left) s (item_of u x.right x.mode) h (Contains-map (λ (a : ℕ). item_of a x.right x.mode) ((nodes_of z).spreads s) u c)))
+
+    pub asked_right : (s u : ℕ) → Contains (p.bodies x.right) s → Contains ((nodes_of z).spreads s) u → Contains (asked_at z p x) (item_of x.left u x.mode)
+    asked_right s u h c = Contains-append_right (belows ++ lefts) rights (item_of x.left u x.mode)
+        (Contains-flat_map (rights_of z x) (p.bodies x.right) s (item_of x.left u x.mode) h (Contains-map (λ (a : ℕ). item_of x.left a x.mode) ((nodes_of z).spreads s) u c))
+
+    pub asked_below : (a b f g u v : ℕ) (n : Mode) → Contains (p.bodies x.left) a → Contains (p.bodies x.right) b → HasPair (nodes_of z) a b f g → Asks (nodes_of z) x.mode f g u v n → HasItemFor p.bodies (asked_at z p x) u v n
+    asked_below a b f g u v n ha hb h k =
+        let r = group_asks x.mode x.left x.right a b f g u v n ha hb h k in
+        (r.0, r.1, r.2, r.3, Contains-append_left (belows ++ lefts) rights (item_of r.0 r.1 n) (Contains-append_left belows lefts (item_of r.0 r.1 n) r.4))
+
+    -- and for nothing else
+    abbrev IsSpreadLeft : Item → Type 0
+    IsSpreadLeft y = (s u : ℕ) × Contains (p.bodies x.left) s × Contains ((nodes_of z).spreads s) u × (y ≡ item_of u x.right x.mode)
+
+    abbrev IsSpreadRight : Item → Type 0
+    IsSpreadRight y = (s u : ℕ) × Contains (p.bodies x.right) s × Contains ((nodes_of z).spreads s) u × (y ≡ item_of x.left u x.mode)
+
+    pub asked_from : (y : Item) → Contains (asked_at z p x) y → IsAskedFor z count p.bodies x.mode (fields_over z (p.bodies x.left)) (fields_over z (p.bodies x.right)) y ⊎ (IsSpreadLeft y ⊎ IsSpreadRight y)
+    asked_from y h = elim (Contains-append_cases (belows ++ lefts) rights y h) [
+      | inr c ↦
+          let r = Contains-flat_map_from (rights_of z x) (p.bodies x.right) y c in
+          let q = Contains-map_from (λ (a : ℕ). item_of x.left a x.mode) ((nodes_of z).spreads r.0) y r.2 in
+          inr (inr (r.0, q.0, r.1, q.1, sym q.2))
+      | inl d ↦ elim (Contains-append_cases belows lefts y d) [
+        | inr c ↦
+            let r = Contains-flat_map_from (lefts_of z x) (p.bodies x.left) y c in
+            let q = Contains-map_from (λ (a : ℕ). item_of a x.right x.mode) ((nodes_of z).spreads r.0) y r.2 in
+            inr (inl (r.0, q.0, r.1, q.1, sym q.2))
+        | inl c ↦ inl (group_items x.mode x.left x.right y c)
+      ]
     ]
-  ]
 
--- what is asked for is inside
-joins_inside : (z : Sets) → IsWhole z → (f g u v : ℕ) → Joins (nodes_of z) f g u v → (u < length z.bodies.items) × (v < length z.bodies.items)
-joins_inside z h f g u v j = elim j [
-  | inl p ↦ (h.below f u p.0, h.below f v p.1)
-  | inr o ↦ elim o [ inl p ↦ (h.below g u p.0, h.below g v p.1) | inr p ↦ (h.below f u p.0, h.below g v p.1) ]
-]
+    -- what is asked for is inside
+    pub asked_inside : (y : Item) → IsInside count x → Contains (asked_at z p x) y → IsInside count y
+    asked_inside y i c = elim (asked_from y c) [
+      | inl r ↦ rw r.3 (item_inside count r.0 r.1 r.2 r.4 r.5)
+      | inr o ↦ elim o [
+        | inl r ↦ rw r.4 (item_inside count r.1 x.right x.mode (omega (arith, whole.spreads r.0 r.1 r.3, plan.grouped.size)) i.1)
+        | inr r ↦ rw r.4 (item_inside count x.left r.1 x.mode i.0 (omega (arith, whole.spreads r.0 r.1 r.3, plan.grouped.size)))
+      ]
+    ]
 
-asked_of_inside : (z : Sets) → IsWhole z → (m : Mode) (fs gs : List ℕ) (y : Item) → IsAskedOf z m fs gs y → IsInside (length z.bodies.items) y
-asked_of_inside z h m fs gs y r = let i = joins_inside z h r.0 r.1 r.2 r.3 r.8.2 in rw r.9 (item_inside (length z.bodies.items) r.2 r.3 r.4 i.0 i.1)
+  pub items_inside : (m : Mode) (s t : ℕ) (y : Item) → Contains (items_among z m (p.classes s) (p.classes t)) y → IsInside count y
+  items_inside m s t y c = let r = group_items m s t y c in rw r.3 (item_inside count r.0 r.1 r.2 r.4 r.5)
 
-pub items_inside : (z : Sets) → IsWhole z → (m : Mode) (fs gs : List ℕ) (cs ds : List (List ℕ)) → IsClassing z fs cs → IsClassing z gs ds → (y : Item) → Contains (items_among z m cs ds) y → IsInside (length z.bodies.items) y
-items_inside z h m fs gs cs ds hc hd y c = asked_of_inside z h m fs gs y (items_from z m fs gs cs ds hc hd y c)
-
-pub asked_inside : (z : Sets) → IsWhole z → (k : ℕ → List (List ℕ)) → IsClassed z k → (x y : Item) → IsInside (length z.bodies.items) x → Contains (asked_at z k x) y → IsInside (length z.bodies.items) y
-asked_inside z h k known x y i c = elim (asked_from z k known x y c) [
-  | inl r ↦ asked_of_inside z h x.mode ((nodes_of z).direct x.left) ((nodes_of z).direct x.right) y r
-  | inr o ↦ elim o [
-    | inl r ↦ rw r.2 (item_inside (length z.bodies.items) r.0 x.right x.mode (h.spreads x.left r.0 r.1) i.1)
-    | inr r ↦ rw r.2 (item_inside (length z.bodies.items) x.left r.0 x.mode i.0 (h.spreads x.right r.0 r.1))
-  ]
-]
+  -- the fields of the classes of a group are fields
+  pub classes_inside : (s : ℕ) (cs : List Class) → cs ≡ p.classes s → (c : Class) (f : ℕ) → Contains cs c → Contains (fields_in c) f → f < length z.fields.items
+  classes_inside s cs e c f a b = over_inside s f (only_in z (fields_over z (p.bodies s)) (p.classes s) (plan.classing s) c (subst (λ l. Contains l c) e a) f b)

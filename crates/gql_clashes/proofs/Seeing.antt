@@ -1,15 +1,21 @@
 -- What was seen, after one item more.
-use Rattle.std.proofs.Common.{◌≡◌, ◌≢◌, ℕ, zero, suc, ◌+◌, ◌-◌, ◌*◌, ◌<◌, ◌≤◌, ◌⊎◌, inl, inr, List, [], ◌∷◌, ◌++◌, append_assoc, length-append, Bool, true, false, cond, length, get_or, set, map, replicate, ap, sym, ◌∙◌, subst, refl, arith, Contains}
+use Rattle.std.proofs.Common.{◌≡◌, ◌≢◌, ℕ, zero, suc, ◌+◌, ◌*◌, ◌<◌, ◌≤◌, ◌⊎◌, inl, inr, List, [], ◌∷◌, Bool, true, false, cond, length, get_or, set, map, replicate, ap, sym, ◌∙◌, subst, refl, arith, Contains, Option, Some, None}
+use Rattle.std.specs.HashMap as hash
+use Rattle.std.specs.HashMap.{HashMap}
 use Rattle.std.specs.List.{sum_by}
+use Rattle.std.specs.Map.{lookup}
+use Rattle.std.specs.Prelude.{is_some, nat_eq}
 use Rattle.std.proofs.Math.ListN.{length-set}
 use Rattle.std.proofs.lemmas.Bool.{cases_eq, cases_lt}
-use Rattle.std.proofs.lemmas.List.{get_or-set_same, get_or-set_other, get_or_past, get_or-map, map-set, get_or-replicate, length-replicate, length-map, set-append_left, replicate-append-replicate}
+use Rattle.std.proofs.lemmas.Bool.Decides.{nat_tests}
+use Rattle.std.proofs.lemmas.List.{get_or-set_same, get_or-set_other, get_or_past, get_or-map, map-set, get_or-replicate, length-replicate}
 use Rattle.std.proofs.lemmas.List.Elements.{Contains-get_or}
 use Rattle.std.proofs.lemmas.List.Sums.{sum_by-set}
 use Rattle.gql_clashes.specs.declared.sets.Mode.{Mode}
 use Rattle.gql_clashes.specs.declared.sets.Mode.TheVariants.{Merge, Shape}
 use Rattle.gql_clashes.specs.declared.search.Item.{Item}
-use Rattle.gql_clashes.specs.Seen.{place_of, column, is_seen, see, IsSquare, IsInside, whole_row}
+use Rattle.gql_clashes.specs.Seen.{place_of, column, first_of, is_seen, row_of, see, IsSquare, IsInside}
+use Rattle.gql_clashes.proofs.Members.{Contains-here, Contains-there}
 
 place_less : (m : Mode) → place_of m ≤ 1
 place_less Merge = omega arith
@@ -135,55 +141,60 @@ see_by f rows x v v' lt is e =
     let out : f v ≡ get_or (map f rows) x.left [] = ap f is ∙ sym (get_or-map f rows x.left v [] lt) in
     map-set f rows x.left v' ∙ ap (λ r. set (map f rows) x.left r) (e ∙ ap (λ r. set r (column x) true) out)
 
--- a row of marks, and the places that it does not have
-replicate_map : {A B : Type 0} (f : A → B) (n : ℕ) (x : A) → map f (replicate n x) ≡ replicate n (f x)
-replicate_map f zero x = refl
-replicate_map f (suc n) x = ap (λ ys. f x ∷ ys) (replicate_map f n x)
+-- the first values of a function
+first_length : (n : ℕ) (f : ℕ → Bool) → length (first_of n f) ≡ n
+first_length zero f = refl
+first_length (suc n) f = ap suc (first_length n (λ i. f (suc i)))
 
-map_twice : {A B C : Type 0} (f : B → C) (g : A → B) (xs : List A) → map (λ x. f (g x)) xs ≡ map f (map g xs)
-map_twice f g [] = refl
-map_twice f g (x ∷ xs) = ap (λ ys. f (g x) ∷ ys) (map_twice f g xs)
+pub first_at : (n : ℕ) (f : ℕ → Bool) (i : ℕ) → i < n → get_or (first_of n f) i false ≡ f i
+first_at zero f i lt = absurd (omega arith)
+first_at (suc n) f zero lt = refl
+first_at (suc n) f (suc i) lt = first_at n (λ j. f (suc j)) i (omega arith)
 
-whole_nothing : (n : ℕ) → whole_row n [] ≡ replicate (2 * n) false
-whole_nothing n = let e : 2 * n - 0 ≡ 2 * n = omega arith in ap (λ k. replicate k false) e
+first_same : (n : ℕ) (f g : ℕ → Bool) → ((i : ℕ) → f i ≡ g i) → first_of n f ≡ first_of n g
+first_same zero f g h = refl
+first_same (suc n) f g h = ap (λ b. b ∷ first_of n (λ i. f (suc i))) (h 0) ∙ ap (λ bs. g 0 ∷ bs) (first_same n (λ i. f (suc i)) (λ i. g (suc i)) (λ i. h (suc i)))
 
-pub nothing_rows : {V : Type 0} (f : V → List Bool) (rows : List V) (n count : ℕ) → map f rows ≡ replicate n [] → n ≡ count → map (λ r. whole_row (length rows) (f r)) rows ≡ replicate count (replicate (2 * count) false)
-nothing_rows f rows n count e h =
-    let l : length rows ≡ count = sym (length-map rows f) ∙ ap length e ∙ length-replicate n [] ∙ h in
-    map_twice (whole_row (length rows)) f rows ∙ ap (λ y. map (whole_row (length rows)) y) e ∙ replicate_map (whole_row (length rows)) n [] ∙ ap (λ k. replicate k (whole_row (length rows) [])) h
-    ∙ ap (λ k. replicate count (whole_row k [])) l ∙ ap (λ y. replicate count y) (whole_nothing count)
+first_none : (n : ℕ) (f : ℕ → Bool) → ((i : ℕ) → f i ≡ false) → first_of n f ≡ replicate n false
+first_none zero f h = refl
+first_none (suc n) f h = ap (λ b. b ∷ first_of n (λ i. f (suc i))) (h 0) ∙ ap (λ bs. false ∷ bs) (first_none n (λ i. f (suc i)) (λ i. h (suc i)))
 
-whole_at : (k : ℕ) (row : List Bool) (i : ℕ) → get_or (row ++ replicate k false) i false ≡ get_or row i false
-whole_at k [] i = nothing k i ∙ sym (get_or_past [] i false (omega arith))
-whole_at k (b ∷ bs) zero = refl
-whole_at k (b ∷ bs) (suc i) = whole_at k bs i
-
--- the same, from the clauses of the calls
-pub seen_at : {V : Type 0} (f : V → List Bool) (n : ℕ) (rows : List V) (x : Item) (v : V) → x.left < length rows → v ≡ get_or rows x.left v → is_seen (map (λ r. whole_row n (f r)) rows) x ≡ get_or (f v) (column x) false
-seen_at f n rows x v lt is = ap (λ r. get_or r (column x) false) (get_or-map (λ r. whole_row n (f r)) rows x.left v [] lt ∙ ap (λ r. whole_row n (f r)) (sym is)) ∙ whole_at (2 * n - length (f v)) (f v) (column x)
-
-pub row_short : {V : Type 0} (f : V → List Bool) (rows : List V) (i : ℕ) (v : V) → IsSquare (length rows) (map (λ r. whole_row (length rows) (f r)) rows) → i < length rows → v ≡ get_or rows i v → length (f v) ≤ 2 * length rows
-row_short f rows i v q lt is =
-    let out : get_or (map (λ r. whole_row (length rows) (f r)) rows) i [] ≡ whole_row (length rows) (f v) = get_or-map (λ r. whole_row (length rows) (f r)) rows i v [] lt ∙ ap (λ r. whole_row (length rows) (f r)) (sym is) in
-    let l : length (whole_row (length rows) (f v)) ≡ 2 * length rows = ap length (sym out) ∙ q.row_is i lt in
-    omega (arith, l, length-append (f v) (replicate (2 * length rows - length (f v)) false))
+-- with a mark more
+pub first_marked : (n : ℕ) (f g : ℕ → Bool) (c : ℕ) → c < n → g c ≡ true → ((i : ℕ) → i ≢ c → g i ≡ f i) → first_of n g ≡ set (first_of n f) c true
+first_marked zero f g c lt here other = absurd (omega arith)
+first_marked (suc n) f g zero lt here other = ap (λ b. b ∷ first_of n (λ i. g (suc i))) here ∙ ap (λ bs. true ∷ bs) (first_same n (λ i. g (suc i)) (λ i. f (suc i)) (λ i. other (suc i) (λ e. omega (arith, e))))
+first_marked (suc n) f g (suc c) lt here other = ap (λ b. b ∷ first_of n (λ i. g (suc i))) (other 0 (λ e. omega (arith, e)))
+    ∙ ap (λ bs. f 0 ∷ bs) (first_marked n (λ i. f (suc i)) (λ i. g (suc i)) c (omega arith) here (λ i ne. other (suc i) (λ e. ne (omega (arith, e)))))
 
 pub column_inside : (n : ℕ) (x : Item) → IsInside n x → column x < 2 * n
 column_inside n x i = omega (arith, i.1, place_less x.mode)
 
--- a row that was made longer, and marked
-pub longer_marked : (n k c : ℕ) (row row' : List Bool) → row' ≡ row ++ replicate k false → c < length row' → length row' ≤ 2 * n → whole_row n (set row' c true) ≡ set (whole_row n row) c true
-longer_marked n k c row row' e lt le =
-    let l : length (set row' c true) ≡ length row' = length-set row' c true in
-    let size : length row' ≡ length row + k = ap length e ∙ length-append row (replicate k false) ∙ ap (λ j. length row + j) (length-replicate k false) in
-    let rest : k + (2 * n - length row') ≡ 2 * n - length row = omega (arith, size, le) in
-    let all : row' ++ replicate (2 * n - length row') false ≡ whole_row n row =
-    ap (λ y. y ++ replicate (2 * n - length row') false) e ∙ append_assoc row (replicate k false) (replicate (2 * n - length row') false) ∙ ap (λ y. row ++ y) (replicate-append-replicate k (2 * n - length row') false ∙ ap (λ j. replicate j false) rest) in
-    ap (λ j. set row' c true ++ replicate (2 * n - j) false) l ∙ sym (set-append_left row' (replicate (2 * n - length row') false) c true lt) ∙ ap (λ y. set y c true) all
+apart_tests : (a b : ℕ) → a ≢ b → nat_eq b a ≡ false
+apart_tests a b ne = grind (arith, nat_tests, ne)
 
-pub see_in : {V : Type 0} (f : V → List Bool) (rows : List V) (x : Item) (v v' : V) → x.left < length rows → v ≡ get_or rows x.left v → whole_row (length rows) (f v') ≡ set (whole_row (length rows) (f v)) (column x) true
-    → map (λ r. whole_row (length (set rows x.left v')) (f r)) (set rows x.left v') ≡ see (map (λ r. whole_row (length rows) (f r)) rows) x
-see_in f rows x v v' lt is e = ap (λ n. map (λ r. whole_row n (f r)) (set rows x.left v')) (length-set rows x.left v') ∙ see_by (λ r. whole_row (length rows) (f r)) rows x v v' lt is e
+module _ {X S : Type 0} where
+  -- a row in which one place more was seen
+  pub row_marked : (n : ℕ) (m k : HashMap ℕ X S) (c : ℕ) (v : X) → c < 2 * n → hash.Updates nat_eq m k c (Some v) → row_of n k ≡ set (row_of n m) c true
+  row_marked n m k c v lt u = first_marked (2 * n) (λ i. is_some (hash.get nat_eq m i)) (λ i. is_some (hash.get nat_eq k i)) c lt (ap (λ o. is_some o) u.1) (λ i ne. ap (λ o. is_some o) (u.2 i (apart_tests i c ne)))
+
+  -- the same, from the clauses of the calls
+  pub seen_at : (n : ℕ) (rows : List (HashMap ℕ X S)) (x : Item) (v : HashMap ℕ X S) → IsInside n x → x.left < length rows → v ≡ get_or rows x.left v → is_seen (map (λ r. row_of n r) rows) x ≡ is_some (hash.get nat_eq v (column x))
+  seen_at n rows x v i lt is = ap (λ r. get_or r (column x) false) (get_or-map (λ r. row_of n r) rows x.left v [] lt ∙ ap (λ r. row_of n r) (sym is)) ∙ first_at (2 * n) (λ j. is_some (hash.get nat_eq v j)) (column x) (column_inside n x i)
+
+  pub see_in : (rows : List (HashMap ℕ X S)) (x : Item) (v k : HashMap ℕ X S) → x.left < length rows → v ≡ get_or rows x.left v → row_of (length rows) k ≡ set (row_of (length rows) v) (column x) true
+      → map (λ r. row_of (length (set rows x.left k)) r) (set rows x.left k) ≡ see (map (λ r. row_of (length rows) r) rows) x
+  see_in rows x v k lt is e = ap (λ n. map (λ r. row_of n r) (set rows x.left k)) (length-set rows x.left k) ∙ see_by (λ r. row_of (length rows) r) rows x v k lt is e
+
+  -- rows without marks
+  pub nothing_in : (n : ℕ) (m : HashMap ℕ X S) → m.entries ≡ [] → row_of n m ≡ replicate (2 * n) false
+  nothing_in n m e = first_none (2 * n) (λ i. is_some (hash.get nat_eq m i)) (λ i. let l : ◌≡◌ {A = Option X} (hash.get nat_eq m i) None = ap (λ (es : List (ℕ × X)). lookup (nat_eq i) es) e in ap (λ o. is_some o) l)
+
+  all_nothing : (n : ℕ) (rows : List (HashMap ℕ X S)) → ((m : HashMap ℕ X S) → Contains rows m → m.entries ≡ []) → map (λ r. row_of n r) rows ≡ replicate (length rows) (replicate (2 * n) false)
+  all_nothing n [] h = refl
+  all_nothing n (m ∷ rows) h = ap (λ r. r ∷ map (λ r. row_of n r) rows) (nothing_in n m (h m (Contains-here m rows))) ∙ ap (λ rs. replicate (2 * n) false ∷ rs) (all_nothing n rows (λ k c. h k (Contains-there k m rows c)))
+
+  pub nothing_rows : (rows : List (HashMap ℕ X S)) (n count : ℕ) → length rows ≡ n → ((m : HashMap ℕ X S) → Contains rows m → m.entries ≡ []) → n ≡ count → map (λ r. row_of (length rows) r) rows ≡ replicate count (replicate (2 * count) false)
+  nothing_rows rows n count l h e = all_nothing (length rows) rows h ∙ ap (λ k. replicate k (replicate (2 * k) false)) (l ∙ e)
 
 abbrev pub no_item : Item
 no_item = record { left = 0; right = 0; mode = Merge }

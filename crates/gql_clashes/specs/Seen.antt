@@ -1,6 +1,8 @@
--- Helper definitions: the items that were seen. There is a row for each left body, with two places
--- for each right body.
-use Rattle.std.specs.Prelude.{◌≡◌, ◌<◌, ◌+◌, ◌-◌, ◌*◌, ◌++◌, ◌∷◌, [], ℕ, List, Bool, true, false, cond, length, replicate, slice_index_or, slice_set, map}
+-- Helper definitions: the items that were seen. There is a row for each left group, with two
+-- places for each right group.
+use Rattle.std.specs.Prelude.{◌≡◌, ◌<◌, ◌+◌, ◌*◌, ◌++◌, ◌∷◌, [], ℕ, zero, suc, List, Bool, true, false, cond, length, nat_eq, is_some, slice_index_or, slice_set, map}
+use Rattle.std.specs.HashMap as hash
+use Rattle.std.specs.HashMap.{HashMap}
 use Rattle.gql_clashes.specs.declared.sets.Mode.{Mode}
 use Rattle.gql_clashes.specs.declared.sets.Mode.TheVariants.{Merge, Shape}
 use Rattle.gql_clashes.specs.declared.search.Item.{Item}
@@ -27,12 +29,17 @@ pub record IsSquare (count : ℕ) (rows : List (List Bool)) : Type 0 where
 abbrev pub IsInside : ℕ → Item → Type 0
 IsInside count x = (x.left < count) × (x.right < count)
 
--- a row of marks has places up to its last mark; the others are false
-abbrev pub whole_row : ℕ → List Bool → List Bool
-whole_row count row = row ++ replicate (2 * count - length row) false
+-- the first values of a function
+abbrev pub first_of : ℕ → (ℕ → Bool) → List Bool
+first_of zero f = []
+first_of (suc n) f = f 0 ∷ first_of n (λ i. f (suc i))
+
+-- the marks of a row
+abbrev pub row_of : {X S : Type 0} → ℕ → HashMap ℕ X S → List Bool
+row_of count marks = first_of (2 * count) (λ i. is_some (hash.get nat_eq marks i))
 
 abbrev pub rows_of : Seen → List (List Bool)
-rows_of seen = map (λ r. whole_row (length seen.rows.items) r.items) seen.rows.items
+rows_of seen = map (row_of (length seen.rows.items)) seen.rows.items
 
 -- marking: what was seen so far, and the items of these that are still to be visited
 abbrev pub mark : Item → List (List Bool) × List Item → List (List Bool) × List Item

@@ -1,15 +1,16 @@
 //! The items for which two classes ask, and two lists of classes, and an item.
-ghost use Rattle.std.specs.Prelude.{◌≡◌, ◌<◌, ◌++◌, ℕ, List, map, flat_map, length, IfOk, OnOk, Contains};
-ghost use Rattle.gql_clashes.specs.Compared.{IsClassed, asked_at, between, classes_of, item_of, items_among, items_below, items_of, other_in, two_in};
+ghost use Rattle.std.specs.Prelude.{◌≡◌, ◌<◌, ◌++◌, ℕ, map, flat_map, length, IfOk, OnOk, Contains};
+ghost use Rattle.gql_clashes.specs.Compared.{IsTable, asked_at, between, fields_in, item_of, items_among, items_below, items_of, lefts_of, other_in, plan_of, rights_of, selves, two_in};
 ghost use Rattle.gql_clashes.specs.Numbered.{IsWhole};
+ghost use Rattle.gql_clashes.specs.declared.groups.Class.{Class as AClass};
 
-use crate::classes::{Table, classes_at};
 use crate::compare::{are_bad, are_one, field_of, mode_under, share_name, spreads_of};
+use crate::groups::{Class, Table, bodies_at, classes_at};
 use crate::search::Item;
 use crate::sets::{Mode, Sets};
 use std::alloc::{AllocError, Global};
 
-// Two bodies in their order.
+// Two groups in their order.
 fn in_order(left: usize, right: usize, mode: Mode) -> Item
     ensures { result ≡ item_of left right mode }
 {
@@ -24,7 +25,7 @@ fn in_order(left: usize, right: usize, mode: Mode) -> Item
     }
 }
 
-// Adds the item of two bodies, if there are two.
+// Adds the item of two groups, if there are two.
 fn add_between(
     left: Option<usize>,
     right: Option<usize>,
@@ -41,25 +42,41 @@ fn add_between(
     Ok(())
 }
 
-// Adds the items that two fields ask for.
+// Adds each body below some fields with itself.
+fn add_selves(
+    sets: &Sets,
+    mode: Mode,
+    fields: &[usize],
+    items: &mut Vec<Item>,
+) -> Result<(), AllocError>
+    requires { (f : ℕ) → Contains fields.now f → f < length sets.now.fields.items }
+    ensures { OnOk result
+        (items.new.items ≡ items.old.items ++ selves sets.now mode fields.now) }
+{
+    for field in fields {
+        let below = field_of(sets, *field).below;
+        add_between(below, below, mode, items)?;
+    }
+    Ok(())
+}
+
+// Adds the items that two classes ask for, whose fields below are compared in this mode.
 fn add_below(
     sets: &Sets,
     mode: Mode,
-    left: usize,
-    right: usize,
+    left: &Class,
+    right: &Class,
     items: &mut Vec<Item>,
 ) -> Result<(), AllocError>
-    requires left { left < length sets.now.fields.items }
-    requires right { right < length sets.now.fields.items }
+    requires left { (f : ℕ) → Contains (fields_in left.now) f → f < length sets.now.fields.items }
+    requires right { (g : ℕ) → Contains (fields_in right.now) g
+        → g < length sets.now.fields.items }
     ensures { OnOk result
-        (items.new.items ≡ items.old.items ++ items_below sets.now mode left right) }
+        (items.new.items ≡ items.old.items ++ items_below sets.now mode left.now right.now) }
 {
-    let first = field_of(sets, left).below;
-    let second = field_of(sets, right).below;
-    let under = mode_under(sets, mode, left, right);
-    add_between(first, first, under, items)?;
-    add_between(second, second, under, items)?;
-    add_between(first, second, under, items)?;
+    add_selves(sets, mode, &left.fields, items)?;
+    add_selves(sets, mode, &right.fields, items)?;
+    add_between(left.below, right.below, mode, items)?;
     Ok(())
 }
 
@@ -95,22 +112,26 @@ fn have_two(sets: &Sets, lefts: &[usize], rights: &[usize]) -> bool
 fn ask(
     sets: &Sets,
     mode: Mode,
-    lefts: &[usize],
-    rights: &[usize],
+    left: &Class,
+    right: &Class,
     items: &mut Vec<Item>,
 ) -> Result<(), AllocError>
-    requires lefts { (f : ℕ) → Contains lefts.now f → f < length sets.now.fields.items }
-    requires rights { (g : ℕ) → Contains rights.now g → g < length sets.now.fields.items }
+    requires left { (f : ℕ) → Contains (fields_in left.now) f → f < length sets.now.fields.items }
+    requires right { (g : ℕ) → Contains (fields_in right.now) g
+        → g < length sets.now.fields.items }
     ensures { OnOk result
-        (items.new.items ≡ items.old.items ++ items_of sets.now mode lefts.now rights.now) }
+        (items.new.items ≡ items.old.items ++ items_of sets.now mode left.now right.now) }
 {
+    let lefts = left.fields.as_slice();
+    let rights = right.fields.as_slice();
     if !lefts.is_empty()
         && !rights.is_empty()
         && share_name(sets, lefts[0], rights[0])
         && !are_bad(sets, mode, lefts[0], rights[0])
         && have_two(sets, lefts, rights)
     {
-        add_below(sets, mode, lefts[0], rights[0], items)?;
+        let under = mode_under(sets, mode, lefts[0], rights[0]);
+        add_below(sets, under, left, right, items)?;
     }
     Ok(())
 }
@@ -119,18 +140,18 @@ fn ask(
 fn ask_with(
     sets: &Sets,
     mode: Mode,
-    lefts: &[usize],
-    classes: &[Vec<usize>],
+    left: &Class,
+    classes: &[Class],
     items: &mut Vec<Item>,
 ) -> Result<(), AllocError>
-    requires lefts { (f : ℕ) → Contains lefts.now f → f < length sets.now.fields.items }
-    requires classes { (c : List ℕ) (g : ℕ) → Contains (map (λ c. c.items) classes.now) c
-        → Contains c g → g < length sets.now.fields.items }
+    requires left { (f : ℕ) → Contains (fields_in left.now) f → f < length sets.now.fields.items }
+    requires classes { (c : AClass) (g : ℕ) → Contains classes.now c
+        → Contains (fields_in c) g → g < length sets.now.fields.items }
     ensures { OnOk result (items.new.items ≡ items.old.items
-        ++ flat_map (items_of sets.now mode lefts.now) (map (λ c. c.items) classes.now)) }
+        ++ flat_map (items_of sets.now mode left.now) classes.now) }
 {
-    for rights in classes {
-        ask(sets, mode, lefts, rights, items)?;
+    for right in classes {
+        ask(sets, mode, left, right, items)?;
     }
     Ok(())
 }
@@ -139,17 +160,16 @@ fn ask_with(
 pub fn ask_all(
     sets: &Sets,
     mode: Mode,
-    lefts: &[Vec<usize>],
-    rights: &[Vec<usize>],
+    lefts: &[Class],
+    rights: &[Class],
     items: &mut Vec<Item>,
 ) -> Result<(), AllocError>
-    requires lefts { (c : List ℕ) (f : ℕ) → Contains (map (λ c. c.items) lefts.now) c
-        → Contains c f → f < length sets.now.fields.items }
-    requires rights { (c : List ℕ) (g : ℕ) → Contains (map (λ c. c.items) rights.now) c
-        → Contains c g → g < length sets.now.fields.items }
+    requires lefts { (c : AClass) (f : ℕ) → Contains lefts.now c
+        → Contains (fields_in c) f → f < length sets.now.fields.items }
+    requires rights { (c : AClass) (g : ℕ) → Contains rights.now c
+        → Contains (fields_in c) g → g < length sets.now.fields.items }
     ensures { OnOk result (items.new.items ≡ items.old.items
-        ++ items_among sets.now mode (map (λ c. c.items) lefts.now)
-        (map (λ c. c.items) rights.now)) }
+        ++ items_among sets.now mode lefts.now rights.now) }
 {
     for class in lefts {
         ask_with(sets, mode, class, rights, items)?;
@@ -157,7 +177,7 @@ pub fn ask_all(
     Ok(())
 }
 
-// Adds an item for each of some bodies in place of its left one.
+// Adds an item for each of some bodies in place of its left group.
 fn add_lefts(item: Item, bodies: &[usize], items: &mut Vec<Item>) -> Result<(), AllocError>
     ensures { OnOk result (items.new.items ≡ items.old.items
         ++ map (λ u. item_of u item.right item.mode) bodies.now) }
@@ -168,13 +188,47 @@ fn add_lefts(item: Item, bodies: &[usize], items: &mut Vec<Item>) -> Result<(), 
     Ok(())
 }
 
-// Adds an item for each of some bodies in place of its right one.
+// Adds an item for each of some bodies in place of its right group.
 fn add_rights(item: Item, bodies: &[usize], items: &mut Vec<Item>) -> Result<(), AllocError>
     ensures { OnOk result (items.new.items ≡ items.old.items
         ++ map (λ u. item_of item.left u item.mode) bodies.now) }
 {
     for body in bodies {
         items.push(in_order(item.left, *body, item.mode))?;
+    }
+    Ok(())
+}
+
+// Adds an item for each body that is spread in these, in place of its left group.
+fn add_spread_lefts(
+    sets: &Sets,
+    item: Item,
+    bodies: &[usize],
+    items: &mut Vec<Item>,
+) -> Result<(), AllocError>
+    requires { (s : ℕ) → Contains bodies.now s → s < length sets.now.bodies.items }
+    ensures { OnOk result (items.new.items ≡ items.old.items
+        ++ flat_map (lefts_of sets.now item) bodies.now) }
+{
+    for body in bodies {
+        add_lefts(item, spreads_of(sets, *body), items)?;
+    }
+    Ok(())
+}
+
+// Adds an item for each body that is spread in these, in place of its right group.
+fn add_spread_rights(
+    sets: &Sets,
+    item: Item,
+    bodies: &[usize],
+    items: &mut Vec<Item>,
+) -> Result<(), AllocError>
+    requires { (s : ℕ) → Contains bodies.now s → s < length sets.now.bodies.items }
+    ensures { OnOk result (items.new.items ≡ items.old.items
+        ++ flat_map (rights_of sets.now item) bodies.now) }
+{
+    for body in bodies {
+        add_rights(item, spreads_of(sets, *body), items)?;
     }
     Ok(())
 }
@@ -187,18 +241,17 @@ pub fn asked_by(
     item: Item,
 ) -> Result<Vec<Item>, AllocError>
     requires whole { IsWhole sets.now }
-    requires size { length table.now.rows.items ≡ length sets.now.bodies.items }
-    requires classed { IsClassed sets.now (classes_of table.now) }
-    requires left { item.left < length sets.now.bodies.items }
-    requires right { item.right < length sets.now.bodies.items }
+    requires table { IsTable sets.now table.now }
+    requires left { item.left < length table.now.bodies.items }
+    requires right { item.right < length table.now.bodies.items }
     ensures { IfOk result
-        (λ items. items.items ≡ asked_at sets.now (classes_of table.now) item) }
+        (λ items. items.items ≡ asked_at sets.now (plan_of table.now) item) }
 {
     let mut items = Vec::new(alloc);
     let lefts = classes_at(table, item.left);
     let rights = classes_at(table, item.right);
     ask_all(sets, item.mode, lefts, rights, &mut items)?;
-    add_lefts(item, spreads_of(sets, item.left), &mut items)?;
-    add_rights(item, spreads_of(sets, item.right), &mut items)?;
+    add_spread_lefts(sets, item, bodies_at(table, item.left), &mut items)?;
+    add_spread_rights(sets, item, bodies_at(table, item.right), &mut items)?;
     Ok(items)
 }

@@ -1,44 +1,68 @@
-//! Classes of fields that differ in their places alone, so that one of them represents all.
-ghost use Rattle.std.specs.Prelude.{◌≡◌, ◌<◌, ◌++◌, ◌∷◌, [], ℕ, List, true, None, map, length, slice_index_or, IfOk, OnOk, Contains};
-ghost use Rattle.gql_clashes.specs.Compared.{IsClassed, IsClassing, classes_of, kind_at, kind_of};
-ghost use Rattle.gql_clashes.specs.Numbered.{IsWhole, field_at};
+//! Classes of fields that differ in nothing but their place and their selections, so that one of
+//! them represents all.
+ghost use Rattle.std.specs.Prelude.{◌≡◌, ◌<◌, ◌⊎◌, ◌++◌, ◌∷◌, [], ℕ, List, true, map, length, slice_index_or, IfOk, OnOk, Contains};
+ghost use Rattle.gql_clashes.specs.Compared.{AreLeaves, IsApart, IsClassing, kind_at, kind_of};
+ghost use Rattle.gql_clashes.specs.Numbered.{field_at};
 
-use crate::compare::{direct_of, field_of};
+use crate::compare::field_of;
 use crate::sets::{NumberedField, Sets};
 use std::alloc::{AllocError, Global};
+use std::collections::HashMap;
 
-/// The classes of each body's fields.
-#[derive(Drop)]
-pub struct Table {
-    pub rows: Vec<Vec<Vec<usize>>>,
+/// What the fields of a class have in common: response name, parent type and whether that is an
+/// object type, field name with arguments, and shape.
+type Signature = (usize, usize, bool, usize, usize);
+
+fn signature_of(field: NumberedField) -> Signature
+    ensures { result ≡ (field.response_name, field.parent, field.of_object, field.call, field.shape) }
+{
+    (
+        field.response_name,
+        field.parent,
+        field.of_object,
+        field.call,
+        field.shape,
+    )
 }
 
-// Whether two fields differ in their places alone, with nothing below.
-fn are_alike(left: NumberedField, right: NumberedField) -> bool
-    ensures { result ≡ true → (kind_of left ≡ kind_of right) × (right.below ≡ None) }
+// Whether two fields are of one class: with selections, only where these are joined.
+fn are_alike(join: bool, left: NumberedField, right: NumberedField) -> bool
+    ensures { result ≡ true
+        → (kind_of left ≡ kind_of right) × (AreLeaves left right ⊎ (join ≡ true)) }
 {
     left.response_name == right.response_name
         && left.parent == right.parent
         && left.of_object == right.of_object
         && left.call == right.call
         && left.shape == right.shape
-        && left.below.is_none()
-        && right.below.is_none()
+        && (join || left.below.is_none() && right.below.is_none())
 }
 
-// The place of a class whose first field is like this one, or the number of the classes.
-fn class_for(sets: &Sets, classes: &[Vec<usize>], number: usize) -> usize
+// The place of a class whose first field is like this one, or the number of the classes. `places`
+// has the place to look at, by the signature.
+fn class_for(
+    sets: &Sets,
+    join: bool,
+    places: &HashMap<Signature, usize>,
+    classes: &[Vec<usize>],
+    number: usize,
+) -> usize
     requires number { number < length sets.now.fields.items }
     requires inside { (c : List ℕ) (f : ℕ) → Contains (map (λ c. c.items) classes.now) c
         → Contains c f → f < length sets.now.fields.items }
     ensures { result < length classes.now
         → (x : ℕ) × Contains (slice_index_or (map (λ c. c.items) classes.now) result []) x
         × (kind_at sets.now x ≡ kind_at sets.now number)
-        × ((field_at sets.now number).below ≡ None) }
+        × (AreLeaves (field_at sets.now x) (field_at sets.now number) ⊎ (join ≡ true)) }
 {
-    for (place, class) in classes.iter().enumerate() {
-        if !class.is_empty() && are_alike(field_of(sets, class[0]), field_of(sets, number)) {
-            return place;
+    let field = field_of(sets, number);
+    if let Some(found) = places.get(&signature_of(field)) {
+        let place = *found;
+        if place < classes.len() {
+            let class = &classes[place];
+            if !class.is_empty() && are_alike(join, field_of(sets, class[0]), field) {
+                return place;
+            }
         }
     }
     classes.len()
@@ -48,9 +72,12 @@ fn class_for(sets: &Sets, classes: &[Vec<usize>], number: usize) -> usize
 fn add_to(
     alloc: Global,
     sets: &Sets,
+    join: bool,
     number: usize,
+    places: &mut HashMap<Signature, usize>,
     classes: &mut Vec<Vec<usize>>,
 ) -> Result<(), AllocError>
+    requires apart { join ≡ true → IsApart sets.now }
     requires number { number < length sets.now.fields.items }
     requires inside { (c : List ℕ) (f : ℕ) → Contains (map (λ c. c.items) classes.old.items) c
         → Contains c f → f < length sets.now.fields.items }
@@ -58,11 +85,12 @@ fn add_to(
         → IsClassing sets.now fields (map (λ c. c.items) classes.old.items)
         → IsClassing sets.now (fields ++ number ∷ []) (map (λ c. c.items) classes.new.items)) }
 {
-    let place = class_for(sets, classes, number);
+    let place = class_for(sets, join, places, classes, number);
     if place < classes.len() {
         let class = &mut classes[place];
         class.push(number)?;
     } else {
+        places.insert(signature_of(field_of(sets, number)), place)?;
         let mut class = Vec::new(alloc);
         class.push(number)?;
         classes.push(class)?;
@@ -70,41 +98,22 @@ fn add_to(
     Ok(())
 }
 
-// The classes of some fields.
-fn classes_of_fields(
+/// The classes of some fields. Fields with selections are in one class only where `join` says so.
+pub fn classes_of_fields(
     alloc: Global,
     sets: &Sets,
+    join: bool,
     fields: &[usize],
 ) -> Result<Vec<Vec<usize>>, AllocError>
-    requires { (f : ℕ) → Contains fields.now f → f < length sets.now.fields.items }
+    requires apart { join ≡ true → IsApart sets.now }
+    requires fields { (f : ℕ) → Contains fields.now f → f < length sets.now.fields.items }
     ensures { IfOk result
         (λ classes. IsClassing sets.now fields.now (map (λ c. c.items) classes.items)) }
 {
+    let mut places = HashMap::new(alloc);
     let mut classes = Vec::new(alloc);
     for field in fields {
-        add_to(alloc, sets, *field, &mut classes)?;
+        add_to(alloc, sets, join, *field, &mut places, &mut classes)?;
     }
     Ok(classes)
-}
-
-/// The classes of each body's fields.
-pub fn table_of(alloc: Global, sets: &Sets) -> Result<Table, AllocError>
-    requires { IsWhole sets.now }
-    ensures size { IfOk result
-        (λ table. length table.rows.items ≡ length sets.now.bodies.items) }
-    ensures classed { IfOk result (λ table. IsClassed sets.now (classes_of table)) }
-{
-    let mut rows = Vec::new(alloc);
-    for body in 0..sets.bodies.len() {
-        rows.push(classes_of_fields(alloc, sets, direct_of(sets, body))?)?;
-    }
-    Ok(Table { rows })
-}
-
-/// The classes of a body's fields.
-pub fn classes_at(table: &Table, body: usize) -> &[Vec<usize>]
-    requires { body < length table.now.rows.items }
-    ensures { map (λ c. c.items) result.now ≡ classes_of table.now body }
-{
-    &table.rows[body]
 }

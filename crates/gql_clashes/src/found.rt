@@ -1,8 +1,10 @@
 //! The pairs that are found at two classes, and at two lists of classes.
-ghost use Rattle.std.specs.Prelude.{◌≡◌, ◌<◌, ◌++◌, ℕ, List, map, flat_map, length, OnOk, Contains};
-ghost use Rattle.gql_clashes.specs.Compared.{bad_among, bad_at, pair_if_two, pair_of, pairs_of};
+ghost use Rattle.std.specs.Prelude.{◌≡◌, ◌<◌, ◌++◌, ℕ, flat_map, length, OnOk, Contains};
+ghost use Rattle.gql_clashes.specs.Compared.{bad_among, bad_at, fields_in, pair_if_two, pair_of, pairs_of};
+ghost use Rattle.gql_clashes.specs.declared.groups.Class.{Class as AClass};
 
 use crate::compare::{are_bad, are_one, share_name};
+use crate::groups::Class;
 use crate::sets::{Mode, Pair, Sets};
 use std::alloc::AllocError;
 
@@ -93,17 +95,17 @@ fn find_with(
     sets: &Sets,
     mode: Mode,
     lefts: &[usize],
-    classes: &[Vec<usize>],
+    classes: &[Class],
     bad: &mut Vec<Pair>,
 ) -> Result<(), AllocError>
     requires lefts { (f : ℕ) → Contains lefts.now f → f < length sets.now.fields.items }
-    requires classes { (c : List ℕ) (g : ℕ) → Contains (map (λ c. c.items) classes.now) c
-        → Contains c g → g < length sets.now.fields.items }
+    requires classes { (c : AClass) (g : ℕ) → Contains classes.now c
+        → Contains (fields_in c) g → g < length sets.now.fields.items }
     ensures { OnOk result (bad.new.items ≡ bad.old.items
-        ++ flat_map (bad_at sets.now mode lefts.now) (map (λ c. c.items) classes.now)) }
+        ++ flat_map (λ c. bad_at sets.now mode lefts.now (fields_in c)) classes.now) }
 {
     for rights in classes {
-        find(sets, mode, lefts, rights, bad)?;
+        find(sets, mode, lefts, &rights.fields, bad)?;
     }
     Ok(())
 }
@@ -112,20 +114,19 @@ fn find_with(
 pub fn find_all(
     sets: &Sets,
     mode: Mode,
-    lefts: &[Vec<usize>],
-    rights: &[Vec<usize>],
+    lefts: &[Class],
+    rights: &[Class],
     bad: &mut Vec<Pair>,
 ) -> Result<(), AllocError>
-    requires lefts { (c : List ℕ) (f : ℕ) → Contains (map (λ c. c.items) lefts.now) c
-        → Contains c f → f < length sets.now.fields.items }
-    requires rights { (c : List ℕ) (g : ℕ) → Contains (map (λ c. c.items) rights.now) c
-        → Contains c g → g < length sets.now.fields.items }
-    ensures { OnOk result (bad.new.items ≡ bad.old.items
-        ++ bad_among sets.now mode (map (λ c. c.items) lefts.now)
-        (map (λ c. c.items) rights.now)) }
+    requires lefts { (c : AClass) (f : ℕ) → Contains lefts.now c
+        → Contains (fields_in c) f → f < length sets.now.fields.items }
+    requires rights { (c : AClass) (g : ℕ) → Contains rights.now c
+        → Contains (fields_in c) g → g < length sets.now.fields.items }
+    ensures { OnOk result (bad.new.items
+        ≡ bad.old.items ++ bad_among sets.now mode lefts.now rights.now) }
 {
     for class in lefts {
-        find_with(sets, mode, class, rights, bad)?;
+        find_with(sets, mode, &class.fields, rights, bad)?;
     }
     Ok(())
 }

@@ -2,14 +2,16 @@
 //! selection sets that are numbers.
 //!
 //! The search visits pairs of selection sets, each pair once in each mode, and compares the fields
-//! that the two have themselves. Fields that differ in nothing but their place, with nothing below,
-//! are compared as one.
+//! that the two have themselves. Fields that differ in nothing but their place and their selections
+//! are compared as one, and their selection sets are then visited as one.
 #![tactic(auto)]
 
+mod apart;
 mod asked;
 mod classes;
 mod compare;
 mod found;
+mod groups;
 pub mod laws;
 mod parts;
 mod search;

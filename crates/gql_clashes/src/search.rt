@@ -1,20 +1,21 @@
 //! The search for pairs that clash.
 ghost use Rattle.std.specs.Prelude.{◌≡◌, ◌<◌, ℕ, List, Bool, [], map, true, length, IfOk, OnOk, Contains};
 ghost use Rattle.gql_clashes.specs.Clashes.{SeedsBetween, SeedsOf};
-ghost use Rattle.gql_clashes.specs.Compared.{IsClassed, classes_of};
+ghost use Rattle.gql_clashes.specs.Compared.{IsTable, plan_of};
 ghost use Rattle.gql_clashes.specs.Numbered.{IsClashPair, IsWhole, Lists, nodes_of};
 ghost use Rattle.gql_clashes.specs.Search.{Explores, Searches, start_at};
-ghost use Rattle.gql_clashes.specs.Seen.{IsSquare, is_seen, rows_of};
+ghost use Rattle.gql_clashes.specs.Seen.{IsInside, IsSquare, is_seen, rows_of};
 ghost use Rattle.gql_clashes.specs.declared.search.Item as item;
 
 use crate::asked::{ask_all, asked_by};
-use crate::classes::{Table, classes_at, table_of};
 use crate::found::find_all;
+use crate::groups::{Table, classes_at, table_of};
 use crate::seen::{Seen, mark, nothing_seen};
 use crate::sets::{Mode, Pair, Sets};
 use std::alloc::{AllocError, Global};
 
-/// Two bodies in their order, and how the fields of one are compared with those of the other.
+/// Two groups of bodies in their order, and how the fields of one are compared with those of the
+/// other.
 #[derive(Clone, Copy)]
 pub struct Item {
     pub left: usize,
@@ -32,15 +33,14 @@ fn run(
     bad: &mut Vec<Pair>,
 ) -> Result<(), AllocError>
     requires whole { IsWhole sets.now }
-    requires rows { length table.now.rows.items ≡ length sets.now.bodies.items }
-    requires classed { IsClassed sets.now (classes_of table.now) }
-    requires size { length seen.old.rows.items ≡ length sets.now.bodies.items }
-    requires square { IsSquare (length sets.now.bodies.items) (rows_of seen.old) }
+    requires table { IsTable sets.now table.now }
+    requires size { length seen.old.rows.items ≡ length table.now.bodies.items }
+    requires square { IsSquare (length table.now.bodies.items) (rows_of seen.old) }
     requires waits { (x : item.Item) → Contains todo.old.items x
         → is_seen (rows_of seen.old) x ≡ true }
     requires all { (x : item.Item) → is_seen (rows_of seen.old) x ≡ true
         → Contains todo.old.items x }
-    ensures { OnOk result (Searches sets.now (classes_of table.now) (rows_of seen.old)
+    ensures { OnOk result (Searches sets.now (plan_of table.now) (rows_of seen.old)
         bad.old.items (rows_of seen.new) [] bad.new.items) }
 {
     while let Some(item) = todo.pop() {
@@ -62,14 +62,13 @@ fn search_from(
     bad: &mut Vec<Pair>,
 ) -> Result<(), AllocError>
     requires whole { IsWhole sets.now }
-    requires rows { length table.now.rows.items ≡ length sets.now.bodies.items }
-    requires classed { IsClassed sets.now (classes_of table.now) }
+    requires table { IsTable sets.now table.now }
     requires inside { (x : item.Item) → Contains items.now x
-        → (x.left < length sets.now.bodies.items) × (x.right < length sets.now.bodies.items) }
-    ensures { OnOk result ((rows : List (List Bool)) × Explores sets.now (classes_of table.now)
+        → IsInside (length table.now.bodies.items) x }
+    ensures { OnOk result ((rows : List (List Bool)) × Explores sets.now (plan_of table.now)
         items.now bad.old.items rows bad.new.items) }
 {
-    let mut seen = nothing_seen(alloc, sets.bodies.len())?;
+    let mut seen = nothing_seen(alloc, table.bodies.len())?;
     let mut todo = Vec::new(alloc);
     mark(items, &mut seen, &mut todo)?;
     run(alloc, sets, table, &mut seen, &mut todo, bad)?;

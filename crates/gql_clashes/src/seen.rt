@@ -6,12 +6,12 @@ ghost use Rattle.gql_clashes.specs.Seen.{IsInside, IsSquare, column, is_seen, ma
 use crate::search::Item;
 use crate::sets::Mode;
 use std::alloc::{AllocError, Global};
+use std::collections::HashMap;
 
-/// A row for each left body, and in it two places for each right body, up to the last that was
-/// seen.
+/// For each left group the places that were seen, of two for each right group.
 #[derive(Drop)]
 pub struct Seen {
-    pub rows: Vec<Vec<bool>>,
+    pub rows: Vec<HashMap<usize, ()>>,
 }
 
 // The place of a mode.
@@ -33,14 +33,14 @@ fn column_of(item: Item) -> usize
     2 * item.right + mode_place(item.mode)
 }
 
-/// Nothing, for so many bodies.
+/// Nothing, for so many groups.
 pub fn nothing_seen(alloc: Global, count: usize) -> Result<Seen, AllocError>
     requires { 2 * count < 2 ^ 64 }
     ensures { IfOk result (λ seen. rows_of seen ≡ replicate count (replicate (2 * count) false)) }
 {
     let mut rows = Vec::new(alloc);
     for _ in 0..count {
-        rows.push(Vec::new(alloc))?;
+        rows.push(HashMap::new(alloc))?;
     }
     Ok(Seen { rows })
 }
@@ -51,9 +51,7 @@ fn was_seen(seen: &Seen, item: Item) -> bool
     requires inside { IsInside (length seen.now.rows.items) item }
     ensures { result ≡ is_seen (rows_of seen.now) item }
 {
-    let row = &seen.rows[item.left];
-    let column = column_of(item);
-    column < row.len() && row[column]
+    seen.rows[item.left].contains_key(&column_of(item))
 }
 
 // Sees an item.
@@ -64,10 +62,7 @@ fn see_one(seen: &mut Seen, item: Item) -> Result<(), AllocError>
 {
     let column = column_of(item);
     let row = &mut seen.rows[item.left];
-    while row.len() <= column {
-        row.push(false)?;
-    }
-    row[column] = true;
+    row.insert(column, ())?;
     Ok(())
 }
 

@@ -9,11 +9,13 @@ use Rattle.gql_facts.specs.Members.{Lists}
 use Rattle.gql_facts.specs.Reads.{Agree, Reads}
 use Rattle.gql_facts.specs.Worlds.{Facts}
 use Rattle.gql_facts.specs.declared.key.Key.{Key}
+use Rattle.gql_merge.proofs.View as merging
+use Rattle.gql_merge.specs.MergeFaults.{IsMergeFault}
 use Rattle.gql_rules.specs.LocalFaults.{IsFault}
 use Rattle.gql_rules.proofs.View as definitions
 use Rattle.gql_vars.specs.VariableFaults.{IsVariableFault}
 use Rattle.gql_vars.proofs.View as variables
-use Rattle.gql_verdict.specs.Faults.{IsFaultIn, by_definition, by_variables}
+use Rattle.gql_verdict.specs.Faults.{IsFaultIn, by_definition, by_merging, by_variables}
 use Rattle.gql_verdict.specs.Verdicts.{Hold, IsCertificate, Judges, keys_of, observed}
 use Rattle.gql_verdict.specs.declared.observation.Observation.{Observation}
 use Rattle.gql_verdict.proofs.Members.{Contains-map_from}
@@ -43,10 +45,12 @@ module _ (v u : Facts) (d : Definition) (agree : Agree v u d) where
   pub faults_there : (f : Fault) → IsFaultIn v d f → IsFaultIn u d f
   faults_there f (by_definition h) = by_definition ((definitions.same_faults v u d agree f).0 h)
   faults_there f (by_variables h) = by_variables ((variables.same_faults v u d agree f).0 h)
+  faults_there f (by_merging h) = by_merging ((merging.same_faults v u d agree f).0 h)
 
   pub faults_back : (f : Fault) → IsFaultIn u d f → IsFaultIn v d f
   faults_back f (by_definition h) = by_definition ((definitions.same_faults v u d agree f).1 h)
   faults_back f (by_variables h) = by_variables ((variables.same_faults v u d agree f).1 h)
+  faults_back f (by_merging h) = by_merging ((merging.same_faults v u d agree f).1 h)
 
 -- two lists together have the members of both
 pub Lists-append : {A : Type 0} {P Q : A → Type 0} (xs ys zs : List A) → Lists xs P → Lists ys Q → zs ≡ xs ++ ys
@@ -63,15 +67,19 @@ Lists-append xs ys zs first second is = rw is (record {
 })
 
 -- the faults by the rules of each crate are those by all rules
-pub by_all : (F : Facts) (d : Definition) (found : List Fault) → Lists found (λ f. IsFault F d f ⊎ IsVariableFault F d f)
-    → Lists found (IsFaultIn F d)
+pub by_all : (F : Facts) (d : Definition) (found : List Fault)
+    → Lists found (λ f. (IsFault F d f ⊎ IsVariableFault F d f) ⊎ IsMergeFault F d f) → Lists found (IsFaultIn F d)
 by_all F d found lists = record {
-  sound = λ f c. elim (lists.sound f c) [ inl h ↦ by_definition h | inr h ↦ by_variables h ];
+  sound = λ f c. elim (lists.sound f c) [
+    | inl q ↦ elim q [ inl h ↦ by_definition h | inr h ↦ by_variables h ]
+    | inr h ↦ by_merging h
+  ];
   complete = λ f q. lists.complete f (by_one f q);
 } where
-  by_one : (f : Fault) → IsFaultIn F d f → IsFault F d f ⊎ IsVariableFault F d f
-  by_one f (by_definition h) = inl h
-  by_one f (by_variables h) = inr h
+  by_one : (f : Fault) → IsFaultIn F d f → (IsFault F d f ⊎ IsVariableFault F d f) ⊎ IsMergeFault F d f
+  by_one f (by_definition h) = inl (inl h)
+  by_one f (by_variables h) = inl (inr h)
+  by_one f (by_merging h) = inr h
 
 -- ---- the verdict
 

@@ -1,8 +1,9 @@
--- The faults of one definition (GraphQL 5): by the rules on one definition, and by those on the
--- variables of an operation.
+-- The faults of one definition (GraphQL 5): by the rules on one definition, by those on the
+-- variables of an operation, and by those on the merging of fields.
 use Rattle.gql_ast.specs.declared.definition.Definition.{Definition}
 use Rattle.gql_ast.specs.declared.fault.Fault.{Fault}
 use Rattle.gql_facts.specs.Worlds.{Facts}
+use Rattle.gql_merge.specs.MergeFaults.{IsMergeFault}
 use Rattle.gql_rules.specs.LocalFaults.{IsFault}
 use Rattle.gql_vars.specs.VariableFaults.{IsVariableFault}
 
@@ -10,3 +11,4 @@ use Rattle.gql_vars.specs.VariableFaults.{IsVariableFault}
 pub data IsFaultIn (facts : Facts) (d : Definition) : Fault → Type 0 where
   by_definition : {f : Fault} → IsFault facts d f → IsFaultIn facts d f
   by_variables : {f : Fault} → IsVariableFault facts d f → IsFaultIn facts d f
+  by_merging : {f : Fault} → IsMergeFault facts d f → IsFaultIn facts d f

@@ -9,6 +9,7 @@ use crate::meter::Meter;
 use crate::observation::{Observation, observe};
 use gql_ast::{Definition, Fault, Same};
 use gql_facts::World;
+use gql_merge::merge_faults;
 use gql_rules::local_faults;
 use gql_vars::variable_faults;
 use std::alloc::{AllocError, Global};
@@ -96,6 +97,8 @@ fn faults_in<W: World>(
     let mut faults = local_faults(alloc, world, definition)?;
     let mut of_variables = variable_faults(alloc, world, definition)?;
     faults.append(&mut of_variables)?;
+    let mut of_merging = merge_faults(alloc, world, definition)?;
+    faults.append(&mut of_merging)?;
     Ok(faults)
 }
 

@@ -1,10 +1,10 @@
-use Rattle.std.proofs.Common.{flat_map, map}
+use Rattle.std.proofs.Common.{refl, flat_map}
 use Rattle.gql_clashes.specs.Compared.{items_of}
-use Rattle.gql_clashes.proofs.Looking.{class_inside, more_classes}
+use Rattle.gql_clashes.proofs.Looking.{class_inside, more_by}
 use Rattle.gql_clashes.proofs.asked.ask_all.Goals as goal
 
-pub ask_with-requires-clause-lefts : goal.ask_with-requires-clause-lefts
-ask_with-requires-clause-lefts c = λ g h. class_inside (λ v. v.items) c.args.lefts.now c.loop-class.class-index c.class-item.result c.deref.result.now _ c.loop-class-test.true c.class-item.is c.deref.ensures.value c.requires.lefts g h
+pub ask_with-requires-clause-left : goal.ask_with-requires-clause-left
+ask_with-requires-clause-left c = class_inside c.args.lefts.now c.loop-class.class-index c.class-item.result _ _ c.loop-class-test.true c.class-item.is refl c.requires.lefts
 
 pub loop-class-preserved : goal.loop-class-preserved
-loop-class-preserved c = more_classes (λ v. v.items) (λ d. flat_map (items_of c.args.sets.now c.args.mode d) (map (λ v. v.items) c.args.rights.now)) c.args.lefts.now c.loop-class.class-index c.class-item.result c.deref.result.now _ _ _ c.loop-class-test.true c.class-item.is c.deref.ensures.value c.loop-class.invariant c.in_ok-ask_with.ensures
+loop-class-preserved c = more_by (λ d. flat_map (items_of c.args.sets.now c.args.mode d) c.args.rights.now) c.args.lefts.now c.loop-class.class-index c.class-item.result _ _ _ c.loop-class-test.true c.class-item.is c.loop-class.invariant c.in_ok-ask_with.ensures

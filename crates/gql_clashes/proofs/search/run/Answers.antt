@@ -1,53 +1,53 @@
 use Rattle.std.proofs.Common.{◌≡◌, length, ◌∙◌, arith}
-use Rattle.gql_clashes.specs.Compared.{classes_of}
-use Rattle.gql_clashes.specs.Seen.{rows_of, whole_row}
-use Rattle.gql_clashes.proofs.Reading.{asked_inside}
+use Rattle.gql_clashes.specs.Compared.{plan_of}
+use Rattle.gql_clashes.specs.Seen.{row_of, rows_of}
+use Rattle.gql_clashes.proofs.Reading.{asked_inside, classes_inside}
 use Rattle.gql_clashes.proofs.Looking.{found_by}
-use Rattle.gql_clashes.proofs.Searching.{searches_first, searches_by, less_by, popped_inside, items_inside_by, marked_size, ended, classes_inside}
+use Rattle.gql_clashes.proofs.Searching.{searches_first, searches_by, less_by, popped_inside, items_inside_by, marked_size, ended}
 use Rattle.gql_clashes.proofs.search.run.Goals as goal
 
 pub loop-item-init : goal.loop-item-init
 loop-item-init c = record {
   size = c.requires.size;
   square = c.requires.square;
-  searches = searches_first c.args.sets.now (classes_of c.args.table.now) c.requires.classed (rows_of c.args.seen.now) c.args.todo.now.items c.args.bad.now.items c.requires.waits c.requires.all;
+  searches = searches_first c.args.sets.now c.requires.whole (length c.args.table.now.bodies.items) (plan_of c.args.table.now) c.requires.table.planned (rows_of c.args.seen.now) c.args.todo.now.items c.args.bad.now.items c.requires.waits c.requires.all;
 }
 
 pub classes_at-lefts-requires : goal.classes_at-lefts-requires
-classes_at-lefts-requires c = let i = (popped_inside c.args.sets.now (classes_of c.args.table.now) c.requires.classed _ _ _ _ _ _ _ c.in-Some.item c.loop-item.invariant.square c.loop-item.invariant.searches c.in-Some.ensures.items) in omega (arith, i.0, c.requires.rows)
+classes_at-lefts-requires c = let i = (popped_inside c.args.sets.now c.requires.whole (length c.args.table.now.bodies.items) (plan_of c.args.table.now) c.requires.table.planned _ _ _ _ _ _ c.in-Some.item c.loop-item.invariant.square c.loop-item.invariant.searches c.in-Some.ensures.items) in omega (arith, i.0, c.requires.table.classes)
 
 pub find_all-requires-clause-lefts : goal.find_all-requires-clause-lefts
-find_all-requires-clause-lefts c = classes_inside c.args.sets.now (classes_of c.args.table.now) c.requires.whole c.requires.classed c.in-Some.item.left _ c.classes_at-lefts.ensures
+find_all-requires-clause-lefts c = classes_inside c.args.sets.now c.requires.whole (length c.args.table.now.bodies.items) (plan_of c.args.table.now) c.requires.table.planned c.in-Some.item.left _ c.classes_at-lefts.ensures
 
 pub classes_at-rights-requires : goal.classes_at-rights-requires
-classes_at-rights-requires c = let i = (popped_inside c.args.sets.now (classes_of c.args.table.now) c.requires.classed _ _ _ _ _ _ _ c.in-Some.item c.loop-item.invariant.square c.loop-item.invariant.searches c.in-Some.ensures.items) in omega (arith, i.1, c.requires.rows)
+classes_at-rights-requires c = let i = (popped_inside c.args.sets.now c.requires.whole (length c.args.table.now.bodies.items) (plan_of c.args.table.now) c.requires.table.planned _ _ _ _ _ _ c.in-Some.item c.loop-item.invariant.square c.loop-item.invariant.searches c.in-Some.ensures.items) in omega (arith, i.1, c.requires.table.classes)
 
 pub find_all-requires-clause-rights : goal.find_all-requires-clause-rights
-find_all-requires-clause-rights c = classes_inside c.args.sets.now (classes_of c.args.table.now) c.requires.whole c.requires.classed c.in-Some.item.right _ c.classes_at-rights.ensures
+find_all-requires-clause-rights c = classes_inside c.args.sets.now c.requires.whole (length c.args.table.now.bodies.items) (plan_of c.args.table.now) c.requires.table.planned c.in-Some.item.right _ c.classes_at-rights.ensures
 
 pub asked_by-requires-clause-left : goal.asked_by-requires-clause-left
-asked_by-requires-clause-left c = (popped_inside c.args.sets.now (classes_of c.args.table.now) c.requires.classed _ _ _ _ _ _ _ c.in-Some.item c.loop-item.invariant.square c.loop-item.invariant.searches c.in-Some.ensures.items).0
+asked_by-requires-clause-left c = (popped_inside c.args.sets.now c.requires.whole (length c.args.table.now.bodies.items) (plan_of c.args.table.now) c.requires.table.planned _ _ _ _ _ _ c.in-Some.item c.loop-item.invariant.square c.loop-item.invariant.searches c.in-Some.ensures.items).0
 
 pub asked_by-requires-clause-right : goal.asked_by-requires-clause-right
-asked_by-requires-clause-right c = (popped_inside c.args.sets.now (classes_of c.args.table.now) c.requires.classed _ _ _ _ _ _ _ c.in-Some.item c.loop-item.invariant.square c.loop-item.invariant.searches c.in-Some.ensures.items).1
+asked_by-requires-clause-right c = (popped_inside c.args.sets.now c.requires.whole (length c.args.table.now.bodies.items) (plan_of c.args.table.now) c.requires.table.planned _ _ _ _ _ _ c.in-Some.item c.loop-item.invariant.square c.loop-item.invariant.searches c.in-Some.ensures.items).1
 
 pub mark-requires-clause-inside : goal.mark-requires-clause-inside
-mark-requires-clause-inside c = λ y h. items_inside_by c.args.sets.now (classes_of c.args.table.now) c.requires.classed _ c.deref.result.now c.in-Some.item y c.requires.whole
-    (popped_inside c.args.sets.now (classes_of c.args.table.now) c.requires.classed _ _ _ _ _ _ _ c.in-Some.item c.loop-item.invariant.square c.loop-item.invariant.searches c.in-Some.ensures.items) (c.deref.ensures.value ∙ c.in_ok-items.ensures) c.loop-item.invariant.size h
+mark-requires-clause-inside c = λ y h. items_inside_by c.args.sets.now c.requires.whole (length c.args.table.now.bodies.items) (plan_of c.args.table.now) c.requires.table.planned _ c.deref.result.now c.in-Some.item y
+    (popped_inside c.args.sets.now c.requires.whole (length c.args.table.now.bodies.items) (plan_of c.args.table.now) c.requires.table.planned _ _ _ _ _ _ c.in-Some.item c.loop-item.invariant.square c.loop-item.invariant.searches c.in-Some.ensures.items) (c.deref.ensures.value ∙ c.in_ok-items.ensures) c.loop-item.invariant.size h
 
 pub loop-item-smaller : goal.loop-item-smaller
-loop-item-smaller c = less_by c.args.sets.now (classes_of c.args.table.now) c.requires.classed (length c.args.sets.now.bodies.items) (rows_of c.loop-item.seen) _ _ _ _ c.deref.result.now c.in-Some.item c.loop-item.invariant.square
-    (λ y h. asked_inside c.args.sets.now c.requires.whole (classes_of c.args.table.now) c.requires.classed c.in-Some.item y (popped_inside c.args.sets.now (classes_of c.args.table.now) c.requires.classed _ _ _ _ _ _ _ c.in-Some.item c.loop-item.invariant.square c.loop-item.invariant.searches c.in-Some.ensures.items) h)
+loop-item-smaller c = less_by c.args.sets.now c.requires.whole (length c.args.table.now.bodies.items) (plan_of c.args.table.now) c.requires.table.planned (rows_of c.loop-item.seen) _ _ _ _ c.deref.result.now c.in-Some.item c.loop-item.invariant.square
+    (λ y h. asked_inside c.args.sets.now c.requires.whole (length c.args.table.now.bodies.items) (plan_of c.args.table.now) c.requires.table.planned c.in-Some.item y (popped_inside c.args.sets.now c.requires.whole (length c.args.table.now.bodies.items) (plan_of c.args.table.now) c.requires.table.planned _ _ _ _ _ _ c.in-Some.item c.loop-item.invariant.square c.loop-item.invariant.searches c.in-Some.ensures.items) h)
     c.in-Some.ensures.items (c.deref.ensures.value ∙ c.in_ok-items.ensures) c.in_ok-mark.ensures.seen c.in_ok-mark.ensures.todo
 
 pub loop-item-preserved : goal.loop-item-preserved
 loop-item-preserved c =
-    let r = searches_by c.args.sets.now (classes_of c.args.table.now) c.requires.classed (length c.args.sets.now.bodies.items) (rows_of c.args.seen.now) (rows_of c.loop-item.seen) (rows_of c.mark.new.seen) c.args.bad.now.items c.loop-item.bad.items c.find_all.new.bad.items _ _ c.mark.new.todo.items c.deref.result.now c.in-Some.item c.loop-item.invariant.square
-    (λ y h. asked_inside c.args.sets.now c.requires.whole (classes_of c.args.table.now) c.requires.classed c.in-Some.item y (popped_inside c.args.sets.now (classes_of c.args.table.now) c.requires.classed _ _ _ _ _ _ _ c.in-Some.item c.loop-item.invariant.square c.loop-item.invariant.searches c.in-Some.ensures.items) h)
-    c.loop-item.invariant.searches c.in-Some.ensures.items (c.deref.ensures.value ∙ c.in_ok-items.ensures) (found_by c.args.sets.now (classes_of c.args.table.now) c.in-Some.item _ _ _ _ c.classes_at-lefts.ensures c.classes_at-rights.ensures c.in_ok-find_all.ensures) c.in_ok-mark.ensures.seen c.in_ok-mark.ensures.todo in
-    record { size = marked_size (λ r. whole_row (length c.mark.new.seen.rows.items) r.items) _ c.mark.new.seen.rows.items r.1; square = r.1; searches = r.0 }
+    let r = searches_by c.args.sets.now c.requires.whole (length c.args.table.now.bodies.items) (plan_of c.args.table.now) c.requires.table.planned (rows_of c.args.seen.now) (rows_of c.loop-item.seen) (rows_of c.mark.new.seen) c.args.bad.now.items c.loop-item.bad.items c.find_all.new.bad.items _ _ c.mark.new.todo.items c.deref.result.now c.in-Some.item c.loop-item.invariant.square
+    (λ y h. asked_inside c.args.sets.now c.requires.whole (length c.args.table.now.bodies.items) (plan_of c.args.table.now) c.requires.table.planned c.in-Some.item y (popped_inside c.args.sets.now c.requires.whole (length c.args.table.now.bodies.items) (plan_of c.args.table.now) c.requires.table.planned _ _ _ _ _ _ c.in-Some.item c.loop-item.invariant.square c.loop-item.invariant.searches c.in-Some.ensures.items) h)
+    c.loop-item.invariant.searches c.in-Some.ensures.items (c.deref.ensures.value ∙ c.in_ok-items.ensures) (found_by c.args.sets.now (plan_of c.args.table.now) c.in-Some.item _ _ _ _ c.classes_at-lefts.ensures c.classes_at-rights.ensures c.in_ok-find_all.ensures) c.in_ok-mark.ensures.seen c.in_ok-mark.ensures.todo in
+    record { size = marked_size (row_of (length c.mark.new.seen.rows.items)) _ c.mark.new.seen.rows.items r.1; square = r.1; searches = r.0 }
 
 pub returns : goal.returns
 returns c =
     let e : length c.loop-item.todo.items ≡ 0 = omega (arith, c.in_default.ensures.cases, c.loop-item.todo.ok.0) in
-    ended c.args.sets.now (classes_of c.args.table.now) c.requires.classed (rows_of c.args.seen.now) (rows_of c.loop-item.seen) c.args.bad.now.items c.loop-item.bad.items c.loop-item.todo.items e c.loop-item.invariant.searches
+    ended c.args.sets.now c.requires.whole (length c.args.table.now.bodies.items) (plan_of c.args.table.now) c.requires.table.planned (rows_of c.args.seen.now) (rows_of c.loop-item.seen) c.args.bad.now.items c.loop-item.bad.items c.loop-item.todo.items e c.loop-item.invariant.searches
