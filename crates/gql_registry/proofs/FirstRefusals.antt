@@ -1,5 +1,6 @@
 -- Which check an edit fails first, once it has passed those before.
-use Rattle.std.proofs.Common.{◌≡◌, ◌<◌, ◌≤◌, ◌≢◌, ℕ, List, length, Result, Ok, Err, Option, Some, None, refl, sym, ap, subst, arith}
+use Rattle.std.proofs.Common.{◌≡◌, ◌<◌, ◌≤◌, ◌≢◌, ◌||◌, ℕ, List, length, Bool, true, false, nat_lt, Result, Ok, Err, Option, Some, None, is_some, refl, sym, ap, subst, arith}
+use Rattle.std.proofs.lemmas.Bool.Decides.{nat_tests}
 use Rattle.std.specs.Prelude.{IsUtf8}
 use Rattle.std.specs.Result.{IsErrAnd}
 use Rattle.gql_text.specs.declared.place.Place.{Place}
@@ -150,3 +151,13 @@ makes_refusal s t expected e refusal.NoOperation h same = (h, same)
 makes_refusal s t expected e (refusal.Faulty faults) h same = (h, same)
 makes_refusal s t expected e refusal.TooLarge h same = (h, same)
 makes_refusal s t expected e refusal.Spent h same = (h, same)
+
+-- a name without room is new, and the side has as many files as it may have
+pub no_room : (held : Option Document) (count : ℕ) → (is_some held || nat_lt count 256) ≡ false → (held ≡ None) × (most_files ≤ count)
+no_room (Some d) count full = absurd (cc full)
+no_room None count full = (refl, grind (arith, nat_tests))
+
+-- and a name with room is not such a name
+pub room : (held : Option Document) (count : ℕ) → (is_some held || nat_lt count 256) ≡ true → held ≡ None → most_files ≤ count → ⊥
+room (Some d) count has none many = absurd (cc none)
+room None count has none many = grind (arith, nat_tests)

@@ -135,3 +135,10 @@ one_edit one reports s t u expected e (Err r) (Err q) h k made_h made_k =
     let x = refused s t expected e r made_h h in
     let y = refused s u expected e q made_k k in
     (ap Err (one_first one s expected e r q x.0 y.0), x.1 ∙ sym y.1)
+
+-- a text is a file of a side or has a fault there, and never both
+pub apart_on : ((name bytes : List ℕ) (d : Document) (f : SyntaxFault) → IsSchemaFile name bytes d → IsSchemaFault name bytes f → ⊥)
+    → ((name bytes : List ℕ) (d : Document) (f : SyntaxFault) → IsDocumentFile name bytes d → IsDocumentFault name bytes f → ⊥)
+    → (side : FileSide) (name bytes : List ℕ) (d : Document) (f : SyntaxFault) → IsFileOn side name bytes d → IsFaultOn side name bytes f → ⊥
+apart_on schema document Schema = schema
+apart_on schema document Documents = document

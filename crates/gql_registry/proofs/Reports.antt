@@ -39,7 +39,7 @@ pub of_documents : (files : Files) (names of_definitions all report : List Fault
 of_documents files names ofs all report sound are lists is same f = (
   λ h. elim (Contains-append_cases names ofs f (subst (λ xs. Contains xs f) is ((same f).0 h))) [
     | inl n ↦ of_names sound (subst (λ xs. Contains xs f) are n)
-    | inr d ↦ let w = lists.sound f d in of_definition sound w.1.0 w.1.1
+    | inr d ↦ let w = lists.sound f d in of_definition {d = w.0} sound w.1.0 w.1.1
   ],
   λ w. (same f).1 (subst (λ xs. Contains xs f) (sym is) (elim w [
     | of_schema h ↦ absurd (sound f h)

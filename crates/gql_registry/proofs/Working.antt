@@ -1,5 +1,5 @@
 -- What an edit examines, where it is refused.
-use Rattle.std.proofs.Common.{◌≡◌, ◌⊎◌, inl, inr, ℕ, List, Option, Result, Ok, Err, refl, sym, subst}
+use Rattle.std.proofs.Common.{◌≡◌, ◌⊎◌, inl, inr, ℕ, List, Option, Result, Ok, Err, IfErr, OnErr, refl, sym, subst}
 use Rattle.std.specs.Result.{IsErrAnd}
 use Rattle.gql_ast.specs.declared.definition.DefinitionId.{DefinitionId}
 use Rattle.gql_ast.specs.declared.files.Files.{Files}
@@ -64,3 +64,13 @@ unread_answer s t expected side name bytes (Err x) q is h time same =
 pub idle_answer : (s t : State) (shelf : List Judgement) (e : Edit) (r : Result Edited Refusal) (q : Refusal) (old new : List DefinitionId) → IsErrAnd r (λ x. x ≡ q) → new ≡ old → Works s shelf e r t old new
 idle_answer s t shelf e (Ok edited) q old new is same = absurd is
 idle_answer s t shelf e (Err x) q old new is same = subst (λ m. Works s shelf e (Err x) t old m) (sym same) (idle s t shelf e x old)
+
+-- what holds of the error that this answer is
+pub err_of : {T E : Type 0} {P : E → Type 0} (r : Result T E) (e : E) → IsErrAnd r (λ x. x ≡ e) → P e → IfErr r P
+err_of (Ok v) e is h = absurd is
+err_of {P = P} (Err x) e is h = subst P (sym is) h
+
+-- what holds anyway holds of an answer that is an error
+pub on_err_of : {T E : Type 0} {P : Type 0} (r : Result T E) → P → OnErr r P
+on_err_of (Ok v) h = tt
+on_err_of (Err e) h = h

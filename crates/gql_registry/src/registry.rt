@@ -44,7 +44,6 @@ fn has_room(files: &FileMap<Shared<Document>>, name: &FileName) -> bool
 }
 
 /// Reads bytes as a file of a side. Refused by 203, 202 and 201, in this order.
-#[tactic(none)]
 fn read_file(
     alloc: Global,
     side: FileSide,
