@@ -1,5 +1,6 @@
 -- The members of a report.
-use Rattle.std.proofs.Common.{◌≡◌, ◌≢◌, ◌↔◌, ◌⊎◌, inl, inr, List, [], ◌∷◌, ◌++◌, refl, sym, subst, Contains}
+use Rattle.std.proofs.Common.{◌≡◌, ◌≢◌, ◌↔◌, ◌⊎◌, ◌==◌, ℕ, suc, arith, inl, inr, List, [], ◌∷◌, ◌++◌, length, true, false, refl, sym, subst, Contains}
+use Rattle.std.proofs.lemmas.Bool.Decides.{nat_tests}
 use Rattle.std.proofs.lemmas.List.Elements.{Contains-append_left, Contains-append_right, Contains-append_cases}
 use Rattle.gql_ast.specs.declared.fault.Fault.{Fault}
 use Rattle.gql_ast.specs.declared.files.Files.{Files}
@@ -33,13 +34,28 @@ of_schema_alone files faults report some lists same f = (
   ]),
 )
 
+of_any : (files : Files) (f : Fault) → IsSound files → IsDefinitionFault files f → IsFault files f
+of_any files f sound (d, there, h) = of_definition {d = d} sound there h
+
+-- a list that is not empty, or is
+pub some_if : (faults : List Fault) → (length faults == 0) ≡ false → faults ≢ []
+some_if [] is none = cc is
+some_if (f ∷ fs) is none = cc none
+
+pub none_if : (faults : List Fault) → (length faults == 0) ≡ true → faults ≡ []
+none_if [] is = refl
+none_if (f ∷ fs) is = absurd (no_zero (length fs) is)
+  where
+    no_zero : (n : ℕ) → (suc n == 0) ≡ true → ⊥
+    no_zero n is = grind (arith, nat_tests)
+
 -- else they are those of names and of definitions
 pub of_documents : (files : Files) (names of_definitions all report : List Fault) → IsSound files → names ≡ name_faults files → Lists of_definitions (IsDefinitionFault files)
     → all ≡ names ++ of_definitions → AreSame report all → (f : Fault) → Contains report f ↔ IsFault files f
 of_documents files names ofs all report sound are lists is same f = (
   λ h. elim (Contains-append_cases names ofs f (subst (λ xs. Contains xs f) is ((same f).0 h))) [
     | inl n ↦ of_names sound (subst (λ xs. Contains xs f) are n)
-    | inr d ↦ let w = lists.sound f d in of_definition {d = w.0} sound w.1.0 w.1.1
+    | inr d ↦ of_any files f sound (lists.sound f d)
   ],
   λ w. (same f).1 (subst (λ xs. Contains xs f) (sym is) (elim w [
     | of_schema h ↦ absurd (sound f h)

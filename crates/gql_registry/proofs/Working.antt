@@ -66,9 +66,9 @@ idle_answer s t shelf e (Ok edited) q old new is same = absurd is
 idle_answer s t shelf e (Err x) q old new is same = subst (λ m. Works s shelf e (Err x) t old m) (sym same) (idle s t shelf e x old)
 
 -- what holds of the error that this answer is
-pub err_of : {T E : Type 0} {P : E → Type 0} (r : Result T E) (e : E) → IsErrAnd r (λ x. x ≡ e) → P e → IfErr r P
-err_of (Ok v) e is h = absurd is
-err_of {P = P} (Err x) e is h = subst P (sym is) h
+pub err_of : {T E : Type 0} (P : E → Type 0) (r : Result T E) (e : E) → IsErrAnd r (λ x. x ≡ e) → P e → IfErr r P
+err_of P (Ok v) e is h = absurd is
+err_of P (Err x) e is h = subst P (sym is) h
 
 -- what holds anyway holds of an answer that is an error
 pub on_err_of : {T E : Type 0} {P : Type 0} (r : Result T E) → P → OnErr r P

@@ -10,7 +10,7 @@ ghost use Rattle.gql_verdict.specs.DocumentEdits.{ChangesOnly};
 ghost use Rattle.gql_verdict.specs.FileOrder.{AreFilesPlaced};
 ghost use Rattle.gql_verdict.specs.TouchedFacts.{IsKnown};
 
-use crate::report::{documents_report, schema_report, schema_side};
+use crate::report::{SchemaSide, documents_report, faults_of_schema, schema_report, schema_side};
 use gql_ast::{Fault, Files};
 use gql_facts::{Fragments, Present, SchemaFacts};
 use gql_verdict::{Meter, Prepared, Shelf, Touched};
@@ -57,7 +57,6 @@ struct Planned {
 }
 
 /// Prepares the verdicts for files that are to be present.
-#[tactic(none)]
 fn prepared_verdicts(
     alloc: Global,
     shelf: &Shelf,
@@ -80,7 +79,6 @@ fn prepared_verdicts(
 }
 
 /// The report of files that are to be present.
-#[tactic(none)]
 fn prepared_report(
     alloc: Global,
     shelf: &Shelf,
@@ -93,10 +91,64 @@ fn prepared_report(
     ensures { IfOk result (λ report. IsReport files.now report.items) }
 {
     if !schema_faults.is_empty() {
-        return schema_report(alloc, schema_faults);
+        let report = schema_report(alloc, schema_faults)?;
+        return Ok(report);
     }
     let of_definitions = shelf.prepared_faults(alloc, verdicts)?;
-    documents_report(alloc, files, of_definitions)
+    let report = documents_report(alloc, files, of_definitions)?;
+    Ok(report)
+}
+
+/// The report of files that are present.
+fn present_report(
+    alloc: Global,
+    shelf: &Shelf,
+    schema_faults: &[Fault],
+    files: &Files,
+) -> Result<Vec<Fault>, AllocError>
+    requires shelf { IsShelfOf files.now shelf.now }
+    requires schema { AreSchemaFaults files.now schema_faults.now }
+    ensures { IfOk result (λ report. IsReport files.now report.items) }
+{
+    if !schema_faults.is_empty() {
+        let report = schema_report(alloc, schema_faults)?;
+        return Ok(report);
+    }
+    let of_definitions = shelf.faults(alloc)?;
+    let report = documents_report(alloc, files, of_definitions)?;
+    Ok(report)
+}
+
+/// All that an edit changes beside the files, where these are to be present and have this schema.
+#[tactic(none)]
+fn change_by(
+    alloc: Global,
+    shelf: &Shelf,
+    schema: &SchemaSide,
+    files: &Files,
+    touched: &Touched,
+    meter: &mut Meter,
+) -> Result<Planned, AllocError>
+    requires facts { AreFactsOf files.now schema.now.facts }
+    requires faults { AreSchemaFaults files.now schema.now.faults.items }
+    requires placed { AreFilesPlaced files.now.documents }
+    requires known { IsKnown (fact_of files.now) shelf.now touched.now }
+    ensures planned { IfOk result (λ planned. IsPlanFor files.now shelf.now planned.verdicts) }
+    ensures report { IfOk result (λ planned. IsReport files.now planned.report.items) }
+    ensures work { IsWorkOn files.now shelf.now meter.old meter.new }
+{
+    let fragments = Fragments::new(alloc, &files.documents)?;
+    let verdicts = prepared_verdicts(
+        alloc,
+        shelf,
+        &schema.facts,
+        &fragments,
+        files,
+        touched,
+        meter,
+    )?;
+    let report = prepared_report(alloc, shelf, &verdicts, schema.faults.as_slice(), files)?;
+    Ok(Planned { verdicts, report })
 }
 
 /// All that an edit changes beside the files, where these are to be present.
@@ -115,18 +167,8 @@ fn planned_change(
     ensures work { IsWorkOn files.now shelf.now meter.old meter.new }
 {
     let schema = schema_side(alloc, files)?;
-    let fragments = Fragments::new(alloc, &files.documents)?;
-    let verdicts = prepared_verdicts(
-        alloc,
-        shelf,
-        &schema.facts,
-        &fragments,
-        files,
-        touched,
-        meter,
-    )?;
-    let report = prepared_report(alloc, shelf, &verdicts, schema.faults.as_slice(), files)?;
-    Ok(Planned { verdicts, report })
+    let planned = change_by(alloc, shelf, &schema, files, touched, meter)?;
+    Ok(planned)
 }
 
 impl Kept {
@@ -157,16 +199,12 @@ impl Kept {
     }
 
     /// The report of the files.
-    #[tactic(none)]
     pub fn report(&self, alloc: Global) -> Result<Vec<Fault>, AllocError>
         ensures { IfOk result (λ report. IsReport self.now.files report.items) }
     {
-        let schema = schema_side(alloc, &self.files)?;
-        if !schema.faults.is_empty() {
-            return schema_report(alloc, schema.faults.as_slice());
-        }
-        let of_definitions = self.shelf.faults(alloc)?;
-        documents_report(alloc, &self.files, of_definitions)
+        let faults = faults_of_schema(alloc, &self.files)?;
+        let report = present_report(alloc, &self.shelf, faults.as_slice(), &self.files)?;
+        Ok(report)
     }
 
     /// Takes these files in the place of those that are present, and returns how many faults the

@@ -20,8 +20,16 @@ pub struct SchemaSide {
     pub faults: Vec<Fault>,
 }
 
+/// The faults of the schema of the schema files.
+pub fn faults_of_schema(alloc: Global, files: &Files) -> Result<Vec<Fault>, AllocError>
+    ensures { IfOk result (λ faults. AreSchemaFaults files.now faults.items) }
+{
+    let schema = assemble(alloc, files)?;
+    let faults = schema_faults(alloc, files, &schema)?;
+    Ok(faults)
+}
+
 /// Puts the schema of the schema files together.
-#[tactic(none)]
 pub fn schema_side(alloc: Global, files: &Files) -> Result<SchemaSide, AllocError>
     ensures facts { IfOk result (λ side. AreFactsOf files.now side.facts) }
     ensures faults { IfOk result (λ side. AreSchemaFaults files.now side.faults.items) }
@@ -44,7 +52,6 @@ fn copies(alloc: Global, faults: &[Fault]) -> Result<Vec<Fault>, AllocError>
 }
 
 /// The report where the schema has faults, which are these.
-#[tactic(none)]
 pub fn schema_report(alloc: Global, faults: &[Fault]) -> Result<Vec<Fault>, AllocError>
     requires { faults.now ≢ [] }
     ensures { IfOk result (λ report. (files : TheFiles) → AreSchemaFaults files faults.now
@@ -56,7 +63,6 @@ pub fn schema_report(alloc: Global, faults: &[Fault]) -> Result<Vec<Fault>, Allo
 }
 
 /// The report where the schema has no faults, and the definitions of the document files have these.
-#[tactic(none)]
 pub fn documents_report(
     alloc: Global,
     files: &Files,

@@ -1,6 +1,7 @@
 use Rattle.std.proofs.Common.{rules, refl, ap, Err}
 use Rattle.gql_registry.proofs.FirstRefusals.{first_too_long, first_not_text, first_syntax}
 use Rattle.gql_registry.proofs.Working.{err_of}
+use Rattle.gql_registry.specs.Checks.{IsUnread}
 use Rattle.gql_registry.proofs.registry.read_file.Goals as goal
 
 pub returns-then-bytes-gt-MAX_FILE_BYTES-clause-err : goal.returns-then-bytes-gt-MAX_FILE_BYTES-clause-err
@@ -13,9 +14,9 @@ returns-in_default-clause-err c = λ s expected t.
 
 pub returns-in_err-document-clause-err : goal.returns-in_err-document-clause-err
 returns-in_err-document-clause-err c =
-    err_of _ _ c.from_residual.ensures.1 (λ s expected t.
-      first_syntax s expected c.args.side c.args.name.now c.args.bytes.now c.in_err-document.field-0.0 t.present t.left c.if-bytes-gt-MAX_FILE_BYTES.false (search rules)
-      (λ number place is. rw (c.copy.ensures, c.in-Ok.ensures.cases.0) at (c.in_err-document.ensures.refused number place (ap Err is))))
+    err_of (IsUnread c.args.side c.args.name.now c.args.bytes.now) _ _ c.from_residual.ensures.1 (λ s expected t.
+    first_syntax s expected c.args.side c.args.name.now c.args.bytes.now c.in_err-document.field-0.0 t.present t.left c.if-bytes-gt-MAX_FILE_BYTES.false (search rules)
+    (λ number place is. rw (c.copy.ensures, c.in-Ok.ensures.cases.0) at (c.in_err-document.ensures.refused number place (ap Err is))))
 
 pub returns-clause-read : goal.returns-clause-read
 returns-clause-read c = record {
