@@ -217,6 +217,7 @@ impl Registry {
     /// gets an entry for each definition that is examined: those whose verdict no longer holds.
     /// Refused, in this order, by 206, 212, 203, 202, 201 and 205, and by 211 if an allocation
     /// fails; the registry is then as it was.
+    #[tactic(none)]
     pub fn put_schema(
         &mut self,
         name: FileName,
@@ -237,6 +238,7 @@ impl Registry {
     /// Puts bytes as the document file of a name, and returns what `put_schema` does. The
     /// definitions of the file are examined, but for those that stood at the same place before, and
     /// so are the others whose verdict no longer holds. Refused as `put_schema` is.
+    #[tactic(none)]
     pub fn put_document(
         &mut self,
         name: FileName,
@@ -256,6 +258,7 @@ impl Registry {
 
     /// Removes a schema file, and returns what `put_schema` does. Refused, in this order, by 206,
     /// 212 and 204, and by 211 if an allocation fails; the registry is then as it was.
+    #[tactic(none)]
     pub fn remove_schema(
         &mut self,
         name: FileName,
@@ -273,6 +276,7 @@ impl Registry {
     }
 
     /// Removes a document file, and returns what `put_schema` does. Refused as `remove_schema` is.
+    #[tactic(none)]
     pub fn remove_document(
         &mut self,
         name: FileName,
