@@ -1,6 +1,9 @@
 pub mod Refusals
 pub mod Report
+pub mod Sides
+pub mod Keeping
 pub mod State
 pub mod Edits
+pub mod Works
 pub mod Checks
 pub mod Laws
