@@ -4,6 +4,7 @@ use crate::speed::micros;
 use anyhow::Result;
 use gql_ast::FileName;
 use gql_registry::Registry;
+use gql_verdict::Meter;
 use std::alloc::Global;
 use std::time::Instant;
 
@@ -34,8 +35,9 @@ fn text(alloc: Global, file: u64) -> Result<String> {
 /// Puts a file, and answers how many faults there are then.
 fn put(alloc: Global, registry: &mut Registry, file: u64, text: &str) -> Result<u64> {
     let name = format!(in alloc; "f{file}")?;
+    let mut meter = Meter::new(alloc);
     if let Some(name) = FileName::read(name.as_str()) {
-        if let Ok(edited) = registry.put_schema(name, text.as_bytes(), None) {
+        if let Ok(edited) = registry.put_schema(name, text.as_bytes(), None, &mut meter) {
             return Ok(edited.faults);
         }
     }

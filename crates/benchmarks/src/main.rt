@@ -13,6 +13,7 @@ mod merging;
 mod rules;
 mod schemas;
 mod speed;
+mod stored;
 mod values;
 
 fn is_wanted(rt: &HostRuntime) -> Result<bool> {
@@ -34,6 +35,7 @@ fn main(rt: HostRuntime) -> Result<()> {
         rules::measure(&rt)?;
         merging::measure(&rt)?;
         edits::measure(&rt)?;
+        stored::measure(&rt)?;
         values::measure(&rt)?;
     }
     Ok(())

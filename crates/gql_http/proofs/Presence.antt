@@ -1,10 +1,11 @@
 -- Files then present: what each name holds after requests.
 use Rattle.std.proofs.Common.{◌≡◌, ℕ, List, [], ◌∷◌, ◌++◌, Bool, Option, Some, Result, Ok, Err, refl, sym, ap, ◌∙◌, subst}
-use Rattle.gql_ast.specs.FileMaps.{file_named}
 use Rattle.gql_ast.specs.declared.fault.Fault.{Fault}
+use Rattle.gql_ast.specs.declared.fault.FileSide.{FileSide}
+use Rattle.gql_ast.specs.declared.fault.FileSide.TheVariants.{Schema, Documents}
 use Rattle.gql_registry.specs.Edits as edit
 use Rattle.gql_registry.specs.Edits.{Edit, Fails, Makes}
-use Rattle.gql_registry.specs.Laws.{HoldsAfter, IsOrdered, LeavesUnder}
+use Rattle.gql_registry.specs.Laws.{HoldsAfter, IsOrderedOn, LeavesUnder, under}
 use Rattle.gql_registry.specs.Report.{IsReport}
 use Rattle.gql_registry.specs.State.{State, empty}
 use Rattle.gql_registry.specs.declared.refusal.Refusal.{Refusal}
@@ -15,103 +16,107 @@ use Rattle.gql_wire.specs.Stream.{Req, request, refused as refused_head}
 use Rattle.gql_http.specs.Answers.{Said, answer_bytes, edit_said, report_said}
 use Rattle.gql_http.specs.History.{AsksFor, asks_to_put, asks_to_remove, IsAcceptedEdit, Holds, no_requests, by_edit, by_other}
 use Rattle.gql_http.specs.Laws.{FilesPresent, ReportThen}
-use Rattle.gql_http.specs.Routes.{Call, report, put_schema, remove_schema, refused, call_of}
+use Rattle.gql_http.specs.Routes.{Call, report, put, remove, refused, call_of}
 use Rattle.gql_http.specs.Service.{Step, Calls, Run, done, more}
 use Rattle.gql_http.proofs.Determined.{said_made}
 
 -- what a request does to the files
 data Deed (s t : State) (r : Req) : Type 0 where
-  edits : (e : Edit) → IsAcceptedEdit s r e → IsOrdered t
-      → ((name : List ℕ) → LeavesUnder name (file_named s.files.schema name) e (file_named t.files.schema name)) → Deed s t r
+  edits : (e : Edit) → IsAcceptedEdit s r e → ((side : FileSide) → IsOrderedOn side t)
+      → ((side : FileSide) (name : List ℕ) → LeavesUnder side name (under side name s) e (under side name t)) → Deed s t r
   keeps : ((e : Edit) → IsAcceptedEdit s r e → ⊥) → t ≡ s → Deed s t r
 
-put_same : (name other : List ℕ) (expected wanted : Option ℕ) → put_schema name expected ≡ put_schema other wanted → (name ≡ other) × (expected ≡ wanted)
-put_same name other expected wanted e = (let h : name ≡ other = cc in h, let h : expected ≡ wanted = cc in h)
+put_same : (side on : FileSide) (name other : List ℕ) (expected wanted : Option ℕ) → put side name expected ≡ put on other wanted → (side ≡ on) × (name ≡ other) × (expected ≡ wanted)
+put_same side on name other expected wanted e = (let h : side ≡ on = cc in h, let h : name ≡ other = cc in h, let h : expected ≡ wanted = cc in h)
 
-remove_same : (name other : List ℕ) (expected wanted : Option ℕ) → remove_schema name expected ≡ remove_schema other wanted → (name ≡ other) × (expected ≡ wanted)
-remove_same name other expected wanted e = (let h : name ≡ other = cc in h, let h : expected ≡ wanted = cc in h)
+remove_same : (side on : FileSide) (name other : List ℕ) (expected wanted : Option ℕ) → remove side name expected ≡ remove on other wanted → (side ≡ on) × (name ≡ other) × (expected ≡ wanted)
+remove_same side on name other expected wanted e = (let h : side ≡ on = cc in h, let h : name ≡ other = cc in h, let h : expected ≡ wanted = cc in h)
 
 -- a request that is no edit
 no_edit : (s : State) (method target body : List ℕ) (closing : Bool) (call : Call) → call_of method target ≡ call
-    → ((name : List ℕ) (expected : Option ℕ) → call ≡ put_schema name expected → ⊥) → ((name : List ℕ) (expected : Option ℕ) → call ≡ remove_schema name expected → ⊥)
+    → ((side : FileSide) (name : List ℕ) (expected : Option ℕ) → call ≡ put side name expected → ⊥) → ((side : FileSide) (name : List ℕ) (expected : Option ℕ) → call ≡ remove side name expected → ⊥)
     → (e : Edit) → IsAcceptedEdit s (request method target body closing) e → ⊥
 no_edit s method target body closing call is no_put no_removal e h = by e h.expected h.asks
   where
     by : (e : Edit) (expected : Option ℕ) → AsksFor (request method target body closing) expected e → ⊥
-    by _ expected (asks_to_put {name = name} asks) = no_put name expected (sym is ∙ asks)
-    by _ expected (asks_to_remove {name = name} asks) = no_removal name expected (sym is ∙ asks)
+    by _ expected (asks_to_put {side = side} {name = name} asks) = no_put side name expected (sym is ∙ asks)
+    by _ expected (asks_to_remove {side = side} {name = name} asks) = no_removal side name expected (sym is ∙ asks)
 
 -- a refused edit
-put_refused : (s : State) (method target body name : List ℕ) (closing : Bool) (expected : Option ℕ) (r : Refusal) → call_of method target ≡ put_schema name expected → Fails s expected (edit.put_schema name body) r
+put_refused : (s : State) (side : FileSide) (method target body name : List ℕ) (closing : Bool) (expected : Option ℕ) (r : Refusal) → call_of method target ≡ put side name expected → Fails s expected (edit.put side name body) r
     → (e : Edit) → IsAcceptedEdit s (request method target body closing) e → ⊥
-put_refused s method target body name closing expected r is fails e h = by e h.expected h.asks h.accepted
+put_refused s side method target body name closing expected r is fails e h = by e h.expected h.asks h.accepted
   where
     by : (e : Edit) (wanted : Option ℕ) → AsksFor (request method target body closing) wanted e → edit.IsAccepted s wanted e → ⊥
-    by _ wanted (asks_to_put {name = other} asks) accepted =
-        let same = put_same name other expected wanted (sym is ∙ asks) in
-        accepted r (subst (λ n. Fails s wanted (edit.put_schema n body) r) same.0 (subst (λ x. Fails s x (edit.put_schema name body) r) same.1 fails))
-    by _ wanted (asks_to_remove {name = other} asks) accepted =
-        let clash : put_schema name expected ≡ remove_schema other wanted = sym is ∙ asks in cc
+    by _ wanted (asks_to_put {side = on} {name = other} asks) accepted =
+        let same = put_same side on name other expected wanted (sym is ∙ asks) in
+        accepted r (subst (λ d. Fails s wanted (edit.put d other body) r) same.0 (subst (λ n. Fails s wanted (edit.put side n body) r) same.1.0 (subst (λ x. Fails s x (edit.put side name body) r) same.1.1 fails)))
+    by _ wanted (asks_to_remove {side = on} {name = other} asks) accepted =
+        let clash : put side name expected ≡ remove on other wanted = sym is ∙ asks in cc
 
-removal_refused : (s : State) (method target body name : List ℕ) (closing : Bool) (expected : Option ℕ) (r : Refusal) → call_of method target ≡ remove_schema name expected
-    → Fails s expected (edit.remove_schema name) r → (e : Edit) → IsAcceptedEdit s (request method target body closing) e → ⊥
-removal_refused s method target body name closing expected r is fails e h = by e h.expected h.asks h.accepted
+removal_refused : (s : State) (side : FileSide) (method target body name : List ℕ) (closing : Bool) (expected : Option ℕ) (r : Refusal) → call_of method target ≡ remove side name expected
+    → Fails s expected (edit.remove side name) r → (e : Edit) → IsAcceptedEdit s (request method target body closing) e → ⊥
+removal_refused s side method target body name closing expected r is fails e h = by e h.expected h.asks h.accepted
   where
     by : (e : Edit) (wanted : Option ℕ) → AsksFor (request method target body closing) wanted e → edit.IsAccepted s wanted e → ⊥
-    by _ wanted (asks_to_remove {name = other} asks) accepted =
-        let same = remove_same name other expected wanted (sym is ∙ asks) in
-        accepted r (subst (λ n. Fails s wanted (edit.remove_schema n) r) same.0 (subst (λ x. Fails s x (edit.remove_schema name) r) same.1 fails))
-    by _ wanted (asks_to_put {name = other} asks) accepted =
-        let clash : remove_schema name expected ≡ put_schema other wanted = sym is ∙ asks in cc
+    by _ wanted (asks_to_remove {side = on} {name = other} asks) accepted =
+        let same = remove_same side on name other expected wanted (sym is ∙ asks) in
+        accepted r (subst (λ d. Fails s wanted (edit.remove d other) r) same.0 (subst (λ n. Fails s wanted (edit.remove side n) r) same.1.0 (subst (λ x. Fails s x (edit.remove side name) r) same.1.1 fails)))
+    by _ wanted (asks_to_put {side = on} {name = other} asks) accepted =
+        let clash : remove side name expected ≡ put on other wanted = sym is ∙ asks in cc
 
 module _ (holds : HoldsAfter) where
-  put_deed : (s t : State) (method target body name : List ℕ) (closing : Bool) (expected : Option ℕ) (a : Said) (r : Result Edited Refusal) → IsOrdered s → call_of method target ≡ put_schema name expected
-      → edit_said r ≡ Some a → Makes s expected (edit.put_schema name body) r t → Deed s t (request method target body closing)
-  put_deed s t method target body name closing expected a (Ok edited) ordered is said h =
-      let after = holds s t (edit.put_schema name body) ordered h.1 in
-      edits (edit.put_schema name body) (record { expected = expected; asks = asks_to_put is; accepted = h.0 }) after.0 after.1
-  put_deed s t method target body name closing expected a (Err q) ordered is said h =
-      let refusal = first_refusal s t expected (edit.put_schema name body) q (said_made (Err q) a said) h in
-      keeps (put_refused s method target body name closing expected q is refusal.0.fails) refusal.1
+  put_deed : (s t : State) (side : FileSide) (method target body name : List ℕ) (closing : Bool) (expected : Option ℕ) (a : Said) (r : Result Edited Refusal) → ((on : FileSide) → IsOrderedOn on s) → call_of method target ≡ put side name expected
+      → edit_said r ≡ Some a → Makes s expected (edit.put side name body) r t → Deed s t (request method target body closing)
+  put_deed s t side method target body name closing expected a (Ok edited) ordered is said h =
+      let after = λ on. holds s t (edit.put side name body) on (ordered on) h.1 in
+      edits (edit.put side name body) (record { expected = expected; asks = asks_to_put is; accepted = h.0 }) (λ on. (after on).0) (λ on. (after on).1)
+  put_deed s t side method target body name closing expected a (Err q) ordered is said h =
+      let refusal = first_refusal s t expected (edit.put side name body) q (said_made (Err q) a said) h in
+      keeps (put_refused s side method target body name closing expected q is refusal.0.fails) refusal.1
 
-  removal_deed : (s t : State) (method target body name : List ℕ) (closing : Bool) (expected : Option ℕ) (a : Said) (r : Result Edited Refusal) → IsOrdered s
-      → call_of method target ≡ remove_schema name expected → edit_said r ≡ Some a → Makes s expected (edit.remove_schema name) r t → Deed s t (request method target body closing)
-  removal_deed s t method target body name closing expected a (Ok edited) ordered is said h =
-      let after = holds s t (edit.remove_schema name) ordered h.1 in
-      edits (edit.remove_schema name) (record { expected = expected; asks = asks_to_remove is; accepted = h.0 }) after.0 after.1
-  removal_deed s t method target body name closing expected a (Err q) ordered is said h =
-      let refusal = first_refusal s t expected (edit.remove_schema name) q (said_made (Err q) a said) h in
-      keeps (removal_refused s method target body name closing expected q is refusal.0.fails) refusal.1
+  removal_deed : (s t : State) (side : FileSide) (method target body name : List ℕ) (closing : Bool) (expected : Option ℕ) (a : Said) (r : Result Edited Refusal) → ((on : FileSide) → IsOrderedOn on s)
+      → call_of method target ≡ remove side name expected → edit_said r ≡ Some a → Makes s expected (edit.remove side name) r t → Deed s t (request method target body closing)
+  removal_deed s t side method target body name closing expected a (Ok edited) ordered is said h =
+      let after = λ on. holds s t (edit.remove side name) on (ordered on) h.1 in
+      edits (edit.remove side name) (record { expected = expected; asks = asks_to_remove is; accepted = h.0 }) (λ on. (after on).0) (λ on. (after on).1)
+  removal_deed s t side method target body name closing expected a (Err q) ordered is said h =
+      let refusal = first_refusal s t expected (edit.remove side name) q (said_made (Err q) a said) h in
+      keeps (removal_refused s side method target body name closing expected q is refusal.0.fails) refusal.1
 
-  call_deed : (s t : State) (method target body : List ℕ) (closing : Bool) (call : Call) (a : Said) → IsOrdered s → call_of method target ≡ call → Calls s call body a t
+  call_deed : (s t : State) (method target body : List ℕ) (closing : Bool) (call : Call) (a : Said) → ((on : FileSide) → IsOrderedOn on s) → call_of method target ≡ call → Calls s call body a t
       → Deed s t (request method target body closing)
   call_deed s t method target body closing report a ordered is h =
-      keeps (no_edit s method target body closing report is (λ name expected clash. cc) (λ name expected clash. cc)) h.1
-  call_deed s t method target body closing (put_schema name expected) a ordered is h = put_deed s t method target body name closing expected a h.0 ordered is h.1 h.2
-  call_deed s t method target body closing (remove_schema name expected) a ordered is h = removal_deed s t method target body name closing expected a h.0 ordered is h.1 h.2
+      keeps (no_edit s method target body closing report is (λ side name expected clash. cc) (λ side name expected clash. cc)) h.1
+  call_deed s t method target body closing (put side name expected) a ordered is h = put_deed s t side method target body name closing expected a h.0 ordered is h.1 h.2
+  call_deed s t method target body closing (remove side name expected) a ordered is h = removal_deed s t side method target body name closing expected a h.0 ordered is h.1 h.2
   call_deed s t method target body closing (refused said) a ordered is h =
-      keeps (no_edit s method target body closing (refused said) is (λ name expected clash. cc) (λ name expected clash. cc)) h.1
+      keeps (no_edit s method target body closing (refused said) is (λ side name expected clash. cc) (λ side name expected clash. cc)) h.1
 
-  deed : (s t : State) (r : Req) (bytes : List ℕ) → IsOrdered s → Step s r bytes t → Deed s t r
+  deed : (s t : State) (r : Req) (bytes : List ℕ) → ((on : FileSide) → IsOrderedOn on s) → Step s r bytes t → Deed s t r
   deed s t (request method target body closing) bytes ordered h = call_deed s t method target body closing (call_of method target) h.0 ordered refl h.1
   deed s t (refused_head refusal bodiless) bytes ordered h = keeps (λ e k. by k.asks) h.1
     where
       by : {expected : Option ℕ} {e : Edit} → AsksFor (refused_head refusal bodiless) expected e → ⊥
       by asks = elim asks [ ]
 
-  held : (s t : State) (rs : List Req) (answers : List (List ℕ)) (name : List ℕ) → IsOrdered s → Run s rs answers t → Holds name s (file_named s.files.schema name) rs (file_named t.files.schema name)
-  held s _ _ _ name ordered done = no_requests
-  held s t _ _ name ordered (more {t = u} {r = r} {rs = rs} {bytes = bytes} {answers = answers} step run) =
-      by (deed s u r bytes ordered step) (λ still. held u t rs answers name still run)
+  held : (s t : State) (rs : List Req) (answers : List (List ℕ)) (side : FileSide) (name : List ℕ) → ((on : FileSide) → IsOrderedOn on s) → Run s rs answers t → Holds side name s (under side name s) rs (under side name t)
+  held s _ _ _ side name ordered done = no_requests
+  held s t _ _ side name ordered (more {t = u} {r = r} {rs = rs} {bytes = bytes} {answers = answers} step run) =
+      by (deed s u r bytes ordered step) (λ still. held u t rs answers side name still run)
     where
-      by : Deed s u r → (IsOrdered u → Holds name u (file_named u.files.schema name) rs (file_named t.files.schema name)) → Holds name s (file_named s.files.schema name) (r ∷ rs) (file_named t.files.schema name)
-      by (edits e accepted still leaves) rest = by_edit bytes accepted (leaves name) step (rest still)
+      by : Deed s u r → (((on : FileSide) → IsOrderedOn on u) → Holds side name u (under side name u) rs (under side name t)) → Holds side name s (under side name s) (r ∷ rs) (under side name t)
+      by (edits e accepted still leaves) rest = by_edit bytes accepted (leaves side name) step (rest still)
       by (keeps none same) rest =
-          by_other bytes none step (subst (λ o. Holds name u o rs (file_named t.files.schema name)) (ap (λ (v : State). file_named v.files.schema name) same) (rest (subst IsOrdered (sym same) ordered)))
+          by_other bytes none step (subst (λ o. Holds side name u o rs (under side name t)) (ap (under side name) same) (rest (λ on. subst (IsOrderedOn on) (sym same) (ordered on))))
 
   pub files_present_lem : FilesPresent
   unfolding Rattle.std.specs.List.Sorted.IsStrictlySortedBy
-  files_present_lem t rs answers name run = held empty t rs answers name tt run
+  files_present_lem t rs answers side name run = held empty t rs answers side name ordered run
+    where
+      ordered : (on : FileSide) → IsOrderedOn on empty
+      ordered Schema = tt
+      ordered Documents = tt
 
 -- ---- the report of the files then present
 

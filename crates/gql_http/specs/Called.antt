@@ -16,11 +16,11 @@ route_said refusal.BadQuery = bad_query
 
 abbrev pub call_said : Call → spec.Call
 call_said call.Report = spec.report
-call_said (call.PutSchema name expected) = spec.put_schema name expected
-call_said (call.RemoveSchema name expected) = spec.remove_schema name expected
+call_said (call.Put side name expected) = spec.put side name expected
+call_said (call.Remove side name expected) = spec.remove side name expected
 call_said (call.Refused r) = spec.refused (route_said r)
 
 abbrev pub resource_said : Resource → spec.Resource
 resource_said resource.Nothing = spec.nothing
 resource_said resource.Report = spec.the_report
-resource_said (resource.SchemaFile name) = spec.schema_file name
+resource_said (resource.File side name) = spec.file side name

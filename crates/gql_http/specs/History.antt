@@ -1,22 +1,23 @@
--- The document that a name was given last.
+-- The document that a name of a side was given last.
 use Rattle.std.specs.Prelude.{ℕ, ◌≡◌, List, [], ◌∷◌, Bool, Option}
 use Rattle.gql_ast.specs.declared.definition.Document.{Document}
+use Rattle.gql_ast.specs.declared.fault.FileSide.{FileSide}
 use Rattle.gql_registry.specs.Edits.{Edit, IsAccepted}
 use Rattle.gql_registry.specs.Edits as edit
 use Rattle.gql_registry.specs.Laws.{LeavesUnder}
 use Rattle.gql_registry.specs.State.{State}
 use Rattle.gql_wire.specs.Stream.{Req, request}
-use Rattle.gql_http.specs.Routes.{put_schema, remove_schema, call_of}
+use Rattle.gql_http.specs.Routes.{put, remove, call_of}
 use Rattle.gql_http.specs.Service.{Step}
 
 -- the request asks for this edit, and expects this revision or any
 pub data AsksFor : Req → Option ℕ → Edit → Type 0 where
-  asks_to_put : {method target body name : List ℕ} {closing : Bool} {expected : Option ℕ}
-      → call_of method target ≡ put_schema name expected
-      → AsksFor (request method target body closing) expected (edit.put_schema name body)
-  asks_to_remove : {method target body name : List ℕ} {closing : Bool} {expected : Option ℕ}
-      → call_of method target ≡ remove_schema name expected
-      → AsksFor (request method target body closing) expected (edit.remove_schema name)
+  asks_to_put : {side : FileSide} {method target body name : List ℕ} {closing : Bool} {expected : Option ℕ}
+      → call_of method target ≡ put side name expected
+      → AsksFor (request method target body closing) expected (edit.put side name body)
+  asks_to_remove : {side : FileSide} {method target body name : List ℕ} {closing : Bool} {expected : Option ℕ}
+      → call_of method target ≡ remove side name expected
+      → AsksFor (request method target body closing) expected (edit.remove side name)
 
 -- the request is an accepted edit in this state
 pub record IsAcceptedEdit (s : State) (r : Req) (e : Edit) : Type 0 where
@@ -24,15 +25,15 @@ pub record IsAcceptedEdit (s : State) (r : Req) (e : Edit) : Type 0 where
   pub asks : AsksFor r expected e
   pub accepted : IsAccepted s expected e
 
--- What a name holds after requests, by the accepted edits among them alone: the document of the
+-- What a name of a side holds after requests, by the accepted edits among them alone: the document of the
 -- last that put one, nothing after one that removed it, and what it held before where there is
 -- none.
-pub data Holds (name : List ℕ) : State → Option Document → List Req → Option Document → Type 0 where
-  no_requests : {s : State} {held : Option Document} → Holds name s held [] held
+pub data Holds (side : FileSide) (name : List ℕ) : State → Option Document → List Req → Option Document → Type 0 where
+  no_requests : {s : State} {held : Option Document} → Holds side name s held [] held
   by_edit : {s t : State} {before after last : Option Document} {e : Edit} {r : Req} {rs : List Req}
       (bytes : List ℕ) → IsAcceptedEdit s r e
-      → LeavesUnder name before e after → Step s r bytes t → Holds name t after rs last
-      → Holds name s before (r ∷ rs) last
+      → LeavesUnder side name before e after → Step s r bytes t → Holds side name t after rs last
+      → Holds side name s before (r ∷ rs) last
   by_other : {s t : State} {before last : Option Document} {r : Req} {rs : List Req}
       (bytes : List ℕ) → ((e : Edit) → IsAcceptedEdit s r e → ⊥)
-      → Step s r bytes t → Holds name t before rs last → Holds name s before (r ∷ rs) last
+      → Step s r bytes t → Holds side name t before rs last → Holds side name s before (r ∷ rs) last

@@ -1,7 +1,8 @@
 -- Laws of the service and its hub.
 use Rattle.std.specs.Prelude.{ℕ, ◌≡◌, List, [], ◌∷◌, ◌++◌, Bool, Some, None}
-use Rattle.gql_ast.specs.FileMaps.{file_named}
 use Rattle.gql_ast.specs.declared.fault.Fault.{Fault}
+use Rattle.gql_ast.specs.declared.fault.FileSide.{FileSide}
+use Rattle.gql_registry.specs.Laws.{under}
 use Rattle.gql_registry.specs.Report.{IsReport}
 use Rattle.gql_registry.specs.State.{State, empty}
 use Rattle.gql_wire.specs.Head.{is_head}
@@ -89,12 +90,13 @@ TwoParts = (s t u : State) (rests between last : Connections) (c : ℕ)
     → between c ≡ Some half → Does t between (feeds c second) b u last
     → Does s rests (feeds c (first ++ second)) (a ++ b) u last
 
--- Files then present: after requests that began with no files, a name holds the document of its
--- last accepted edit, and no other name holds one.
+-- Files then present: after requests that began with no files, a name of a side holds the document
+-- of its last accepted edit, and no other name holds one.
 abbrev pub FilesPresent : Type 0
-FilesPresent = (t : State) (rs : List Req) (answers : List (List ℕ)) (name : List ℕ)
+FilesPresent = (t : State) (rs : List Req) (answers : List (List ℕ)) (side : FileSide)
+    (name : List ℕ)
     → Run empty rs answers t
-    → Holds name empty None rs (file_named t.files.schema name)
+    → Holds side name empty None rs (under side name t)
 
 -- A request for the report among others is answered with the report of the files that are present
 -- after those before it.

@@ -2,6 +2,8 @@
 use Rattle.std.specs.Prelude.{ℕ, ◌+◌, List, length, not, take, drop, codes, bytes_eq, nat_eq, ◌==◌, Bool, Option, Some, None, if◌then◌else◌}
 use Rattle.std.specs.List.{prefix_len, list_any, starts_with}
 use Rattle.gql_ast.specs.FileNames.{is_file_name}
+use Rattle.gql_ast.specs.declared.fault.FileSide.{FileSide}
+use Rattle.gql_ast.specs.declared.fault.FileSide.TheVariants.{Schema, Documents}
 use Rattle.gql_wire.specs.Number.{number_in}
 use Rattle.gql_wire.specs.declared.answer.Allow.TheVariants.{PutDelete, Get}
 use Rattle.gql_http.specs.Answers.{Said, no_route, not_allowed, bad_query}
@@ -11,15 +13,15 @@ use Rattle.gql_http.specs.declared.query.Query.TheVariants.{Absent, Revision, Ot
 -- a call, of which an edit may expect a revision; or a request that is refused with this answer
 pub data Call : Type 0 where
   report : Call
-  put_schema : List ℕ → Option ℕ → Call
-  remove_schema : List ℕ → Option ℕ → Call
+  put : FileSide → List ℕ → Option ℕ → Call
+  remove : FileSide → List ℕ → Option ℕ → Call
   refused : Said → Call
 
 -- what a path names
 pub data Resource : Type 0 where
   nothing : Resource
   the_report : Resource
-  schema_file : List ℕ → Resource
+  file : FileSide → List ℕ → Resource
 
 abbrev pub is_question_mark : ℕ → Bool
 is_question_mark b = b == 63
@@ -50,13 +52,17 @@ query_of target = if has_query target then query_in (drop (length (path_of targe
 abbrev pub schema_prefix : List ℕ
 schema_prefix = codes "/schema/"
 
-abbrev pub file_resource : List ℕ → Resource
-file_resource name = if is_file_name name then schema_file name else nothing
+abbrev pub documents_prefix : List ℕ
+documents_prefix = codes "/documents/"
+
+abbrev pub file_resource : FileSide → List ℕ → Resource
+file_resource side name = if is_file_name name then file side name else nothing
 
 abbrev pub resource_of : List ℕ → Resource
 resource_of path =
     if bytes_eq path (codes "/report") then the_report
-    else if starts_with nat_eq path schema_prefix then file_resource (drop 8 path)
+    else if starts_with nat_eq path schema_prefix then file_resource Schema (drop 8 path)
+    else if starts_with nat_eq path documents_prefix then file_resource Documents (drop 11 path)
     else nothing
 
 -- a call that takes no query
@@ -65,25 +71,25 @@ without_query Absent call = call
 without_query (Revision n) call = refused bad_query
 without_query Other call = refused bad_query
 
--- a schema file that is put, or removed, by an edit that may expect a revision
-abbrev pub putting : Query → List ℕ → Call
-putting Absent name = put_schema name None
-putting (Revision n) name = put_schema name (Some n)
-putting Other name = refused bad_query
+-- a file that is put on a side, or removed from it, by an edit that may expect a revision
+abbrev pub putting : Query → FileSide → List ℕ → Call
+putting Absent side name = put side name None
+putting (Revision n) side name = put side name (Some n)
+putting Other side name = refused bad_query
 
-abbrev pub removing : Query → List ℕ → Call
-removing Absent name = remove_schema name None
-removing (Revision n) name = remove_schema name (Some n)
-removing Other name = refused bad_query
+abbrev pub removing : Query → FileSide → List ℕ → Call
+removing Absent side name = remove side name None
+removing (Revision n) side name = remove side name (Some n)
+removing Other side name = refused bad_query
 
 -- the call on a resource by a method
 abbrev pub call_on : Resource → List ℕ → Query → Call
 call_on nothing method query = refused no_route
 call_on the_report method query = if bytes_eq method (codes "GET") then without_query query report
     else refused (not_allowed Get)
-call_on (schema_file name) method query =
-    if bytes_eq method (codes "PUT") then putting query name
-    else if bytes_eq method (codes "DELETE") then removing query name
+call_on (file side name) method query =
+    if bytes_eq method (codes "PUT") then putting query side name
+    else if bytes_eq method (codes "DELETE") then removing query side name
     else refused (not_allowed PutDelete)
 
 -- The call that a request's method and target are. The checks are made in this order: the path

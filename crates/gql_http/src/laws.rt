@@ -64,8 +64,8 @@ pub fn two_parts()
     gql_wire::laws::more_bytes();
 }
 
-/// Files then present: after requests that began with no files, each name holds the document of its
-/// last accepted edit, and no other name holds one.
+/// Files then present: after requests that began with no files, each name of a side holds the
+/// document of its last accepted edit, and no other name holds one.
 pub fn files_present()
     ensures { FilesPresent }
 {

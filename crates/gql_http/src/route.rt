@@ -6,7 +6,7 @@ ghost use Rattle.gql_http.specs.Routes.{call_of, call_on, resource_of, file_reso
 ghost use Rattle.gql_http.specs.Called.{call_said, resource_said};
 
 use crate::query::{Query, path_of, query_of};
-use gql_ast::FileName;
+use gql_ast::{FileName, FileSide};
 use gql_wire::Allow;
 use std::str;
 
@@ -25,8 +25,8 @@ pub enum RouteRefusal {
 #[derive(Drop)]
 pub enum Call {
     Report,
-    PutSchema(FileName, Option<u64>),
-    RemoveSchema(FileName, Option<u64>),
+    Put(FileSide, FileName, Option<u64>),
+    Remove(FileSide, FileName, Option<u64>),
     Refused(RouteRefusal),
 }
 
@@ -35,7 +35,7 @@ pub enum Call {
 pub enum Resource {
     Nothing,
     Report,
-    SchemaFile(FileName),
+    File(FileSide, FileName),
 }
 
 fn file_name(bytes: &[u8]) -> Option<FileName>
@@ -47,11 +47,11 @@ fn file_name(bytes: &[u8]) -> Option<FileName>
     FileName::read(text)
 }
 
-fn schema_file(name: &[u8]) -> Resource
-    ensures { resource_said result ≡ file_resource name.now }
+fn file_resource(side: FileSide, name: &[u8]) -> Resource
+    ensures { resource_said result ≡ file_resource side name.now }
 {
     match file_name(name) {
-        Some(name) => Resource::SchemaFile(name),
+        Some(name) => Resource::File(side, name),
         None => Resource::Nothing,
     }
 }
@@ -62,7 +62,9 @@ fn resource_of(path: &[u8]) -> Resource
     if path == b"/report".as_slice() {
         Resource::Report
     } else if path.starts_with(b"/schema/") {
-        schema_file(&path[8..])
+        file_resource(FileSide::Schema, &path[8..])
+    } else if path.starts_with(b"/documents/") {
+        file_resource(FileSide::Documents, &path[11..])
     } else {
         Resource::Nothing
     }
@@ -78,24 +80,24 @@ fn without_query(query: Query, served: Call) -> Call
     }
 }
 
-/// A schema file that is put.
-fn putting(query: Query, name: FileName) -> Call
-    ensures { call_said result ≡ putting query name }
+/// A file that is put.
+fn putting(query: Query, side: FileSide, name: FileName) -> Call
+    ensures { call_said result ≡ putting query side name }
 {
     match query {
-        Query::Absent => Call::PutSchema(name, None),
-        Query::Revision(revision) => Call::PutSchema(name, Some(revision)),
+        Query::Absent => Call::Put(side, name, None),
+        Query::Revision(revision) => Call::Put(side, name, Some(revision)),
         Query::Other => Call::Refused(RouteRefusal::BadQuery),
     }
 }
 
-/// A schema file that is removed.
-fn removing(query: Query, name: FileName) -> Call
-    ensures { call_said result ≡ removing query name }
+/// A file that is removed.
+fn removing(query: Query, side: FileSide, name: FileName) -> Call
+    ensures { call_said result ≡ removing query side name }
 {
     match query {
-        Query::Absent => Call::RemoveSchema(name, None),
-        Query::Revision(revision) => Call::RemoveSchema(name, Some(revision)),
+        Query::Absent => Call::Remove(side, name, None),
+        Query::Revision(revision) => Call::Remove(side, name, Some(revision)),
         Query::Other => Call::Refused(RouteRefusal::BadQuery),
     }
 }
@@ -107,9 +109,11 @@ fn call_on(resource: Resource, method: &[u8], query: Query) -> Call
         Resource::Nothing => Call::Refused(RouteRefusal::NoRoute),
         Resource::Report if method == b"GET".as_slice() => without_query(query, Call::Report),
         Resource::Report => Call::Refused(RouteRefusal::NotAllowed(Allow::Get)),
-        Resource::SchemaFile(name) if method == b"PUT".as_slice() => { putting(query, name) }
-        Resource::SchemaFile(name) if method == b"DELETE".as_slice() => { removing(query, name) }
-        Resource::SchemaFile(_) => Call::Refused(RouteRefusal::NotAllowed(Allow::PutDelete)),
+        Resource::File(side, name) if method == b"PUT".as_slice() => { putting(query, side, name) }
+        Resource::File(side, name) if method == b"DELETE".as_slice() => {
+            removing(query, side, name)
+        }
+        Resource::File(_, _) => Call::Refused(RouteRefusal::NotAllowed(Allow::PutDelete)),
     }
 }
 

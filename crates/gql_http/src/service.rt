@@ -1,6 +1,8 @@
 //! One request after the other, made on the registry.
 ghost use Rattle.std.specs.Prelude.{◌≡◌, ◌++◌, ◌+◌, ◌≤◌, OnOk, OnErr, IfOk, IsErr, List, [], ℕ, Some, vec_len, vec_capacity};
 ghost use Rattle.gql_ast.specs.declared.fault.Fault.{Fault};
+ghost use Rattle.gql_registry.specs.Edits as edit;
+ghost use Rattle.gql_registry.specs.Edits.{Makes};
 ghost use Rattle.gql_registry.specs.Report.{IsReport};
 ghost use Rattle.gql_registry.specs.State.{state_of};
 ghost use Rattle.gql_wire.specs.Stream.{req};
@@ -16,8 +18,9 @@ use crate::refusal_answer::{head_answer, refusal_answer, route_answer};
 use crate::report_body::report_body;
 use crate::route::{Call, call_of};
 use crate::write_answer::{EDIT_ROOM, write_answer, write_edited};
-use gql_ast::FileName;
+use gql_ast::{FileName, FileSide};
 use gql_registry::{Edited, Refusal, Registry};
+use gql_verdict::Meter;
 use gql_wire::Framed;
 use http::StatusCode;
 use std::alloc::{AllocError, Global};
@@ -56,44 +59,83 @@ fn write_edit(
     }
 }
 
-fn put_schema(
+/// Puts a file on a side.
+fn put(
+    alloc: Global,
+    registry: &mut Registry,
+    side: FileSide,
+    name: FileName,
+    body: &[u8],
+    expected: Option<u64>,
+) -> Result<Edited, Refusal>
+    ensures { Makes (state_of registry.old) expected (edit.put side name body.now) result
+        (state_of registry.new) }
+{
+    let mut meter = Meter::new(alloc);
+    match side {
+        FileSide::Schema => registry.put_schema(name, body, expected, &mut meter),
+        FileSide::Documents => registry.put_document(name, body, expected, &mut meter),
+    }
+}
+
+/// Removes a file from a side.
+fn remove(
+    alloc: Global,
+    registry: &mut Registry,
+    side: FileSide,
+    name: FileName,
+    expected: Option<u64>,
+) -> Result<Edited, Refusal>
+    ensures { Makes (state_of registry.old) expected (edit.remove side name) result
+        (state_of registry.new) }
+{
+    let mut meter = Meter::new(alloc);
+    match side {
+        FileSide::Schema => registry.remove_schema(name, expected, &mut meter),
+        FileSide::Documents => registry.remove_document(name, expected, &mut meter),
+    }
+}
+
+fn answer_put(
     alloc: Global,
     registry: &mut Registry,
     out: &mut Vec<u8>,
+    side: FileSide,
     name: FileName,
     expected: Option<u64>,
     body: &[u8],
     ending: Ending,
 ) -> Result<(), AllocError>
     ensures ok { OnOk result ((a : Said)
-        × Calls (state_of registry.old) (routes.put_schema name expected) body.now a
+        × Calls (state_of registry.old) (routes.put side name expected) body.now a
         (state_of registry.new)
         × (out.new.items ≡ out.old.items ++ ended_bytes ending a)) }
     ensures err { OnErr result ((state_of registry.new ≡ state_of registry.old)
         × (out.new.items ≡ out.old.items)) }
 {
     out.reserve(EDIT_ROOM)?;
-    let edited = registry.put_schema(name, body, expected);
+    let edited = put(alloc, registry, side, name, body, expected);
     write_edit(alloc, out, edited, ending)
 }
 
-fn remove_schema(
+fn answer_removal(
     alloc: Global,
     registry: &mut Registry,
     out: &mut Vec<u8>,
+    side: FileSide,
     name: FileName,
     expected: Option<u64>,
     ending: Ending,
 ) -> Result<(), AllocError>
     ensures ok { OnOk result ((a : Said)
-        × Calls (state_of registry.old) (routes.remove_schema name expected) [] a
+        × Calls (state_of registry.old) (routes.remove side name expected) [] a
         (state_of registry.new)
         × (out.new.items ≡ out.old.items ++ ended_bytes ending a)) }
     ensures err { OnErr result ((state_of registry.new ≡ state_of registry.old)
         × (out.new.items ≡ out.old.items)) }
 {
     out.reserve(EDIT_ROOM)?;
-    let edited = registry.remove_schema(name, expected);
+    let edited = remove(alloc, registry, side, name, expected);
     write_edit(alloc, out, edited, ending)
 }
 
@@ -113,11 +155,11 @@ fn make_call(
 {
     match call {
         Call::Report => write_answer(out, &report_answer(alloc, registry)?, ending),
-        Call::PutSchema(name, expected) => {
-            put_schema(alloc, registry, out, name, expected, body, ending)
+        Call::Put(side, name, expected) => {
+            answer_put(alloc, registry, out, side, name, expected, body, ending)
         }
-        Call::RemoveSchema(name, expected) => {
-            remove_schema(alloc, registry, out, name, expected, ending)
+        Call::Remove(side, name, expected) => {
+            answer_removal(alloc, registry, out, side, name, expected, ending)
         }
         Call::Refused(refusal) => write_answer(out, &route_answer(alloc, refusal)?, ending),
     }

@@ -1,13 +1,30 @@
 -- What each name holds after an accepted edit.
-use Rattle.std.proofs.Common.{◌≡◌, ◌≢◌, ◌⊎◌, inl, inr, ℕ, List, length, Bool, true, false, Option, Some, None, refl, sym, ap, subst, ◌∙◌, bytes_eq}
+use Rattle.std.proofs.Common.{◌≡◌, ◌≢◌, ◌⊎◌, inl, inr, ℕ, List, Bool, true, false, Option, Some, None, refl, sym, ap, subst, ◌∙◌, bytes_eq}
+use Rattle.std.specs.List.Sorted.{IsStrictlySortedBy}
+use Rattle.std.specs.Map.{keys_of}
 use Rattle.std.specs.Ordering.{is_eq}
 use Rattle.std.specs.Cmp.Lexicographic.{texts_ties, told_text}
 use Rattle.gql_ast.specs.FileMaps.{file_named, name_order, with_file, without_file}
 use Rattle.gql_ast.specs.declared.definition.Document.{Document}
-use Rattle.gql_registry.specs.Edits.{Edit, put_schema, remove_schema, Leaves}
-use Rattle.gql_registry.specs.Laws.{IsOrdered, LeavesUnder, put, removed, elsewhere, HoldsAfter}
+use Rattle.gql_ast.specs.declared.fault.FileSide.{FileSide}
+use Rattle.gql_ast.specs.declared.fault.FileSide.TheVariants.{Schema, Documents}
+use Rattle.gql_registry.specs.Edits.{Edit, put, remove, side_of, name_of, Leaves}
+use Rattle.gql_registry.specs.Laws.{LeavesUnder, by_put, by_removal, elsewhere, HoldsAfter}
+use Rattle.gql_registry.specs.Sides.{IsFileOn}
 use Rattle.gql_registry.specs.State.{State}
 use Rattle.gql_registry.proofs.FilesByName.{put_found, put_other, put_sorted, removed_other, removed_none, removed_sorted}
+
+-- files by their names
+abbrev FileList : Type 0
+FileList = List (List ℕ × Document)
+
+-- they are in order
+abbrev AreSorted : FileList → Type 0
+AreSorted files = IsStrictlySortedBy name_order (keys_of files)
+
+-- what an edit leaves under every name, where these were the files of a side and these are they now
+abbrev LeavesAll : FileSide → Edit → FileList → FileList → Type 0
+LeavesAll side e before after = (name : List ℕ) → LeavesUnder side name (file_named before name) e (file_named after name)
 
 -- two names are the same, or one comes before the other
 apart_or_same : (q k : List ℕ) → (k ≡ q) ⊎ ((k ≢ q) × (is_eq (name_order q k) ≡ false))
@@ -17,28 +34,59 @@ apart_or_same q k = by (bytes_eq q k) refl
     by true is = inl (sym (told_text q k true (sym is)))
     by false is = inr (λ e. told_text q k false (sym is) (sym e), sym (texts_ties q k) ∙ is)
 
+-- a file that is put
+after_put : (side : FileSide) (name bytes : List ℕ) (document : Document) (files : FileList) → IsFileOn side name bytes document → LeavesAll side (put side name bytes) files (with_file files name document)
+after_put side name bytes document files is q = elim (apart_or_same q name) [
+  | inl same ↦
+      subst (λ n. LeavesUnder side n (file_named files n) (put side name bytes) (file_named (with_file files name document) n)) same
+      (subst (λ o. LeavesUnder side name (file_named files name) (put side name bytes) o) (sym (put_found name document files)) (by_put is))
+  | inr other ↦
+      subst (λ o. LeavesUnder side q (file_named files q) (put side name bytes) o) (sym (put_other q name document files other.1)) (elsewhere (λ _ e. other.0 e))
+]
+
+-- a file that is removed
+after_removal : (side : FileSide) (name : List ℕ) (files : FileList) → AreSorted files → LeavesAll side (remove side name) files (without_file files name)
+after_removal side name files sorted q = elim (apart_or_same q name) [
+  | inl same ↦
+      subst (λ n. LeavesUnder side n (file_named files n) (remove side name) (file_named (without_file files name) n)) same
+      (subst (λ o. LeavesUnder side name (file_named files name) (remove side name) o) (sym (removed_none name files sorted)) by_removal)
+  | inr other ↦
+      subst (λ o. LeavesUnder side q (file_named files q) (remove side name) o) (sym (removed_other q name files other.1)) (elsewhere (λ _ e. other.0 e))
+]
+
+-- an edit of the other side
+after_other : (side : FileSide) (e : Edit) (files : FileList) → (side_of e ≡ side → ⊥) → LeavesAll side e files files
+after_other side e files apart q = elsewhere (λ same _. apart same)
+
+-- files that are in order, and what each name holds
+abbrev Holds : FileSide → Edit → FileList → FileList → Type 0
+Holds side e before after = AreSorted after × LeavesAll side e before after
+
+carried : (side : FileSide) (e : Edit) (before after left : FileList) → left ≡ after → Holds side e before after → Holds side e before left
+carried side e before after left same h = subst (λ files. Holds side e before files) (sym same) h
+
 pub holds_after : HoldsAfter
-holds_after s t (put_schema name bytes) ordered left = (
-  subst IsOrdered (sym left.2) (put_sorted name left.0 s.files.schema ordered),
-  λ q. elim (apart_or_same q name) [
-    | inl same ↦
-        let under : file_named t.files.schema name ≡ Some left.0 = ap (λ (u : State). file_named u.files.schema name) left.2 ∙ put_found name left.0 s.files.schema in
-        subst (λ n. LeavesUnder n (file_named s.files.schema n) (put_schema name bytes) (file_named t.files.schema n)) same
-        (subst (λ o. LeavesUnder name (file_named s.files.schema name) (put_schema name bytes) o) (sym under) (put left.1))
-    | inr other ↦
-        let under : file_named t.files.schema q ≡ file_named s.files.schema q = ap (λ (u : State). file_named u.files.schema q) left.2 ∙ put_other q name left.0 s.files.schema other.1 in
-        subst (λ o. LeavesUnder q (file_named s.files.schema q) (put_schema name bytes) o) (sym under) (elsewhere other.0)
-  ],
-)
-holds_after s t (remove_schema name) ordered left = (
-  subst IsOrdered (sym left) (removed_sorted name s.files.schema ordered),
-  λ q. elim (apart_or_same q name) [
-    | inl same ↦
-        let under : file_named t.files.schema name ≡ None = ap (λ (u : State). file_named u.files.schema name) left ∙ removed_none name s.files.schema ordered in
-        subst (λ n. LeavesUnder n (file_named s.files.schema n) (remove_schema name) (file_named t.files.schema n)) same
-        (subst (λ o. LeavesUnder name (file_named s.files.schema name) (remove_schema name) o) (sym under) removed)
-    | inr other ↦
-        let under : file_named t.files.schema q ≡ file_named s.files.schema q = ap (λ (u : State). file_named u.files.schema q) left ∙ removed_other q name s.files.schema other.1 in
-        subst (λ o. LeavesUnder q (file_named s.files.schema q) (remove_schema name) o) (sym under) (elsewhere other.0)
-  ],
-)
+holds_after s t (put Schema name bytes) Schema ordered left =
+    carried Schema (put Schema name bytes) s.files.schema (with_file s.files.schema name left.0) t.files.schema (ap (λ (u : State). u.files.schema) left.2)
+    (put_sorted name left.0 s.files.schema ordered, after_put Schema name bytes left.0 s.files.schema left.1)
+holds_after s t (put Documents name bytes) Documents ordered left =
+    carried Documents (put Documents name bytes) s.files.documents (with_file s.files.documents name left.0) t.files.documents (ap (λ (u : State). u.files.documents) left.2)
+    (put_sorted name left.0 s.files.documents ordered, after_put Documents name bytes left.0 s.files.documents left.1)
+holds_after s t (put Documents name bytes) Schema ordered left =
+    carried Schema (put Documents name bytes) s.files.schema s.files.schema t.files.schema (ap (λ (u : State). u.files.schema) left.2)
+    (ordered, after_other Schema (put Documents name bytes) s.files.schema (λ e. cc e))
+holds_after s t (put Schema name bytes) Documents ordered left =
+    carried Documents (put Schema name bytes) s.files.documents s.files.documents t.files.documents (ap (λ (u : State). u.files.documents) left.2)
+    (ordered, after_other Documents (put Schema name bytes) s.files.documents (λ e. cc e))
+holds_after s t (remove Schema name) Schema ordered left =
+    carried Schema (remove Schema name) s.files.schema (without_file s.files.schema name) t.files.schema (ap (λ (u : State). u.files.schema) left)
+    (removed_sorted name s.files.schema ordered, after_removal Schema name s.files.schema ordered)
+holds_after s t (remove Documents name) Documents ordered left =
+    carried Documents (remove Documents name) s.files.documents (without_file s.files.documents name) t.files.documents (ap (λ (u : State). u.files.documents) left)
+    (removed_sorted name s.files.documents ordered, after_removal Documents name s.files.documents ordered)
+holds_after s t (remove Documents name) Schema ordered left =
+    carried Schema (remove Documents name) s.files.schema s.files.schema t.files.schema (ap (λ (u : State). u.files.schema) left)
+    (ordered, after_other Schema (remove Documents name) s.files.schema (λ e. cc e))
+holds_after s t (remove Schema name) Documents ordered left =
+    carried Documents (remove Schema name) s.files.documents s.files.documents t.files.documents (ap (λ (u : State). u.files.documents) left)
+    (ordered, after_other Documents (remove Schema name) s.files.documents (λ e. cc e))

@@ -1,5 +1,11 @@
 pub mod FilesByName
 pub mod FirstRefusals
 pub mod HoldsAfter
+pub mod Knowing
+pub mod Mapped
 pub mod OneEdit
 pub mod OneReport
+pub mod PlacedFiles
+pub mod Reports
+pub mod Working
+pub mod SameSchema

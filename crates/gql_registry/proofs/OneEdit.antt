@@ -5,18 +5,38 @@ use Rattle.gql_grammar.specs.declared.fault.SyntaxRefusal.{SyntaxRefusal}
 use Rattle.gql_grammar.specs.declared.fault.SyntaxFault.{SyntaxFault}
 use Rattle.gql_grammar.specs.declared.fault.SyntaxFault.TheVariants.{At}
 use Rattle.gql_ast.specs.declared.definition.Document.{Document}
+use Rattle.gql_ast.specs.declared.fault.FileSide.{FileSide}
+use Rattle.gql_ast.specs.declared.fault.FileSide.TheVariants.{Schema, Documents}
 use Rattle.gql_parse_sdl.specs.SchemaFiles.{IsSchemaFile, IsSchemaFault}
-use Rattle.gql_registry.specs.Edits.{Edit, put_schema, remove_schema, Fails, stale, spent, too_long, not_text, syntax, no_file, files_full, rank, IsFirstRefusal, Leaves, Reports, Makes, with_schema}
+use Rattle.gql_parse_sdl.specs.DocumentFiles.{IsDocumentFile, IsDocumentFault}
+use Rattle.gql_registry.specs.Edits.{Edit, put, remove, Fails, stale, spent, too_long, not_text, syntax, no_file, files_full, rank, IsFirstRefusal, Leaves, Reports, Makes}
 use Rattle.gql_registry.specs.Laws.{WasMade, OneReport, OneEdit}
+use Rattle.gql_registry.specs.Sides.{IsFileOn, IsFaultOn, with_put}
 use Rattle.gql_registry.specs.State.{State, next}
 use Rattle.gql_registry.specs.declared.refusal.Refusal.{Refusal}
 use Rattle.gql_registry.specs.declared.refusal.Refusal.TheVariants as refusal
 use Rattle.gql_registry.specs.declared.registry.Edited.{Edited}
 
--- what the parser's laws say of every text
+-- what the laws of the parsers say of every text
 pub record OneReading : Type 0 where
-  pub document : (name bytes : List ℕ) (a b : Document) → IsSchemaFile name bytes a → IsSchemaFile name bytes b → a ≡ b
-  pub fault : (name bytes : List ℕ) (f g : SyntaxFault) → IsSchemaFault name bytes f → IsSchemaFault name bytes g → f ≡ g
+  pub document : (side : FileSide) (name bytes : List ℕ) (a b : Document) → IsFileOn side name bytes a → IsFileOn side name bytes b → a ≡ b
+  pub fault : (side : FileSide) (name bytes : List ℕ) (f g : SyntaxFault) → IsFaultOn side name bytes f → IsFaultOn side name bytes g → f ≡ g
+
+-- from the laws of each parser
+pub one_reading : ((name bytes : List ℕ) (a b : Document) → IsSchemaFile name bytes a → IsSchemaFile name bytes b → a ≡ b)
+    → ((name bytes : List ℕ) (f g : SyntaxFault) → IsSchemaFault name bytes f → IsSchemaFault name bytes g → f ≡ g)
+    → ((name bytes : List ℕ) (a b : Document) → IsDocumentFile name bytes a → IsDocumentFile name bytes b → a ≡ b)
+    → ((name bytes : List ℕ) (f g : SyntaxFault) → IsDocumentFault name bytes f → IsDocumentFault name bytes g → f ≡ g)
+    → OneReading
+one_reading schema_tree schema_fault document_tree document_fault = record { document = trees; fault = faults }
+  where
+    trees : (side : FileSide) (name bytes : List ℕ) (a b : Document) → IsFileOn side name bytes a → IsFileOn side name bytes b → a ≡ b
+    trees Schema = schema_tree
+    trees Documents = document_tree
+
+    faults : (side : FileSide) (name bytes : List ℕ) (f g : SyntaxFault) → IsFaultOn side name bytes f → IsFaultOn side name bytes g → f ≡ g
+    faults Schema = schema_fault
+    faults Documents = document_fault
 
 same_syntax : (m n : SyntaxRefusal) (p q : Place) → At m p ≡ At n q → refusal.Syntax m p ≡ refusal.Syntax n q
 same_syntax m n p q e =
@@ -57,8 +77,8 @@ module _ (one : OneReading) where
   same_refusal s _ _ _ _ (syntax bad) (spent is) same = absurd (omega arith)
   same_refusal s _ _ _ _ (syntax bad) (too_long long) same = absurd (omega arith)
   same_refusal s _ _ _ _ (syntax bad) (not_text other) same = absurd (omega arith)
-  same_refusal s _ _ _ _ (syntax {name = name} {bytes = bytes} {number = m} {place = p} bad) (syntax {number = n} {place = q} other) same =
-      same_syntax m n p q (one.fault name bytes (At m p) (At n q) bad other)
+  same_refusal s _ _ _ _ (syntax {side = side} {name = name} {bytes = bytes} {number = m} {place = p} bad) (syntax {number = n} {place = q} other) same =
+      same_syntax m n p q (one.fault side name bytes (At m p) (At n q) bad other)
   same_refusal s _ _ _ _ (syntax bad) (files_full none many) same = absurd (omega arith)
   same_refusal s _ _ _ _ (no_file none) (stale apart) same = absurd (omega arith)
   same_refusal s _ _ _ _ (no_file none) (spent is) same = absurd (omega arith)
@@ -77,8 +97,8 @@ module _ (one : OneReading) where
       same_refusal s expected e r q x.fails y.fails (omega arith)
 
   one_left : (s t u : State) (e : Edit) → Leaves s e t → Leaves s e u → t ≡ u
-  one_left s t u (put_schema name bytes) x y = x.2 ∙ ap (λ d. next s (with_schema s.files name d)) (one.document name bytes x.0 y.0 x.1 y.1) ∙ sym y.2
-  one_left s t u (remove_schema name) x y = x ∙ sym y
+  one_left s t u (put side name bytes) x y = x.2 ∙ ap (λ d. next s (with_put side s.files name d)) (one.document side name bytes x.0 y.0 x.1 y.1) ∙ sym y.2
+  one_left s t u (remove side name) x y = x ∙ sym y
 
 -- the answer to an accepted edit is one for a state
 one_edited : OneReport → (t u : State) (e g : Edited) → t ≡ u → Reports t e → Reports u g → e ≡ g
@@ -115,3 +135,10 @@ one_edit one reports s t u expected e (Err r) (Err q) h k made_h made_k =
     let x = refused s t expected e r made_h h in
     let y = refused s u expected e q made_k k in
     (ap Err (one_first one s expected e r q x.0 y.0), x.1 ∙ sym y.1)
+
+-- a text is a file of a side or has a fault there, and never both
+pub apart_on : ((name bytes : List ℕ) (d : Document) (f : SyntaxFault) → IsSchemaFile name bytes d → IsSchemaFault name bytes f → ⊥)
+    → ((name bytes : List ℕ) (d : Document) (f : SyntaxFault) → IsDocumentFile name bytes d → IsDocumentFault name bytes f → ⊥)
+    → (side : FileSide) (name bytes : List ℕ) (d : Document) (f : SyntaxFault) → IsFileOn side name bytes d → IsFaultOn side name bytes f → ⊥
+apart_on schema document Schema = schema
+apart_on schema document Documents = document

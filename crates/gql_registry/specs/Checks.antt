@@ -1,9 +1,38 @@
 -- Helper definitions for private contracts: what is known of an edit once some of its checks were
 -- passed.
-use Rattle.std.specs.Prelude.{ℕ, ◌≡◌, Option, Some, None}
-use Rattle.gql_registry.specs.State.{State}
+use Rattle.std.specs.Prelude.{ℕ, ◌≡◌, ◌<◌, ◌≤◌, List, length, Option, Some, None, Err, IsUtf8}
+use Rattle.gql_ast.specs.declared.definition.Document.{Document}
+use Rattle.gql_ast.specs.declared.fault.FileSide.{FileSide}
+use Rattle.gql_ast.specs.declared.fault.FileSide.TheVariants.{Schema, Documents}
+use Rattle.gql_registry.specs.Edits.{put, Makes}
+use Rattle.gql_registry.specs.Sides.{IsFileOn}
+use Rattle.gql_registry.specs.State.{State, last_revision, file_limit}
+use Rattle.gql_registry.specs.declared.refusal.Refusal.{Refusal}
+use Rattle.gql_verdict.specs.FileOrder.{ArePlaced}
 
 -- the edit expects no revision, or the present one
 abbrev pub IsExpected : State → Option ℕ → Type 0
 IsExpected s None = Unit {0}
 IsExpected s (Some expected) = expected ≡ s.revision
+
+-- the first two checks are passed
+pub record IsInTime (s : State) (expected : Option ℕ) : Type 0 where
+  pub present : IsExpected s expected
+  pub left : s.revision < last_revision
+
+-- the definitions of a document file have its name, and their offsets rise
+abbrev pub IsPlacedOn : FileSide → List ℕ → Document → Type 0
+IsPlacedOn Schema name document = Unit {0}
+IsPlacedOn Documents name document = ArePlaced name document.definitions
+
+-- the bytes are read as this document
+pub record IsRead (side : FileSide) (name bytes : List ℕ) (document : Document) : Type 0 where
+  pub short : length bytes ≤ file_limit
+  pub text : IsUtf8 bytes
+  pub file : IsFileOn side name bytes document
+  pub placed : IsPlacedOn side name document
+
+-- an edit that puts the bytes is refused with this, where it comes in time
+abbrev pub IsUnread : FileSide → List ℕ → List ℕ → Refusal → Type 0
+IsUnread side name bytes r = (s : State) (expected : Option ℕ) → IsInTime s expected
+    → Makes s expected (put side name bytes) (Err r) s

@@ -4,27 +4,32 @@ use Rattle.std.specs.Prelude.{ℕ, ◌≡◌, ◌≢◌, ◌<◌, ◌≤◌, Lis
 use Rattle.gql_text.specs.declared.place.Place.{Place}
 use Rattle.gql_grammar.specs.declared.fault.SyntaxFault.TheVariants.{At}
 use Rattle.gql_grammar.specs.declared.fault.SyntaxRefusal.{SyntaxRefusal}
-use Rattle.gql_ast.specs.FileMaps.{file_named, with_file, without_file}
+use Rattle.gql_ast.specs.FileMaps.{file_named}
 use Rattle.gql_ast.specs.declared.definition.Document.{Document}
 use Rattle.gql_ast.specs.declared.fault.Fault.{Fault}
-use Rattle.gql_ast.specs.declared.files.Files.{Files}
-use Rattle.gql_parse_sdl.specs.SchemaFiles.{IsSchemaFile, IsSchemaFault}
+use Rattle.gql_ast.specs.declared.fault.FileSide.{FileSide}
 use Rattle.gql_registry.specs.Report.{IsReport}
+use Rattle.gql_registry.specs.Sides.{IsFileOn, IsFaultOn, files_on, with_put, with_removed}
 use Rattle.gql_registry.specs.State.{State, next, last_revision, file_limit, most_files}
 use Rattle.gql_registry.specs.declared.refusal.Refusal.{Refusal}
 use Rattle.gql_registry.specs.declared.refusal.Refusal.TheVariants.{Syntax, NotText, TooLong, NoFile, FilesFull, Stale, BadData, NoOperation, Faulty, TooLarge, Memory, Spent}
 use Rattle.gql_registry.specs.declared.registry.Edited.{Edited}
 
--- an edit: bytes put as the schema file of a name, in place of any of that name, or the file of a
--- name removed
+-- an edit: bytes put on a side as the file of a name, in place of any of that name, or the file of
+-- a name removed from a side
 pub data Edit : Type 0 where
-  put_schema : List ℕ → List ℕ → Edit
-  remove_schema : List ℕ → Edit
+  put : FileSide → List ℕ → List ℕ → Edit
+  remove : FileSide → List ℕ → Edit
 
--- the name of the file that an edit changes
+-- the side of the file that an edit changes
+abbrev pub side_of : Edit → FileSide
+side_of (put side name bytes) = side
+side_of (remove side name) = side
+
+-- its name
 abbrev pub name_of : Edit → List ℕ
-name_of (put_schema name bytes) = name
-name_of (remove_schema name) = name
+name_of (put side name bytes) = name
+name_of (remove side name) = name
 
 -- The edit fails a check in this state, with this refusal. An edit may expect a revision.
 pub data Fails : State → Option ℕ → Edit → Refusal → Type 0 where
@@ -35,24 +40,24 @@ pub data Fails : State → Option ℕ → Edit → Refusal → Type 0 where
   spent : {s : State} {expected : Option ℕ} {e : Edit} → s.revision ≡ last_revision
       → Fails s expected e Spent
   -- 203: the file has too many bytes
-  too_long : {s : State} {expected : Option ℕ} {name bytes : List ℕ} → file_limit < length bytes
-      → Fails s expected (put_schema name bytes) TooLong
+  too_long : {s : State} {expected : Option ℕ} {side : FileSide} {name bytes : List ℕ} → file_limit < length bytes
+      → Fails s expected (put side name bytes) TooLong
   -- 202: the bytes are not UTF-8
-  not_text : {s : State} {expected : Option ℕ} {name bytes : List ℕ} → (IsUtf8 bytes → ⊥)
-      → Fails s expected (put_schema name bytes) NotText
-  -- 201: the text is not a schema file
-  syntax : {s : State} {expected : Option ℕ} {name bytes : List ℕ} {number : SyntaxRefusal}
+  not_text : {s : State} {expected : Option ℕ} {side : FileSide} {name bytes : List ℕ} → (IsUtf8 bytes → ⊥)
+      → Fails s expected (put side name bytes) NotText
+  -- 201: the text is not a file of the side
+  syntax : {s : State} {expected : Option ℕ} {side : FileSide} {name bytes : List ℕ} {number : SyntaxRefusal}
       {place : Place}
-      → IsSchemaFault name bytes (At number place)
-      → Fails s expected (put_schema name bytes) (Syntax number place)
+      → IsFaultOn side name bytes (At number place)
+      → Fails s expected (put side name bytes) (Syntax number place)
   -- 204: there is no file of the name
-  no_file : {s : State} {expected : Option ℕ} {name : List ℕ}
-      → file_named s.files.schema name ≡ None
-      → Fails s expected (remove_schema name) NoFile
-  -- 205: the name is new, and there are as many files as there may be
-  files_full : {s : State} {expected : Option ℕ} {name bytes : List ℕ}
-      → file_named s.files.schema name ≡ None
-      → most_files ≤ length s.files.schema → Fails s expected (put_schema name bytes) FilesFull
+  no_file : {s : State} {expected : Option ℕ} {side : FileSide} {name : List ℕ}
+      → file_named (files_on side s.files) name ≡ None
+      → Fails s expected (remove side name) NoFile
+  -- 205: the name is new, and the side has as many files as it may have
+  files_full : {s : State} {expected : Option ℕ} {side : FileSide} {name bytes : List ℕ}
+      → file_named (files_on side s.files) name ≡ None
+      → most_files ≤ length (files_on side s.files) → Fails s expected (put side name bytes) FilesFull
 
 -- the order in which the checks are made: 206, 212, 203, 202, 201 or 207, 204, 205
 abbrev pub rank : Refusal → ℕ
@@ -78,20 +83,12 @@ pub record IsFirstRefusal (s : State) (expected : Option ℕ) (e : Edit) (r : Re
 abbrev pub IsAccepted : State → Option ℕ → Edit → Type 0
 IsAccepted s expected e = (r : Refusal) → Fails s expected e r → ⊥
 
--- with this schema file put, in the place of any of its name
-abbrev pub with_schema : Files → List ℕ → Document → Files
-with_schema files name document = record files { schema = with_file files.schema name document }
-
--- with no schema file of that name
-abbrev pub without_schema : Files → List ℕ → Files
-without_schema files name = record files { schema = without_file files.schema name }
-
 -- the state that an accepted edit leaves
 abbrev pub Leaves : State → Edit → State → Type 0
-Leaves s (put_schema name bytes) t =
-    (document : Document) × IsSchemaFile name bytes document
-    × (t ≡ next s (with_schema s.files name document))
-Leaves s (remove_schema name) t = t ≡ next s (without_schema s.files name)
+Leaves s (put side name bytes) t =
+    (document : Document) × IsFileOn side name bytes document
+    × (t ≡ next s (with_put side s.files name document))
+Leaves s (remove side name) t = t ≡ next s (with_removed side s.files name)
 
 -- what an accepted edit that leaves this state answers: the revision, and the number of faults in
 -- the report

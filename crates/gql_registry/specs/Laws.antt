@@ -5,10 +5,11 @@ use Rattle.std.specs.Map.{keys_of}
 use Rattle.gql_ast.specs.FileMaps.{file_named, name_order}
 use Rattle.gql_ast.specs.declared.definition.Document.{Document}
 use Rattle.gql_ast.specs.declared.fault.Fault.{Fault}
+use Rattle.gql_ast.specs.declared.fault.FileSide.{FileSide}
 use Rattle.gql_ast.specs.declared.files.Files.{Files}
-use Rattle.gql_parse_sdl.specs.SchemaFiles.{IsSchemaFile}
-use Rattle.gql_registry.specs.Edits.{Edit, put_schema, remove_schema, name_of, Leaves, Makes}
+use Rattle.gql_registry.specs.Edits.{Edit, put, remove, name_of, side_of, Leaves, Makes}
 use Rattle.gql_registry.specs.Report.{IsReport}
+use Rattle.gql_registry.specs.Sides.{IsFileOn, files_on}
 use Rattle.gql_registry.specs.State.{State}
 use Rattle.gql_registry.specs.declared.refusal.Refusal.{Refusal}
 use Rattle.gql_registry.specs.declared.refusal.Refusal.TheVariants.{Memory}
@@ -28,22 +29,27 @@ OneEdit = (s t u : State) (expected : Option ℕ) (e : Edit) (r q : Result Edite
 abbrev pub OneReport : Type 0
 OneReport = (files : Files) (a b : List Fault) → IsReport files a → IsReport files b → a ≡ b
 
--- the schema files are in the order of their names, none of which occurs twice
-abbrev pub IsOrdered : State → Type 0
-IsOrdered s = IsStrictlySortedBy name_order (keys_of s.files.schema)
+-- the files of a side are in the order of their names, none of which occurs twice
+abbrev pub IsOrderedOn : FileSide → State → Type 0
+IsOrderedOn side s = IsStrictlySortedBy name_order (keys_of (files_on side s.files))
 
--- What an accepted edit leaves under a name, which held this before: the document that was put,
--- nothing after a removal, and the same as before where the edit names another.
-pub data LeavesUnder (name : List ℕ) (before : Option Document) : Edit → Option Document
-    → Type 0 where
-  put : {bytes : List ℕ} {document : Document} → IsSchemaFile name bytes document
-      → LeavesUnder name before (put_schema name bytes) (Some document)
-  removed : LeavesUnder name before (remove_schema name) None
-  elsewhere : {e : Edit} → (name_of e ≡ name → ⊥) → LeavesUnder name before e before
+-- the file of a name on a side
+abbrev pub under : FileSide → List ℕ → State → Option Document
+under side name s = file_named (files_on side s.files) name
 
--- after an accepted edit each name holds what the edit leaves under it, and the files are in order
--- again
+-- What an accepted edit leaves under a name of a side, which held this before: the document that
+-- was put, nothing after a removal, and the same as before where the edit names another file.
+pub data LeavesUnder (side : FileSide) (name : List ℕ) (before : Option Document) : Edit
+    → Option Document → Type 0 where
+  by_put : {bytes : List ℕ} {document : Document} → IsFileOn side name bytes document
+      → LeavesUnder side name before (put side name bytes) (Some document)
+  by_removal : LeavesUnder side name before (remove side name) None
+  elsewhere : {e : Edit} → ((side_of e ≡ side) → (name_of e ≡ name) → ⊥)
+      → LeavesUnder side name before e before
+
+-- after an accepted edit each name of a side holds what the edit leaves under it, and the files of
+-- the side are in order again
 abbrev pub HoldsAfter : Type 0
-HoldsAfter = (s t : State) (e : Edit) → IsOrdered s → Leaves s e t
-    → IsOrdered t × ((name : List ℕ)
-    → LeavesUnder name (file_named s.files.schema name) e (file_named t.files.schema name))
+HoldsAfter = (s t : State) (e : Edit) (side : FileSide) → IsOrderedOn side s → Leaves s e t
+    → IsOrderedOn side t × ((name : List ℕ)
+    → LeavesUnder side name (under side name s) e (under side name t))

@@ -1,6 +1,11 @@
 pub mod Refusals
 pub mod Report
+pub mod Sides
+pub mod Keeping
 pub mod State
 pub mod Edits
+pub mod Works
 pub mod Checks
 pub mod Laws
+pub mod Changes
+pub mod Plans

@@ -1,14 +1,28 @@
--- The report of files: all their faults and no others, each once, in the order of reports.
+-- The report of files: all their faults and no others, each once, in the order of reports. While
+-- the schema has faults, these are the report.
 use Rattle.std.specs.Prelude.{◌↔◌, List, Contains}
 use Rattle.std.specs.List.Sorted.{IsStrictlySortedBy}
+use Rattle.gql_ast.specs.declared.definition.Definition.{Definition}
 use Rattle.gql_ast.specs.declared.fault.Fault.{Fault}
 use Rattle.gql_ast.specs.declared.files.Files.{Files}
+use Rattle.gql_facts.specs.Facts.{fact_of}
 use Rattle.gql_report.specs.Order.{fault_order}
 use Rattle.gql_schema_rules.specs.SchemaFaults.{IsSchemaFault}
+use Rattle.gql_verdict.specs.Definitions.{all_definitions}
+use Rattle.gql_verdict.specs.Faults.{IsFaultIn}
+use Rattle.gql_verdict.specs.NameFaults.{name_faults}
 
--- the files have this fault: it is one of the schema that the schema files are together
-abbrev pub IsFault : Files → Fault → Type 0
-IsFault = IsSchemaFault
+-- the schema that the schema files are together has no fault
+abbrev pub IsSound : Files → Type 0
+IsSound files = (f : Fault) → IsSchemaFault files f → ⊥
+
+-- The files have this fault: it is one of the schema; or, if the schema has none, one of the names
+-- in all document files, or one of a definition in them.
+pub data IsFault (files : Files) (f : Fault) : Type 0 where
+  of_schema : IsSchemaFault files f → IsFault files f
+  of_names : IsSound files → Contains (name_faults files) f → IsFault files f
+  of_definition : {d : Definition} → IsSound files → Contains (all_definitions files.documents) d
+      → IsFaultIn (fact_of files) d f → IsFault files f
 
 -- these are the faults of the files, each once, in the order of reports
 abbrev pub IsReport : Files → List Fault → Type 0

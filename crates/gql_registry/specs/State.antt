@@ -1,7 +1,8 @@
 -- What the registry holds.
-use Rattle.std.specs.Prelude.{ℕ, ◌+◌, ◌^◌, ◌-◌, []}
+use Rattle.std.specs.Prelude.{ℕ, ◌+◌, ◌^◌, ◌-◌, List, []}
 use Rattle.gql_ast.specs.declared.files.Files.{Files}
 use Rattle.gql_registry.specs.declared.registry.Registry.{Registry}
+use Rattle.gql_verdict.specs.Verdicts.{Judgement}
 
 -- the files that are present, and the number of edits that were accepted
 pub record State : Type 0 where
@@ -10,7 +11,11 @@ pub record State : Type 0 where
 
 -- what a registry holds
 abbrev pub state_of : Registry → State
-state_of r = record { files = r.files; revision = r.revision }
+state_of r = record { files = r.kept.files; revision = r.revision }
+
+-- the verdicts that a registry keeps
+abbrev pub shelf_of : Registry → List Judgement
+shelf_of r = r.kept.shelf
 
 -- no files, and no edit
 abbrev pub empty : State

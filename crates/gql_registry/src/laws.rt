@@ -8,11 +8,12 @@ pub fn one_outcome()
     ensures report { OneReport }
 {
     gql_parse_sdl::one_answer();
+    gql_parse_sdl::one_document_answer();
     gql_report::laws::one_order();
 }
 
-/// After an accepted edit a name holds the document that was put under it, nothing after a removal,
-/// and what it held where the edit names another.
+/// After an accepted edit a name of a side holds the document that was put under it, nothing after
+/// a removal, and what it held where the edit names another file.
 pub fn holds_after()
     ensures { HoldsAfter }
 {}

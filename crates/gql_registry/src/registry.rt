@@ -1,10 +1,15 @@
-ghost use Rattle.std.specs.Prelude.{◌≡◌, ◌||◌, is_some, nat_lt, length};
+//! The registry, and its edits.
+ghost use Rattle.std.specs.Prelude.{◌≡◌, ◌||◌, ◌<◌, ℕ, Option, IfErr, IfOk, is_some, nat_lt, length};
 ghost use Rattle.gql_ast.specs.FileMaps.{file_named};
+ghost use Rattle.gql_registry.specs.Checks.{IsRead, IsUnread};
 
+use crate::change::Change;
+use crate::kept::Kept;
 use crate::refusal::Refusal;
-use crate::report::report_of;
-use gql_ast::{Document, Fault, FileMap, FileName, Files, Shared};
-use gql_parse_sdl::{one_answer, parse_sdl};
+use crate::sides::{files_on, parse_on};
+use gql_ast::{Document, Fault, FileMap, FileName, FileSide, Shared};
+use gql_parse_sdl::{one_answer, one_document_answer};
+use gql_verdict::{Meter, Shelf};
 use std::alloc::{AllocError, Global};
 use std::str;
 
@@ -21,11 +26,12 @@ pub struct Edited {
     pub faults: u64,
 }
 
-/// The files that services and clients have put, and how many edits were accepted.
+/// The files that services and clients have put, a verdict on each definition of the document
+/// files, and how many edits were accepted.
 #[derive(Drop)]
 pub struct Registry {
     alloc: Global,
-    files: Files,
+    kept: Kept,
     revision: u64,
 }
 
@@ -36,20 +42,47 @@ fn has_room(files: &FileMap<Shared<Document>>, name: &FileName) -> bool
     files.has(name) || files.len() < MAX_FILES
 }
 
+/// Reads bytes as a file of a side. Refused by 203, 202 and 201, in this order.
+fn read_file(
+    alloc: Global,
+    side: FileSide,
+    name: &FileName,
+    bytes: &[u8],
+) -> Result<Document, Refusal>
+    ensures read { IfOk result (IsRead side name.now bytes.now) }
+    ensures err { IfErr result (IsUnread side name.now bytes.now) }
+{
+    if bytes.len() > MAX_FILE_BYTES {
+        return Err(Refusal::TooLong);
+    }
+    let Ok(text) = str::from_utf8(bytes) else {
+        return Err(Refusal::NotText);
+    };
+    let document = parse_on(alloc, side, name.copy(), text)?;
+    Ok(document)
+}
+
 impl Registry {
-    ghost use Rattle.std.specs.Prelude.{◌≡◌, ◌+◌, ◌<◌, IfErr, IfOk, OnErr, length};
-    ghost use Rattle.gql_registry.specs.State.{state_of, empty, next, last_revision};
-    ghost use Rattle.gql_registry.specs.Edits.{Edit, IsFirstRefusal, Makes, Reports, put_schema, remove_schema};
-    ghost use Rattle.gql_registry.specs.Checks.{IsExpected};
+    ghost use Rattle.std.specs.Prelude.{◌≡◌, ◌+◌, ◌<◌, IfErr, IfOk, OnErr, OnOk, length};
+    ghost use Rattle.gql_ast.specs.declared.fault.FileSide.TheVariants as side;
+    ghost use Rattle.gql_registry.specs.Checks.{IsInTime};
+    ghost use Rattle.gql_registry.specs.Edits.{Edit, IsFirstRefusal, Makes, Reports};
+    ghost use Rattle.gql_registry.specs.Edits as edit;
+    ghost use Rattle.gql_registry.specs.Changes.{IsChangeBy, IsChangeOf, IsRefusedBy};
+    ghost use Rattle.gql_registry.specs.Keeping.{IsShelfOf, IsWorkOn};
     ghost use Rattle.gql_registry.specs.Report as spec;
+    ghost use Rattle.gql_registry.specs.State.{state_of, shelf_of, empty, next};
+    ghost use Rattle.gql_registry.specs.Works.{Works};
+    ghost use Rattle.std.specs.Prelude.{[]};
 
     /// A registry without files, at revision 0.
     pub fn new(alloc: Global) -> Registry
-        ensures { state_of result ≡ empty }
+        ensures state { state_of result ≡ empty }
+        ensures shelf { shelf_of result ≡ [] }
     {
         Registry {
             alloc,
-            files: Files::new(alloc),
+            kept: Kept::new(alloc),
             revision: 0,
         }
     }
@@ -61,20 +94,28 @@ impl Registry {
         self.revision
     }
 
+    /// The verdicts, one for each definition of the document files that are present. Each holds.
+    pub fn shelf(&self) -> &Shelf
+        ensures shelf { result.now ≡ shelf_of self.now }
+        ensures current { IsShelfOf (state_of self.now).files (shelf_of self.now) }
+    {
+        self.kept.shelf()
+    }
+
     /// The faults of the files that are present: all of them and no others, each once, by first
-    /// place (none first), rule, second place, owner and text.
+    /// place (none first), rule, second place, owner and text. While the schema has faults, these
+    /// are all.
     pub fn report(&self) -> Result<Vec<Fault>, AllocError>
         ensures { IfOk result (λ faults. spec.IsReport (state_of self.now).files faults.items) }
     {
-        report_of(self.alloc, &self.files)
+        self.kept.report(self.alloc)
     }
 
     /// The revision after the present one, for an edit that expects this revision. Refused by 206
     /// and 212.
     fn next_revision(&self, expected: Option<u64>) -> Result<u64, Refusal>
         ensures next { IfOk result (λ n. n ≡ (state_of self.now).revision + 1) }
-        ensures left { IfOk result (λ _. (state_of self.now).revision < last_revision) }
-        ensures expected { IfOk result (λ _. IsExpected (state_of self.now) expected) }
+        ensures time { IfOk result (λ _. IsInTime (state_of self.now) expected) }
         ensures err { IfErr result (λ r. (e : Edit)
             → IsFirstRefusal (state_of self.now) expected e r) }
     {
@@ -91,66 +132,186 @@ impl Registry {
         }
     }
 
-    /// Takes these files, at this revision.
-    fn accept(&mut self, files: Files, revision: u64) -> Result<Edited, AllocError>
-        requires { revision ≡ (state_of self.old).revision + 1 }
-        ensures next { IfOk result (λ _. state_of self.new ≡ next (state_of self.old) files) }
-        ensures reports { IfOk result (λ edited. Reports (state_of self.new) edited) }
-        ensures err { OnErr result (state_of self.new ≡ state_of self.old) }
+    /// The change that puts bytes as the file of a name on a side. Refused by 203, 202, 201 and
+    /// 205, in this order.
+    #[tactic(none)]
+    fn change_by_put(
+        &self,
+        side: FileSide,
+        name: FileName,
+        bytes: &[u8],
+    ) -> Result<Change, Refusal>
+        ensures change { IfOk result
+            (IsChangeBy (state_of self.now) (edit.put side name bytes.now)) }
+        ensures err { IfErr result
+            (IsRefusedBy (state_of self.now) (edit.put side name bytes.now)) }
     {
-        let faults = report_of(self.alloc, &files)?.len() as u64;
-        self.files = files;
+        // The laws that a text has a tree or a fault, and never both.
+        one_answer();
+        one_document_answer();
+        let document = read_file(self.alloc, side, &name, bytes)?;
+        if !has_room(files_on(self.kept.files(), side), &name) {
+            return Err(Refusal::FilesFull);
+        }
+        let change = self.kept.change_by_put(self.alloc, side, name, document)?;
+        Ok(change)
+    }
+
+    /// The change that removes the file of a name from a side. Refused by 204.
+    #[tactic(none)]
+    fn change_by_removal(&self, side: FileSide, name: &FileName) -> Result<Change, Refusal>
+        ensures change { IfOk result
+            (IsChangeBy (state_of self.now) (edit.remove side name.now)) }
+        ensures err { IfErr result
+            (IsRefusedBy (state_of self.now) (edit.remove side name.now)) }
+    {
+        if !files_on(self.kept.files(), side).has(name) {
+            return Err(Refusal::NoFile);
+        }
+        let change = self.kept.change_by_removal(self.alloc, side, name)?;
+        Ok(change)
+    }
+
+    /// Takes a change, at this revision.
+    #[tactic(none)]
+    fn accept(
+        &mut self,
+        change: Change,
+        revision: u64,
+        meter: &mut Meter,
+    ) -> Result<Edited, AllocError>
+        requires revision { revision ≡ (state_of self.old).revision + 1 }
+        requires change { IsChangeOf (state_of self.old).files change }
+        ensures next { OnOk result (state_of self.new ≡ next (state_of self.old) change.files) }
+        ensures reports { IfOk result (Reports (next (state_of self.old) change.files)) }
+        ensures err { OnErr result (state_of self.new ≡ state_of self.old) }
+        ensures shelf { OnErr result (shelf_of self.new ≡ shelf_of self.old) }
+        ensures work { IsWorkOn change.files (shelf_of self.old) meter.old meter.new }
+    {
+        let faults = self.kept.take(self.alloc, change, meter)?;
         self.revision = revision;
         Ok(Edited { revision, faults })
     }
 
+    /// Puts bytes as the file of a name on a side.
+    #[tactic(none)]
+    fn put(
+        &mut self,
+        side: FileSide,
+        name: FileName,
+        bytes: &[u8],
+        expected: Option<u64>,
+        meter: &mut Meter,
+    ) -> Result<Edited, Refusal>
+        ensures makes { Makes (state_of self.old) expected (edit.put side name bytes.now) result
+            (state_of self.new) }
+        ensures shelf { OnErr result (shelf_of self.new ≡ shelf_of self.old) }
+        ensures works { Works (state_of self.old) (shelf_of self.old)
+            (edit.put side name bytes.now) result (state_of self.new) meter.old meter.new }
+    {
+        let revision = self.next_revision(expected)?;
+        let change = self.change_by_put(side, name, bytes)?;
+        Ok(self.accept(change, revision, meter)?)
+    }
+
+    /// Removes the file of a name from a side.
+    #[tactic(none)]
+    fn remove(
+        &mut self,
+        side: FileSide,
+        name: FileName,
+        expected: Option<u64>,
+        meter: &mut Meter,
+    ) -> Result<Edited, Refusal>
+        ensures makes { Makes (state_of self.old) expected (edit.remove side name) result
+            (state_of self.new) }
+        ensures shelf { OnErr result (shelf_of self.new ≡ shelf_of self.old) }
+        ensures works { Works (state_of self.old) (shelf_of self.old)
+            (edit.remove side name) result (state_of self.new) meter.old meter.new }
+    {
+        let revision = self.next_revision(expected)?;
+        let change = self.change_by_removal(side, &name)?;
+        Ok(self.accept(change, revision, meter)?)
+    }
+
     /// Puts bytes as the schema file of a name, in place of any of that name, and returns the new
-    /// revision and how many faults the report has then. An edit may expect a revision. Refused, in
-    /// this order, by 206, 212, 203, 202, 201 and 205, and by 211 if an allocation fails; the
-    /// registry is then as it was.
+    /// revision and how many faults the report has then. An edit may expect a revision. The meter
+    /// gets an entry for each definition that is examined: those whose verdict no longer holds.
+    /// Refused, in this order, by 206, 212, 203, 202, 201 and 205, and by 211 if an allocation
+    /// fails; the registry is then as it was.
+    #[tactic(none)]
     pub fn put_schema(
         &mut self,
         name: FileName,
         bytes: &[u8],
         expected: Option<u64>,
+        meter: &mut Meter,
     ) -> Result<Edited, Refusal>
-        ensures { Makes (state_of self.old) expected (put_schema name bytes.now) result
-            (state_of self.new) }
+        ensures makes { Makes (state_of self.old) expected
+            (edit.put side.Schema name bytes.now) result (state_of self.new) }
+        ensures shelf { OnErr result (shelf_of self.new ≡ shelf_of self.old) }
+        ensures works { Works (state_of self.old) (shelf_of self.old)
+            (edit.put side.Schema name bytes.now) result (state_of self.new)
+            meter.old meter.new }
     {
-        // The law that a text has a tree or a fault, and never both.
-        one_answer();
-        let revision = self.next_revision(expected)?;
-        if bytes.len() > MAX_FILE_BYTES {
-            return Err(Refusal::TooLong);
-        }
-        let Ok(text) = str::from_utf8(bytes) else {
-            return Err(Refusal::NotText);
-        };
-        let document = parse_sdl(self.alloc, name.copy(), text)?;
-        if !has_room(&self.files.schema, &name) {
-            return Err(Refusal::FilesFull);
-        }
-        let mut files = self.files.copy()?;
-        files.schema.put(name, Shared::new(self.alloc, document)?)?;
-        Ok(self.accept(files, revision)?)
+        self.put(FileSide::Schema, name, bytes, expected, meter)
+    }
+
+    /// Puts bytes as the document file of a name, and returns what `put_schema` does. The
+    /// definitions of the file are examined, but for those that stood at the same place before, and
+    /// so are the others whose verdict no longer holds. Refused as `put_schema` is.
+    #[tactic(none)]
+    pub fn put_document(
+        &mut self,
+        name: FileName,
+        bytes: &[u8],
+        expected: Option<u64>,
+        meter: &mut Meter,
+    ) -> Result<Edited, Refusal>
+        ensures makes { Makes (state_of self.old) expected
+            (edit.put side.Documents name bytes.now) result (state_of self.new) }
+        ensures shelf { OnErr result (shelf_of self.new ≡ shelf_of self.old) }
+        ensures works { Works (state_of self.old) (shelf_of self.old)
+            (edit.put side.Documents name bytes.now) result (state_of self.new)
+            meter.old meter.new }
+    {
+        self.put(FileSide::Documents, name, bytes, expected, meter)
     }
 
     /// Removes a schema file, and returns what `put_schema` does. Refused, in this order, by 206,
     /// 212 and 204, and by 211 if an allocation fails; the registry is then as it was.
+    #[tactic(none)]
     pub fn remove_schema(
         &mut self,
         name: FileName,
         expected: Option<u64>,
+        meter: &mut Meter,
     ) -> Result<Edited, Refusal>
-        ensures { Makes (state_of self.old) expected (remove_schema name) result
-            (state_of self.new) }
+        ensures makes { Makes (state_of self.old) expected (edit.remove side.Schema name)
+            result (state_of self.new) }
+        ensures shelf { OnErr result (shelf_of self.new ≡ shelf_of self.old) }
+        ensures works { Works (state_of self.old) (shelf_of self.old)
+            (edit.remove side.Schema name) result (state_of self.new)
+            meter.old meter.new }
     {
-        let revision = self.next_revision(expected)?;
-        if !self.files.schema.has(&name) {
-            return Err(Refusal::NoFile);
-        }
-        let mut files = self.files.copy()?;
-        files.schema.remove(&name);
-        Ok(self.accept(files, revision)?)
+        self.remove(FileSide::Schema, name, expected, meter)
+    }
+
+    /// Removes a document file, and returns what `put_schema` does. Refused as `remove_schema` is.
+    #[tactic(none)]
+    pub fn remove_document(
+        &mut self,
+        name: FileName,
+        expected: Option<u64>,
+        meter: &mut Meter,
+    ) -> Result<Edited, Refusal>
+        ensures makes { Makes (state_of self.old) expected (edit.remove side.Documents name)
+            result (state_of self.new) }
+        ensures shelf { OnErr result (shelf_of self.new ≡ shelf_of self.old) }
+        ensures works { Works (state_of self.old) (shelf_of self.old)
+            (edit.remove side.Documents name) result (state_of self.new)
+            meter.old meter.new }
+    {
+        self.remove(FileSide::Documents, name, expected, meter)
     }
 }

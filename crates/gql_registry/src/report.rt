@@ -1,18 +1,70 @@
-ghost use Rattle.std.specs.Prelude.{IfOk};
-ghost use Rattle.gql_registry.specs.Report.{IsReport};
+//! The report of files, from the faults of their parts.
+ghost use Rattle.std.specs.Prelude.{◌≡◌, ◌≢◌, ◌++◌, [], IfOk, OnOk};
+ghost use Rattle.gql_ast.specs.declared.files.Files.{Files as TheFiles};
+ghost use Rattle.gql_facts.specs.Members.{Lists};
+ghost use Rattle.gql_registry.specs.Keeping.{AreSchemaFaults, IsDefinitionFault, IsSideOf};
+ghost use Rattle.gql_registry.specs.Report.{IsReport, IsSound};
 
 use gql_ast::{Fault, Files};
+use gql_facts::SchemaFacts;
 use gql_report::in_order;
 use gql_schema_rules::schema_faults;
 use gql_types::assemble;
+use gql_verdict::name_faults;
 use std::alloc::{AllocError, Global};
 
-/// The faults of the files that are present, each once, in the order of reports.
-pub fn report_of(alloc: Global, files: &Files) -> Result<Vec<Fault>, AllocError>
-    ensures { IfOk result (λ faults. IsReport files.now faults.items) }
+/// The schema files as one schema: the facts of the schema, and its faults.
+#[derive(Drop)]
+pub struct SchemaSide {
+    pub facts: SchemaFacts,
+    pub faults: Vec<Fault>,
+}
+
+/// Puts the schema of the schema files together.
+pub fn schema_side(alloc: Global, files: &Files) -> Result<SchemaSide, AllocError>
+    ensures { IfOk result (IsSideOf files.now) }
 {
     let schema = assemble(alloc, files)?;
     let faults = schema_faults(alloc, files, &schema)?;
+    let facts = SchemaFacts::new(alloc, &schema)?;
+    Ok(SchemaSide { facts, faults })
+}
+
+/// Copies of faults.
+fn copies(alloc: Global, faults: &[Fault]) -> Result<Vec<Fault>, AllocError>
+    ensures { IfOk result (λ copied. copied.items ≡ faults.now) }
+{
+    let mut copied = Vec::new(alloc);
+    for fault in faults {
+        copied.push(fault.copy(alloc)?)?;
+    }
+    Ok(copied)
+}
+
+/// The report where the schema has faults, which are these.
+pub fn schema_report(alloc: Global, faults: &[Fault]) -> Result<Vec<Fault>, AllocError>
+    requires { faults.now ≢ [] }
+    ensures { IfOk result (λ report. (files : TheFiles) → AreSchemaFaults files faults.now
+        → IsReport files report.items) }
+{
+    let copied = copies(alloc, faults)?;
+    let report = in_order(alloc, copied)?;
+    Ok(report)
+}
+
+/// The report where the schema has no faults, and the definitions of the document files have these.
+pub fn documents_report(
+    alloc: Global,
+    files: &Files,
+    of_definitions: Vec<Fault>,
+) -> Result<Vec<Fault>, AllocError>
+    requires sound { IsSound files.now }
+    requires faults { Lists of_definitions.items (IsDefinitionFault files.now) }
+    ensures { IfOk result (λ report. IsReport files.now report.items) }
+{
+    let mut of_definitions = of_definitions;
+    let mut faults = name_faults(alloc, files)?;
+    faults.append(&mut of_definitions)?;
     let report = in_order(alloc, faults)?;
     Ok(report)
 }

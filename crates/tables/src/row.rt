@@ -13,6 +13,7 @@ use crate::wire::wire_answer;
 use gql_ast::{FileName, Files};
 use gql_registry::Registry;
 use gql_types::{Schema, assemble};
+use gql_verdict::Meter;
 use std::alloc::{AllocError, Global};
 
 /// The faults of a document, which the question has after its word, or which is the one before it.
@@ -72,18 +73,33 @@ impl Row {
         if self.name.is_empty() {
             return;
         }
-        match FileName::read(self.name.as_str()) {
-            Some(name) => {
-                if put_file(self.alloc, &mut self.files, &name, self.text.as_str()).is_none()
-                    || self
-                        .registry
-                        .put_schema(name, self.text.as_str().as_bytes(), None)
-                        .is_err()
-                {
-                    self.is_refused = true;
-                }
-            }
-            None => self.is_refused = true,
+        let Some(name) = FileName::read(self.name.as_str()) else {
+            self.is_refused = true;
+            return;
+        };
+        let is_file = put_file(self.alloc, &mut self.files, &name, self.text.as_str()).is_some();
+        let mut meter = Meter::new(self.alloc);
+        let bytes = self.text.as_str().as_bytes();
+        let put = self.registry.put_schema(name, bytes, None, &mut meter);
+        if !is_file || put.is_err() {
+            self.is_refused = true;
+        }
+    }
+
+    /// Puts the document of the lines before the question as the document file `d`, if there is
+    /// one.
+    fn put_document(&mut self) {
+        if self.document.is_empty() {
+            return;
+        }
+        let Some(name) = FileName::read("d") else {
+            return;
+        };
+        let mut meter = Meter::new(self.alloc);
+        let bytes = self.document.as_str().as_bytes();
+        let put = self.registry.put_document(name, bytes, None, &mut meter);
+        if put.is_err() {
+            self.is_refused = true;
         }
     }
 
@@ -144,9 +160,10 @@ impl Row {
         join(&mut self.answers, "\n", answer)
     }
 
-    /// The faults of the report on the row's files, or `refused`.
+    /// The faults of the report on the row's files and on its document, or `refused`.
     fn report(&mut self) -> Result<String, AllocError> {
         self.put();
+        self.put_document();
         if self.is_refused {
             return String::from_str(self.alloc, "refused");
         }

@@ -1,6 +1,10 @@
-use Rattle.std.proofs.Common.{rules, refl}
-use Rattle.gql_registry.proofs.FirstRefusals.{first_no_file}
 use Rattle.gql_registry.proofs.registry.Registry.remove_schema.Goals as goal
 
-pub returns-then-not-has : goal.returns-then-not-has
-returns-then-not-has c = (first_no_file _ _ _ c.in_ok-revision.ensures.expected c.in_ok-revision.ensures.left (search rules), refl)
+pub returns-clause-makes : goal.returns-clause-makes
+returns-clause-makes c = c.remove.ensures.makes
+
+pub returns-clause-shelf : goal.returns-clause-shelf
+returns-clause-shelf c = c.remove.ensures.shelf
+
+pub returns-clause-works : goal.returns-clause-works
+returns-clause-works c = c.remove.ensures.works

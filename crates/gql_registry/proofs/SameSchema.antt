@@ -1,0 +1,125 @@
+-- The schema of files depends on the schema files alone.
+use Rattle.std.proofs.Common.{◌≡◌, ℕ, List, Option, Some, None, IfSome}
+use Rattle.gql_ast.specs.declared.definition.Document.{Document}
+use Rattle.gql_ast.specs.declared.fault.Fault.{Fault}
+use Rattle.gql_ast.specs.declared.files.Files.{Files}
+use Rattle.gql_schema_rules.specs.SchemaFaults.{IsSchemaFault, FaultsBy, by_s01, by_s02, by_s03, by_s04, by_s05, by_s06, by_s07, by_s08, by_s09, by_s10, by_s11, by_s12, by_s13, by_s14, by_s15, by_s16, by_s17, by_s18, by_s19, by_s20, by_s21, by_s22, by_s23, by_s24, by_s25, by_s26, by_s27, by_s28, by_s29, by_s30, by_s31, by_s32, by_s33, by_s34, by_p01, by_p02}
+use Rattle.gql_ast.specs.declared.fault.FileSide.{FileSide}
+use Rattle.gql_ast.specs.declared.fault.FileSide.TheVariants.{Schema as SchemaFiles, Documents}
+use Rattle.gql_registry.specs.Changes.{schema_after}
+use Rattle.gql_registry.specs.Sides.{with_put, with_removed}
+use Rattle.gql_types.specs.declared.schema.Schema.{Schema}
+use Rattle.gql_registry.specs.Keeping.{IsSideOf}
+use Rattle.gql_registry.specs.declared.report.SchemaSide.{SchemaSide}
+
+abbrev pub FileList : Type 0
+FileList = List (List ℕ × Document)
+
+-- the same schema files, with these document files
+abbrev pub with_documents : Files → FileList → Files
+with_documents files documents = record { schema = files.schema; documents = documents }
+
+fault_after : (files : Files) (documents : FileList) (s : Schema) (f : Fault) → FaultsBy files s f
+    → FaultsBy (with_documents files documents) s f
+fault_after files documents s f (by_s01 h) = by_s01 h
+fault_after files documents s f (by_s02 h) = by_s02 h
+fault_after files documents s f (by_s03 h) = by_s03 h
+fault_after files documents s f (by_s04 h) = by_s04 h
+fault_after files documents s f (by_s05 h) = by_s05 h
+fault_after files documents s f (by_s06 h) = by_s06 h
+fault_after files documents s f (by_s07 h) = by_s07 h
+fault_after files documents s f (by_s08 h) = by_s08 h
+fault_after files documents s f (by_s09 h) = by_s09 h
+fault_after files documents s f (by_s10 h) = by_s10 h
+fault_after files documents s f (by_s11 h) = by_s11 h
+fault_after files documents s f (by_s12 h) = by_s12 h
+fault_after files documents s f (by_s13 h) = by_s13 h
+fault_after files documents s f (by_s14 h) = by_s14 h
+fault_after files documents s f (by_s15 h) = by_s15 h
+fault_after files documents s f (by_s16 h) = by_s16 h
+fault_after files documents s f (by_s17 h) = by_s17 h
+fault_after files documents s f (by_s18 h) = by_s18 h
+fault_after files documents s f (by_s19 h) = by_s19 h
+fault_after files documents s f (by_s20 h) = by_s20 h
+fault_after files documents s f (by_s21 h) = by_s21 h
+fault_after files documents s f (by_s22 h) = by_s22 h
+fault_after files documents s f (by_s23 h) = by_s23 h
+fault_after files documents s f (by_s24 h) = by_s24 h
+fault_after files documents s f (by_s25 h) = by_s25 h
+fault_after files documents s f (by_s26 h) = by_s26 h
+fault_after files documents s f (by_s27 h) = by_s27 h
+fault_after files documents s f (by_s28 h) = by_s28 h
+fault_after files documents s f (by_s29 h) = by_s29 h
+fault_after files documents s f (by_s30 h) = by_s30 h
+fault_after files documents s f (by_s31 h) = by_s31 h
+fault_after files documents s f (by_s32 h) = by_s32 h
+fault_after files documents s f (by_s33 h) = by_s33 h
+fault_after files documents s f (by_s34 h) = by_s34 h
+fault_after files documents s f (by_p01 h) = by_p01 h
+fault_after files documents s f (by_p02 h) = by_p02 h
+
+fault_before : (files : Files) (documents : FileList) (s : Schema) (f : Fault)
+    → FaultsBy (with_documents files documents) s f → FaultsBy files s f
+fault_before files documents s f (by_s01 h) = by_s01 h
+fault_before files documents s f (by_s02 h) = by_s02 h
+fault_before files documents s f (by_s03 h) = by_s03 h
+fault_before files documents s f (by_s04 h) = by_s04 h
+fault_before files documents s f (by_s05 h) = by_s05 h
+fault_before files documents s f (by_s06 h) = by_s06 h
+fault_before files documents s f (by_s07 h) = by_s07 h
+fault_before files documents s f (by_s08 h) = by_s08 h
+fault_before files documents s f (by_s09 h) = by_s09 h
+fault_before files documents s f (by_s10 h) = by_s10 h
+fault_before files documents s f (by_s11 h) = by_s11 h
+fault_before files documents s f (by_s12 h) = by_s12 h
+fault_before files documents s f (by_s13 h) = by_s13 h
+fault_before files documents s f (by_s14 h) = by_s14 h
+fault_before files documents s f (by_s15 h) = by_s15 h
+fault_before files documents s f (by_s16 h) = by_s16 h
+fault_before files documents s f (by_s17 h) = by_s17 h
+fault_before files documents s f (by_s18 h) = by_s18 h
+fault_before files documents s f (by_s19 h) = by_s19 h
+fault_before files documents s f (by_s20 h) = by_s20 h
+fault_before files documents s f (by_s21 h) = by_s21 h
+fault_before files documents s f (by_s22 h) = by_s22 h
+fault_before files documents s f (by_s23 h) = by_s23 h
+fault_before files documents s f (by_s24 h) = by_s24 h
+fault_before files documents s f (by_s25 h) = by_s25 h
+fault_before files documents s f (by_s26 h) = by_s26 h
+fault_before files documents s f (by_s27 h) = by_s27 h
+fault_before files documents s f (by_s28 h) = by_s28 h
+fault_before files documents s f (by_s29 h) = by_s29 h
+fault_before files documents s f (by_s30 h) = by_s30 h
+fault_before files documents s f (by_s31 h) = by_s31 h
+fault_before files documents s f (by_s32 h) = by_s32 h
+fault_before files documents s f (by_s33 h) = by_s33 h
+fault_before files documents s f (by_s34 h) = by_s34 h
+fault_before files documents s f (by_p01 h) = by_p01 h
+fault_before files documents s f (by_p02 h) = by_p02 h
+
+-- the schema of files is that of the files with other document files, too
+pub same_side : (files : Files) (documents : FileList) (side : SchemaSide) → IsSideOf files side
+    → IsSideOf (with_documents files documents) side
+same_side files documents side is = record {
+  facts = is.facts;
+  faults = record {
+    sound = λ f h. fault_after files documents _ f (is.faults.sound f h);
+    complete = λ f h. is.faults.complete f (fault_before files documents _ f h);
+  };
+}
+
+pub same_known : (files : Files) (documents : FileList) (side : Option SchemaSide)
+    → IfSome side (IsSideOf files) → IfSome side (IsSideOf (with_documents files documents))
+same_known files documents None is = is
+same_known files documents (Some side) is = same_side files documents side is
+
+-- so the schema that is known after an edit is that of the files that it leaves
+pub known_after_put : (side : FileSide) (files : Files) (name : List ℕ) (d : Document) (schema : Option SchemaSide)
+    → IfSome schema (IsSideOf files) → IfSome (schema_after side schema) (IsSideOf (with_put side files name d))
+known_after_put SchemaFiles files name d schema is = tt
+known_after_put Documents files name d schema is = same_known files _ schema is
+
+pub known_after_removal : (side : FileSide) (files : Files) (name : List ℕ) (schema : Option SchemaSide)
+    → IfSome schema (IsSideOf files) → IfSome (schema_after side schema) (IsSideOf (with_removed side files name))
+known_after_removal SchemaFiles files name schema is = tt
+known_after_removal Documents files name schema is = same_known files _ schema is

@@ -1,0 +1,35 @@
+use Rattle.std.proofs.Common.{rules, refl, sym, subst, ap, ap₂, ◌≡◌}
+use Rattle.gql_ast.specs.declared.files.Files.{Files}
+use Rattle.gql_registry.specs.Keeping.{Keeping}
+use Rattle.gql_registry.specs.State.{State, state_of, next}
+use Rattle.gql_registry.proofs.Working.{on_err_of}
+use Rattle.gql_registry.proofs.registry.Registry.accept.Goals as goal
+
+pub take-requires : goal.take-requires
+take-requires c = c.requires.change
+
+pub returns-in_err-faults-clause-next : goal.returns-in_err-faults-clause-next
+returns-in_err-faults-clause-next c = search rules
+
+pub returns-in_err-faults-clause-reports : goal.returns-in_err-faults-clause-reports
+returns-in_err-faults-clause-reports c = search rules
+
+pub returns-in_err-faults-clause-err : goal.returns-in_err-faults-clause-err
+returns-in_err-faults-clause-err c =
+    on_err_of _ (ap (λ (k : Keeping). let s : State = record { files = k.files; revision = c.args.self.now.revision } in s) c.in_err-faults.ensures.err)
+
+pub returns-in_err-faults-clause-shelf : goal.returns-in_err-faults-clause-shelf
+returns-in_err-faults-clause-shelf c = on_err_of _ (ap (λ (k : Keeping). k.shelf) c.in_err-faults.ensures.err)
+
+pub returns-in_err-faults-clause-work : goal.returns-in_err-faults-clause-work
+returns-in_err-faults-clause-work c = c.in_err-faults.ensures.work
+
+pub returns-clause-next : goal.returns-clause-next
+returns-clause-next c =
+    ap₂ (λ (f : Files) r. let s : State = record { files = f; revision = r } in s) c.in_ok-faults.ensures.files c.requires.revision
+
+pub returns-clause-reports : goal.returns-clause-reports
+returns-clause-reports c = (c.requires.revision, c.in_ok-faults.ensures.count)
+
+pub returns-clause-work : goal.returns-clause-work
+returns-clause-work c = c.in_ok-faults.ensures.work

@@ -1,0 +1,47 @@
+use Rattle.std.proofs.Common.{◌≡◌, ◌≤◌, ◌∙◌, ℕ, rules, refl, sym, ap, subst, length, None, Option}
+use Rattle.gql_ast.specs.FileMaps.{file_named}
+use Rattle.gql_ast.specs.declared.files.Files.{Files}
+use Rattle.gql_verdict.specs.FileOrder.{AreFilesPlaced}
+use Rattle.gql_registry.specs.Changes.{IsChangeOf, IsRefusedBy}
+use Rattle.gql_registry.specs.Edits.{put}
+use Rattle.gql_registry.specs.Sides.{files_on}
+use Rattle.gql_registry.specs.State.{State, state_of, next, most_files}
+use Rattle.gql_registry.proofs.FirstRefusals.{first_files_full, put_accepted, no_room, room}
+use Rattle.gql_registry.proofs.OneEdit.{apart_on}
+use Rattle.gql_registry.proofs.PlacedFiles.{put_change_of}
+use Rattle.gql_registry.proofs.Working.{err_of, in_vain}
+use Rattle.gql_registry.proofs.registry.Registry.change_by_put.Goals as goal
+
+pub returns-in_err-document-clause-change : goal.returns-in_err-document-clause-change
+returns-in_err-document-clause-change c = search rules
+
+pub returns-in_err-document-clause-err : goal.returns-in_err-document-clause-err
+returns-in_err-document-clause-err c = err_of (IsRefusedBy (state_of c.args.self.now) (put c.args.side c.args.name c.args.bytes.now)) _ _ c.from_residual.ensures.1
+    (λ expected time. c.in_err-document.ensures.err (state_of c.args.self.now) expected time)
+
+pub returns-then-not-has_room-clause-change : goal.returns-then-not-has_room-clause-change
+returns-then-not-has_room-clause-change c = tt
+
+pub returns-then-not-has_room-clause-err : goal.returns-then-not-has_room-clause-err
+returns-then-not-has_room-clause-err c = λ expected time.
+    let at : c.files_on.result.now ≡ files_on c.args.side c.args.self.now.kept.files = c.files_on.ensures ∙ ap (files_on c.args.side) c.files.ensures.files in
+    let full = no_room (file_named c.files_on.result.now c.args.name) (length c.files_on.result.now) (sym c.if-not-has_room.ensures) in
+    (first_files_full (state_of c.args.self.now) expected c.args.side c.args.name c.args.bytes.now time.present time.left c.in_ok-document.ensures.read.short c.in_ok-document.ensures.read.text
+    (λ f bad. apart_on c.one_answer.ensures.apart c.one_document_answer.ensures.apart c.args.side c.args.name c.args.bytes.now _ f c.in_ok-document.ensures.read.file bad) (subst (λ fs. file_named fs c.args.name ≡ None) at full.0) (subst (λ fs. most_files ≤ length fs) at full.1), refl)
+
+pub returns-in_err-change-clause-change : goal.returns-in_err-change-clause-change
+returns-in_err-change-clause-change c = search rules
+
+pub returns-in_err-change-clause-err : goal.returns-in_err-change-clause-err
+returns-in_err-change-clause-err c = in_vain (state_of c.args.self.now) (put c.args.side c.args.name c.args.bytes.now) _ c.from_residual-in_err-change.ensures.1
+
+pub returns-clause-change : goal.returns-clause-change
+returns-clause-change c =
+    let at : c.files_on.result.now ≡ files_on c.args.side c.args.self.now.kept.files = c.files_on.ensures ∙ ap (files_on c.args.side) c.files.ensures.files in
+    record {
+      accepted = λ expected time. put_accepted (state_of c.args.self.now) expected c.args.side c.args.name c.args.bytes.now time.present time.left c.in_ok-document.ensures.read.short c.in_ok-document.ensures.read.text
+          (λ f bad. apart_on c.one_answer.ensures.apart c.one_document_answer.ensures.apart c.args.side c.args.name c.args.bytes.now _ f c.in_ok-document.ensures.read.file bad)
+          (subst (λ fs. file_named fs c.args.name ≡ None → most_files ≤ length fs → ⊥) at (room (file_named c.files_on.result.now c.args.name) (length c.files_on.result.now) (sym c.if-not-has_room.ensures)));
+      leaves = (c.in_ok-document.document, c.in_ok-document.ensures.read.file, ap (λ (f : Files). next (state_of c.args.self.now) f) c.in_ok-change.ensures.files);
+      change = put_change_of c.args.side c.args.self.now.kept.files c.args.name c.in_ok-document.document _ (subst (λ (f : Files). AreFilesPlaced f.documents) c.files.ensures.files c.files.ensures.placed) c.in_ok-document.ensures.read.placed c.in_ok-change.ensures;
+    }

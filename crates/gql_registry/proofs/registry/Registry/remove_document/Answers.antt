@@ -1,0 +1,10 @@
+use Rattle.gql_registry.proofs.registry.Registry.remove_document.Goals as goal
+
+pub returns-clause-makes : goal.returns-clause-makes
+returns-clause-makes c = c.remove.ensures.makes
+
+pub returns-clause-shelf : goal.returns-clause-shelf
+returns-clause-shelf c = c.remove.ensures.shelf
+
+pub returns-clause-works : goal.returns-clause-works
+returns-clause-works c = c.remove.ensures.works

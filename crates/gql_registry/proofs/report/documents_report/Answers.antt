@@ -1,0 +1,18 @@
+use Rattle.std.proofs.Common.{rules}
+use Rattle.gql_registry.proofs.Reports.{of_documents}
+use Rattle.gql_registry.proofs.report.documents_report.Goals as goal
+
+pub returns-in_err-faults : goal.returns-in_err-faults
+returns-in_err-faults c = search rules
+
+pub returns-in_err-append : goal.returns-in_err-append
+returns-in_err-append c = search rules
+
+pub returns-in_err-report : goal.returns-in_err-report
+returns-in_err-report c = search rules
+
+pub returns : goal.returns
+returns c = (
+  c.in_ok-report.ensures.ordered,
+  of_documents c.args.files.now _ _ _ _ c.requires.sound c.in_ok-faults.ensures c.requires.faults c.in_ok-append.ensures.items c.in_ok-report.ensures.members,
+)

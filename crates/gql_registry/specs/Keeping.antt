@@ -1,0 +1,63 @@
+-- What is kept with the files: a verdict on each definition of the document files.
+use Rattle.std.specs.Prelude.{◌≡◌, List, [], Option, IfSome}
+use Rattle.gql_ast.specs.declared.fault.Fault.{Fault}
+use Rattle.gql_ast.specs.declared.files.Files.{Files}
+use Rattle.gql_facts.specs.Facts.{fact_of}
+use Rattle.gql_facts.specs.Members.{Lists}
+use Rattle.gql_facts.specs.Tables.{tables_of}
+use Rattle.gql_facts.specs.declared.schema_facts.SchemaFacts.{SchemaFacts}
+use Rattle.gql_ast.specs.declared.definition.DefinitionId.{DefinitionId}
+use Rattle.gql_schema_rules.specs.SchemaFaults.{IsSchemaFault}
+use Rattle.gql_registry.specs.declared.report.SchemaSide.{SchemaSide}
+use Rattle.gql_types.specs.Schemas.{schema_of}
+use Rattle.gql_verdict.specs.Definitions.{all_definitions}
+use Rattle.gql_verdict.specs.FileOrder.{AreFilesPlaced}
+use Rattle.gql_verdict.specs.Plans.{IsPlanned}
+use Rattle.gql_verdict.specs.Shelves.{IsCurrent, IsWork, IsFaultOfAny}
+use Rattle.gql_verdict.specs.Verdicts.{Judgement}
+use Rattle.gql_verdict.specs.declared.slot.Slot.{Slot}
+
+-- files, and the verdicts that are kept
+pub record Keeping : Type 0 where
+  pub files : Files
+  pub shelf : List Judgement
+
+-- no files, and no verdicts
+abbrev pub nothing_kept : Keeping
+nothing_kept = record { files = record { schema = []; documents = [] }; shelf = [] }
+
+-- the shelf has one verdict for each definition of the document files, and each holds
+abbrev pub IsShelfOf : Files → List Judgement → Type 0
+IsShelfOf files = IsCurrent (fact_of files) (all_definitions files.documents)
+
+-- what an edit that makes these files may examine
+abbrev pub IsWorkOn : Files → List Judgement → List DefinitionId → List DefinitionId → Type 0
+IsWorkOn files shelf = IsWork (fact_of files) shelf (all_definitions files.documents)
+
+-- a fault of some definition of the document files
+abbrev pub IsDefinitionFault : Files → Fault → Type 0
+IsDefinitionFault files = IsFaultOfAny (fact_of files) (all_definitions files.documents)
+
+-- steps that make a shelf one of these files
+abbrev pub IsPlanFor : Files → List Judgement → List Slot → Type 0
+IsPlanFor files = IsPlanned (fact_of files) (all_definitions files.documents)
+
+-- these are the facts of the schema of the files
+abbrev pub AreFactsOf : Files → SchemaFacts → Type 0
+AreFactsOf files facts = facts ≡ tables_of (schema_of files)
+
+-- these are all faults of the schema of the files
+abbrev pub AreSchemaFaults : Files → List Fault → Type 0
+AreSchemaFaults files faults = Lists faults (IsSchemaFault files)
+
+-- the schema of the files: its facts and its faults
+pub record IsSideOf (files : Files) (side : SchemaSide) : Type 0 where
+  pub facts : AreFactsOf files side.facts
+  pub faults : AreSchemaFaults files side.faults.items
+
+-- what is kept is of the files: the schema, where it was put together, and the shelf; and the
+-- definitions of the files are in order
+pub record IsKept (files : Files) (schema : Option SchemaSide) (shelf : List Judgement) : Type 0 where
+  pub placed : AreFilesPlaced files.documents
+  pub schema : IfSome schema (IsSideOf files)
+  pub current : IsShelfOf files shelf

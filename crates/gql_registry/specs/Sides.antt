@@ -1,0 +1,46 @@
+-- The two sides of files: schema files, which are one schema together, and document files.
+use Rattle.std.specs.Prelude.{ℕ, List}
+use Rattle.gql_grammar.specs.declared.fault.SyntaxFault.{SyntaxFault}
+use Rattle.gql_ast.specs.FileMaps.{with_file, without_file}
+use Rattle.gql_ast.specs.declared.definition.Document.{Document}
+use Rattle.gql_ast.specs.declared.fault.FileSide.{FileSide}
+use Rattle.gql_ast.specs.declared.fault.FileSide.TheVariants.{Schema, Documents}
+use Rattle.gql_ast.specs.declared.files.Files.{Files}
+use Rattle.gql_parse_sdl.specs.DocumentFiles.{IsDocumentFile, IsDocumentFault}
+use Rattle.gql_parse_sdl.specs.SchemaFiles.{IsSchemaFile, IsSchemaFault}
+use Rattle.gql_verdict.specs.DocumentEdits.{with_document, without_document}
+
+-- the files of a side
+abbrev pub files_on : FileSide → Files → List (List ℕ × Document)
+files_on Schema files = files.schema
+files_on Documents files = files.documents
+
+-- with this schema file put, in the place of any of its name
+abbrev pub with_schema : Files → List ℕ → Document → Files
+with_schema files name document =
+    record { schema = with_file files.schema name document; documents = files.documents }
+
+-- with no schema file of that name
+abbrev pub without_schema : Files → List ℕ → Files
+without_schema files name =
+    record { schema = without_file files.schema name; documents = files.documents }
+
+-- with this file put on a side, in the place of any of its name
+abbrev pub with_put : FileSide → Files → List ℕ → Document → Files
+with_put Schema = with_schema
+with_put Documents = with_document
+
+-- with no file of that name on a side
+abbrev pub with_removed : FileSide → Files → List ℕ → Files
+with_removed Schema = without_schema
+with_removed Documents = without_document
+
+-- the text is a file of this side and of that name, with this tree
+abbrev pub IsFileOn : FileSide → List ℕ → List ℕ → Document → Type 0
+IsFileOn Schema = IsSchemaFile
+IsFileOn Documents = IsDocumentFile
+
+-- the text is refused, as a file of this side and of that name
+abbrev pub IsFaultOn : FileSide → List ℕ → List ℕ → SyntaxFault → Type 0
+IsFaultOn Schema = IsSchemaFault
+IsFaultOn Documents = IsDocumentFault

@@ -1,0 +1,300 @@
+//! Files, with a verdict on each definition of the document files.
+ghost use Rattle.std.specs.Prelude.{◌≡◌, IfOk, IfSome, OnOk, OnErr};
+ghost use Rattle.gql_registry.specs.Changes.{IsChangeOf, IsChangeTo, IsReportLength};
+ghost use Rattle.gql_registry.specs.Keeping.{AreFactsOf, AreSchemaFaults, IsPlanFor, IsShelfOf};
+ghost use Rattle.gql_registry.specs.Keeping.{IsSideOf, IsWorkOn, nothing_kept};
+ghost use Rattle.gql_registry.specs.Plans.{IsPlannedFor};
+ghost use Rattle.gql_registry.specs.Report.{IsReport};
+ghost use Rattle.gql_facts.specs.Facts as facts;
+ghost use Rattle.gql_facts.specs.Facts.{fact_of};
+ghost use Rattle.gql_registry.specs.Sides as spec;
+ghost use Rattle.gql_verdict.specs.FileOrder.{AreFilesPlaced};
+ghost use Rattle.gql_verdict.specs.TouchedFacts.{IsKnown};
+
+use crate::change::{Change, change_by_put, change_by_removal};
+use crate::report::{SchemaSide, documents_report, schema_report, schema_side};
+use gql_ast::{Document, Fault, FileName, FileSide, Files, Shared};
+use gql_facts::{Fragments, Present, SchemaFacts};
+use gql_verdict::{Meter, Prepared, Shelf, Touched};
+use std::alloc::{AllocError, Global};
+use std::marker::Model;
+
+/// The files that are present, their schema once it was put together, and the verdicts on their
+/// definitions. Contracts see the files and the verdicts.
+#[derive(Drop)]
+pub struct Kept {
+    files: Files,
+    schema: Option<Shared<SchemaSide>>,
+    shelf: Shelf,
+}
+
+impl Model for Kept {
+    ghost use Rattle.std.specs.Coded.{codes};
+    ghost use Rattle.gql_ast.specs.contracts.definition.Definition as definition;
+    ghost use Rattle.gql_ast.specs.contracts.fault.Fault as fault;
+    ghost use Rattle.gql_ast.specs.contracts.files.Files as present;
+    ghost use Rattle.gql_facts.specs.contracts.key.Key as key;
+    ghost use Rattle.gql_facts.specs.contracts.fact.Fact as fact;
+    ghost use Rattle.gql_registry.specs.Keeping.{Keeping, IsKept};
+
+    ghost Value = { Keeping };
+
+    ghost coded = { Prim.hlevel (
+      codes,
+      present.the_row.coded,
+      definition.the_row.coded,
+      fault.the_row.coded,
+      key.the_row.coded,
+      fact.the_row.coded,
+    ) };
+
+    ghost view = { λ k. record { files = k.files; shelf = k.shelf } };
+
+    ghost invariant = { λ k. IsKept k.files k.schema k.shelf };
+}
+
+/// What an edit changes beside the files: the schema and the verdicts, and how many faults the
+/// report then has.
+#[derive(Drop)]
+struct Planned {
+    schema: Shared<SchemaSide>,
+    verdicts: Prepared,
+    count: u64,
+}
+
+/// The schema of the files: this one, or if it is not known, one that is put together.
+fn known_side(
+    alloc: Global,
+    schema: &Option<Shared<SchemaSide>>,
+    files: &Files,
+) -> Result<Shared<SchemaSide>, AllocError>
+    requires { IfSome schema.now (IsSideOf files.now) }
+    ensures { IfOk result (IsSideOf files.now) }
+{
+    match schema {
+        Some(schema) => schema.clone(),
+        None => {
+            let side = schema_side(alloc, files)?;
+            let side = Shared::new(alloc, side)?;
+            Ok(side)
+        }
+    }
+}
+
+/// Prepares the verdicts for files that are to be present.
+fn prepared_verdicts(
+    alloc: Global,
+    shelf: &Shelf,
+    schema: &SchemaFacts,
+    fragments: &Fragments,
+    files: &Files,
+    touched: &Touched,
+    meter: &mut Meter,
+) -> Result<Prepared, AllocError>
+    requires schema { AreFactsOf files.now schema.now }
+    requires fragments { fragments.now.all ≡ facts.fragments files.now.documents }
+    requires placed { AreFilesPlaced files.now.documents }
+    requires known { IsKnown (fact_of files.now) shelf.now touched.now }
+    ensures planned { IfOk result (IsPlanFor files.now shelf.now) }
+    ensures work { IsWorkOn files.now shelf.now meter.old meter.new }
+{
+    let mut world = Present::new(schema, fragments);
+    let prepared = shelf.prepare(alloc, &mut world, files, touched, meter)?;
+    Ok(prepared)
+}
+
+/// The report of files that are to be present.
+fn prepared_report(
+    alloc: Global,
+    shelf: &Shelf,
+    verdicts: &Prepared,
+    schema_faults: &[Fault],
+    files: &Files,
+) -> Result<Vec<Fault>, AllocError>
+    requires planned { IsPlanFor files.now shelf.now verdicts.now }
+    requires schema { AreSchemaFaults files.now schema_faults.now }
+    ensures { IfOk result (λ report. IsReport files.now report.items) }
+{
+    if !schema_faults.is_empty() {
+        let report = schema_report(alloc, schema_faults)?;
+        return Ok(report);
+    }
+    let of_definitions = shelf.prepared_faults(alloc, verdicts)?;
+    let report = documents_report(alloc, files, of_definitions)?;
+    Ok(report)
+}
+
+/// How many faults the report of files has that are to be present.
+fn prepared_count(
+    alloc: Global,
+    shelf: &Shelf,
+    verdicts: &Prepared,
+    schema: &SchemaSide,
+    files: &Files,
+) -> Result<u64, AllocError>
+    requires planned { IsPlanFor files.now shelf.now verdicts.now }
+    requires schema { IsSideOf files.now schema.now }
+    ensures { IfOk result (IsReportLength files.now) }
+{
+    let report = prepared_report(alloc, shelf, verdicts, schema.faults.as_slice(), files)?;
+    Ok(report.len() as u64)
+}
+
+/// The report of files that are present.
+fn present_report(
+    alloc: Global,
+    shelf: &Shelf,
+    schema_faults: &[Fault],
+    files: &Files,
+) -> Result<Vec<Fault>, AllocError>
+    requires shelf { IsShelfOf files.now shelf.now }
+    requires schema { AreSchemaFaults files.now schema_faults.now }
+    ensures { IfOk result (λ report. IsReport files.now report.items) }
+{
+    if !schema_faults.is_empty() {
+        let report = schema_report(alloc, schema_faults)?;
+        return Ok(report);
+    }
+    let of_definitions = shelf.faults(alloc)?;
+    let report = documents_report(alloc, files, of_definitions)?;
+    Ok(report)
+}
+
+/// Prepares the verdicts for files that are to be present and have this schema.
+fn verdicts_for(
+    alloc: Global,
+    shelf: &Shelf,
+    schema: &SchemaSide,
+    change: &Change,
+    meter: &mut Meter,
+) -> Result<Prepared, AllocError>
+    requires schema { IsSideOf change.now.files schema.now }
+    requires placed { AreFilesPlaced change.now.files.documents }
+    requires known { IsKnown (fact_of change.now.files) shelf.now change.now.touched }
+    ensures planned { IfOk result (IsPlanFor change.now.files shelf.now) }
+    ensures work { IsWorkOn change.now.files shelf.now meter.old meter.new }
+{
+    let files = &change.files;
+    let fragments = Fragments::new(alloc, &files.documents)?;
+    let verdicts = prepared_verdicts(
+        alloc,
+        shelf,
+        &schema.facts,
+        &fragments,
+        files,
+        &change.touched,
+        meter,
+    )?;
+    Ok(verdicts)
+}
+
+/// All that an edit changes beside the files.
+fn plan_change(
+    alloc: Global,
+    shelf: &Shelf,
+    change: &Change,
+    meter: &mut Meter,
+) -> Result<Planned, AllocError>
+    requires schema { IfSome change.now.schema (IsSideOf change.now.files) }
+    requires placed { AreFilesPlaced change.now.files.documents }
+    requires known { IsKnown (fact_of change.now.files) shelf.now change.now.touched }
+    ensures planned { IfOk result (IsPlannedFor change.now.files shelf.now) }
+    ensures work { IsWorkOn change.now.files shelf.now meter.old meter.new }
+{
+    let schema = known_side(alloc, &change.schema, &change.files)?;
+    let verdicts = verdicts_for(alloc, shelf, schema.get(), change, meter)?;
+    let count = prepared_count(alloc, shelf, &verdicts, schema.get(), &change.files)?;
+    Ok(Planned {
+        schema,
+        verdicts,
+        count,
+    })
+}
+
+impl Kept {
+    /// No files.
+    pub fn new(alloc: Global) -> Kept
+        ensures { result ≡ nothing_kept }
+    {
+        Kept {
+            files: Files::new(alloc),
+            schema: None,
+            shelf: Shelf::new(alloc),
+        }
+    }
+
+    /// The files.
+    pub fn files(&self) -> &Files
+        ensures files { result.now ≡ self.now.files }
+        ensures placed { AreFilesPlaced self.now.files.documents }
+    {
+        &self.files
+    }
+
+    /// The verdicts, one for each definition of the document files.
+    pub fn shelf(&self) -> &Shelf
+        ensures shelf { result.now ≡ self.now.shelf }
+        ensures current { IsShelfOf self.now.files self.now.shelf }
+    {
+        &self.shelf
+    }
+
+    /// The report of the files.
+    pub fn report(&self, alloc: Global) -> Result<Vec<Fault>, AllocError>
+        ensures { IfOk result (λ report. IsReport self.now.files report.items) }
+    {
+        let schema = known_side(alloc, &self.schema, &self.files)?;
+        let faults = schema.get().faults.as_slice();
+        let report = present_report(alloc, &self.shelf, faults, &self.files)?;
+        Ok(report)
+    }
+
+    /// The change that puts a file on a side.
+    pub fn change_by_put(
+        &self,
+        alloc: Global,
+        side: FileSide,
+        name: FileName,
+        document: Document,
+    ) -> Result<Change, AllocError>
+        ensures { IfOk result (IsChangeTo self.now.files
+            (spec.with_put side self.now.files name document)) }
+    {
+        change_by_put(alloc, &self.files, &self.schema, side, name, document)
+    }
+
+    /// The change that removes the file of a name from a side.
+    pub fn change_by_removal(
+        &self,
+        alloc: Global,
+        side: FileSide,
+        name: &FileName,
+    ) -> Result<Change, AllocError>
+        ensures { IfOk result (IsChangeTo self.now.files
+            (spec.with_removed side self.now.files name.now)) }
+    {
+        change_by_removal(alloc, &self.files, &self.schema, side, name)
+    }
+
+    /// Takes the files of a change in the place of those that are present, and returns how many
+    /// faults the report then has. If an allocation fails, nothing is changed.
+    #[tactic(none)]
+    pub fn take(
+        &mut self,
+        alloc: Global,
+        change: Change,
+        meter: &mut Meter,
+    ) -> Result<u64, AllocError>
+        requires { IsChangeOf self.old.files change }
+        ensures files { OnOk result (self.new.files ≡ change.files) }
+        ensures count { IfOk result (IsReportLength change.files) }
+        ensures err { OnErr result (self.new ≡ self.old) }
+        ensures work { IsWorkOn change.files self.old.shelf meter.old meter.new }
+    {
+        let planned = plan_change(alloc, &self.shelf, &change, meter)?;
+        self.shelf.commit(planned.verdicts);
+        self.schema = Some(planned.schema);
+        self.files = change.files;
+        Ok(planned.count)
+    }
+}

@@ -1,0 +1,117 @@
+//! The two sides of files: what is read as a file of a side, and an edit of it.
+ghost use Rattle.std.specs.Prelude.{◌≡◌, ℕ, List, IfErr, IfOk, IfSome};
+ghost use Rattle.std.specs.Prelude.{Err};
+ghost use Rattle.gql_grammar.specs.declared.fault.SyntaxFault.TheVariants.{At};
+ghost use Rattle.gql_grammar.specs.declared.fault.SyntaxRefusal.{SyntaxRefusal as TheRefusal};
+ghost use Rattle.gql_text.specs.declared.place.Place.{Place as ThePlace};
+ghost use Rattle.gql_verdict.specs.DocumentEdits.{ChangesOnly};
+ghost use Rattle.gql_registry.specs.Checks.{IsPlacedOn};
+ghost use Rattle.gql_registry.specs.Sides as spec;
+
+use gql_ast::{Document, FileMap, FileName, FileSide, Files, Shared};
+use gql_grammar::SyntaxFault;
+use gql_parse_sdl::{parse_any, parse_sdl};
+use gql_verdict::{Touched, laws};
+use std::alloc::{AllocError, Global};
+
+/// The files of a side.
+pub fn files_on(files: &Files, side: FileSide) -> &FileMap<Shared<Document>>
+    ensures { result.now ≡ spec.files_on side files.now }
+{
+    match side {
+        FileSide::Schema => &files.schema,
+        FileSide::Documents => &files.documents,
+    }
+}
+
+/// The tree of a file of a side, or why the text is none.
+pub fn parse_on(
+    alloc: Global,
+    side: FileSide,
+    name: FileName,
+    text: &str,
+) -> Result<Document, SyntaxFault>
+    ensures accepted { IfOk result (spec.IsFileOn side name text.now) }
+    ensures placed { IfOk result (IsPlacedOn side name) }
+    ensures refused { (number : TheRefusal) (place : ThePlace) → result ≡ Err (At number place)
+        → spec.IsFaultOn side name text.now (At number place) }
+{
+    match side {
+        FileSide::Schema => parse_sdl(alloc, name, text),
+        FileSide::Documents => parse_any(alloc, name, text),
+    }
+}
+
+/// Equal files but for this one, which stands in the place of any of its name.
+pub fn with_put(
+    alloc: Global,
+    files: &Files,
+    side: FileSide,
+    name: FileName,
+    document: Document,
+) -> Result<Files, AllocError>
+    ensures { IfOk result (λ changed. changed ≡ spec.with_put side files.now name document) }
+{
+    let document = Shared::new(alloc, document)?;
+    let mut changed = files.copy()?;
+    match side {
+        FileSide::Schema => changed.schema.put(name, document)?,
+        FileSide::Documents => changed.documents.put(name, document)?,
+    }
+    Ok(changed)
+}
+
+/// Equal files but for that of this name, which is left out.
+pub fn with_removed(files: &Files, side: FileSide, name: &FileName) -> Result<Files, AllocError>
+    ensures { IfOk result (λ changed. changed ≡ spec.with_removed side files.now name.now) }
+{
+    let mut changed = files.copy()?;
+    match side {
+        FileSide::Schema => changed.schema.remove(name),
+        FileSide::Documents => changed.documents.remove(name),
+    };
+    Ok(changed)
+}
+
+/// What an edit touches that puts this file.
+pub fn touched_by_put(
+    alloc: Global,
+    files: &Files,
+    side: FileSide,
+    name: &FileName,
+    document: &Document,
+) -> Result<Touched, AllocError>
+    ensures { IfOk result (λ touched. ChangesOnly touched files.now
+        (spec.with_put side files.now name.now document.now)) }
+{
+    // The law that such an edit changes no other answers.
+    laws::put_document();
+    match side {
+        FileSide::Schema => Ok(Touched::All),
+        FileSide::Documents => match files.documents.get(name) {
+            Some(before) => Touched::by_edit(alloc, Some(before.get()), Some(document)),
+            None => Touched::by_edit(alloc, None, Some(document)),
+        },
+    }
+}
+
+/// What an edit touches that removes the file of this name.
+pub fn touched_by_removal(
+    alloc: Global,
+    files: &Files,
+    side: FileSide,
+    name: &FileName,
+) -> Result<Touched, AllocError>
+    ensures { IfOk result (λ touched. ChangesOnly touched files.now
+        (spec.with_removed side files.now name.now)) }
+{
+    // The law that such an edit changes no other answers.
+    laws::remove_document();
+    match side {
+        FileSide::Schema => Ok(Touched::All),
+        FileSide::Documents => match files.documents.get(name) {
+            Some(before) => Touched::by_edit(alloc, Some(before.get()), None),
+            None => Touched::by_edit(alloc, None, None),
+        },
+    }
+}
