@@ -9,7 +9,8 @@ use Rattle.gql_ast.specs.declared.fault.FileSide.TheVariants.{Schema as SchemaFi
 use Rattle.gql_registry.specs.Changes.{schema_after}
 use Rattle.gql_registry.specs.Sides.{with_put, with_removed}
 use Rattle.gql_types.specs.declared.schema.Schema.{Schema}
-use Rattle.gql_registry.specs.Keeping.{IsSideOf}
+use Rattle.gql_registry.specs.Keeping.{IsKnownOf, IsSideOf}
+use Rattle.gql_registry.specs.declared.report.Known.{Known}
 use Rattle.gql_registry.specs.declared.report.SchemaSide.{SchemaSide}
 
 abbrev pub FileList : Type 0
@@ -113,13 +114,17 @@ pub same_known : (files : Files) (documents : FileList) (side : Option SchemaSid
 same_known files documents None is = is
 same_known files documents (Some side) is = same_side files documents side is
 
--- so the schema that is known after an edit is that of the files that it leaves
-pub known_after_put : (side : FileSide) (files : Files) (name : List ℕ) (d : Document) (schema : Option SchemaSide)
-    → IfSome schema (IsSideOf files) → IfSome (schema_after side schema) (IsSideOf (with_put side files name d))
-known_after_put SchemaFiles files name d schema is = tt
-known_after_put Documents files name d schema is = same_known files _ schema is
+side_known : (files : Files) (known : Option Known) → IfSome known (IsKnownOf files) → IfSome (schema_after Documents known) (IsSideOf files)
+side_known files None is = is
+side_known files (Some known) is = is.schema
 
-pub known_after_removal : (side : FileSide) (files : Files) (name : List ℕ) (schema : Option SchemaSide)
-    → IfSome schema (IsSideOf files) → IfSome (schema_after side schema) (IsSideOf (with_removed side files name))
-known_after_removal SchemaFiles files name schema is = tt
-known_after_removal Documents files name schema is = same_known files _ schema is
+-- so the schema that is known after an edit is that of the files that it leaves
+pub known_after_put : (side : FileSide) (files : Files) (name : List ℕ) (d : Document) (known : Option Known)
+    → IfSome known (IsKnownOf files) → IfSome (schema_after side known) (IsSideOf (with_put side files name d))
+known_after_put SchemaFiles files name d known is = tt
+known_after_put Documents files name d known is = same_known files _ (schema_after Documents known) (side_known files known is)
+
+pub known_after_removal : (side : FileSide) (files : Files) (name : List ℕ) (known : Option Known)
+    → IfSome known (IsKnownOf files) → IfSome (schema_after side known) (IsSideOf (with_removed side files name))
+known_after_removal SchemaFiles files name known is = tt
+known_after_removal Documents files name known is = same_known files _ (schema_after Documents known) (side_known files known is)

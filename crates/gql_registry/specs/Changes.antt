@@ -11,14 +11,16 @@ use Rattle.gql_registry.specs.Report.{IsReport}
 use Rattle.gql_registry.specs.State.{State, next}
 use Rattle.gql_registry.specs.declared.change.Change.{Change}
 use Rattle.gql_registry.specs.declared.refusal.Refusal.{Refusal}
+use Rattle.gql_registry.specs.declared.report.Known.{Known}
 use Rattle.gql_registry.specs.declared.report.SchemaSide.{SchemaSide}
 use Rattle.gql_verdict.specs.DocumentEdits.{ChangesOnly}
 use Rattle.gql_verdict.specs.FileOrder.{AreFilesPlaced}
 
 -- the schema that is known after an edit of a side: an edit of a document file keeps it
-abbrev pub schema_after : FileSide → Option SchemaSide → Option SchemaSide
-schema_after Schema side = None
-schema_after Documents side = side
+abbrev pub schema_after : FileSide → Option Known → Option SchemaSide
+schema_after Schema known = None
+schema_after Documents None = None
+schema_after Documents (Some known) = Some known.schema
 
 -- a change of the files that leaves these
 pub record IsChangeTo (before after : Files) (c : Change) : Type 0 where

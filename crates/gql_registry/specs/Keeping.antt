@@ -8,6 +8,8 @@ use Rattle.gql_facts.specs.Tables.{tables_of}
 use Rattle.gql_facts.specs.declared.schema_facts.SchemaFacts.{SchemaFacts}
 use Rattle.gql_ast.specs.declared.definition.DefinitionId.{DefinitionId}
 use Rattle.gql_schema_rules.specs.SchemaFaults.{IsSchemaFault}
+use Rattle.gql_registry.specs.Report.{IsReport}
+use Rattle.gql_registry.specs.declared.report.Known.{Known}
 use Rattle.gql_registry.specs.declared.report.SchemaSide.{SchemaSide}
 use Rattle.gql_types.specs.Schemas.{schema_of}
 use Rattle.gql_verdict.specs.Definitions.{all_definitions}
@@ -55,9 +57,13 @@ pub record IsSideOf (files : Files) (side : SchemaSide) : Type 0 where
   pub facts : AreFactsOf files side.facts
   pub faults : AreSchemaFaults files side.faults.items
 
--- what is kept is of the files: the schema, where it was put together, and the shelf; and the
--- definitions of the files are in order
-pub record IsKept (files : Files) (schema : Option SchemaSide) (shelf : List Judgement) : Type 0 where
+-- what is known of the files
+pub record IsKnownOf (files : Files) (known : Known) : Type 0 where
+  pub schema : IsSideOf files known.schema
+  pub report : IsReport files known.report.items
+
+-- what is kept is of the files, and the definitions of the files are in order
+pub record IsKept (files : Files) (known : Option Known) (shelf : List Judgement) : Type 0 where
   pub placed : AreFilesPlaced files.documents
-  pub schema : IfSome schema (IsSideOf files)
+  pub known : IfSome known (IsKnownOf files)
   pub current : IsShelfOf files shelf

@@ -2,7 +2,7 @@
 ghost use Rattle.std.specs.Prelude.{◌≡◌, IfOk, IfSome, OnOk, OnErr};
 ghost use Rattle.gql_registry.specs.Changes.{IsChangeOf, IsChangeTo, IsReportLength};
 ghost use Rattle.gql_registry.specs.Keeping.{AreFactsOf, AreSchemaFaults, IsPlanFor, IsShelfOf};
-ghost use Rattle.gql_registry.specs.Keeping.{IsSideOf, IsWorkOn, nothing_kept};
+ghost use Rattle.gql_registry.specs.Keeping.{IsKnownOf, IsSideOf, IsWorkOn, nothing_kept};
 ghost use Rattle.gql_registry.specs.Plans.{IsPlannedFor};
 ghost use Rattle.gql_registry.specs.Report.{IsReport};
 ghost use Rattle.gql_facts.specs.Facts as facts;
@@ -12,19 +12,19 @@ ghost use Rattle.gql_verdict.specs.FileOrder.{AreFilesPlaced};
 ghost use Rattle.gql_verdict.specs.TouchedFacts.{IsKnown};
 
 use crate::change::{Change, change_by_put, change_by_removal};
-use crate::report::{SchemaSide, documents_report, schema_report, schema_side};
+use crate::report::{Known, SchemaSide, copies, documents_report, schema_report, schema_side};
 use gql_ast::{Document, Fault, FileName, FileSide, Files, Shared};
 use gql_facts::{Fragments, Present, SchemaFacts};
 use gql_verdict::{Meter, Prepared, Shelf, Touched};
 use std::alloc::{AllocError, Global};
 use std::marker::Model;
 
-/// The files that are present, their schema once it was put together, and the verdicts on their
-/// definitions. Contracts see the files and the verdicts.
+/// The files that are present, what is known of them once there was an edit, and the verdicts on
+/// their definitions. Contracts see the files and the verdicts.
 #[derive(Drop)]
 pub struct Kept {
     files: Files,
-    schema: Option<Shared<SchemaSide>>,
+    known: Option<Known>,
     shelf: Shelf,
 }
 
@@ -50,16 +50,14 @@ impl Model for Kept {
 
     ghost view = { λ k. record { files = k.files; shelf = k.shelf } };
 
-    ghost invariant = { λ k. IsKept k.files k.schema k.shelf };
+    ghost invariant = { λ k. IsKept k.files k.known k.shelf };
 }
 
-/// What an edit changes beside the files: the schema and the verdicts, and how many faults the
-/// report then has.
+/// What an edit changes beside the files.
 #[derive(Drop)]
 struct Planned {
-    schema: Shared<SchemaSide>,
+    known: Known,
     verdicts: Prepared,
-    count: u64,
 }
 
 /// The schema of the files: this one, or if it is not known, one that is put together.
@@ -124,20 +122,21 @@ fn prepared_report(
     Ok(report)
 }
 
-/// How many faults the report of files has that are to be present.
-fn prepared_count(
+/// What is known of files that are to be present and have this schema.
+fn known_then(
     alloc: Global,
     shelf: &Shelf,
     verdicts: &Prepared,
-    schema: &SchemaSide,
+    schema: Shared<SchemaSide>,
     files: &Files,
-) -> Result<u64, AllocError>
+) -> Result<Known, AllocError>
     requires planned { IsPlanFor files.now shelf.now verdicts.now }
-    requires schema { IsSideOf files.now schema.now }
-    ensures { IfOk result (IsReportLength files.now) }
+    requires schema { IsSideOf files.now schema }
+    ensures { IfOk result (IsKnownOf files.now) }
 {
-    let report = prepared_report(alloc, shelf, verdicts, schema.faults.as_slice(), files)?;
-    Ok(report.len() as u64)
+    let faults = schema.get().faults.as_slice();
+    let report = prepared_report(alloc, shelf, verdicts, faults, files)?;
+    Ok(Known { schema, report })
 }
 
 /// The report of files that are present.
@@ -203,12 +202,8 @@ fn plan_change(
 {
     let schema = known_side(alloc, &change.schema, &change.files)?;
     let verdicts = verdicts_for(alloc, shelf, schema.get(), change, meter)?;
-    let count = prepared_count(alloc, shelf, &verdicts, schema.get(), &change.files)?;
-    Ok(Planned {
-        schema,
-        verdicts,
-        count,
-    })
+    let known = known_then(alloc, shelf, &verdicts, schema, &change.files)?;
+    Ok(Planned { known, verdicts })
 }
 
 impl Kept {
@@ -218,7 +213,7 @@ impl Kept {
     {
         Kept {
             files: Files::new(alloc),
-            schema: None,
+            known: None,
             shelf: Shelf::new(alloc),
         }
     }
@@ -243,9 +238,11 @@ impl Kept {
     pub fn report(&self, alloc: Global) -> Result<Vec<Fault>, AllocError>
         ensures { IfOk result (λ report. IsReport self.now.files report.items) }
     {
-        let schema = known_side(alloc, &self.schema, &self.files)?;
-        let faults = schema.get().faults.as_slice();
-        let report = present_report(alloc, &self.shelf, faults, &self.files)?;
+        if let Some(known) = &self.known {
+            return copies(alloc, known.report.as_slice());
+        }
+        let side = schema_side(alloc, &self.files)?;
+        let report = present_report(alloc, &self.shelf, side.faults.as_slice(), &self.files)?;
         Ok(report)
     }
 
@@ -260,7 +257,7 @@ impl Kept {
         ensures { IfOk result (IsChangeTo self.now.files
             (spec.with_put side self.now.files name document)) }
     {
-        change_by_put(alloc, &self.files, &self.schema, side, name, document)
+        change_by_put(alloc, &self.files, &self.known, side, name, document)
     }
 
     /// The change that removes the file of a name from a side.
@@ -273,7 +270,7 @@ impl Kept {
         ensures { IfOk result (IsChangeTo self.now.files
             (spec.with_removed side self.now.files name.now)) }
     {
-        change_by_removal(alloc, &self.files, &self.schema, side, name)
+        change_by_removal(alloc, &self.files, &self.known, side, name)
     }
 
     /// Takes the files of a change in the place of those that are present, and returns how many
@@ -292,9 +289,10 @@ impl Kept {
         ensures work { IsWorkOn change.files self.old.shelf meter.old meter.new }
     {
         let planned = plan_change(alloc, &self.shelf, &change, meter)?;
+        let count = planned.known.report.len() as u64;
         self.shelf.commit(planned.verdicts);
-        self.schema = Some(planned.schema);
+        self.known = Some(planned.known);
         self.files = change.files;
-        Ok(planned.count)
+        Ok(count)
     }
 }

@@ -5,7 +5,7 @@ ghost use Rattle.gql_facts.specs.Members.{Lists};
 ghost use Rattle.gql_registry.specs.Keeping.{AreSchemaFaults, IsDefinitionFault, IsSideOf};
 ghost use Rattle.gql_registry.specs.Report.{IsReport, IsSound};
 
-use gql_ast::{Fault, Files};
+use gql_ast::{Fault, Files, Shared};
 use gql_facts::SchemaFacts;
 use gql_report::in_order;
 use gql_schema_rules::schema_faults;
@@ -20,6 +20,13 @@ pub struct SchemaSide {
     pub faults: Vec<Fault>,
 }
 
+/// What is known of files: their schema, and their report.
+#[derive(Drop)]
+pub struct Known {
+    pub schema: Shared<SchemaSide>,
+    pub report: Vec<Fault>,
+}
+
 /// Puts the schema of the schema files together.
 pub fn schema_side(alloc: Global, files: &Files) -> Result<SchemaSide, AllocError>
     ensures { IfOk result (IsSideOf files.now) }
@@ -31,7 +38,7 @@ pub fn schema_side(alloc: Global, files: &Files) -> Result<SchemaSide, AllocErro
 }
 
 /// Copies of faults.
-fn copies(alloc: Global, faults: &[Fault]) -> Result<Vec<Fault>, AllocError>
+pub fn copies(alloc: Global, faults: &[Fault]) -> Result<Vec<Fault>, AllocError>
     ensures { IfOk result (λ copied. copied.items ≡ faults.now) }
 {
     let mut copied = Vec::new(alloc);

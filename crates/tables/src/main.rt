@@ -13,6 +13,7 @@ mod cursors;
 mod cycles;
 mod devices;
 mod documents;
+mod editing;
 mod fact_words;
 mod facts;
 mod faults;

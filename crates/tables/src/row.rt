@@ -1,3 +1,4 @@
+use crate::editing::Editing;
 use crate::facts::facts_answer;
 use crate::faults::written_faults;
 use crate::generated::generated_answer;
@@ -48,6 +49,8 @@ pub struct Row {
     document: String,
     /// The service that `hub` lines are about.
     transcript: Transcript,
+    /// The registry that `edit` lines are about.
+    editing: Editing,
     /// The answers that are expected of a stream, each on a line.
     answers: String,
 }
@@ -64,6 +67,7 @@ impl Row {
             schema: None,
             document: String::new(alloc),
             transcript: Transcript::new(alloc),
+            editing: Editing::new(alloc),
             answers: String::new(alloc),
         }
     }
@@ -200,11 +204,14 @@ impl Row {
         }
     }
 
-    /// The answer to a question about the row's service with connections, or about its text as a
-    /// stream to a server; `None` for another question.
+    /// The answer to a question about the row's service with connections, about the registry that
+    /// it edits, or about its text as a stream to a server; `None` for another question.
     fn service_answer(&mut self, rt: &HostRuntime, question: &str) -> Option<String> {
         if question == "serves" {
             return serves_answer(rt, self.text.as_str());
+        }
+        if let Some(step) = question.strip_prefix("edit ") {
+            return self.editing.step(step);
         }
         self.transcript.step(question.strip_prefix("hub ")?)
     }

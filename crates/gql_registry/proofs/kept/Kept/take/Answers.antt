@@ -37,7 +37,7 @@ pub returns-clause-files : goal.returns-clause-files
 returns-clause-files c = search rules
 
 pub returns-clause-count : goal.returns-clause-count
-returns-clause-count c = c.in_ok-planned.ensures.planned.count
+returns-clause-count c = (c.in_ok-planned.planned.known.report.items, c.in_ok-planned.ensures.planned.known.report, ?)
 
 pub returns-clause-work : goal.returns-clause-work
 returns-clause-work c = subst (λ (k : Keeping). IsWorkOn c.args.change.files k.shelf c.args.meter.now c.plan_change.new.meter) c.self.view_is c.in_ok-planned.ensures.work
@@ -45,7 +45,7 @@ returns-clause-work c = subst (λ (k : Keeping). IsWorkOn c.args.change.files k.
 pub invariant_of-self : goal.invariant_of-self
 invariant_of-self c = record {
   placed = c.requires.placed;
-  schema = c.in_ok-planned.ensures.planned.schema;
+  known = c.in_ok-planned.ensures.planned.known;
   current = c.commit.ensures (fact_of c.args.change.files) (all_definitions c.args.change.files.documents) c.in_ok-planned.ensures.planned.verdicts;
 }
 
