@@ -211,7 +211,8 @@ impl Registry {
     {
         let revision = self.next_revision(expected)?;
         let change = self.change_by_put(side, name, bytes)?;
-        Ok(self.accept(change, revision, meter)?)
+        let edited = self.accept(change, revision, meter)?;
+        Ok(edited)
     }
 
     /// Removes the file of a name from a side.
