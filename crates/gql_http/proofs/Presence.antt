@@ -50,7 +50,7 @@ put_refused s side method target body name closing expected r is fails e h = by 
     by : (e : Edit) (wanted : Option ℕ) → AsksFor (request method target body closing) wanted e → edit.IsAccepted s wanted e → ⊥
     by _ wanted (asks_to_put {side = on} {name = other} asks) accepted =
         let same = put_same side on name other expected wanted (sym is ∙ asks) in
-        accepted r (subst (λ d. Fails s wanted (edit.put d other body) r) same.0 (subst (λ n. Fails s wanted (edit.put side n body) r) same.1.0 (subst (λ x. Fails s x (edit.put side name body) r) same.1.1 fails)))
+        accepted r (subst (λ d. Fails s wanted (edit.put d other body) r) same.0 (subst (λ n. Fails s wanted (edit.put side n body) r) same.1 (subst (λ x. Fails s x (edit.put side name body) r) same.2 fails)))
     by _ wanted (asks_to_remove {side = on} {name = other} asks) accepted =
         let clash : put side name expected ≡ remove on other wanted = sym is ∙ asks in cc
 
@@ -61,7 +61,7 @@ removal_refused s side method target body name closing expected r is fails e h =
     by : (e : Edit) (wanted : Option ℕ) → AsksFor (request method target body closing) wanted e → edit.IsAccepted s wanted e → ⊥
     by _ wanted (asks_to_remove {side = on} {name = other} asks) accepted =
         let same = remove_same side on name other expected wanted (sym is ∙ asks) in
-        accepted r (subst (λ d. Fails s wanted (edit.remove d other) r) same.0 (subst (λ n. Fails s wanted (edit.remove side n) r) same.1.0 (subst (λ x. Fails s x (edit.remove side name) r) same.1.1 fails)))
+        accepted r (subst (λ d. Fails s wanted (edit.remove d other) r) same.0 (subst (λ n. Fails s wanted (edit.remove side n) r) same.1 (subst (λ x. Fails s x (edit.remove side name) r) same.2 fails)))
     by _ wanted (asks_to_put {side = on} {name = other} asks) accepted =
         let clash : remove side name expected ≡ put on other wanted = sym is ∙ asks in cc
 
