@@ -1,5 +1,5 @@
 -- Files then present: what each name holds after requests.
-use Rattle.std.proofs.Common.{◌≡◌, ℕ, List, [], ◌∷◌, ◌++◌, Bool, Option, Some, Result, Ok, Err, refl, sym, ap, ◌∙◌, subst}
+use Rattle.std.proofs.Common.{◌≡◌, ℕ, List, [], ◌∷◌, ◌++◌, Bool, Option, Some, None, Result, Ok, Err, refl, sym, ap, ◌∙◌, subst}
 use Rattle.gql_ast.specs.declared.fault.Fault.{Fault}
 use Rattle.gql_ast.specs.declared.fault.FileSide.{FileSide}
 use Rattle.gql_ast.specs.declared.fault.FileSide.TheVariants.{Schema, Documents}
@@ -69,8 +69,7 @@ module _ (holds : HoldsAfter) where
   put_deed : (s t : State) (side : FileSide) (method target body name : List ℕ) (closing : Bool) (expected : Option ℕ) (a : Said) (r : Result Edited Refusal) → ((on : FileSide) → IsOrderedOn on s) → call_of method target ≡ put side name expected
       → edit_said r ≡ Some a → Makes s expected (edit.put side name body) r t → Deed s t (request method target body closing)
   put_deed s t side method target body name closing expected a (Ok edited) ordered is said h =
-      let after = λ on. holds s t (edit.put side name body) on (ordered on) h.1 in
-      edits (edit.put side name body) (record { expected = expected; asks = asks_to_put is; accepted = h.0 }) (λ on. (after on).0) (λ on. (after on).1)
+      edits (edit.put side name body) (record { expected = expected; asks = asks_to_put is; accepted = h.0 }) (λ on. (holds s t (edit.put side name body) on (ordered on) h.1).0) (λ on. (holds s t (edit.put side name body) on (ordered on) h.1).1)
   put_deed s t side method target body name closing expected a (Err q) ordered is said h =
       let refusal = first_refusal s t expected (edit.put side name body) q (said_made (Err q) a said) h in
       keeps (put_refused s side method target body name closing expected q is refusal.0.fails) refusal.1
@@ -78,8 +77,7 @@ module _ (holds : HoldsAfter) where
   removal_deed : (s t : State) (side : FileSide) (method target body name : List ℕ) (closing : Bool) (expected : Option ℕ) (a : Said) (r : Result Edited Refusal) → ((on : FileSide) → IsOrderedOn on s)
       → call_of method target ≡ remove side name expected → edit_said r ≡ Some a → Makes s expected (edit.remove side name) r t → Deed s t (request method target body closing)
   removal_deed s t side method target body name closing expected a (Ok edited) ordered is said h =
-      let after = λ on. holds s t (edit.remove side name) on (ordered on) h.1 in
-      edits (edit.remove side name) (record { expected = expected; asks = asks_to_remove is; accepted = h.0 }) (λ on. (after on).0) (λ on. (after on).1)
+      edits (edit.remove side name) (record { expected = expected; asks = asks_to_remove is; accepted = h.0 }) (λ on. (holds s t (edit.remove side name) on (ordered on) h.1).0) (λ on. (holds s t (edit.remove side name) on (ordered on) h.1).1)
   removal_deed s t side method target body name closing expected a (Err q) ordered is said h =
       let refusal = first_refusal s t expected (edit.remove side name) q (said_made (Err q) a said) h in
       keeps (removal_refused s side method target body name closing expected q is refusal.0.fails) refusal.1
@@ -112,8 +110,13 @@ module _ (holds : HoldsAfter) where
 
   pub files_present_lem : FilesPresent
   unfolding Rattle.std.specs.List.Sorted.IsStrictlySortedBy
-  files_present_lem t rs answers side name run = held empty t rs answers side name ordered run
+  files_present_lem t rs answers side name run =
+      subst (λ o. Holds side name empty o rs (under side name t)) (nothing side) (held empty t rs answers side name ordered run)
     where
+      nothing : (on : FileSide) → under on name empty ≡ None
+      nothing Schema = refl
+      nothing Documents = refl
+
       ordered : (on : FileSide) → IsOrderedOn on empty
       ordered Schema = tt
       ordered Documents = tt
