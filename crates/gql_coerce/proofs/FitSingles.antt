@@ -1,5 +1,5 @@
 -- A value without parts fits a type exactly where coercion takes it, and is refused by itself.
-use Rattle.std.proofs.Common.{◌≡◌, ◌^◌, ◌&&◌, ℕ, zero, suc, ℤ, pos, negsuc, neg_ℤ, List, [], ◌∷◌, Bool, true, false, true≢false, cond, if◌then◌else◌, map, find, bytes_eq, is_some, length, nat_lt, nat_le, Option, Some, None, option_and_then, option_map, refl, ap, sym, subst, ◌∙◌, arith}
+use Rattle.std.proofs.Common.{◌≡◌, ◌&&◌, ℕ, zero, suc, pos, neg_ℤ, List, [], ◌∷◌, Bool, true, false, true≢false, cond, if◌then◌else◌, bytes_eq, length, nat_lt, nat_le, Option, Some, None, option_and_then, refl, ap, sym, subst, ◌∙◌, arith}
 use Rattle.std.proofs.lemmas.Bool.Decides.{nat_tests}
 use Rattle.std.specs.List.{list_any}
 use Rattle.std.specs.Str.{all_ascii_digits}
@@ -10,7 +10,7 @@ use Rattle.gql_built_in.specs.declared.sited.Sited.{Sited}
 use Rattle.gql_inputs.proofs.Finding.{is_some_find, any_made}
 use Rattle.gql_inputs.specs.BadValues.{takes, scalar_takes_int, scalar_takes_string, scalar_takes_boolean}
 use Rattle.gql_inputs.specs.InputTypes.{if_input, is_custom, is_input, name_of, scalar_named}
-use Rattle.gql_inputs.specs.Lookups.{InputForm, scalar, enumeration, form_at, form_of, value_names}
+use Rattle.gql_inputs.specs.Lookups.{InputForm, form_at, form_of, value_names}
 use Rattle.gql_inputs.specs.Numbers.{is_whole, is_within, whole_number}
 use Rattle.gql_inputs.specs.Values.{Value, int, float, string, boolean, enum}
 use Rattle.gql_inputs.specs.declared.scalar.Scalar.{Scalar}
@@ -25,7 +25,7 @@ use Rattle.gql_coerce.specs.Coercion.{as_type}
 use Rattle.gql_coerce.specs.Fitting.{is_of_value}
 use Rattle.gql_coerce.specs.Inputs.{Single, whole, out_of_range, fraction, text, json_text, truth, name, of_whole}
 use Rattle.gql_coerce.specs.Outcomes.{Reached, value, refused, too_deep}
-use Rattle.gql_coerce.specs.Scalars.{is_of_32_bits, past_range, as_int, as_custom, as_scalar, is_value_of, of_enum, as_enum, as_kind}
+use Rattle.gql_coerce.specs.Scalars.{is_of_32_bits, past_range, as_custom, as_scalar, is_value_of, of_enum, as_enum, as_kind}
 use Rattle.gql_coerce.specs.declared.refusal.Reason.{Reason}
 use Rattle.gql_coerce.specs.declared.refusal.Reason.TheVariants as reason
 use Rattle.gql_coerce.specs.declared.refusal.Segment.{Segment}

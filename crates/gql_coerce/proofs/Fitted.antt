@@ -1,6 +1,6 @@
 -- A literal without variables that coercion brings to a value fits, if no object in it gives a field
 -- twice.
-use Rattle.std.proofs.Common.{◌≡◌, ◌+◌, ◌++◌, ◌&&◌, ◌||◌, ◌⊎◌, ◌<◌, ◌≤◌, inl, inr, ℕ, zero, suc, List, [], ◌∷◌, Bool, true, false, true≢false, cond, not, if◌then◌else◌, map, flat_map, filter, find, bytes_eq, is_some, length, nat_eq, nat_lt, count_by, Option, Some, None, option_map, option_and_then, Contains, refl, ap, sym, subst, ◌∙◌, arith}
+use Rattle.std.proofs.Common.{◌≡◌, ◌+◌, ◌++◌, ◌&&◌, ◌||◌, ◌⊎◌, ◌≤◌, inl, inr, ℕ, zero, suc, List, [], ◌∷◌, Bool, true, false, true≢false, cond, not, if◌then◌else◌, map, flat_map, filter, find, bytes_eq, is_some, length, nat_eq, nat_lt, count_by, Option, Some, None, option_map, option_and_then, Contains, refl, ap, sym, subst, ◌∙◌, arith}
 use Rattle.std.proofs.lemmas.Bool.Decides.{nat_tests}
 use Rattle.std.proofs.lemmas.List.Sums.{sum_by-cons}
 use Rattle.std.specs.List.{list_any}
@@ -13,13 +13,13 @@ use Rattle.gql_ast.specs.declared.type_system.InputValueDefinition.{InputValueDe
 use Rattle.gql_built_in.specs.declared.sited.Sited.{Sited}
 use Rattle.gql_ast.specs.declared.rule.Rule.TheVariants as rule
 use Rattle.gql_faults.specs.Names.{count_of, repeated}
-use Rattle.gql_inputs.proofs.Finding.{is_some_find, any_made, find_made}
+use Rattle.gql_inputs.proofs.Finding.{is_some_find, find_made}
 use Rattle.gql_inputs.proofs.Judged.{items_misfits_is, fields_misfits_is, misfits_null, misfits_list, misfits_object}
 use Rattle.gql_inputs.proofs.Repeating.{repeats_list, repeats_object}
 use Rattle.gql_inputs.proofs.ValueForms.{value_variable, value_int, value_float, value_string, value_boolean, value_null, value_enum, value_list, value_object, all_fields_of}
-use Rattle.gql_inputs.specs.BadValues.{bad, takes, of_known, where_known, never_fits, expected, single_at as bad_single, single_misfits, null_misfits, within as within_custom, within_values, within_fields, at_one, list_at_one, list_by as bad_list, list_misfits, item_misfits, field_by, field_misfits, is_given, is_null_given, lacks, missing, object_by, object_misfits, misfits, items_misfits, fields_misfits, is_custom_form, fits, bad_values, repeats, repeat, field_repeats}
+use Rattle.gql_inputs.specs.BadValues.{bad, takes, of_known, where_known, never_fits, expected, single_at as bad_single, single_misfits, null_misfits, within as within_custom, within_values, within_fields, at_one, list_by as bad_list, list_misfits, item_misfits, field_by, field_misfits, is_given, is_null_given, lacks, missing, object_misfits, misfits, items_misfits, fields_misfits, is_custom_form, fits, bad_values, repeats, repeat, field_repeats}
 use Rattle.gql_inputs.specs.InputTypes.{if_input, input_type, is_custom, is_custom_at, is_input, is_list, is_non_null, item_of, name_in, name_of, scalar_named}
-use Rattle.gql_inputs.specs.Lookups.{InputForm, FieldForm, InputLookup, field_named, field_of, form_at, form_of, in_schema, is_required}
+use Rattle.gql_inputs.specs.Lookups.{InputForm, FieldForm, InputLookup, field_of, form_at, form_of, in_schema, is_required}
 use Rattle.gql_inputs.specs.Numbers.{is_whole, whole_number}
 use Rattle.gql_inputs.specs.Values as values
 use Rattle.gql_inputs.specs.Values.{Value, GivenField, given_field, value_of, values_of, place_of, is_null, all_fields}
@@ -35,7 +35,7 @@ use Rattle.serde_json.specs.Data as json
 use Rattle.serde_json.specs.Data.{Data}
 use Rattle.serde_json.specs.View.{items_of}
 use Rattle.std.specs.Str.Parse.{signed_digits_value}
-use Rattle.gql_coerce.specs.Coercion.{coerced, Expected, nothing, anything, this, Entry, Entries, are, unknown as unknown_entries, no_object, any_entry, any_entries, defined_entry, is_defined, unless_unknown, entries_at_kind, entries_by, entries_for, once, item_at, items_from, array_of, list_by, or_null, default_of, or_default, if_given, entry_at, member_at, object_at, put_all, under, null_at, single_at, as_type, item_expected, items_expected, takes_all, given_as, one_in}
+use Rattle.gql_coerce.specs.Coercion.{coerced, nothing, anything, Entry, are, no_object, any_entry, any_entries, defined_entry, is_defined, unless_unknown, entries_at_kind, entries_by, entries_for, once, item_at, items_from, array_of, list_by, or_null, default_of, or_default, if_given, entry_at, member_at, object_at, put_all, under, null_at, single_at, as_type, item_expected, items_expected, takes_all, given_as, one_in}
 use Rattle.gql_coerce.specs.Comes.{Outcome, Comes}
 use Rattle.gql_coerce.specs.Comes as comes
 use Rattle.gql_coerce.specs.Fitting.{IsConstant, IsKnown, IsGoodField, HasGoodFields}
@@ -47,11 +47,11 @@ use Rattle.gql_coerce.specs.declared.refusal.Reason.{Reason}
 use Rattle.gql_coerce.specs.declared.refusal.Reason.TheVariants as reason
 use Rattle.gql_coerce.specs.declared.refusal.Segment.{Segment}
 use Rattle.gql_coerce.specs.declared.refusal.Segment.TheVariants.{Index, Key}
-use Rattle.gql_coerce.proofs.Containing.{Contains-nil, Contains-here, Contains-there, Contains-cases, Contains-map, Contains-map_from, Contains-flat_map}
+use Rattle.gql_coerce.proofs.Containing.{Contains-nil, Contains-here, Contains-there, Contains-cases, Contains-map, Contains-map_from}
 use Rattle.gql_coerce.proofs.FitSingles.{has_value, takes_if, Alike, at_type, int_alike, float_alike, string_alike, boolean_alike, enum_alike}
-use Rattle.gql_coerce.proofs.LiteralCases.{Holds, by_form}
+use Rattle.gql_coerce.proofs.LiteralCases.{by_form}
 use Rattle.gql_coerce.proofs.Reading.{no_level, coerced_int, coerced_float, coerced_string, coerced_boolean, coerced_null, coerced_enum, coerced_list, coerced_object}
-use Rattle.gql_coerce.proofs.Reported.{stop, not_zero, none_some, some_one, or_right_true, bytes_same, same_bytes, has_any, found_in, any_first, given_from, no_variable, constant_items, constant_fields, may_agree, not_given, given_there, within_values_is, within_fields_is, item_name, bad_by, custom_if, custom_of, refusal_is_reported}
+use Rattle.gql_coerce.proofs.Reported.{stop, not_zero, none_some, bytes_same, same_bytes, has_any, found_in, any_first, given_from, no_variable, constant_items, constant_fields, may_agree, not_given, given_there, within_values_is, within_fields_is, item_name, bad_by, custom_if, custom_of, refusal_is_reported}
 
 -- ---- lists that are empty
 
@@ -61,7 +61,7 @@ starts (y ∷ ys) = true
 
 empty_left : {A : Type 0} (xs ys : List A) → xs ++ ys ≡ [] → xs ≡ []
 empty_left [] ys is = refl
-empty_left (x ∷ xs) ys is = absurd (true≢false (ap starts is)) 
+empty_left (x ∷ xs) ys is = absurd (true≢false (ap starts is))
 
 empty_right : {A : Type 0} (xs ys : List A) → xs ++ ys ≡ [] → ys ≡ []
 empty_right xs ys is = sym (ap (λ zs. zs ++ ys) (empty_left xs ys is)) ∙ is
@@ -118,9 +118,9 @@ all_values {A} f (z ∷ zs) ys e x has =
     let first = before (f z) (λ y. after (all (map f zs)) (λ more. value (y ∷ more))) ys e in
     let rest = before (all (map f zs)) (λ more. value (first.0 ∷ more)) ys first.2 in
     by_cases (λ more at later. all_values f zs more at x later) first.0 first.1 rest.0 rest.1 (Contains-cases x z zs has) where
-  by_cases : ((more : List A) → all (map f zs) ≡ value more → Contains zs x → (y : A) × (f x ≡ value y)) → (y : A) → f z ≡ value y → (more : List A) → all (map f zs) ≡ value more → (x ≡ z) ⊎ Contains zs x → (y : A) × (f x ≡ value y)
-  by_cases further y at more rest (inl same) = (y, ap f same ∙ at)
-  by_cases further y at more rest (inr later) = further more rest later
+      by_cases : ((more : List A) → all (map f zs) ≡ value more → Contains zs x → (y : A) × (f x ≡ value y)) → (y : A) → f z ≡ value y → (more : List A) → all (map f zs) ≡ value more → (x ≡ z) ⊎ Contains zs x → (y : A) × (f x ≡ value y)
+      by_cases further y at more rest (inl same) = (y, ap f same ∙ at)
+      by_cases further y at more rest (inr later) = further more rest later
 
 item_values : (f : Input → Reached Data) (g : Literal → Input) (xs : List Literal) (m : ℕ) (ys : List Data) → all (items_from f m (map g xs)) ≡ value ys
     → (x : Literal) → Contains xs x → (y : Data) × (f (g x) ≡ value y)
@@ -129,9 +129,9 @@ item_values f g (z ∷ zs) m ys e x has =
     let first = before (within (Index m) (f (g z))) (λ y. after (all (items_from f (suc m) (map g zs))) (λ more. value (y ∷ more))) ys e in
     let rest = before (all (items_from f (suc m) (map g zs))) (λ more. value (first.0 ∷ more)) ys first.2 in
     by_cases (λ more at later. item_values f g zs (suc m) more at x later) first.0 (within_value (Index m) (f (g z)) first.0 first.1) rest.0 rest.1 (Contains-cases x z zs has) where
-  by_cases : ((more : List Data) → all (items_from f (suc m) (map g zs)) ≡ value more → Contains zs x → (y : Data) × (f (g x) ≡ value y)) → (y : Data) → f (g z) ≡ value y → (more : List Data) → all (items_from f (suc m) (map g zs)) ≡ value more → (x ≡ z) ⊎ Contains zs x → (y : Data) × (f (g x) ≡ value y)
-  by_cases further y at more rest (inl same) = (y, ap (λ w. f (g w)) same ∙ at)
-  by_cases further y at more rest (inr later) = further more rest later
+      by_cases : ((more : List Data) → all (items_from f (suc m) (map g zs)) ≡ value more → Contains zs x → (y : Data) × (f (g x) ≡ value y)) → (y : Data) → f (g z) ≡ value y → (more : List Data) → all (items_from f (suc m) (map g zs)) ≡ value more → (x ≡ z) ⊎ Contains zs x → (y : Data) × (f (g x) ≡ value y)
+      by_cases further y at more rest (inl same) = (y, ap (λ w. f (g w)) same ∙ at)
+      by_cases further y at more rest (inr later) = further more rest later
 
 some_value : {A : Type 0} (o : Reached A) (v : Option A) → some o ≡ value v → (x : A) × (o ≡ value x)
 some_value o v e = let part = before o (λ x. value (Some x)) v e in (part.0, part.1)
@@ -208,17 +208,17 @@ names_in fs = sited None (map (λ (f : GivenField). f.name) (map given_field fs)
 unique : (fs : List ObjectField) → field_repeats (map given_field fs) ≡ [] → (g h : ObjectField) → Contains fs g → Contains fs h → g.name.text ≡ h.name.text → g ≡ h
 unique fs is g h a b same = at_most_one (λ (f : ObjectField). bytes_eq g.name.text f.name.text) fs (few (count_by (λ (f : ObjectField). bytes_eq g.name.text f.name.text) fs) not_more) g h a b
     (bytes_same g.name.text g.name.text refl) (bytes_same g.name.text h.name.text same) where
-  names_are : (gs : List ObjectField) → sited None (map (λ (f : GivenField). f.name) (map given_field gs)) ≡ map as_name gs
-  names_are [] = refl
-  names_are (f ∷ gs) = ap (λ (ns : List (Sited Name)). as_name f ∷ ns) (names_are gs)
+      names_are : (gs : List ObjectField) → sited None (map (λ (f : GivenField). f.name) (map given_field gs)) ≡ map as_name gs
+      names_are [] = refl
+      names_are (f ∷ gs) = ap (λ (ns : List (Sited Name)). as_name f ∷ ns) (names_are gs)
 
-  not_more : nat_lt 1 (count_by (λ (f : ObjectField). bytes_eq g.name.text f.name.text) fs) ≡ false
-  not_more = ap (nat_lt 1) (sym (ap (count_by (λ (n : Sited Name). bytes_eq g.name.text n.node.text)) (names_are fs) ∙ count_made as_name (λ (n : Sited Name). bytes_eq g.name.text n.node.text) fs))
-      ∙ no_filtered (λ (n : Sited Name). nat_lt 1 (count_of n.node.text (names_in fs))) (names_in fs) (no_repeated (repeated (names_in fs)) is) (as_name g)
-      (subst (λ ns. Contains ns (as_name g)) (sym (names_are fs)) (Contains-map as_name fs g a))
+      not_more : nat_lt 1 (count_by (λ (f : ObjectField). bytes_eq g.name.text f.name.text) fs) ≡ false
+      not_more = ap (nat_lt 1) (sym (ap (count_by (λ (n : Sited Name). bytes_eq g.name.text n.node.text)) (names_are fs) ∙ count_made as_name (λ (n : Sited Name). bytes_eq g.name.text n.node.text) fs))
+          ∙ no_filtered (λ (n : Sited Name). nat_lt 1 (count_of n.node.text (names_in fs))) (names_in fs) (no_repeated (repeated (names_in fs)) is) (as_name g)
+          (subst (λ ns. Contains ns (as_name g)) (sym (names_are fs)) (Contains-map as_name fs g a))
 
-  few : (n : ℕ) → nat_lt 1 n ≡ false → n ≤ 1
-  few n e = grind (arith, nat_tests, e)
+      few : (n : ℕ) → nat_lt 1 n ≡ false → n ≤ 1
+      few n e = grind (arith, nat_tests, e)
 
 -- ---- at a type
 
@@ -255,9 +255,9 @@ module _ (s : Schema) where
       let at = some_value (as_type (input_type s t) y) once_is.0 once_is.1 in
       let taken : takes_if x (look (name_in t)) ≡ true = at_type x y alike (type_named s (name_in t)) ∙ ap has_value at.1 in
       known_empty (bad_single t x) (look (name_in t)) (λ i has. by_test (takes x i) i (sym (ap (takes_if x) has) ∙ taken)) where
-    by_test : (b : Bool) (i : InputForm) → b ≡ true → (if b then [] else bad rule.V18 (place_of x) (expected t i)) ≡ []
-    by_test true i h = refl
-    by_test false i h = absurd (true≢false (sym h))
+        by_test : (b : Bool) (i : InputForm) → b ≡ true → (if b then [] else bad rule.V18 (place_of x) (expected t i)) ≡ []
+        by_test true i h = refl
+        by_test false i h = absurd (true≢false (sym h))
 
   null_fits : (p : Place) (t : Written) (v : Option Data) → some (null_at (Some t)) ≡ value v → null_misfits look p t ≡ []
   null_fits p t v e = by_mark (is_non_null t) (some_value (null_at (Some t)) v e).0 (some_value (null_at (Some t)) v e).1 where
@@ -270,9 +270,9 @@ module _ (s : Schema) where
       → where_known look t (λ i. if is_custom_form i then inside else other) ≡ []
   custom_fits t inside other b is so nr = known_empty (λ i. if is_custom_form i then inside else other) (look (name_in t))
       (λ i has. by_custom (is_custom_form i) (sym (ap (custom_if s) has) ∙ sym (custom_of s (type_named s (name_in t))) ∙ is)) where
-    by_custom : (c : Bool) → c ≡ b → (if c then inside else other) ≡ []
-    by_custom true e = so (sym e)
-    by_custom false e = nr (sym e)
+        by_custom : (c : Bool) → c ≡ b → (if c then inside else other) ≡ []
+        by_custom true e = so (sym e)
+        by_custom false e = nr (sym e)
 
   -- null comes to no value of a Non-Null type
   null_value : (n : ℕ) (vs : Data) (t : Written) → is_non_null t ≡ true → (x : Literal) → is_null (value_of x) ≡ true → (v : Option Data)
@@ -298,10 +298,10 @@ module _ (s : Schema) where
   item_fits n each vs x is nr item known d e =
       subst (λ m. (if is_list item && not m then never_fits look (place_of (value_of x)) item else misfits look item (value_of x)) ≡ []) (may_agree vs x)
       (by_form_of (is_list item && not (may_be_list (literal vs x))) e) where
-    by_form_of : (b : Bool) → (if b then wrong_kind else after (coerced n s (literal vs x) (Some item)) (or_null (Some item))) ≡ value d
-        → (if b then never_fits look (place_of (value_of x)) item else misfits look item (value_of x)) ≡ []
-    by_form_of true h = absurd (refused_not Data reason.WrongKind [] d h)
-    by_form_of false h = let part = before (coerced n s (literal vs x) (Some item)) (or_null (Some item)) d h in each vs x is nr item known part.0 part.1
+        by_form_of : (b : Bool) → (if b then wrong_kind else after (coerced n s (literal vs x) (Some item)) (or_null (Some item))) ≡ value d
+            → (if b then never_fits look (place_of (value_of x)) item else misfits look item (value_of x)) ≡ []
+        by_form_of true h = absurd (refused_not Data reason.WrongKind [] d h)
+        by_form_of false h = let part = before (coerced n s (literal vs x) (Some item)) (or_null (Some item)) d h in each vs x is nr item known part.0 part.1
 
   any_item_fits : (n : ℕ) → InCustom n → (vs : Data) (x : Literal) → IsConstant x → NoRepeats x → (name : List ℕ) (d : Data)
       → item_at (coerced n s) None (literal vs x) ≡ value d → within_custom name (value_of x) ≡ []
@@ -350,9 +350,9 @@ module _ (s : Schema) where
     first_of g has = by_found (find (λ (f : Field). bytes_eq g.name.text f.name) inputs) refl
         (is_some_find (λ (f : Field). bytes_eq g.name.text f.name) inputs ∙ any_first g.name.text (map (literal_field vs) fs)
         ∙ has_any (λ (f : Field). bytes_eq g.name.text f.name) (literal_field vs g) (map (literal_field vs) fs) (Contains-map (literal_field vs) fs g has) (bytes_same g.name.text g.name.text refl)) where
-      by_found : (o : Option Field) → find (λ (f : Field). bytes_eq g.name.text f.name) inputs ≡ o → is_some o ≡ true → (f : Field) × Contains inputs f × (bytes_eq g.name.text f.name ≡ true)
-      by_found None e h = absurd (true≢false (sym h))
-      by_found (Some f) e h = let there = found_in (λ (f : Field). bytes_eq g.name.text f.name) inputs f e in (f, there.0, there.1)
+          by_found : (o : Option Field) → find (λ (f : Field). bytes_eq g.name.text f.name) inputs ≡ o → is_some o ≡ true → (f : Field) × Contains inputs f × (bytes_eq g.name.text f.name ≡ true)
+          by_found None e h = absurd (true≢false (sym h))
+          by_found (Some f) e h = let there = found_in (λ (f : Field). bytes_eq g.name.text f.name) inputs f e in (f, there.0, there.1)
 
   any_object_fits : (n : ℕ) → InCustom n → (vs : Data) (p : Place) (fs : List ObjectField) → IsConstant (l.Object p fs) → NoRepeats (l.Object p fs) → (name : List ℕ) (d : Data)
       → object_at (coerced n s) (any_entries (firsts (map (literal_field vs) fs))) ≡ value d → within_fields name (values.fields_of (map given_field fs)) ≡ []
@@ -366,7 +366,7 @@ module _ (s : Schema) where
     by_first g has first =
         let made = given_from vs fs first.0 first.1 in
         let same : g ≡ made.0 = unique fs (empty_left (field_repeats (map given_field fs)) (flat_map (λ (h : ObjectField). repeats (value_of h.value)) fs) (sym (repeats_object p fs) ∙ nr)) g made.0 has made.1
-            (same_bytes g.name.text first.0.name first.2 ∙ sym (ap (λ (f : Field). f.name) made.2)) in
+        (same_bytes g.name.text first.0.name first.2 ∙ sym (ap (λ (f : Field). f.name) made.2)) in
         let member = member_value (coerced n s) (map any_entry (firsts (map (literal_field vs) fs))) d e (any_entry first.0) (Contains-map any_entry (firsts (map (literal_field vs) fs)) first.0 first.1) in
         by_field g has member.0 (ap (λ (f : Field). entry_at (coerced n s) (any_entry f)) (ap (literal_field vs) same ∙ made.2) ∙ member.1)
 
@@ -399,7 +399,7 @@ module _ (s : Schema) where
     given_value members d has g there same =
         let member = members d has in
         let part = before (within (Key d.node.name.text) (coerced n s (literal vs g.value) (Some (written d.node.of_type)))) (or_default (coerced n s) d.node.name.text (Some d.node)) member.0
-            (subst (λ o. after (if_given (coerced n s) d.node.name.text (Some d.node) o) (or_default (coerced n s) d.node.name.text (Some d.node)) ≡ value member.0) (given_is d.node.name.text g there same) member.1) in
+        (subst (λ o. after (if_given (coerced n s) d.node.name.text (Some d.node) o) (or_default (coerced n s) d.node.name.text (Some d.node)) ≡ value member.0) (given_is d.node.name.text g there same) member.1) in
         (part.0, within_value (Key d.node.name.text) (coerced n s (literal vs g.value) (Some (written d.node.of_type))) part.0 part.1)
 
     field_fits : Members → (g : ObjectField) → Contains fs g → is_defined st.input_fields (literal_field vs g) ≡ true → field_misfits look forms (given_field g) ≡ []
@@ -444,19 +444,19 @@ module _ (s : Schema) where
             let there = given_there vs d.node.name.text fs y e in
             ap (λ b. not b || is_null_given given d.node.name.text) (has_any (λ (h : GivenField). bytes_eq d.node.name.text h.name.text) (given_field there.0) given (Contains-map given_field fs there.0 there.1) (bytes_same d.node.name.text there.0.name.text there.3))
             ∙ no_null there.0 there.1 there.3 where
-          no_null : (g : ObjectField) → Contains fs g → d.node.name.text ≡ g.name.text → is_null_given given d.node.name.text ≡ false
-          no_null g at same = none_passes (λ (h : GivenField). bytes_eq d.node.name.text h.name.text && is_null h.value) given (λ h in_given. by_field h in_given) where
-            by_field : (h : GivenField) → Contains given h → bytes_eq d.node.name.text h.name.text && is_null h.value ≡ false
-            by_field h in_given = let f = Contains-map_from given_field fs h in_given in
-                subst (λ (k : GivenField). bytes_eq d.node.name.text k.name.text && is_null k.value ≡ false) f.2 (by_name (bytes_eq d.node.name.text f.0.name.text) f.0 f.1 refl) where
-              not_null : (b : Bool) (k : ObjectField) → Contains fs k → d.node.name.text ≡ k.name.text → is_null (value_of k.value) ≡ b → b ≡ false
-              not_null true k in_fs eq null_is = let v = given_value members d has k in_fs eq in
-                  absurd (null_value n vs (written d.node.of_type) needed k.value null_is v.0 v.1)
-              not_null false k in_fs eq null_is = refl
+              no_null : (g : ObjectField) → Contains fs g → d.node.name.text ≡ g.name.text → is_null_given given d.node.name.text ≡ false
+              no_null g at same = none_passes (λ (h : GivenField). bytes_eq d.node.name.text h.name.text && is_null h.value) given (λ h in_given. by_field h in_given) where
+                by_field : (h : GivenField) → Contains given h → bytes_eq d.node.name.text h.name.text && is_null h.value ≡ false
+                by_field h in_given = let f = Contains-map_from given_field fs h in_given in
+                    subst (λ (k : GivenField). bytes_eq d.node.name.text k.name.text && is_null k.value ≡ false) f.2 (by_name (bytes_eq d.node.name.text f.0.name.text) f.0 f.1 refl) where
+                      not_null : (b : Bool) (k : ObjectField) → Contains fs k → d.node.name.text ≡ k.name.text → is_null (value_of k.value) ≡ b → b ≡ false
+                      not_null true k in_fs eq null_is = let v = given_value members d has k in_fs eq in
+                          absurd (null_value n vs (written d.node.of_type) needed k.value null_is v.0 v.1)
+                      not_null false k in_fs eq null_is = refl
 
-              by_name : (b : Bool) (k : ObjectField) → Contains fs k → bytes_eq d.node.name.text k.name.text ≡ b → b && is_null (value_of k.value) ≡ false
-              by_name true k in_fs eq = not_null (is_null (value_of k.value)) k in_fs (same_bytes d.node.name.text k.name.text eq) refl
-              by_name false k in_fs eq = refl
+                      by_name : (b : Bool) (k : ObjectField) → Contains fs k → bytes_eq d.node.name.text k.name.text ≡ b → b && is_null (value_of k.value) ≡ false
+                      by_name true k in_fs eq = not_null (is_null (value_of k.value)) k in_fs (same_bytes d.node.name.text k.name.text eq) refl
+                      by_name false k in_fs eq = refl
 
       by_required : (b : Bool) → is_non_null (written d.node.of_type) ≡ b → (o : Option Literal) → d.node.default ≡ o → missing p given (field_of d) ≡ []
       by_required false nullable o e = left_out (is_required (field_of d) && lacking d) (ap (λ b. (b && not (is_some d.node.default)) && lacking d) nullable)
@@ -472,17 +472,17 @@ module _ (s : Schema) where
         (λ h has. let g = Contains-map_from given_field fs h has in subst (λ k. field_misfits look forms k ≡ []) g.2 (field_fits members g.0 g.1 (defined g.0 g.1))))
         (ap (λ gs. flat_map (missing p gs) forms) (all_fields_of given) ∙ all_empty (missing p given) forms
         (λ f has. let d = Contains-map_from field_of st.input_fields f has in subst (λ k. missing p given k ≡ []) d.2 (missing_fits members d.0 d.1))) where
-      members : Members
-      members d has = member_value (coerced n s) (map (defined_entry (inputs vs fs)) st.input_fields) whole e (defined_entry (inputs vs fs) d) (Contains-map (defined_entry (inputs vs fs)) st.input_fields d has)
+          members : Members
+          members d has = member_value (coerced n s) (map (defined_entry (inputs vs fs)) st.input_fields) whole e (defined_entry (inputs vs fs) d) (Contains-map (defined_entry (inputs vs fs)) st.input_fields d has)
 
-      double : (b : Bool) → not b ≡ false → b ≡ true
-      double true i = refl
-      double false i = absurd (true≢false i)
+          double : (b : Bool) → not b ≡ false → b ≡ true
+          double true i = refl
+          double false i = absurd (true≢false i)
 
-      defined : (g : ObjectField) → Contains fs g → is_defined st.input_fields (literal_field vs g) ≡ true
-      defined g has = let f = first_of vs fs g has in
-          ap (λ m. is_some (find (λ (d : Sited InputValueDefinition). bytes_eq m d.node.name.text) st.input_fields)) (same_bytes g.name.text f.0.name f.2)
-          ∙ double (is_defined st.input_fields f.0) (none_found (λ (f : Field). not (is_defined st.input_fields f)) (inputs vs fs) first f.0 f.1)
+          defined : (g : ObjectField) → Contains fs g → is_defined st.input_fields (literal_field vs g) ≡ true
+          defined g has = let f = first_of vs fs g has in
+              ap (λ m. is_some (find (λ (d : Sited InputValueDefinition). bytes_eq m d.node.name.text) st.input_fields)) (same_bytes g.name.text f.0.name f.2)
+              ∙ double (is_defined st.input_fields f.0) (none_found (λ (f : Field). not (is_defined st.input_fields f)) (inputs vs fs) first f.0 f.1)
 
   object_at_type : HasGoodFields s → (n : ℕ) → AtType n → InCustom n → (vs : Data) (p : Place) (fs : List ObjectField) → IsConstant (l.Object p fs) → NoRepeats (l.Object p fs)
       → (t : Written) → IsKnown s t → (whole : Data) → object_at (coerced n s) (entries_for s (firsts (map (literal_field vs) fs)) (Some t)) ≡ value whole
@@ -557,6 +557,6 @@ fits_where_coerced s good t known x is nr vs (comes.value v) comes =
     ap (λ bs. nat_eq (length bs) 0) (append_empty (misfits (in_schema s) t (value_of x)) (repeats (value_of x)) (at_types s good (comes.0 + 0) vs x is nr t known v (comes.1 0)) nr)
 fits_where_coerced s good t known x is nr vs (comes.refused r path) comes =
     let found = refusal_is_reported s good t known x is vs r path comes in not_empty (bad_values s x t) found.0 found.1 where
-  not_empty : (bs : List BadValue) (b : BadValue) → Contains bs b → nat_eq (length bs) 0 ≡ false
-  not_empty [] b has = absurd (Contains-nil b has)
-  not_empty (c ∷ bs) b has = not_zero (length bs)
+      not_empty : (bs : List BadValue) (b : BadValue) → Contains bs b → nat_eq (length bs) 0 ≡ false
+      not_empty [] b has = absurd (Contains-nil b has)
+      not_empty (c ∷ bs) b has = not_zero (length bs)

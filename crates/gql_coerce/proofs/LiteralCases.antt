@@ -1,5 +1,5 @@
 -- Cases on the form of a literal.
-use Rattle.std.proofs.Common.{◌≡◌, ℕ, List, Bool, map, sym, subst}
+use Rattle.std.proofs.Common.{ℕ, List, Bool, map, sym, subst}
 use Rattle.gql_text.specs.declared.place.Place.{Place}
 use Rattle.gql_ast.specs.declared.literal.Literal.{Literal, roll-Literal}
 use Rattle.gql_ast.specs.declared.literal.Literal.TheFolds.{ind-Literal, map-Literal}

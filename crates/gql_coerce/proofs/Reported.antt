@@ -13,10 +13,10 @@ use Rattle.gql_ast.specs.declared.type_system.InputValueDefinition.{InputValueDe
 use Rattle.gql_built_in.specs.declared.sited.Sited.{Sited}
 use Rattle.gql_inputs.proofs.ValueForms.{value_variable, value_int, value_float, value_string, value_boolean, value_null, value_enum, value_list, value_object, all_fields_of}
 use Rattle.gql_inputs.proofs.Finding.{is_some_find, any_made, find_made}
-use Rattle.gql_inputs.proofs.Judged.{items_misfits_is, fields_misfits_is, misfits_null, misfits_list, misfits_object, misfits_int, misfits_float, misfits_string, misfits_boolean, misfits_enum}
-use Rattle.gql_inputs.specs.BadValues.{bad, takes, of_known, where_known, never_fits, expected, single_at as bad_single, single_misfits, null_misfits, within as within_custom, within_values, within_fields, at_one, list_at_one, list_by as bad_list, list_misfits, item_by, item_misfits, field_by, field_misfits, is_given, is_null_given, lacks, missing_if, missing, object_at_scalar, object_by, object_misfits, misfits, items_misfits, fields_misfits, is_custom_form, fits, bad_values, repeats}
-use Rattle.gql_inputs.specs.InputTypes.{if_input, input_type, is_custom, is_custom_at, is_custom_scalar, is_input, is_list, is_non_null, item_of, name_in, name_of, scalar_named, text_of}
-use Rattle.gql_inputs.specs.Lookups.{InputForm, scalar, enumeration, input_object, FieldForm, InputLookup, field_named, field_of, form_at, form_of, in_schema, is_required}
+use Rattle.gql_inputs.proofs.Judged.{items_misfits_is, fields_misfits_is, misfits_null, misfits_list, misfits_object}
+use Rattle.gql_inputs.specs.BadValues.{bad, takes, of_known, where_known, never_fits, expected, single_at as bad_single, single_misfits, null_misfits, within as within_custom, within_values, within_fields, at_one, list_by as bad_list, list_misfits, item_misfits, field_by, field_misfits, is_given, is_null_given, lacks, missing, object_by, object_misfits, misfits, items_misfits, fields_misfits, is_custom_form, fits, bad_values, repeats}
+use Rattle.gql_inputs.specs.InputTypes.{if_input, input_type, is_custom, is_custom_at, is_input, is_list, is_non_null, item_of, name_in, name_of, scalar_named, text_of}
+use Rattle.gql_inputs.specs.Lookups.{InputForm, FieldForm, InputLookup, field_named, field_of, form_at, form_of, in_schema, is_required}
 use Rattle.gql_inputs.specs.Values as values
 use Rattle.gql_inputs.specs.Values.{Value, GivenField, given_field, value_of, values_of, place_of, is_null, all_fields}
 use Rattle.gql_inputs.specs.declared.bad_value.BadValue.{BadValue}
@@ -29,9 +29,9 @@ use Rattle.gql_types.specs.declared.schema_type.SchemaType.{SchemaType}
 use Rattle.serde_json.specs.Data as json
 use Rattle.serde_json.specs.Data.{Data}
 use Rattle.serde_json.specs.View.{items_of}
-use Rattle.gql_coerce.specs.Coercion.{coerced, Expected, nothing, anything, this, Entry, Entries, are, unknown as unknown_entries, no_object, any_entry, any_entries, defined_entry, is_defined, unless_unknown, entries_at_kind, entries_by, entries_for, once, item_at, items_from, array_of, list_by, or_null, default_of, or_default, if_given, entry_at, member_at, object_at, put_all, under, null_at, single_at, as_type, item_expected, items_expected, is_list_expected, takes_all, given_as, one_in}
+use Rattle.gql_coerce.specs.Coercion.{coerced, nothing, anything, Entry, are, no_object, any_entry, any_entries, defined_entry, is_defined, unless_unknown, entries_at_kind, entries_by, entries_for, once, item_at, items_from, array_of, list_by, or_null, default_of, or_default, if_given, entry_at, member_at, object_at, put_all, under, null_at, single_at, as_type, item_expected, items_expected, takes_all, given_as, one_in}
 use Rattle.gql_coerce.specs.Fitting.{has_variable, is_in_values, is_in_fields, IsConstant, IsKnown, IsGoodField, HasGoodFields, is_of_value, Reports, at_value, unknown, missing as missing_field, null_given, in_item, in_field}
-use Rattle.gql_coerce.specs.Inputs.{Single, fraction, text as string_text, truth, name as enum_name, of_whole, Input, Field, absent, literal, literal_field, firsts, firsts_by, may_be_list}
+use Rattle.gql_coerce.specs.Inputs.{Single, fraction, text as string_text, truth, name as enum_name, of_whole, Input, Field, literal, literal_field, firsts, may_be_list}
 use Rattle.gql_coerce.specs.Outcomes.{Reached, value, refused, too_deep, after, within, all, some}
 use Rattle.gql_coerce.specs.Scalars.{as_custom, wrong_kind}
 use Rattle.gql_coerce.specs.declared.refusal.Reason.{Reason}
@@ -41,8 +41,8 @@ use Rattle.gql_coerce.specs.declared.refusal.Segment.TheVariants.{Index, Key}
 use Rattle.gql_coerce.specs.Comes.{Comes}
 use Rattle.gql_coerce.specs.Comes as comes
 use Rattle.gql_coerce.proofs.Containing.{Contains-nil, Contains-here, Contains-there, Contains-cases, Contains-map, Contains-map_from, Contains-flat_map}
-use Rattle.gql_coerce.proofs.FitSingles.{and_left, and_right, both, has_value, own, takes_if, Alike, at_type, type_own, custom_own, int_alike, float_alike, string_alike, boolean_alike, enum_alike}
-use Rattle.gql_coerce.proofs.LiteralCases.{Holds, by_form}
+use Rattle.gql_coerce.proofs.FitSingles.{and_left, and_right, both, has_value, own, takes_if, Alike, at_type, type_own, int_alike, float_alike, string_alike, boolean_alike, enum_alike}
+use Rattle.gql_coerce.proofs.LiteralCases.{by_form}
 use Rattle.gql_coerce.proofs.Reading.{no_level, coerced_int, coerced_float, coerced_string, coerced_boolean, coerced_null, coerced_enum, coerced_list, coerced_object, may_int, may_float, may_string, may_boolean, may_null, may_enum, may_list, may_object, may_variable}
 use Rattle.gql_coerce.proofs.Settling.{is_none, some_none, once_none}
 use Rattle.gql_inputs.specs.Numbers.{is_whole, whole_number}
@@ -288,9 +288,9 @@ not_given vs n fs is = any_made given_field (λ (g : GivenField). bytes_eq n g.n
     ∙ sym (any_first n (map (literal_field vs) fs))
     ∙ sym (is_some_find (λ (f : Field). bytes_eq n f.name) (firsts (map (literal_field vs) fs)))
     ∙ nothing_found (find (λ (f : Field). bytes_eq n f.name) (firsts (map (literal_field vs) fs))) is where
-  nothing_found : (o : Option Field) → option_map (λ (f : Field). f.value) o ≡ None → is_some o ≡ false
-  nothing_found None e = refl
-  nothing_found (Some f) e = absurd (none_some f.value (sym e))
+      nothing_found : (o : Option Field) → option_map (λ (f : Field). f.value) o ≡ None → is_some o ≡ false
+      nothing_found None e = refl
+      nothing_found (Some f) e = absurd (none_some f.value (sym e))
 
 -- a field that is given as an input is given in the literal
 pub given_there : (vs : Data) (n : List ℕ) (fs : List ObjectField) (y : Input) → given_as n (firsts (map (literal_field vs) fs)) ≡ Some y
@@ -317,9 +317,12 @@ abbrev Own : Reason → List Segment → Type 0
 Own r path = (path ≡ []) × (is_of_value r ≡ true)
 
 found_here : (x : Literal) (v : Value) → value_of x ≡ v → (r : Reason) (path : List Segment) (about : List ℕ) → Own r path → Found x (bad rule.V18 (place_of v) about) r path
-found_here x v is r path about own = (record { rule = rule.V18; place = place_of v; about = about }, Contains-here _ [],
-    subst (λ w. Reports x r path (record { rule = rule.V18; place = place_of w; about = about })) is
-    (subst (λ q. Reports x r q (record { rule = rule.V18; place = place_of (value_of x); about = about })) (sym own.0) (at_value x own.1)))
+found_here x v is r path about own = (
+  record { rule = rule.V18; place = place_of v; about = about },
+  Contains-here _ [],
+  subst (λ w. Reports x r path (record { rule = rule.V18; place = place_of w; about = about })) is
+      (subst (λ q. Reports x r q (record { rule = rule.V18; place = place_of (value_of x); about = about })) (sym own.0) (at_value x own.1)),
+)
 
 -- under a known type
 found_known : (x : Literal) (f : InputForm → List BadValue) (r : Reason) (path : List Segment) (o : Option InputForm) → is_some o ≡ true
@@ -380,9 +383,9 @@ module _ (s : Schema) where
       → Found x (where_known look t (λ i. if is_custom_form i then inside else other)) r path
   found_custom x t known inside other r path b is so un = found_known x (λ i. if is_custom_form i then inside else other) r path (look (name_in t)) known
       (λ i has. by_custom (is_custom_form i) (sym (ap custom_if has) ∙ sym (custom_of (type_named s (name_in t))) ∙ is)) where
-    by_custom : (c : Bool) → c ≡ b → Found x (if c then inside else other) r path
-    by_custom true e = so (sym e)
-    by_custom false e = un (sym e)
+        by_custom : (c : Bool) → c ≡ b → Found x (if c then inside else other) r path
+        by_custom true e = so (sym e)
+        by_custom false e = un (sym e)
 
   pub within_values_is : (name : List ℕ) (xs : List Literal) → within_values name (values_of (map value_of xs)) ≡ flat_map (λ (x : Literal). within_custom name (value_of x)) xs
   within_values_is name [] = refl
@@ -442,16 +445,16 @@ module _ (s : Schema) where
   item_found n each vs x is item known r path e =
       subst (λ m. Found x (if is_list item && not m then never_fits look (place_of (value_of x)) item else misfits look item (value_of x)) r path) (may_agree vs x)
       (by_form_of (is_list item && not (may_be_list (literal vs x))) e) where
-    by_form_of : (b : Bool) → (if b then wrong_kind else after (coerced n s (literal vs x) (Some item)) (or_null (Some item))) ≡ refused r path
-        → Found x (if b then never_fits look (place_of (value_of x)) item else misfits look item (value_of x)) r path
-    by_form_of true h = never_found x (value_of x) refl r path item known (at_once Data reason.WrongKind r path refl h)
-    by_form_of false h = elim (after_refused (coerced n s (literal vs x) (Some item)) (or_null (Some item)) r path h) [
-      | inl i ↦ each vs x is item known r path i
-      | inr later ↦ by_result later.0 later.1 later.2
-    ] where
-      by_result : (v : Option Data) → coerced n s (literal vs x) (Some item) ≡ value v → or_null (Some item) v ≡ refused r path → Found x (misfits look item (value_of x)) r path
-      by_result None i j = absurd (true≢false (sym (ap is_none i) ∙ not_none n vs (Some item) x is))
-      by_result (Some d) i j = absurd (not_value d r path j)
+        by_form_of : (b : Bool) → (if b then wrong_kind else after (coerced n s (literal vs x) (Some item)) (or_null (Some item))) ≡ refused r path
+            → Found x (if b then never_fits look (place_of (value_of x)) item else misfits look item (value_of x)) r path
+        by_form_of true h = never_found x (value_of x) refl r path item known (at_once Data reason.WrongKind r path refl h)
+        by_form_of false h = elim (after_refused (coerced n s (literal vs x) (Some item)) (or_null (Some item)) r path h) [
+          | inl i ↦ each vs x is item known r path i
+          | inr later ↦ by_result later.0 later.1 later.2
+        ] where
+          by_result : (v : Option Data) → coerced n s (literal vs x) (Some item) ≡ value v → or_null (Some item) v ≡ refused r path → Found x (misfits look item (value_of x)) r path
+          by_result None i j = absurd (true≢false (sym (ap is_none i) ∙ not_none n vs (Some item) x is))
+          by_result (Some d) i j = absurd (not_value d r path j)
 
   -- one item within a custom scalar
   any_item_found : (n : ℕ) → InCustom n → (vs : Data) (x : Literal) → IsConstant x → (name : List ℕ) (r : Reason) (path : List Segment)
@@ -471,9 +474,11 @@ module _ (s : Schema) where
       → array_of (item_at (coerced n s) e) (map (literal vs) xs) ≡ refused r path → Found (l.List p xs) bs r path
   array_found n vs p xs bs of e r path same each is =
       let at = items_refused (item_at (coerced n s) e) (literal vs) xs 0 r path (by_value (all (items_from (item_at (coerced n s) e) 0 (map (literal vs) xs))) (λ ds. json.array (items_of ds)) r path is) in
-      let found = each at.1 at.4 at.2 at.5 in
-      (found.0, subst (λ cs. Contains cs found.0) same (Contains-flat_map of xs at.1 found.0 at.4 found.1),
-      subst (λ q. Reports (l.List p xs) r q found.0) (ap (λ k. Index k ∷ at.2) (zero_plus at.0) ∙ at.6) (in_item p xs at.0 at.1 at.3 found.2))
+      let found = each at.1 at.4 at.2 at.5 in (
+        found.0,
+        subst (λ cs. Contains cs found.0) same (Contains-flat_map of xs at.1 found.0 at.4 found.1),
+        subst (λ q. Reports (l.List p xs) r q found.0) (ap (λ k. Index k ∷ at.2) (zero_plus at.0) ∙ at.6) (in_item p xs at.0 at.1 at.3 found.2),
+      )
 
   -- a list, within a custom scalar
   any_list_found : (n : ℕ) → InCustom n → (vs : Data) (p : Place) (xs : List Literal) → IsConstant (l.List p xs) → (name : List ℕ) (r : Reason) (path : List Segment)
@@ -516,14 +521,16 @@ module _ (s : Schema) where
       let f = Contains-map_from any_entry (firsts (map (literal_field vs) fs)) m.0 m.1 in
       let g = given_from vs fs f.0 f.1 in
       by_member g.0 g.1 (subst (λ (h : Field). entry_at (coerced n s) (any_entry h) ≡ refused r path) (sym g.2) (subst (λ (k : Entry). entry_at (coerced n s) k ≡ refused r path) (sym f.2) m.2)) where
-    by_member : (g : ObjectField) → Contains fs g → entry_at (coerced n s) (any_entry (literal_field vs g)) ≡ refused r path → Found (l.Object p fs) (within_fields name (values.fields_of (map given_field fs))) r path
-    by_member g has i = elim (after_refused (within (Key g.name.text) (coerced n s (literal vs g.value) None)) (or_default (coerced n s) g.name.text None) r path i) [
-      | inl at ↦ let part = within_refused (Key g.name.text) (coerced n s (literal vs g.value) None) r path at in
-          let found = each vs g.value (constant_fields p fs is g has) name r part.0 part.1 in
-          (found.0, subst (λ bs. Contains bs found.0) (sym (within_fields_is name fs)) (Contains-flat_map (λ (f : ObjectField). within_custom name (value_of f.value)) fs g found.0 has found.1),
-          subst (λ q. Reports (l.Object p fs) r q found.0) part.2 (in_field p fs g has found.2))
-      | inr later ↦ absurd (not_value later.0 r path later.2)
-    ]
+        by_member : (g : ObjectField) → Contains fs g → entry_at (coerced n s) (any_entry (literal_field vs g)) ≡ refused r path → Found (l.Object p fs) (within_fields name (values.fields_of (map given_field fs))) r path
+        by_member g has i = elim (after_refused (within (Key g.name.text) (coerced n s (literal vs g.value) None)) (or_default (coerced n s) g.name.text None) r path i) [
+          | inl at ↦ let part = within_refused (Key g.name.text) (coerced n s (literal vs g.value) None) r path at in
+              let found = each vs g.value (constant_fields p fs is g has) name r part.0 part.1 in (
+                found.0,
+                subst (λ bs. Contains bs found.0) (sym (within_fields_is name fs)) (Contains-flat_map (λ (f : ObjectField). within_custom name (value_of f.value)) fs g found.0 has found.1),
+                subst (λ q. Reports (l.Object p fs) r q found.0) part.2 (in_field p fs g has found.2),
+              )
+          | inr later ↦ absurd (not_value later.0 r path later.2)
+        ]
 
   -- nothing is in what is empty
   fits_none : (x : Literal) (t : Written) → fits s x t ≡ true → (b : BadValue) → Contains (misfits look t (value_of x)) b → ⊥
@@ -570,17 +577,19 @@ module _ (s : Schema) where
         let g = given_from vs fs f there.0 in
         by_given g.0 g.1 (subst (λ (h : Field). not (is_defined st.input_fields h) ≡ true) (sym g.2) there.1)
         (subst (λ (h : Field). stop Data reason.UnknownField (Key h.name ∷ []) ≡ refused r path) (sym g.2) e) where
-      not_found : (o : Option (Sited InputValueDefinition)) → not (is_some o) ≡ true → option_map field_of o ≡ None
-      not_found None h = refl
-      not_found (Some d) h = absurd (true≢false (sym h))
+          not_found : (o : Option (Sited InputValueDefinition)) → not (is_some o) ≡ true → option_map field_of o ≡ None
+          not_found None h = refl
+          not_found (Some d) h = absurd (true≢false (sym h))
 
-      by_given : (g : ObjectField) → Contains fs g → not (is_defined st.input_fields (literal_field vs g)) ≡ true → stop Data reason.UnknownField (Key g.name.text ∷ []) ≡ refused r path → Found (l.Object p fs) all_bad r path
-      by_given g has un h = (record { rule = rule.V19; place = g.name.place; about = g.name.text },
-          of_field g has (record { rule = rule.V19; place = g.name.place; about = g.name.text }) (subst (λ o. Contains (field_by g.name (value_of g.value) (λ t. misfits look t (value_of g.value)) o) (record { rule = rule.V19; place = g.name.place; about = g.name.text }))
-          (sym (find_made field_of (λ (f : FieldForm). bytes_eq g.name.text f.name) st.input_fields
-          ∙ not_found (find (λ (d : Sited InputValueDefinition). bytes_eq g.name.text d.node.name.text) st.input_fields) un)) (Contains-here _ [])),
-          subst (λ q. Reports (l.Object p fs) q path (record { rule = rule.V19; place = g.name.place; about = g.name.text })) (same_reason Data reason.UnknownField r (Key g.name.text ∷ []) path h)
-          (subst (λ q. Reports (l.Object p fs) reason.UnknownField q (record { rule = rule.V19; place = g.name.place; about = g.name.text })) (same_path Data reason.UnknownField r (Key g.name.text ∷ []) path h) (unknown p fs g has)))
+          by_given : (g : ObjectField) → Contains fs g → not (is_defined st.input_fields (literal_field vs g)) ≡ true → stop Data reason.UnknownField (Key g.name.text ∷ []) ≡ refused r path → Found (l.Object p fs) all_bad r path
+          by_given g has un h = (
+            record { rule = rule.V19; place = g.name.place; about = g.name.text },
+            of_field g has (record { rule = rule.V19; place = g.name.place; about = g.name.text }) (subst (λ o. Contains (field_by g.name (value_of g.value) (λ t. misfits look t (value_of g.value)) o) (record { rule = rule.V19; place = g.name.place; about = g.name.text }))
+                (sym (find_made field_of (λ (f : FieldForm). bytes_eq g.name.text f.name) st.input_fields
+                ∙ not_found (find (λ (d : Sited InputValueDefinition). bytes_eq g.name.text d.node.name.text) st.input_fields) un)) (Contains-here _ [])),
+            subst (λ q. Reports (l.Object p fs) q path (record { rule = rule.V19; place = g.name.place; about = g.name.text })) (same_reason Data reason.UnknownField r (Key g.name.text ∷ []) path h)
+                (subst (λ q. Reports (l.Object p fs) reason.UnknownField q (record { rule = rule.V19; place = g.name.place; about = g.name.text })) (same_path Data reason.UnknownField r (Key g.name.text ∷ []) path h) (unknown p fs g has)),
+          )
 
     -- a field that is not given
     default_found : (d : Sited InputValueDefinition) → Contains st.input_fields d → given_as d.node.name.text inputs ≡ None
@@ -588,11 +597,13 @@ module _ (s : Schema) where
     default_found d has not_there e = by_default d.node.default refl e where
       by_mark : (b : Bool) → is_non_null (written d.node.of_type) ≡ b → d.node.default ≡ None
           → (if b then stop (Option Data) reason.MissingField (Key d.node.name.text ∷ []) else value None) ≡ refused r path → Found (l.Object p fs) all_bad r path
-      by_mark true needed none h = (record { rule = rule.V21; place = p; about = d.node.name.text },
-          missing_here d has (ap (λ b. b && not (is_some d.node.default)) needed ∙ ap (λ o. not (is_some o)) none)
-          (ap (λ b. not b || is_null_given given d.node.name.text) (not_given vs d.node.name.text fs not_there)),
-          subst (λ q. Reports (l.Object p fs) q path (record { rule = rule.V21; place = p; about = d.node.name.text })) (same_reason (Option Data) reason.MissingField r (Key d.node.name.text ∷ []) path h)
-          (subst (λ q. Reports (l.Object p fs) reason.MissingField q (record { rule = rule.V21; place = p; about = d.node.name.text })) (same_path (Option Data) reason.MissingField r (Key d.node.name.text ∷ []) path h) (missing_field p fs d.node.name.text)))
+      by_mark true needed none h = (
+        record { rule = rule.V21; place = p; about = d.node.name.text },
+        missing_here d has (ap (λ b. b && not (is_some d.node.default)) needed ∙ ap (λ o. not (is_some o)) none)
+            (ap (λ b. not b || is_null_given given d.node.name.text) (not_given vs d.node.name.text fs not_there)),
+        subst (λ q. Reports (l.Object p fs) q path (record { rule = rule.V21; place = p; about = d.node.name.text })) (same_reason (Option Data) reason.MissingField r (Key d.node.name.text ∷ []) path h)
+            (subst (λ q. Reports (l.Object p fs) reason.MissingField q (record { rule = rule.V21; place = p; about = d.node.name.text })) (same_path (Option Data) reason.MissingField r (Key d.node.name.text ∷ []) path h) (missing_field p fs d.node.name.text)),
+      )
       by_mark false needed none h = absurd (not_value None r path h)
 
       by_default : (o : Option Literal) → d.node.default ≡ o → default_of (coerced n s) d.node.name.text (written d.node.of_type) o ≡ refused r path → Found (l.Object p fs) all_bad r path
@@ -615,20 +626,23 @@ module _ (s : Schema) where
 
       by_null : (b : Bool) → is_null (value_of g.value) && is_required (field_of d) ≡ b → Found (l.Object p fs) all_bad r path
       by_null false un =
-          let found = at_types vs g.value (constant_fields p fs is g there) (written d.node.of_type) (good d has).known r more e in
-          (found.0, of_field g there found.0 (subst (λ o. Contains (field_by g.name (value_of g.value) (λ t. misfits look t (value_of g.value)) o) found.0) (sym form_is)
-          (subst (λ b. Contains (if b then [] else misfits look (written d.node.of_type) (value_of g.value)) found.0) (sym un) found.1)),
-          subst (λ q. Reports (l.Object p fs) r q found.0) path_is (in_field p fs g there found.2))
+          let found = at_types vs g.value (constant_fields p fs is g there) (written d.node.of_type) (good d has).known r more e in (
+            found.0,
+            of_field g there found.0 (subst (λ o. Contains (field_by g.name (value_of g.value) (λ t. misfits look t (value_of g.value)) o) found.0) (sym form_is)
+                (subst (λ b. Contains (if b then [] else misfits look (written d.node.of_type) (value_of g.value)) found.0) (sym un) found.1)),
+            subst (λ q. Reports (l.Object p fs) r q found.0) path_is (in_field p fs g there found.2),
+          )
       by_null true so =
           let null_is = and_left (is_null (value_of g.value)) (is_required (field_of d)) so in
-          let as_null = null_refused n vs (written d.node.of_type) g.value null_is r more e in
-          (record { rule = rule.V21; place = p; about = g.name.text },
-          subst (λ m. Contains all_bad (record { rule = rule.V21; place = p; about = m })) same
-          (missing_here d has (and_right (is_null (value_of g.value)) (is_required (field_of d)) so)
-          (or_right_true (not (is_given given d.node.name.text)) (has_any (λ (h : GivenField). bytes_eq d.node.name.text h.name.text && is_null h.value) (given_field g) given
-          (Contains-map given_field fs g there) (both (bytes_eq d.node.name.text g.name.text) (is_null (value_of g.value)) (bytes_same d.node.name.text g.name.text same) null_is)))),
-          subst (λ q. Reports (l.Object p fs) q path (record { rule = rule.V21; place = p; about = g.name.text })) (sym as_null.0)
-          (subst (λ q. Reports (l.Object p fs) reason.NullForNonNull q (record { rule = rule.V21; place = p; about = g.name.text })) (ap (λ m. Key g.name.text ∷ m) (sym as_null.1) ∙ path_is) (null_given p fs g there null_is)))
+          let as_null = null_refused n vs (written d.node.of_type) g.value null_is r more e in (
+            record { rule = rule.V21; place = p; about = g.name.text },
+            subst (λ m. Contains all_bad (record { rule = rule.V21; place = p; about = m })) same
+                (missing_here d has (and_right (is_null (value_of g.value)) (is_required (field_of d)) so)
+                (or_right_true (not (is_given given d.node.name.text)) (has_any (λ (h : GivenField). bytes_eq d.node.name.text h.name.text && is_null h.value) (given_field g) given
+                (Contains-map given_field fs g there) (both (bytes_eq d.node.name.text g.name.text) (is_null (value_of g.value)) (bytes_same d.node.name.text g.name.text same) null_is)))),
+            subst (λ q. Reports (l.Object p fs) q path (record { rule = rule.V21; place = p; about = g.name.text })) (sym as_null.0)
+                (subst (λ q. Reports (l.Object p fs) reason.NullForNonNull q (record { rule = rule.V21; place = p; about = g.name.text })) (ap (λ m. Key g.name.text ∷ m) (sym as_null.1) ∙ path_is) (null_given p fs g there null_is)),
+          )
 
     -- a member
     entry_found : (d : Sited InputValueDefinition) → Contains st.input_fields d → (o : Option Input) → given_as d.node.name.text inputs ≡ o
@@ -637,21 +651,21 @@ module _ (s : Schema) where
     entry_found d has (Some y) there e =
         let g = given_there vs d.node.name.text fs y there in
         by_given g.0 g.1 g.3 (subst (λ z. after (within (Key d.node.name.text) (coerced n s z (Some (written d.node.of_type)))) (or_default (coerced n s) d.node.name.text (Some d.node)) ≡ refused r path) (sym g.2) e) where
-      by_given : (g : ObjectField) → Contains fs g → d.node.name.text ≡ g.name.text
-          → after (within (Key d.node.name.text) (coerced n s (literal vs g.value) (Some (written d.node.of_type)))) (or_default (coerced n s) d.node.name.text (Some d.node)) ≡ refused r path → Found (l.Object p fs) all_bad r path
-      by_given g at same h = elim (after_refused (within (Key d.node.name.text) (coerced n s (literal vs g.value) (Some (written d.node.of_type)))) (or_default (coerced n s) d.node.name.text (Some d.node)) r path h) [
-        | inl i ↦ let part = within_refused (Key d.node.name.text) (coerced n s (literal vs g.value) (Some (written d.node.of_type))) r path i in value_found d has g at same part.0 part.2 part.1
-        | inr later ↦ by_result later.0 later.1 later.2
-      ] where
-        within_value : (o : Reached (Option Data)) → within (Key d.node.name.text) o ≡ value None → is_none o ≡ true
-        within_value (value v) j = ap is_none j
-        within_value (refused q more) j = absurd (true≢false (ap is_refused j))
-        within_value too_deep j = absurd (true≢false (sym (ap is_none j)))
+          by_given : (g : ObjectField) → Contains fs g → d.node.name.text ≡ g.name.text
+              → after (within (Key d.node.name.text) (coerced n s (literal vs g.value) (Some (written d.node.of_type)))) (or_default (coerced n s) d.node.name.text (Some d.node)) ≡ refused r path → Found (l.Object p fs) all_bad r path
+          by_given g at same h = elim (after_refused (within (Key d.node.name.text) (coerced n s (literal vs g.value) (Some (written d.node.of_type)))) (or_default (coerced n s) d.node.name.text (Some d.node)) r path h) [
+            | inl i ↦ let part = within_refused (Key d.node.name.text) (coerced n s (literal vs g.value) (Some (written d.node.of_type))) r path i in value_found d has g at same part.0 part.2 part.1
+            | inr later ↦ by_result later.0 later.1 later.2
+          ] where
+            within_value : (o : Reached (Option Data)) → within (Key d.node.name.text) o ≡ value None → is_none o ≡ true
+            within_value (value v) j = ap is_none j
+            within_value (refused q more) j = absurd (true≢false (ap is_refused j))
+            within_value too_deep j = absurd (true≢false (sym (ap is_none j)))
 
-        by_result : (v : Option Data) → within (Key d.node.name.text) (coerced n s (literal vs g.value) (Some (written d.node.of_type))) ≡ value v
-            → or_default (coerced n s) d.node.name.text (Some d.node) v ≡ refused r path → Found (l.Object p fs) all_bad r path
-        by_result None i j = absurd (true≢false (sym (within_value (coerced n s (literal vs g.value) (Some (written d.node.of_type))) i) ∙ not_none n vs (Some (written d.node.of_type)) g.value (constant_fields p fs is g at)))
-        by_result (Some d) i j = absurd (not_value (Some d) r path j)
+            by_result : (v : Option Data) → within (Key d.node.name.text) (coerced n s (literal vs g.value) (Some (written d.node.of_type))) ≡ value v
+                → or_default (coerced n s) d.node.name.text (Some d.node) v ≡ refused r path → Found (l.Object p fs) all_bad r path
+            by_result None i j = absurd (true≢false (sym (within_value (coerced n s (literal vs g.value) (Some (written d.node.of_type))) i) ∙ not_none n vs (Some (written d.node.of_type)) g.value (constant_fields p fs is g at)))
+            by_result (Some d) i j = absurd (not_value (Some d) r path j)
 
     defined_found : (o : Option Field) → find (λ (f : Field). not (is_defined st.input_fields f)) inputs ≡ o
         → object_at (coerced n s) (unless_unknown o (are (map (defined_entry inputs) st.input_fields))) ≡ refused r path → Found (l.Object p fs) all_bad r path

@@ -1,6 +1,6 @@
 -- What joins the literals that fit a type (GraphQL specification, 5.6) and those that coercion
 -- refuses (3.5 to 3.12): the terms of two laws.
-use Rattle.std.specs.Prelude.{◌≡◌, ◌||◌, ℕ, List, [], ◌∷◌, Bool, true, false, map, is_some, Option, Some, Contains}
+use Rattle.std.specs.Prelude.{◌≡◌, ◌||◌, ℕ, List, [], ◌∷◌, Bool, true, false, map, is_some, Some, Contains}
 use Rattle.std.specs.List.{slice_get}
 use Rattle.gql_text.specs.declared.place.Place.{Place}
 use Rattle.gql_ast.specs.declared.literal.Literal.{Literal}
