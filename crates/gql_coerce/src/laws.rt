@@ -25,3 +25,15 @@ pub fn one_of_arguments()
 pub fn some_outcome()
     ensures { laws.SomeOutcome }
 {}
+
+/// What coercion refuses of a literal without variables is among what `bad_values` reports, where
+/// the fields of input objects are good and the type is known.
+pub fn refusal_is_reported()
+    ensures { laws.RefusalIsReported }
+{}
+
+/// A literal without variables in which no field is given twice fits exactly where coercion comes
+/// to a value, under the same premises.
+pub fn fits_where_coerced()
+    ensures { laws.FitsWhereCoerced }
+{}
