@@ -1,7 +1,13 @@
+pub mod Alike
+pub mod Completing
 pub mod Doing
+pub mod Ending
+pub mod Entries
 pub mod Enums
 pub mod Escapes
+pub mod Executing
 pub mod Leaving
 pub mod Parts
-pub mod Alike
+pub mod Planning
+pub mod Resolving
 pub mod Texting

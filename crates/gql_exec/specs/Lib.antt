@@ -9,5 +9,8 @@ pub mod Plans
 pub mod Replies
 pub mod Requests
 pub mod Resolution
+pub mod Runs
 pub mod States
+pub mod Tables
 pub mod Texts
+pub mod ValueParts
