@@ -1,34 +1,40 @@
 -- How calls of an execution come together.
-use Rattle.std.proofs.Common.{◌≡◌, ℕ, zero, suc, ◌+◌, ◌<◌, ◌≤◌, ◌⊎◌, inl, inr, List, [], ◌∷◌, ◌++◌, Bool, true, false, map, length, take, get_or, codes, Option, Some, None, Result, Ok, Err, bytes_eq, refl, sym, ap, subst, ◌∙◌, arith, if◌then◌else◌}
+use Rattle.std.proofs.Common.{◌≡◌, ℕ, zero, suc, ◌+◌, ◌<◌, ◌≤◌, ◌⊎◌, inl, inr, List, [], ◌∷◌, ◌++◌, Bool, true, false, map, length, take, get_or, codes, String, Global, string_bytes, Option, Some, None, Result, Ok, Err, bytes_eq, is_some, refl, sym, ap, subst, ◌∙◌, arith, if◌then◌else◌}
 use Rattle.std.specs.List.{list_any}
 use Rattle.std.specs.Result.{OnOk}
 use Rattle.std.proofs.lemmas.Slice.Eq.{bytes_eq-Decides}
-use Rattle.gql_inputs.specs.InputTypes.{is_non_null}
+use Rattle.gql_inputs.specs.InputTypes.{is_non_null, item_of, name_in}
+use Rattle.gql_text.specs.declared.place.Place.{Place}
 use Rattle.gql_collect.specs.Nodes.{FileSelection}
 use Rattle.gql_collect.specs.Unfolding.{Given}
 use Rattle.gql_types.specs.Schemas.{kind_named}
-use Rattle.gql_types.specs.Written.{Written}
+use Rattle.gql_types.specs.Written.{Written, named, listed, required, written}
 use Rattle.gql_types.specs.declared.kind.TypeKind.{TypeKind}
 use Rattle.gql_types.specs.declared.kind.TypeKind.TheVariants as kind
 use Rattle.gql_types.specs.declared.schema.Schema.{Schema}
 use Rattle.serde_json.specs.Data as json
 use Rattle.serde_json.specs.Data.{Data}
-use Rattle.gql_exec.specs.Execution.{Fields, Plan, plan, PlannedField, Site, Types, among, execute}
-use Rattle.gql_exec.specs.Parts.{Part, caught, plain}
+use Rattle.serde_json.specs.Find.{as_null}
+use Rattle.serde_json.specs.View.{items_of, view}
+use Rattle.serde_json.specs.declared.value.Value.{Value}
+use Rattle.gql_exec.specs.Execution.{Fields, Plan, plan, PlannedField, Site, Types, among, complete, execute, is_null, of_kind, on_list, value_of}
+use Rattle.gql_exec.specs.Parts.{Part, caught, plain, raise}
 use Rattle.gql_exec.specs.Plans.{IsPlan, is_met, is_met_by, possible_in, types_of}
 use Rattle.gql_exec.specs.Replies.{Path}
+use Rattle.gql_exec.specs.Resolution.{resolved}
 use Rattle.gql_exec.specs.States.{Done, Executes, Follows, path_of}
-use Rattle.gql_exec.specs.Tables.{Has, Hold, IsRight, StandFor, StandsFor, fields_at, pairs_of}
+use Rattle.gql_exec.specs.Tables.{Has, Hold, IsRight, StandFor, StandsFor, called_of, fields_at, pairs_of, planned_of}
 use Rattle.gql_exec.specs.Texts.{value_part}
-use Rattle.gql_exec.specs.ValueParts.{IsAbstract, Keeps, object_part, placed_part}
+use Rattle.gql_exec.specs.ValueParts.{Does, IsAbstract, Keeps, called_part, item_at, list_part, object_part, placed_part, site_of}
 use Rattle.gql_exec.specs.declared.ended.Ended.{Ended}
+use Rattle.gql_exec.specs.declared.planning.Called.TheVariants as called
 use Rattle.gql_exec.specs.declared.planning.FieldPlan.{FieldPlan}
 use Rattle.gql_exec.specs.declared.refusal.ExecRefusal.{ExecRefusal}
 use Rattle.gql_exec.specs.declared.run.Run.{Run}
 use Rattle.gql_exec.specs.declared.table.Table.{Table}
-use Rattle.gql_exec.proofs.Completing.{object_is}
+use Rattle.gql_exec.proofs.Completing.{items_at, list_is, object_is, present_list, present_named}
 use Rattle.gql_exec.proofs.Entries.{grows_same, grows_twice}
-use Rattle.gql_exec.proofs.Planning.{paired}
+use Rattle.gql_exec.proofs.Grouped.{paired}
 
 -- ---- what is kept
 
@@ -46,6 +52,11 @@ keeps_left g a b s t u v k h l = record { right = k.right; grows = k.grows; left
 -- a part between brackets
 pub keeps_within : (g : Given) (a b : Table) (before after : List ℕ) (s t u v : Run) → Follows (plain before) s t → Keeps g a b t u → Follows (plain after) u v → Keeps g a b s v
 keeps_within g a b before after s t u v opens k closes = record { right = k.right; grows = k.grows; left = omega (arith, k.left, opens.left, closes.left) }
+
+-- what is kept from an earlier state on
+pub keeps_later : (g : Given) (a b : Table) (result : Result Ended ExecRefusal) (s t u : Run) → t.left ≤ s.left → OnOk result (Keeps g a b t u) → OnOk result (Keeps g a b s u)
+keeps_later g a b (Ok e) s t u h k = record { right = k.right; grows = k.grows; left = omega (arith, k.left, h) }
+keeps_later g a b (Err e) s t u h k = tt
 
 pub as_part : (a b : Part) (result : Result Ended ExecRefusal) (s t : Run) → a ≡ b → Executes b result s t → Executes a result s t
 as_part a b result s t e h = subst (λ r. Executes r result s t) (sym e) h
@@ -72,6 +83,29 @@ as_many g [] [] h = refl
 as_many g [] (q ∷ qs) h = absurd h
 as_many g (x ∷ fs) [] h = absurd h
 as_many g (x ∷ fs) (q ∷ qs) h = ap suc (as_many g fs qs h.1)
+
+-- a field that is refused its arguments
+pub called_refused : (types : Types) (d : Data) (q : PlannedField × Plan) (p : Path) (f : FieldPlan) (m : String Global) → q.0 ≡ planned_of f → f.arguments ≡ called.Refused m
+    → called_part types d q p ≡ raise (record { message = string_bytes m; place = f.place; path = p })
+called_refused types d q p f m is refused =
+    ap (λ (e : PlannedField). value_part (value_of (site_of types e.place q.1) e e.arguments p d)) is
+    ∙ ap (λ a. value_part (value_of (site_of types f.place q.1) (planned_of f) (called_of a) p d)) refused
+
+-- one that is called with arguments
+pub called_given : (types : Types) (d : Data) (q : PlannedField × Plan) (p : Path) (f : FieldPlan) (v : Value) → q.0 ≡ planned_of f → f.arguments ≡ called.Given v
+    → called_part types d q p
+    ≡ value_part (complete (site_of types f.place q.1) (written f.of_type.now) p (resolved f.name.now (written f.of_type.now) (view v) d))
+called_given types d q p f v is given =
+    ap (λ (e : PlannedField). value_part (value_of (site_of types e.place q.1) e e.arguments p d)) is
+    ∙ ap (λ a. value_part (value_of (site_of types f.place q.1) (planned_of f) (called_of a) p d)) given
+
+-- ---- places
+
+pub placed_required : (t : Written) (r : Part) → is_non_null t ≡ true → placed_part t r ≡ r
+placed_required t r e = ap (λ b. if b then r else caught r) e
+
+pub placed_nullable : (t : Written) (r : Part) → is_non_null t ≡ false → placed_part t r ≡ caught r
+placed_nullable t r e = ap (λ b. if b then r else caught r) e
 
 -- ---- objects
 
@@ -113,3 +147,86 @@ among_is names (Some (json.number x)) t e = cc
 among_is names (Some (json.array ds)) t e = cc
 among_is names (Some (json.object ms)) t e = cc
 among_is names None t e = cc
+
+-- ---- values
+
+null_is : (d : Data) → is_some (as_null d) ≡ true → d ≡ json.null
+null_is json.null e = refl
+null_is (json.boolean b) e = cc
+null_is (json.number n) e = cc
+null_is (json.string s) e = cc
+null_is (json.array ds) e = cc
+null_is (json.object ms) e = cc
+
+pub not_null : (d : Data) → is_some (as_null d) ≡ false → is_null d ≡ false
+not_null json.null e = cc
+not_null (json.boolean b) e = refl
+not_null (json.number n) e = refl
+not_null (json.string s) e = refl
+not_null (json.array ds) e = refl
+not_null (json.object ms) e = refl
+
+module _ (g : Given) (place : Place) (xs : List FileSelection) (result : Result Ended ExecRefusal) (s u : Run) where
+  pub at_null : (t : Written) (d : Data) → is_some (as_null d) ≡ true
+      → ((site : Site) → site.place ≡ place → Executes (value_part (complete site t (path_of s) json.null)) result s u)
+      → Does g place (name_in t) xs (λ site. value_part (complete site t (path_of s) d)) result s u
+  at_null t d e h = λ x i. subst (λ y. Executes (value_part (complete (site_of (types_of g.schema) place x) t (path_of s) y)) result s u) (sym (null_is d e))
+      (h (site_of (types_of g.schema) place x) refl)
+
+  -- resolved to nothing
+  pub at_nothing : (t : Written) (d : Data) → d ≡ json.null
+      → ((site : Site) → site.place ≡ place → Executes (value_part (complete site t (path_of s) json.null)) result s u)
+      → Does g place (name_in t) xs (λ site. value_part (complete site t (path_of s) d)) result s u
+  at_nothing t d e h = λ x i. subst (λ y. Executes (value_part (complete (site_of (types_of g.schema) place x) t (path_of s) y)) result s u) (sym e)
+      (h (site_of (types_of g.schema) place x) refl)
+
+  pub at_unmarked : (t v : Written) (d : Data) → ((site : Site) (p : Path) (y : Data) → is_null y ≡ false → complete site t p y ≡ complete site v p y)
+      → name_in t ≡ name_in v → is_null d ≡ false
+      → Does g place (name_in v) xs (λ site. value_part (complete site v (path_of s) d)) result s u
+      → Does g place (name_in t) xs (λ site. value_part (complete site t (path_of s) d)) result s u
+  at_unmarked t v d same name e h = λ x i. as_part (value_part (complete (site_of (types_of g.schema) place x) t (path_of s) d))
+      (value_part (complete (site_of (types_of g.schema) place x) v (path_of s) d)) result s u
+      (ap value_part (same (site_of (types_of g.schema) place x) (path_of s) d e)) (h x (subst (λ n. IsPlan g n xs x) name i))
+
+  pub at_named : (t : Written) (n : List ℕ) (d : Data) → t ≡ named n → is_null d ≡ false
+      → Does g place n xs (λ site. value_part (of_kind site n (path_of s) d (kind_named g.schema n))) result s u
+      → Does g place (name_in t) xs (λ site. value_part (complete site t (path_of s) d)) result s u
+  at_named t n d e null h = subst (λ w. Does g place (name_in w) xs (λ site. value_part (complete site w (path_of s) d)) result s u) (sym e)
+      (λ x i. as_part (value_part (complete (site_of (types_of g.schema) place x) (named n) (path_of s) d))
+      (value_part (of_kind (site_of (types_of g.schema) place x) n (path_of s) d (kind_named g.schema n))) result s u
+      (ap value_part (present_named (site_of (types_of g.schema) place x) (path_of s) n d null)) (h x i))
+
+  pub at_list : (t v : Written) (d : Data) → t ≡ listed v → is_null d ≡ false
+      → Does g place (name_in v) xs (λ site. value_part (on_list site (item_at site v) (path_of s) d)) result s u
+      → Does g place (name_in t) xs (λ site. value_part (complete site t (path_of s) d)) result s u
+  at_list t v d e null h = subst (λ w. Does g place (name_in w) xs (λ site. value_part (complete site w (path_of s) d)) result s u) (sym e)
+      (λ x i. as_part (value_part (complete (site_of (types_of g.schema) place x) (listed v) (path_of s) d))
+      (value_part (on_list (site_of (types_of g.schema) place x) (item_at (site_of (types_of g.schema) place x) v) (path_of s) d)) result s u
+      (ap value_part (present_list (site_of (types_of g.schema) place x) (path_of s) v d null)) (h x i))
+
+  -- a list whose items are these
+  pub at_array : (v : Written) (d : Data) (ds : List Data) → d ≡ json.array (items_of ds)
+      → Does g place (name_in v) xs (λ site. list_part v site ds (path_of s)) result s u
+      → Does g place (name_in v) xs (λ site. value_part (on_list site (item_at site v) (path_of s) d)) result s u
+  at_array v d ds e h = λ x i. as_part (value_part (on_list (site_of (types_of g.schema) place x) (item_at (site_of (types_of g.schema) place x) v) (path_of s) d))
+      (list_part v (site_of (types_of g.schema) place x) ds (path_of s)) result s u
+      (ap (λ y. value_part (on_list (site_of (types_of g.schema) place x) (item_at (site_of (types_of g.schema) place x) v) (path_of s) y)) e
+      ∙ list_is (site_of (types_of g.schema) place x) v (path_of s) ds) (h x i)
+
+  -- items that arguments keep
+  pub at_items : (t v : Written) (d : Data) (ds : List Data) → item_of t ≡ Some v → name_in v ≡ name_in t → d ≡ json.array (items_of ds)
+      → Does g place (name_in v) xs (λ site. list_part v site ds (path_of s)) result s u
+      → Does g place (name_in t) xs (λ site. value_part (complete site t (path_of s) d)) result s u
+  at_items t v d ds e name is h = λ x i. as_part (value_part (complete (site_of (types_of g.schema) place x) t (path_of s) d))
+      (list_part v (site_of (types_of g.schema) place x) ds (path_of s)) result s u
+      (ap (λ y. value_part (complete (site_of (types_of g.schema) place x) t (path_of s) y)) is
+      ∙ ap value_part (items_at (site_of (types_of g.schema) place x) (path_of s) t v (items_of ds) e) ∙ list_is (site_of (types_of g.schema) place x) v (path_of s) ds)
+      (h x (subst (λ n. IsPlan g n xs x) (sym name) i))
+
+-- the name within the type of the items
+pub name_of_items : (t v : Written) → item_of t ≡ Some v → name_in v ≡ name_in t
+name_of_items (named n) v e = cc
+name_of_items (listed t) v e = ap name_in (sym (same t v e)) where
+  same : (t v : Written) → Some t ≡ Some v → t ≡ v
+  same t v e = cc
+name_of_items (required t) v e = name_of_items t v e

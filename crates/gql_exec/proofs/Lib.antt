@@ -6,8 +6,9 @@ pub mod Entries
 pub mod Enums
 pub mod Escapes
 pub mod Executing
+pub mod Grouped
 pub mod Leaving
+pub mod Listing
 pub mod Parts
-pub mod Planning
 pub mod Resolving
 pub mod Texting

@@ -26,7 +26,6 @@ use Rattle.gql_exec.specs.Tables.{IsRight, Grows, InTable, below_at}
 use Rattle.gql_exec.specs.Texts.{value_part}
 use Rattle.gql_exec.specs.declared.ended.Ended.{Ended}
 use Rattle.gql_exec.specs.declared.items.ListItems.{ListItems}
-use Rattle.gql_exec.specs.declared.items.ListItems.TheVariants as items
 use Rattle.gql_exec.specs.declared.planning.FieldPlan.{FieldPlan}
 use Rattle.gql_exec.specs.declared.resolve.Resolved.{Resolved}
 use Rattle.gql_exec.specs.declared.resolve.Resolved.TheVariants as found
@@ -83,10 +82,14 @@ IsOf t found.Null = Unit {0}
 IsOf t (found.Value v) = Unit {0}
 IsOf t (found.Items vs) = IsTrue (is_list t)
 
+-- the items that are kept, where there are some, and else all
+abbrev pub items_from : List Data → List (Bor Value) → List Data
+items_from ds [] = ds
+items_from ds (v ∷ vs) = map (λ (x : Bor Value). view x.now) (v ∷ vs)
+
 -- the items of a list
 abbrev pub items_in : ListItems → List Data
-items_in (items.All vs) = map view vs.now
-items_in (items.Found vs) = map (λ (v : Bor Value). view v.now) vs.now
+items_in l = items_from (map view l.all.now) l.kept.now
 
 -- an item at its place
 abbrev pub item_at : Site → Written → Path → Data → Reply Data

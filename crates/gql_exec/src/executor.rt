@@ -231,10 +231,13 @@ fn complete_resolved<'d>(
 {
     match resolved {
         Resolved::Null => complete_null(alloc, site.place, of_type, run),
-        Resolved::Value(value) => complete(alloc, context, table, site, of_type, value, run),
+        Resolved::Value(value) => complete(alloc, context, table, site, of_type, *value, run),
         Resolved::Items(found) => match item_of(of_type) {
             Some(item) => {
-                let items = ListItems::Found(found.as_slice());
+                let items = ListItems {
+                    all: &[],
+                    kept: found.as_slice(),
+                };
                 complete_items(alloc, context, table, site, item, items, run)
             }
             None => raise(alloc, run, site.place, Reason::NotAList),
@@ -431,7 +434,10 @@ fn complete_list<'d>(
 {
     match value.as_array() {
         Some(values) => {
-            let items = ListItems::All(values.as_slice());
+            let items = ListItems {
+                all: values.as_slice(),
+                kept: &[],
+            };
             complete_items(alloc, context, table, site, item, items, run)
         }
         None => raise(alloc, run, site.place, Reason::NotAList),

@@ -6,11 +6,12 @@ ghost use Rattle.gql_exec.specs.ValueParts.{items_in};
 
 use serde_json::Value;
 
-/// The items of a list of the data: all of them, or those that arguments keep.
+/// The items of a list: those of a list of the data, or those that arguments keep.
 #[derive(Clone, Copy)]
-pub enum ListItems<'v> {
-    All(&'v [Value]),
-    Found(&'v [&'v Value]),
+pub struct ListItems<'v> {
+    pub all: &'v [Value],
+    /// Empty, unless arguments keep items.
+    pub kept: &'v [&'v Value],
 }
 
 impl<'v> ListItems<'v> {
@@ -18,9 +19,10 @@ impl<'v> ListItems<'v> {
     pub fn count(&self) -> usize
         ensures { result ≡ length (items_in self.now) }
     {
-        match self {
-            ListItems::All(items) => items.len(),
-            ListItems::Found(items) => items.len(),
+        if self.kept.is_empty() {
+            self.all.len()
+        } else {
+            self.kept.len()
         }
     }
 
@@ -29,9 +31,10 @@ impl<'v> ListItems<'v> {
         requires { i < length (items_in self.now) }
         ensures { view result.now ≡ get_or (items_in self.now) i (view result.now) }
     {
-        match self {
-            ListItems::All(items) => &items[i],
-            ListItems::Found(items) => items[i],
+        if self.kept.is_empty() {
+            &self.all[i]
+        } else {
+            self.kept[i]
         }
     }
 }

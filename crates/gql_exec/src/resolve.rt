@@ -28,7 +28,7 @@ fn first<'v>(found: &[&'v Value]) -> Resolved<'v>
     ensures of { (t : Written) → IsOf t result }
 {
     match found {
-        [value, ..] => Resolved::Value(value),
+        [value, ..] => Resolved::Value(*value),
         [] => Resolved::Null,
     }
 }

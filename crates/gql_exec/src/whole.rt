@@ -1,8 +1,8 @@
 //! The execution of an operation as a whole (GraphQL specification, 6.1 and 6.2).
-ghost use Rattle.std.specs.Prelude.{◌≡◌, ◌<◌, map, true, option_map, IfOk, IfErr};
+ghost use Rattle.std.specs.Prelude.{◌≡◌, ◌<◌, map, find, bytes_eq, true, option_map, IfOk, IfErr};
 ghost use Rattle.gql_ast.specs.declared.definition.Tree.TheVariants as tree;
 ghost use Rattle.gql_ast.specs.declared.executable.Operation.{Operation as AnOperation};
-ghost use Rattle.gql_coerce.specs.declared.refusal.Refusal.{Refusal as ARefusal};
+ghost use Rattle.gql_ast.specs.declared.executable.VariableDefinition.{VariableDefinition as AVariable};
 ghost use Rattle.gql_collect.specs.Borrowed.{all_selections};
 ghost use Rattle.gql_collect.specs.Contexts.{given};
 ghost use Rattle.serde_json.specs.View.{view};
@@ -152,19 +152,29 @@ fn execute_operation<'d>(
     }
 }
 
-/// The place of the definition of the variable that a path begins with.
-fn variable_place(definitions: &[VariableDefinition], path: &[Segment]) -> Option<Place>
-    ensures { result ≡ option_map (λ v. v.place) (spec.variable_at definitions.now path.now) }
+/// The place of the definition of a variable; of those of one name the first counts.
+fn place_of_variable(definitions: &[VariableDefinition], name: &str) -> Option<Place>
+    ensures { result ≡ option_map (λ (v : AVariable). v.place)
+        (find (λ (v : AVariable). bytes_eq name.now v.name.text) definitions.now) }
 {
-    let [Segment::Key(name), ..] = path else {
-        return None;
-    };
     for definition in definitions {
-        if name.as_str() == definition.name.as_str() {
+        if name == definition.name.as_str() {
             return Some(definition.place);
         }
     }
     None
+}
+
+/// The place of the definition of the variable that a path begins with.
+fn variable_place(definitions: &[VariableDefinition], path: &[Segment]) -> Option<Place>
+    ensures { result ≡ option_map (λ (v : AVariable). v.place)
+        (spec.variable_at definitions.now path.now) }
+{
+    match path {
+        [Segment::Key(name), ..] => place_of_variable(definitions, name.as_str()),
+        [Segment::Index(_), ..] => None,
+        [] => None,
+    }
 }
 
 /// What a refused variable comes to: a request error, without data.
