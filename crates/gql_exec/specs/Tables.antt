@@ -42,7 +42,7 @@ planned_of f = record {
 -- f is what the code makes of a group whose first node has the definition d
 pub record PlansGroup (g : Given) (d : FieldDefinition) (group : Group) (f : FieldPlan) : Type 0 where
   pub label : f.label.items ≡ quoted group.key ++ codes ":"
-  pub planned : (first : FieldNode) (others : List FieldNode) (o : Outcome Data)
+  pub is : (first : FieldNode) (others : List FieldNode) (o : Outcome Data)
       → group.nodes ≡ first ∷ others
       → ArgumentsCome g.schema d.arguments first.field.arguments g.values o
       → planned_of f ≡ planned group first d o
