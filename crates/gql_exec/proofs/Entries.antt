@@ -1,5 +1,5 @@
 -- Tables that grow.
-use Rattle.std.proofs.Common.{◌≡◌, add-one, ℕ, zero, suc, ◌+◌, ◌<◌, ◌≤◌, List, [], ◌∷◌, ◌++◌, take, length, get_or, Option, Some, None, refl, sym, ap, ◌∙◌, arith, subst}
+use Rattle.std.proofs.Common.{◌≡◌, add-one, ℕ, zero, suc, ◌+◌, ◌<◌, ◌≤◌, List, [], ◌∷◌, ◌++◌, take, length, get_or, Option, Some, None, Vec, Global, refl, sym, ap, ◌∙◌, arith, subst}
 use Rattle.std.specs.List.{All}
 use Rattle.std.proofs.Math.Seq.{take-length, take-append_seam}
 use Rattle.std.proofs.lemmas.List.{length-take, take-take}
@@ -121,3 +121,16 @@ found_has g t k s name right f =
       holds = subst (λ fs. Hold g name (below_at t s) fs) (sym (fields_here t.entries.items k f.entry f.within f.here))
           (subst (λ n. Hold g n (below_at t s) f.entry.fields.items) f.is.of_type below.1);
     }
+
+-- a table with the same entries
+pub same_right : (g : Given) (a b : Table) → b.entries ≡ a.entries → IsRight g a → IsRight g b
+same_right g a b e h = subst (λ (v : Vec Entry Global). All (IsRightIn g v.items) v.items) (sym e) h
+
+pub same_has : (g : Given) (a b : Table) (k : ℕ) (t : List ℕ) (xs : List FileSelection) → b.entries ≡ a.entries → Has g a k t xs → Has g b k t xs
+same_has g a b k t xs e h = record {
+  within = subst (λ (v : Vec Entry Global). k < length v.items) (sym e) h.within;
+  holds = subst (λ (v : Vec Entry Global). Hold g t xs (fields_at v.items k)) (sym e) h.holds;
+}
+
+pub same_grows : (a b c : Table) → c.entries ≡ b.entries → Grows a b → Grows a c
+same_grows a b c e h = subst (λ (v : Vec Entry Global). take (length a.entries.items) v.items ≡ a.entries.items) (sym e) h

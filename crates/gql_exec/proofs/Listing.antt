@@ -19,3 +19,7 @@ pub at_map : {A : Type 0} (f : A → Data) (xs : List A) (i : ℕ) (x : A) → i
 at_map f [] i x h e = absurd (omega (arith, h))
 at_map f (y ∷ xs) zero x h e = ap f e
 at_map f (y ∷ xs) (suc i) x h e = at_map f xs i x (omega (arith, h)) e
+
+pub kept_items : (vs : List (Bor Value)) → items_from [] vs ≡ map (λ (x : Bor Value). view x.now) vs
+kept_items [] = refl
+kept_items (v ∷ vs) = refl

@@ -56,15 +56,15 @@ pub fn refusal_text(alloc: Global, what: &str, refusal: &Refusal) -> Result<Stri
 }
 
 /// What a field is called with.
-fn called(
+fn called_with(
     alloc: Global,
     context: &Context<'_, '_>,
     definition: &FieldDefinition,
     field: &Field,
 ) -> Result<Called, AllocError>
-    ensures { IfOk result (λ called. (o : AnOutcome Data)
+    ensures { IfOk result (λ c. (o : AnOutcome Data)
         → ArgumentsCome context.now.schema.now definition.now.arguments field.now.arguments
-        (view context.now.values.now) o → called_of called ≡ plans.arguments_of o) }
+        (view context.now.values.now) o → called_of c ≡ plans.arguments_of o) }
 {
     laws::one_of_arguments();
     let definitions = definition.arguments.as_slice();
@@ -100,7 +100,7 @@ fn field_plan<'d>(
         (record { key = name.now; nodes = nodes_in group.now }) field) }
 {
     let node = group.first;
-    let arguments = called(alloc, context, definition, node.field)?;
+    let arguments = called_with(alloc, context, definition, node.field)?;
     let label = label(alloc, name)?;
     let sets = group.selection_sets(alloc)?;
     Ok(FieldPlan {
