@@ -1,5 +1,6 @@
 -- What an execution comes to as a whole.
-use Rattle.std.proofs.Common.{◌≡◌, ℕ, ◌+◌, ◌<◌, ◌≤◌, List, [], ◌∷◌, ◌++◌, map, take, codes, false, true, Option, Some, None, refl, sym, ap, subst, ◌∙◌, arith}
+use Rattle.std.specs.Result.{IfOk, IfErr}
+use Rattle.std.proofs.Common.{◌≡◌, Result, Ok, Err, ℕ, ◌+◌, ◌<◌, ◌≤◌, List, [], ◌∷◌, ◌++◌, map, take, codes, false, true, Option, Some, None, refl, sym, ap, subst, ◌∙◌, arith}
 use Rattle.gql_ast.specs.declared.executable.Operation.{Operation}
 use Rattle.gql_ast.specs.declared.executable.VariableDefinition.{VariableDefinition}
 use Rattle.gql_coerce.specs.Comes as comes
@@ -19,7 +20,7 @@ use Rattle.gql_exec.specs.Parts.{Outcome, text, bubble}
 use Rattle.gql_exec.specs.Replies.{Error, Reply, kept, or_null}
 use Rattle.gql_exec.specs.Requests.{Request, Response, Executes, IsOutcome, IsTooHeavy, most_values, refused, executed, request_error, response_of, variable_at}
 use Rattle.gql_exec.specs.Requests as requests
-use Rattle.gql_exec.specs.Runs.{Answering, IsOutcomeOf, IsRefused}
+use Rattle.gql_exec.specs.Runs.{Answering, Finishes, IsFresh, IsOutcomeOf, IsRefused, came_to}
 use Rattle.gql_exec.specs.States.{Done, Leaves, ended_of, errors_of}
 use Rattle.gql_exec.specs.States as states
 use Rattle.gql_exec.specs.Texts.{outcome_text, value_part}
@@ -47,12 +48,22 @@ same_outcome a b t e = ap (λ x. let o : AnOutcome = record { text = x; errors =
     ∙ ap (λ x. let o : AnOutcome = record { text = b.text; errors = x } in o) e
 
 -- the outcome of a reply that was executed from the beginning
-pub outcome_is : (r : Reply Data) (e : Ended) (s u : Run) (o : AnOutcome) → s.errors.items ≡ [] → s.raised ≡ false → s.left ≡ most_values → Done (value_part r) e s u
+outcome_is : (r : Reply Data) (e : Ended) (s u : Run) (o : AnOutcome) → IsFresh s → Done (value_part r) e s u
     → o.text ≡ Some (compact_text (or_null r.value)) → o.errors ≡ map (λ (x : FieldError). requests.error_of (states.error_of x)) u.errors.items → IsOutcomeOf o (answered r)
-outcome_is r e s u o none unraised left done out errors =
-    (omega (arith, done.follows.left, left), same_outcome o (response_of (answered r)).outcome out
+outcome_is r e s u o fresh done out errors =
+    (omega (arith, done.follows.left, fresh.left), same_outcome o (response_of (answered r)).outcome out
     (errors ∙ sym (errors_are u.errors.items) ∙ ap (map requests.error_of) (done.follows.errors
-    ∙ ap (λ es. map states.error_of es ++ kept s.raised r.notes) none ∙ ap (λ b. kept b r.notes) unraised)))
+    ∙ ap (λ es. map states.error_of es ++ kept s.raised r.notes) fresh.errors ∙ ap (λ b. kept b r.notes) fresh.raised)))
+
+pub finished_written : (u : Run) (o : AnOutcome) → o ≡ came_to u → Finishes Written u o
+finished_written u o is = λ r s fresh done. outcome_is r Written s u o fresh done
+    (ap (λ (x : AnOutcome). x.text) is ∙ ap Some (written_data r.value u.out.items (subst (λ l. Leaves (outcome_text compact_text r.value) l u.out.items) fresh.out done.follows.out) done.ends))
+    (ap (λ (x : AnOutcome). x.errors) is)
+
+pub finished_cut : (u v : Run) (o : AnOutcome) → v.out.items ≡ take 0 u.out.items ++ codes "null" → v ≡ record u { out = v.out } → o ≡ came_to v → Finishes Bubbled u o
+finished_cut u v o cut rest is = λ r s fresh done. outcome_is r Bubbled s u o fresh done
+    (ap (λ (x : AnOutcome). x.text) is ∙ ap Some (cut_data r.value u.out.items v.out.items cut done.ends))
+    (ap (λ (x : AnOutcome). x.errors) is ∙ ap (λ (x : Run). map (λ (e : FieldError). requests.error_of (states.error_of e)) x.errors.items) rest)
 
 -- ---- requests
 
@@ -84,3 +95,13 @@ answers_refused r f o one come h p (refused {why} {path} {v} c at) =
     ∙ ap (λ b. (request_error v b f.path).outcome) (first_same e) ∙ ap (λ q. (request_error v why q).outcome) (path_same e))
 answers_refused r f o one come h p (executed {others} {root} x c is object plans) =
     let e : comes.refused f.reason f.path ≡ comes.value others = one r.schema r.operation.variables r.variables (comes.refused f.reason f.path) (comes.value others) come c in absurd (cc e)
+
+-- ---- results
+
+pub ok_then : {A E : Type 0} (result : Result A E) (P Q : A → Type 0) → ((a : A) → P a → Q a) → IfOk result P → IfOk result Q
+ok_then (Ok a) P Q f h = f a h
+ok_then (Err e) P Q f h = tt
+
+pub err_then : {A E : Type 0} (result : Result A E) (P Q : E → Type 0) → ((e : E) → P e → Q e) → IfErr result P → IfErr result Q
+err_then (Ok a) P Q f h = tt
+err_then (Err e) P Q f h = f e h

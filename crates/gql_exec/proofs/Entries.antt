@@ -134,3 +134,7 @@ same_has g a b k t xs e h = record {
 
 pub same_grows : (a b c : Table) → c.entries ≡ b.entries → Grows a b → Grows a c
 same_grows a b c e h = subst (λ (v : Vec Entry Global). take (length a.entries.items) v.items ≡ a.entries.items) (sym e) h
+
+-- a table without entries is right
+pub right_none : (g : Given) (t : Table) → t.entries.items ≡ [] → IsRight g t
+right_none g t e = subst (λ es. All (IsRightIn g es) es) (sym e) (λ k d w. absurd (omega (arith, w)))

@@ -11,7 +11,7 @@ ghost use Rattle.gql_exec.specs.Outcomes.{error_of, outcome_of};
 ghost use Rattle.gql_exec.specs.Plans.{IsPlan, is_met, types_of};
 ghost use Rattle.gql_exec.specs.Requests as spec;
 ghost use Rattle.gql_exec.specs.Requests.{IsOutcome, IsTooHeavy, most_values};
-ghost use Rattle.gql_exec.specs.Runs.{Answering, IsOutcomeOf, IsRefused, request};
+ghost use Rattle.gql_exec.specs.Runs.{Answering, Finishes, IsOutcomeOf, IsRefused, came_to, request};
 ghost use Rattle.gql_exec.specs.States as states;
 
 use crate::ended::Ended;
@@ -58,6 +58,39 @@ fn response_errors<'d>(
     Ok(all)
 }
 
+/// What a run came to.
+fn outcome<'d>(alloc: Global, run: Run<'d>) -> Result<Outcome<'d>, ExecRefusal>
+    ensures came { IfOk result (λ o. outcome_of o ≡ came_to run.entry) }
+    ensures err { IfErr result (λ e. e ≡ ExecRefusal.Memory) }
+{
+    let Run {
+        out,
+        errors,
+        path: _,
+        left: _,
+        raised: _,
+    } = run;
+    Ok(Outcome {
+        data: Some(out),
+        errors: response_errors(alloc, errors)?,
+    })
+}
+
+/// What a run came to that ended so: a null that comes up to the data stays there.
+fn finish<'d>(alloc: Global, ended: Ended, run: Run<'d>) -> Result<Outcome<'d>, ExecRefusal>
+    ensures outcome { IfOk result (λ o. Finishes ended run.entry (outcome_of o)) }
+    ensures err { IfErr result (λ e. e ≡ ExecRefusal.Memory) }
+{
+    match ended {
+        Ended::Written => outcome(alloc, run),
+        Ended::Bubbled => {
+            let mut run = run;
+            cut_to_null(&mut run, 0)?;
+            outcome(alloc, run)
+        }
+    }
+}
+
 /// Executes selection sets, taken as one, on the initial value.
 fn execute_sets<'d>(
     alloc: Global,
@@ -85,21 +118,8 @@ fn execute_sets<'d>(
         left: MOST_VALUES,
         raised: false,
     };
-    match execute_object(alloc, context, &mut table, entry, initial, &mut run)? {
-        Ended::Written => {}
-        Ended::Bubbled => cut_to_null(&mut run, 0)?,
-    }
-    let Run {
-        out,
-        errors,
-        path: _,
-        left: _,
-        raised: _,
-    } = run;
-    Ok(Outcome {
-        data: Some(out),
-        errors: response_errors(alloc, errors)?,
-    })
+    let ended = execute_object(alloc, context, &mut table, entry, initial, &mut run)?;
+    finish(alloc, ended, run)
 }
 
 /// The member of the data that an operation begins with.

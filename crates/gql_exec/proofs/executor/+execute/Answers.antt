@@ -16,13 +16,14 @@ use Rattle.gql_exec.specs.States.{Done, Executes, Follows, path_of}
 use Rattle.gql_exec.specs.Tables.{InTable, StandsFor, below_at, fields_at}
 use Rattle.gql_exec.specs.Texts.{value_part}
 use Rattle.gql_exec.specs.ValueParts.{IsOf, called_part, content_of_item, content_part, field_part, fields_part, item_part, items_from, items_in, items_part, member_part, object_part, placed_part, resolved_in, site_of}
+use Rattle.gql_exec.specs.declared.ended.Ended.TheVariants.{Written, Bubbled}
 use Rattle.gql_exec.specs.declared.outcome.Step.TheVariants as step
 use Rattle.gql_exec.specs.declared.run.Run.{Run}
 use Rattle.gql_exec.specs.declared.table.Slot.{Slot}
 use Rattle.gql_exec.proofs.Completing.{has_items}
-use Rattle.gql_exec.proofs.Doing.{at-field, counted-executes, executes-after, loop-more, loop-stops, stepped, stopped, within-done, wrote}
+use Rattle.gql_exec.proofs.Doing.{at-field, caught-cut, caught-written, counted-executes, executes-after, loop-more, loop-stops, stepped, stopped, within-done, wrote}
 use Rattle.gql_exec.proofs.Entries.{at_slot, below_still, fields_still, in_still, no_shorter}
-use Rattle.gql_exec.proofs.Executing.{as_many, at_array, at_items, at_list, at_named, keeps_same, keeps_twice, name_of_items, on_entry, stand_at}
+use Rattle.gql_exec.proofs.Executing.{as_many, at_array, at_items, at_list, at_named, keeps_same, keeps_twice, name_of_items, on_entry, placed_nullable, stand_at}
 use Rattle.gql_exec.proofs.Listing.{kept_items}
 use Rattle.gql_exec.proofs.Resolving.{is_array}
 use Rattle.gql_exec.proofs.executor.+execute.Goals as goal
@@ -72,7 +73,7 @@ complete_resolved-returns-in-None-clause-does t c = λ x i. absurd (has_items (w
     (subst (IsOf (written c.args.of_type.now)) c.in-Items.is c.requires.of) (sym c.item_of.ensures ∙ ap (λ o. option_map written (option_copied o)) c.in-None.is))
 
 pub execute_below-returns-clause-does : goal.execute_below-returns-clause-does
-execute_below-returns-clause-does t c = λ name met x i. on_entry (given c.args.context.now) c.at-entry.new.self c.in_ok-entry.entry c.args.of_type.now name
+execute_below-returns-clause-does t c = λ name met x i. on_entry (given c.args.context.now) c.at.new.self c.in_ok-entry.entry c.args.of_type.now name
     (below_at c.args.table.now c.args.slot) x (view c.args.value.now) c.execute_object.result c.args.run.now c.execute_object.new.run c.in_ok-entry.ensures.has met i c.execute_object.ensures.does
 
 pub execute_content-returns-clause-does : goal.execute_content-returns-clause-does
@@ -117,10 +118,8 @@ execute_fields-execute_field-requires t c =
       entry = omega (arith, c.requires.within, no_shorter c.args.table.now c.loop-i.table inv.keeps.grows);
       field = subst (λ fs. c.loop-i.i < length fs) (sym (fields_still c.args.table.now c.loop-i.table c.args.entry inv.keeps.grows c.requires.within)) (omega (arith, inv.count, c.loop-i-test.true));
     } in
-    (omega (arith, inv.keeps.left, c.decreases), record {
-      right = inv.keeps.right;
-      at = at_slot c.loop-i.table slot c.get.result.now within (subst (λ x. x ≡ get_or (fields_at c.loop-i.table.entries.items c.args.entry) c.loop-i.i x) (sym c.get.ensures) c.in_ok-field.ensures);
-    })
+    (omega (arith, inv.keeps.left, c.decreases), (inv.keeps.right,
+    at_slot c.loop-i.table slot c.get.result.now within (subst (λ x. x ≡ get_or (fields_at c.loop-i.table.entries.items c.args.entry) c.loop-i.i x) (sym c.get.ensures) c.in_ok-field.ensures)))
 
 pub execute_fields-returns-in_err-field_ended-clause-does : goal.execute_fields-returns-in_err-field_ended-clause-does
 execute_fields-returns-in_err-field_ended-clause-does t c = λ qs h.
@@ -167,7 +166,7 @@ list_item-returns-clause-does t c = λ x i.
 
 pub list_items-list_item-requires : goal.list_items-list_item-requires
 list_items-list_item-requires t c = let inv = c.loop-i.invariant in
-    (omega (arith, inv.keeps.left, c.decreases), record { right = inv.keeps.right; within = in_still c.args.table.now c.loop-i.table c.args.site.slot inv.keeps.grows c.requires.within })
+    (omega (arith, inv.keeps.left, c.decreases), (inv.keeps.right, in_still c.args.table.now c.loop-i.table c.args.site.slot inv.keeps.grows c.requires.within))
 
 pub list_items-returns-in_err-list_item-clause-does : goal.list_items-returns-in_err-list_item-clause-does
 list_items-returns-in_err-list_item-clause-does t c = λ x i.
@@ -197,7 +196,18 @@ list_items-loop-i-preserved t c =
     }
 
 pub place_field-returns-in-Written-clause-does : goal.place_field-returns-in-Written-clause-does
-place_field-returns-in-Written-clause-does t c = ?
+place_field-returns-in-Written-clause-does t c = λ q h.
+    let r = called_part (types_of c.args.context.now.schema.now) (view c.args.value.now) q (path_of c.args.run.now) in
+    let nullable : is_non_null q.0.of_type ≡ false = ap (λ (e : PlannedField). is_non_null e.of_type) h.planned ∙ sym c.is_non_null.ensures ∙ c.if-is_non_null.false in
+    let done : Done r Written c.args.run.now c.call_field-2.new.run = subst (λ e. Done r e c.args.run.now c.call_field-2.new.run) c.in-Written.is (c.in_ok-call_field.ensures.does q h) in
+    subst (λ x. Done x Written c.args.run.now c.call_field-2.new.run) (sym (placed_nullable q.0.of_type r nullable)) (caught-written r c.args.run.now c.call_field-2.new.run done)
 
 pub place_field-returns-in_ok-cut_to_null-in-Bubbled-clause-does : goal.place_field-returns-in_ok-cut_to_null-in-Bubbled-clause-does
-place_field-returns-in_ok-cut_to_null-in-Bubbled-clause-does t c = ?
+place_field-returns-in_ok-cut_to_null-in-Bubbled-clause-does t c = λ q h.
+    let r = called_part (types_of c.args.context.now.schema.now) (view c.args.value.now) q (path_of c.args.run.now) in
+    let nullable : is_non_null q.0.of_type ≡ false = ap (λ (e : PlannedField). is_non_null e.of_type) h.planned ∙ sym c.is_non_null.ensures ∙ c.if-is_non_null.false in
+    let done : Done r Bubbled c.args.run.now c.call_field-2.new.run = subst (λ e. Done r e c.args.run.now c.call_field-2.new.run) c.in-Bubbled.is (c.in_ok-call_field.ensures.does q h) in
+    subst (λ x. Done x Written c.args.run.now c.cut_to_null.new.run) (sym (placed_nullable q.0.of_type r nullable))
+    (caught-cut r c.args.run.now c.call_field-2.new.run c.cut_to_null.new.run done
+    (subst (λ n. c.cut_to_null.new.run.out.items ≡ take n c.call_field-2.new.run.out.items ++ codes "null") c.len-mark.ensures c.in_ok-cut_to_null-in-Bubbled.ensures.out)
+    c.in_ok-cut_to_null-in-Bubbled.ensures.rest)
