@@ -1,9 +1,11 @@
 -- What an execution comes to as a whole.
-use Rattle.std.specs.Result.{IfOk, IfErr}
-use Rattle.std.proofs.Common.{◌≡◌, Result, Ok, Err, ℕ, ◌+◌, ◌<◌, ◌≤◌, List, [], ◌∷◌, ◌++◌, map, take, codes, false, true, Option, Some, None, refl, sym, ap, subst, ◌∙◌, arith}
+use Rattle.std.specs.Result.{IfOk, IfErr, IsErrAnd}
+use Rattle.std.proofs.lemmas.List.{map-append}
+use Rattle.std.proofs.Common.{◌≡◌, Result, Ok, Err, ℕ, ◌+◌, ◌<◌, ◌≤◌, List, [], ◌∷◌, ◌++◌, map, take, codes, false, true, Option, Some, None, refl, sym, ap, subst, ◌∙◌, arith, append_assoc}
 use Rattle.gql_ast.specs.declared.executable.Operation.{Operation}
 use Rattle.gql_ast.specs.declared.executable.VariableDefinition.{VariableDefinition}
 use Rattle.gql_coerce.specs.Comes as comes
+use Rattle.gql_coerce.specs.Comes.{Outcome as Comes}
 use Rattle.gql_coerce.specs.Requests.{VariablesCome}
 use Rattle.gql_coerce.specs.declared.refusal.Reason.{Reason}
 use Rattle.gql_coerce.specs.declared.refusal.Refusal.{Refusal}
@@ -15,7 +17,7 @@ use Rattle.serde_json.specs.Data.{Data}
 use Rattle.serde_json.specs.Written.{compact_text}
 use Rattle.gql_exec.specs.Execution.{Answer, Plan, answered}
 use Rattle.gql_exec.specs.Plans.{IsPlan}
-use Rattle.gql_exec.specs.Outcomes.{AnError, AnOutcome}
+use Rattle.gql_exec.specs.Outcomes.{AnError, AnOutcome, error_of}
 use Rattle.gql_exec.specs.Parts.{Outcome, text, bubble}
 use Rattle.gql_exec.specs.Replies.{Error, Reply, kept, or_null}
 use Rattle.gql_exec.specs.Requests.{Request, Response, Executes, IsOutcome, IsTooHeavy, most_values, refused, executed, request_error, response_of, variable_at}
@@ -26,6 +28,7 @@ use Rattle.gql_exec.specs.States as states
 use Rattle.gql_exec.specs.Texts.{outcome_text, value_part}
 use Rattle.gql_exec.specs.declared.ended.Ended.{Ended}
 use Rattle.gql_exec.specs.declared.ended.Ended.TheVariants.{Written, Bubbled}
+use Rattle.gql_exec.specs.declared.outcome.ResponseError.{ResponseError}
 use Rattle.gql_exec.specs.declared.run.FieldError.{FieldError}
 use Rattle.gql_exec.specs.declared.run.Run.{Run}
 
@@ -67,10 +70,10 @@ finished_cut u v o cut rest is = λ r s fresh done. outcome_is r Bubbled s u o f
 
 -- ---- requests
 
-pub first_same : {a b : Reason} {p q : List Segment} → comes.refused {A = Data} a p ≡ comes.refused b q → a ≡ b
+pub first_same : {a b : Reason} {p q : List Segment} → ◌≡◌ {A = Comes Data} (comes.refused a p) (comes.refused b q) → a ≡ b
 first_same e = cc
 
-pub path_same : {a b : Reason} {p q : List Segment} → comes.refused {A = Data} a p ≡ comes.refused b q → p ≡ q
+pub path_same : {a b : Reason} {p q : List Segment} → ◌≡◌ {A = Comes Data} (comes.refused a p) (comes.refused b q) → p ≡ q
 path_same e = cc
 
 pub value_same : {d e : Data} → comes.value d ≡ comes.value e → d ≡ e
@@ -82,7 +85,7 @@ pub answers : (r : Request) (values : Data) (Holds : Response → Type 0) → On
     → (p : Response) → Executes r p → Holds p
 answers r values Holds one come h p (refused {why} {path} {v} c at) =
     let e : comes.value values ≡ comes.refused why path = one r.schema r.operation.variables r.variables (comes.value values) (comes.refused why path) come c in absurd (cc e)
-answers r values Holds one come h p (executed {others} {root} x c is object plans) =
+answers r values Holds one come h p (executed {values = others} {root = root} x c is object plans) =
     let e : comes.value values ≡ comes.value others = one r.schema r.operation.variables r.variables (comes.value values) (comes.value others) come c in
     h root x is object (subst (λ d. IsPlan (record { schema = r.schema; fragments = r.fragments; values = d }) root.name.node.text (in_file r.file r.operation.selections) x) (sym (value_same e)) plans)
 
@@ -93,7 +96,7 @@ answers_refused r f o one come h p (refused {why} {path} {v} c at) =
     let e : comes.refused f.reason f.path ≡ comes.refused why path = one r.schema r.operation.variables r.variables (comes.refused f.reason f.path) (comes.refused why path) come c in
     (omega arith, h v (ap (variable_at r.operation.variables) (path_same e) ∙ at)
     ∙ ap (λ b. (request_error v b f.path).outcome) (first_same e) ∙ ap (λ q. (request_error v why q).outcome) (path_same e))
-answers_refused r f o one come h p (executed {others} {root} x c is object plans) =
+answers_refused r f o one come h p (executed {values = others} {root = root} x c is object plans) =
     let e : comes.refused f.reason f.path ≡ comes.value others = one r.schema r.operation.variables r.variables (comes.refused f.reason f.path) (comes.value others) come c in absurd (cc e)
 
 -- ---- results
@@ -105,3 +108,18 @@ ok_then (Err e) P Q f h = tt
 pub err_then : {A E : Type 0} (result : Result A E) (P Q : E → Type 0) → ((e : E) → P e → Q e) → IfErr result P → IfErr result Q
 err_then (Ok a) P Q f h = tt
 err_then (Err e) P Q f h = f e h
+
+pub err_is : {A E : Type 0} (result : Result A E) (stop : E) → IsErrAnd result (λ e. e ≡ stop) → (Q : E → Type 0) → Q stop → IfErr result Q
+err_is (Ok a) stop h Q q = tt
+err_is (Err e) stop h Q q = subst Q (sym h) q
+
+-- ---- errors, one by one
+
+pub next_error : (all new : List ResponseError) (rest more : List FieldError) (e : FieldError) (x : ResponseError) (fs : List AnError)
+    → map error_of all ++ map (λ (y : FieldError). requests.error_of (states.error_of y)) rest ≡ fs → rest ≡ e ∷ more → new ≡ all ++ x ∷ [] → error_of x ≡ requests.error_of (states.error_of e)
+    → map error_of new ++ map (λ (y : FieldError). requests.error_of (states.error_of y)) more ≡ fs
+next_error all new rest more e x fs inv step pushed same =
+    let f : FieldError → AnError = λ (y : FieldError). requests.error_of (states.error_of y) in
+    ap (λ xs. map error_of xs ++ map f more) pushed ∙ ap (λ l. l ++ map f more) (map-append error_of all (x ∷ []))
+    ∙ append_assoc (map error_of all) (error_of x ∷ []) (map f more)
+    ∙ ap (λ y. map error_of all ++ y ∷ map f more) same ∙ ap (λ l. map error_of all ++ map f l) (sym step) ∙ inv

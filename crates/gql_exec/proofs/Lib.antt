@@ -11,4 +11,5 @@ pub mod Leaving
 pub mod Listing
 pub mod Parts
 pub mod Resolving
+pub mod Starting
 pub mod Texting

@@ -40,7 +40,7 @@ fn response_errors<'d>(
     errors: Vec<FieldError<'d>>,
 ) -> Result<Vec<ResponseError<'d>>, AllocError>
     ensures { IfOk result (λ all. map error_of all.items
-        ≡ map (λ e. spec.error_of (states.error_of e)) errors.items) }
+        ≡ map (λ e. spec.error_of (states.error_of e)) errors.entry.items) }
 {
     let mut all = Vec::new(alloc);
     for error in errors {
@@ -77,6 +77,7 @@ fn outcome<'d>(alloc: Global, run: Run<'d>) -> Result<Outcome<'d>, ExecRefusal>
 }
 
 /// What a run came to that ended so: a null that comes up to the data stays there.
+#[tactic(auto, using(crate::proofs::Ending::finished_written, crate::proofs::Ending::finished_cut))]
 fn finish<'d>(alloc: Global, ended: Ended, run: Run<'d>) -> Result<Outcome<'d>, ExecRefusal>
     ensures outcome { IfOk result (λ o. Finishes ended run.entry (outcome_of o)) }
     ensures err { IfErr result (λ e. e ≡ ExecRefusal.Memory) }

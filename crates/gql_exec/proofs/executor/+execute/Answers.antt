@@ -204,10 +204,11 @@ place_field-returns-in-Written-clause-does t c = λ q h.
 
 pub place_field-returns-in_ok-cut_to_null-in-Bubbled-clause-does : goal.place_field-returns-in_ok-cut_to_null-in-Bubbled-clause-does
 place_field-returns-in_ok-cut_to_null-in-Bubbled-clause-does t c = λ q h.
+    let mark : c.len-mark.result ≡ length c.args.run.now.out.items = omega (arith, c.len-mark.ensures, c.args.run.now.out.ok.0) in
     let r = called_part (types_of c.args.context.now.schema.now) (view c.args.value.now) q (path_of c.args.run.now) in
     let nullable : is_non_null q.0.of_type ≡ false = ap (λ (e : PlannedField). is_non_null e.of_type) h.planned ∙ sym c.is_non_null.ensures ∙ c.if-is_non_null.false in
     let done : Done r Bubbled c.args.run.now c.call_field-2.new.run = subst (λ e. Done r e c.args.run.now c.call_field-2.new.run) c.in-Bubbled.is (c.in_ok-call_field.ensures.does q h) in
     subst (λ x. Done x Written c.args.run.now c.cut_to_null.new.run) (sym (placed_nullable q.0.of_type r nullable))
     (caught-cut r c.args.run.now c.call_field-2.new.run c.cut_to_null.new.run done
-    (subst (λ n. c.cut_to_null.new.run.out.items ≡ take n c.call_field-2.new.run.out.items ++ codes "null") c.len-mark.ensures c.in_ok-cut_to_null-in-Bubbled.ensures.out)
+    (subst (λ n. c.cut_to_null.new.run.out.items ≡ take n c.call_field-2.new.run.out.items ++ codes "null") mark c.in_ok-cut_to_null-in-Bubbled.ensures.out)
     c.in_ok-cut_to_null-in-Bubbled.ensures.rest)
