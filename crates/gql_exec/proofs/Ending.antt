@@ -53,10 +53,12 @@ same_outcome a b t e = ap (λ x. let o : AnOutcome = record { text = x; errors =
 -- the outcome of a reply that was executed from the beginning
 outcome_is : (r : Reply Data) (e : Ended) (s u : Run) (o : AnOutcome) → IsFresh s → Done (value_part r) e s u
     → o.text ≡ Some (compact_text (or_null r.value)) → o.errors ≡ map (λ (x : FieldError). requests.error_of (states.error_of x)) u.errors.items → IsOutcomeOf o (answered r)
-outcome_is r e s u o fresh done out errors =
-    (omega (arith, done.follows.left, fresh.left), same_outcome o (response_of (answered r)).outcome out
-    (errors ∙ sym (errors_are u.errors.items) ∙ ap (map requests.error_of) (done.follows.errors
-    ∙ ap (λ es. map states.error_of es ++ kept s.raised r.notes) fresh.errors ∙ ap (λ b. kept b r.notes) fresh.raised)))
+outcome_is r e s u o fresh done out errors = (
+  omega (arith, done.follows.left, fresh.left),
+  same_outcome o (response_of (answered r)).outcome out
+      (errors ∙ sym (errors_are u.errors.items) ∙ ap (map requests.error_of) (done.follows.errors
+      ∙ ap (λ es. map states.error_of es ++ kept s.raised r.notes) fresh.errors ∙ ap (λ b. kept b r.notes) fresh.raised)),
+)
 
 pub finished_written : (u : Run) (o : AnOutcome) → o ≡ came_to u → Finishes Written u o
 finished_written u o is = λ r s fresh done. outcome_is r Written s u o fresh done
@@ -93,9 +95,11 @@ answers r values Holds one come h p (executed {values = others} {root = root} x 
 pub answers_refused : (r : Request) (f : Refusal) (o : AnOutcome) → OneOfVariables → VariablesCome r.schema r.operation.variables r.variables (comes.refused f.reason f.path)
     → IsRefused r.operation.variables f o → IsOutcome r o
 answers_refused r f o one come h p (refused {why} {path} {v} c at) =
-    let e : comes.refused f.reason f.path ≡ comes.refused why path = one r.schema r.operation.variables r.variables (comes.refused f.reason f.path) (comes.refused why path) come c in
-    (omega arith, h v (ap (variable_at r.operation.variables) (path_same e) ∙ at)
-    ∙ ap (λ b. (request_error v b f.path).outcome) (first_same e) ∙ ap (λ q. (request_error v why q).outcome) (path_same e))
+    let e : comes.refused f.reason f.path ≡ comes.refused why path = one r.schema r.operation.variables r.variables (comes.refused f.reason f.path) (comes.refused why path) come c in (
+      omega arith,
+      h v (ap (variable_at r.operation.variables) (path_same e) ∙ at)
+          ∙ ap (λ b. (request_error v b f.path).outcome) (first_same e) ∙ ap (λ q. (request_error v why q).outcome) (path_same e),
+    )
 answers_refused r f o one come h p (executed {values = others} {root = root} x c is object plans) =
     let e : comes.refused f.reason f.path ≡ comes.value others = one r.schema r.operation.variables r.variables (comes.refused f.reason f.path) (comes.value others) come c in absurd (cc e)
 

@@ -60,7 +60,7 @@ one_more g t groups fs group n rest d f planning nodes defined plans qs h =
     let first_is : p.first ≡ n = same_first p.first n p.others rest (sym p.nodes ∙ nodes) in
     let d_is : p.definition ≡ d = same_some p.definition d (sym p.defined ∙ ap (λ (m : FieldNode). field_named g.schema t m.field.name.text) first_is ∙ defined) in
     let is : planned_of f ≡ planned group p.first p.definition.node p.arguments = subst (λ (e : Sited FieldDefinition). planned_of f ≡ planned group p.first e.node p.arguments) (sym d_is)
-        (plans.is p.first p.others p.arguments p.nodes (subst (λ (e : Sited FieldDefinition). ArgumentsCome g.schema e.node.arguments p.first.field.arguments g.values p.arguments) d_is p.comes)) in
+    (plans.is p.first p.others p.arguments p.nodes (subst (λ (e : Sited FieldDefinition). ArgumentsCome g.schema e.node.arguments p.first.field.arguments g.values p.arguments) d_is p.comes)) in
     subst (StandFor g (fs ++ f ∷ [])) (sym s.is) (stand_more g fs s.before f s.last (planning s.before s.are) (record {
       planned = p.is ∙ sym is;
       label = plans.label ∙ ap (λ (r : PlannedField). quoted r.response_name ++ codes ":") (sym p.is);

@@ -1,4 +1,5 @@
 pub mod Alike
+pub mod Alone
 pub mod Completing
 pub mod Doing
 pub mod Ending

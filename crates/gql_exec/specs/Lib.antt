@@ -1,6 +1,7 @@
 pub mod Ended
 pub mod Examples
 pub mod Execution
+pub mod Laws
 pub mod LeafParts
 pub mod Leaves
 pub mod Outcomes

@@ -24,11 +24,11 @@ use crate::leaves::{Leaf, complete_enum, complete_scalar};
 use crate::nulls::{complete_null, without_mark};
 use crate::outcome::Step;
 use crate::planning::{Called, FieldPlan};
+use crate::refusal::ExecRefusal;
 use crate::resolve::{Resolved, resolve};
 use crate::run::{Reason, Run};
 use crate::site::Site;
 use crate::steps::{count, cut_to_null, raise, write, write_comma};
-use crate::refusal::ExecRefusal;
 use crate::table::{Slot, Table};
 use gql_ast::TypeRef;
 use gql_collect::Context;
@@ -83,8 +83,7 @@ fn execute_fields<'d>(
     for i in 0..table.count(entry) {
         let slot = Slot { entry, field: i };
         let field = table.field(slot)?;
-        let field_ended =
-            execute_field(alloc, context, table, slot, field.get(), value, run)?;
+        let field_ended = execute_field(alloc, context, table, slot, field.get(), value, run)?;
         ended = ended.and(field_ended);
     }
     Ok(ended)

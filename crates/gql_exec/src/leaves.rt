@@ -11,9 +11,9 @@ ghost use Rattle.gql_exec.specs.States.{Executes, Follows, path_of};
 
 use crate::ended::Ended;
 use crate::kinds::is_enum_value;
+use crate::refusal::ExecRefusal;
 use crate::run::{Reason, Run};
 use crate::steps::{raise, write, write_any, write_text, write_whole};
-use crate::refusal::ExecRefusal;
 use gql_inputs::{Scalar, scalar_named};
 use gql_text::Place;
 use gql_types::Schema;

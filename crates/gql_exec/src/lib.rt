@@ -6,6 +6,7 @@ mod executor;
 mod filter;
 mod items;
 mod kinds;
+pub mod laws;
 mod leaves;
 mod nulls;
 mod outcome;

@@ -10,9 +10,9 @@ ghost use Rattle.gql_exec.specs.States.{Executes, path_of};
 ghost use Rattle.gql_exec.specs.Texts.{value_part};
 
 use crate::ended::Ended;
+use crate::refusal::ExecRefusal;
 use crate::run::{Reason, Run};
 use crate::steps::{raise, write};
-use crate::refusal::ExecRefusal;
 use gql_ast::TypeRef;
 use gql_inputs::is_non_null;
 use gql_text::Place;

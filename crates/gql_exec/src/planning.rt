@@ -128,7 +128,10 @@ fn add_field<'d>(
         → Planning (given context.now) of_type.now
         (groups ++ record { key = name.now; nodes = nodes_in group.now } ∷ []) fields.new.items) }
 {
-    let Some(found) = context.schema.field(of_type, group.first.field.name.as_str()) else {
+    let Some(found) = context
+        .schema
+        .field(of_type, group.first.field.name.as_str())
+    else {
         return Ok(());
     };
     let field = field_plan(alloc, context, found.node.get(), name, group)?;

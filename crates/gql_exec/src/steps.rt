@@ -9,8 +9,8 @@ ghost use Rattle.gql_exec.specs.Parts.{comma, plain, one};
 ghost use Rattle.gql_exec.specs.States.{Executes, Follows, message_of, path_of};
 
 use crate::ended::Ended;
-use crate::run::{FieldError, Reason, Run};
 use crate::refusal::ExecRefusal;
+use crate::run::{FieldError, Reason, Run};
 use crate::strings::write_string;
 use crate::values::write_value;
 use gql_text::Place;

@@ -117,16 +117,20 @@ execute_fields-execute_field-requires t c =
     let within : InTable c.loop-i.table slot = record {
       entry = omega (arith, c.requires.within, no_shorter c.args.table.now c.loop-i.table inv.keeps.grows);
       field = subst (λ fs. c.loop-i.i < length fs) (sym (fields_still c.args.table.now c.loop-i.table c.args.entry inv.keeps.grows c.requires.within)) (omega (arith, inv.count, c.loop-i-test.true));
-    } in
-    (omega (arith, inv.keeps.left, c.decreases), (inv.keeps.right,
-    at_slot c.loop-i.table slot c.get.result.now within (subst (λ x. x ≡ get_or (fields_at c.loop-i.table.entries.items c.args.entry) c.loop-i.i x) (sym c.get.ensures) c.in_ok-field.ensures)))
+    } in (
+      omega (arith, inv.keeps.left, c.decreases),
+      (
+        inv.keeps.right,
+        at_slot c.loop-i.table slot c.get.result.now within (subst (λ x. x ≡ get_or (fields_at c.loop-i.table.entries.items c.args.entry) c.loop-i.i x) (sym c.get.ensures) c.in_ok-field.ensures),
+      ),
+    )
 
 pub execute_fields-returns-in_err-field_ended-clause-does : goal.execute_fields-returns-in_err-field_ended-clause-does
 execute_fields-returns-in_err-field_ended-clause-does t c = λ qs h.
     let inv = c.loop-i.invariant in
     let at = stand_at (given c.args.context.now) (fields_at c.args.table.now.entries.items c.args.entry) qs c.loop-i.i c.get.result.now h (omega (arith, inv.count, c.loop-i-test.true))
-        (subst (λ fs. c.get.result.now ≡ get_or fs c.loop-i.i c.get.result.now) (fields_still c.args.table.now c.loop-i.table c.args.entry inv.keeps.grows c.requires.within)
-        (subst (λ x. x ≡ get_or (fields_at c.loop-i.table.entries.items c.args.entry) c.loop-i.i x) (sym c.get.ensures) c.in_ok-field.ensures)) in
+    (subst (λ fs. c.get.result.now ≡ get_or fs c.loop-i.i c.get.result.now) (fields_still c.args.table.now c.loop-i.table c.args.entry inv.keeps.grows c.requires.within)
+    (subst (λ x. x ≡ get_or (fields_at c.loop-i.table.entries.items c.args.entry) c.loop-i.i x) (sym c.get.ensures) c.in_ok-field.ensures)) in
     stopped (fields_part (types_of c.args.context.now.schema.now) (view c.args.value.now) qs (path_of c.args.run.now)) c.from_residual-in_err-field_ended.result c.in_err-field_ended.field-0.0
     c.args.run.now c.execute_field.new.run c.from_residual-in_err-field_ended.ensures.1
     (loop-stops (field_part (types_of c.args.context.now.schema.now) (view c.args.value.now)) qs c.loop-i.i at.pair c.args.run.now c.loop-i.run c.execute_field.new.run
@@ -140,8 +144,8 @@ execute_fields-loop-i-preserved t c =
       count = inv.count;
       done = λ qs h.
           let at = stand_at (given c.args.context.now) (fields_at c.args.table.now.entries.items c.args.entry) qs c.loop-i.i c.get.result.now h (omega (arith, inv.count, c.loop-i-test.true))
-        (subst (λ fs. c.get.result.now ≡ get_or fs c.loop-i.i c.get.result.now) (fields_still c.args.table.now c.loop-i.table c.args.entry inv.keeps.grows c.requires.within)
-        (subst (λ x. x ≡ get_or (fields_at c.loop-i.table.entries.items c.args.entry) c.loop-i.i x) (sym c.get.ensures) c.in_ok-field.ensures)) in
+          (subst (λ fs. c.get.result.now ≡ get_or fs c.loop-i.i c.get.result.now) (fields_still c.args.table.now c.loop-i.table c.args.entry inv.keeps.grows c.requires.within)
+          (subst (λ x. x ≡ get_or (fields_at c.loop-i.table.entries.items c.args.entry) c.loop-i.i x) (sym c.get.ensures) c.in_ok-field.ensures)) in
           rw c.and-ended.ensures (loop-more (field_part (types_of c.args.context.now.schema.now) (view c.args.value.now)) qs c.loop-i.i at.pair c.args.run.now c.loop-i.run c.execute_field.new.run
           at.within at.here c.loop-i.ended c.in_ok-field_ended.field_ended (inv.done qs h) (c.in_ok-field_ended.ensures.does at.pair at.stands));
     }

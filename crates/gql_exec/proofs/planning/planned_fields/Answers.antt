@@ -12,11 +12,12 @@ use Rattle.gql_exec.proofs.planning.planned_fields.Goals as goal
 pub loop-name-preserved : goal.loop-name-preserved
 loop-name-preserved c =
     let inv = c.loop-name.invariant in
-    let group : Group = record { key = c.in-Some.name.now.now; nodes = nodes_in c.in-Some.group.now } in
-    (inv.0 ++ group ∷ [],
-    inv.1 ∙ ap (λ es. inv.0 ++ groups_in es) (rest_more deref_pair c.loop-name.name-iterator c.next.new.self c.next.result (c.in-Some.name, c.in-Some.group) c.in-Some.is c.next.ensures.steps)
-    ∙ sym (append_assoc inv.0 (group ∷ []) (groups_in c.next.new.self)),
-    c.in_ok-add_field.ensures inv.0 inv.2)
+    let group : Group = record { key = c.in-Some.name.now.now; nodes = nodes_in c.in-Some.group.now } in (
+      inv.0 ++ group ∷ [],
+      inv.1 ∙ ap (λ es. inv.0 ++ groups_in es) (rest_more deref_pair c.loop-name.name-iterator c.next.new.self c.next.result (c.in-Some.name, c.in-Some.group) c.in-Some.is c.next.ensures.steps)
+          ∙ sym (append_assoc inv.0 (group ∷ []) (groups_in c.next.new.self)),
+      c.in_ok-add_field.ensures inv.0 inv.2,
+    )
 
 pub returns : goal.returns
 returns c =
