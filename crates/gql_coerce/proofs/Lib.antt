@@ -14,3 +14,4 @@ pub mod Inserted
 pub mod JsonFields
 pub mod JsonForms
 pub mod Arguments
+pub mod Settled

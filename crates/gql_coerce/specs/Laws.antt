@@ -38,3 +38,14 @@ OneOfArguments = (s : Schema) (definitions : List InputValueDefinition) (given :
 abbrev pub SomeOutcome : Type 0
 SomeOutcome = (s : Schema) → HasNoCycle s → (x : Input) (t : Written)
     → (o : Outcome (Option Data)) × Comes s x t o
+
+-- where no default leads back to itself, the variables of a request come to something
+abbrev pub SomeOfVariables : Type 0
+SomeOfVariables = (s : Schema) → HasNoCycle s → (definitions : List VariableDefinition)
+    → (values : Data) → (o : Outcome Data) × VariablesCome s definitions values o
+
+-- and so do the arguments of a field
+abbrev pub SomeOfArguments : Type 0
+SomeOfArguments = (s : Schema) → HasNoCycle s → (definitions : List InputValueDefinition)
+    → (given : List Argument) → (values : Data)
+    → (o : Outcome Data) × ArgumentsCome s definitions given values o

@@ -25,3 +25,13 @@ pub fn one_of_arguments()
 pub fn some_outcome()
     ensures { laws.SomeOutcome }
 {}
+
+/// Where no default leads back to itself, the variables of a request come to some outcome.
+pub fn some_of_variables()
+    ensures { laws.SomeOfVariables }
+{}
+
+/// Where no default leads back to itself, the arguments of a field come to some outcome.
+pub fn some_of_arguments()
+    ensures { laws.SomeOfArguments }
+{}
