@@ -15,3 +15,4 @@ pub mod JsonFields
 pub mod JsonForms
 pub mod Arguments
 pub mod Settled
+pub mod Named

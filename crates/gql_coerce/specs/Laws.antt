@@ -1,5 +1,5 @@
 -- Laws of coercion.
-use Rattle.std.specs.Prelude.{◌≡◌, ℕ, List, Option, Some}
+use Rattle.std.specs.Prelude.{◌≡◌, ℕ, List, ◌∷◌, Option, Some, Contains}
 use Rattle.gql_ast.specs.declared.executable.VariableDefinition.{VariableDefinition}
 use Rattle.gql_ast.specs.declared.literal.Argument.{Argument}
 use Rattle.gql_ast.specs.declared.type_system.InputValueDefinition.{InputValueDefinition}
@@ -7,10 +7,13 @@ use Rattle.gql_types.specs.Written.{Written}
 use Rattle.gql_types.specs.declared.schema.Schema.{Schema}
 use Rattle.serde_json.specs.Data.{Data}
 use Rattle.gql_coerce.specs.Coercion.{coerced}
-use Rattle.gql_coerce.specs.Comes.{Outcome, Comes, reached}
+use Rattle.gql_coerce.specs.Comes.{Outcome, Comes, reached, refused}
 use Rattle.gql_coerce.specs.Defaults.{HasNoCycle}
 use Rattle.gql_coerce.specs.Inputs.{Input}
 use Rattle.gql_coerce.specs.Requests.{VariablesCome, ArgumentsCome}
+use Rattle.gql_coerce.specs.declared.refusal.Reason.{Reason}
+use Rattle.gql_coerce.specs.declared.refusal.Segment.{Segment}
+use Rattle.gql_coerce.specs.declared.refusal.Segment.TheVariants.{Key}
 
 -- two outcomes that an input comes to at a type are one
 abbrev pub OneOutcome : Type 0
@@ -49,3 +52,10 @@ abbrev pub SomeOfArguments : Type 0
 SomeOfArguments = (s : Schema) → HasNoCycle s → (definitions : List InputValueDefinition)
     → (given : List Argument) → (values : Data)
     → (o : Outcome Data) × ArgumentsCome s definitions given values o
+
+-- a refusal of the variables of a request begins with the name of one of them
+abbrev pub NamedRefusals : Type 0
+NamedRefusals = (s : Schema) (definitions : List VariableDefinition) (values : Data) (why : Reason)
+    (path : List Segment) → VariablesCome s definitions values (refused why path)
+    → (v : VariableDefinition) × Contains definitions v
+    × ((rest : List Segment) × (path ≡ Key v.name.text ∷ rest))

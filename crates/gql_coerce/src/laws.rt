@@ -35,3 +35,8 @@ pub fn some_of_variables()
 pub fn some_of_arguments()
     ensures { laws.SomeOfArguments }
 {}
+
+/// A refusal of the variables of a request begins with the name of one of them.
+pub fn named_refusals()
+    ensures { laws.NamedRefusals }
+{}
