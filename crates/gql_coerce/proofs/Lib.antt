@@ -18,3 +18,5 @@ pub mod LiteralCases
 pub mod FitSingles
 pub mod Reported
 pub mod Fitted
+pub mod Settled
+pub mod Named

@@ -1,5 +1,5 @@
 -- Laws of coercion.
-use Rattle.std.specs.Prelude.{◌≡◌, ℕ, List, [], Bool, true, false, Option, Some, Contains}
+use Rattle.std.specs.Prelude.{◌≡◌, ℕ, List, [], ◌∷◌, Bool, true, false, Option, Some, Contains}
 use Rattle.gql_ast.specs.declared.executable.VariableDefinition.{VariableDefinition}
 use Rattle.gql_ast.specs.declared.literal.Argument.{Argument}
 use Rattle.gql_ast.specs.declared.literal.Literal.{Literal}
@@ -18,6 +18,7 @@ use Rattle.gql_coerce.specs.Inputs.{Input, literal}
 use Rattle.gql_coerce.specs.Requests.{VariablesCome, ArgumentsCome}
 use Rattle.gql_coerce.specs.declared.refusal.Reason.{Reason}
 use Rattle.gql_coerce.specs.declared.refusal.Segment.{Segment}
+use Rattle.gql_coerce.specs.declared.refusal.Segment.TheVariants.{Key}
 
 -- two outcomes that an input comes to at a type are one
 abbrev pub OneOutcome : Type 0
@@ -66,3 +67,21 @@ abbrev pub FitsWhereCoerced : Type 0
 FitsWhereCoerced = (s : Schema) → HasGoodFields s → (t : Written) → IsKnown s t
     → (x : Literal) → IsConstant x → repeats (value_of x) ≡ [] → (values : Data)
     → (o : Outcome (Option Data)) → Comes s (literal values x) t o → fits s x t ≡ is_value o
+
+-- where no default leads back to itself, the variables of a request come to something
+abbrev pub SomeOfVariables : Type 0
+SomeOfVariables = (s : Schema) → HasNoCycle s → (definitions : List VariableDefinition)
+    → (values : Data) → (o : Outcome Data) × VariablesCome s definitions values o
+
+-- and so do the arguments of a field
+abbrev pub SomeOfArguments : Type 0
+SomeOfArguments = (s : Schema) → HasNoCycle s → (definitions : List InputValueDefinition)
+    → (given : List Argument) → (values : Data)
+    → (o : Outcome Data) × ArgumentsCome s definitions given values o
+
+-- a refusal of the variables of a request begins with the name of one of them
+abbrev pub NamedRefusals : Type 0
+NamedRefusals = (s : Schema) (definitions : List VariableDefinition) (values : Data) (why : Reason)
+    (path : List Segment) → VariablesCome s definitions values (refused why path)
+    → (v : VariableDefinition) × Contains definitions v
+    × ((rest : List Segment) × (path ≡ Key v.name.text ∷ rest))

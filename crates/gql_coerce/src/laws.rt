@@ -37,3 +37,18 @@ pub fn refusal_is_reported()
 pub fn fits_where_coerced()
     ensures { laws.FitsWhereCoerced }
 {}
+
+/// Where no default leads back to itself, the variables of a request come to some outcome.
+pub fn some_of_variables()
+    ensures { laws.SomeOfVariables }
+{}
+
+/// Where no default leads back to itself, the arguments of a field come to some outcome.
+pub fn some_of_arguments()
+    ensures { laws.SomeOfArguments }
+{}
+
+/// A refusal of the variables of a request begins with the name of one of them.
+pub fn named_refusals()
+    ensures { laws.NamedRefusals }
+{}
