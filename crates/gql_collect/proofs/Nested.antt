@@ -183,7 +183,10 @@ module _ (g : Given) (start : List Selection) (acyclic : NoCycles g start) where
 
 -- all of them nest at some depth
 pub all_nest : (g : Given) (xs : List Selection) → NoCycles g xs → (k : ℕ) × AllNest g k xs
-all_nest g xs acyclic = (left_of g.fragments [] + wholes xs, walk g xs acyclic (left_of g.fragments [] + wholes xs) [] xs (omega arith) (record {
-  chain = λ p m there c. absurd (cc there);
-  from = λ m c. spread c;
-}))
+all_nest g xs acyclic = (
+  left_of g.fragments [] + wholes xs,
+  walk g xs acyclic (left_of g.fragments [] + wholes xs) [] xs (omega arith) (record {
+    chain = λ p m there c. absurd (cc there);
+    from = λ m c. spread c;
+  }),
+)

@@ -135,12 +135,7 @@ impl Registry {
     /// The change that puts bytes as the file of a name on a side. Refused by 203, 202, 201 and
     /// 205, in this order.
     #[tactic(none)]
-    fn change_by_put(
-        &self,
-        side: FileSide,
-        name: FileName,
-        bytes: &[u8],
-    ) -> Result<Change, Refusal>
+    fn change_by_put(&self, side: FileSide, name: FileName, bytes: &[u8]) -> Result<Change, Refusal>
         ensures change { IfOk result
             (IsChangeBy (state_of self.now) (edit.put side name bytes.now)) }
         ensures err { IfErr result

@@ -1,5 +1,4 @@
 use Rattle.std.proofs.Common.{◌≡◌, ◌∙◌, rules, sym, subst, IfSome, Vec, Global}
-
 use Rattle.gql_ast.specs.declared.fault.Fault.{Fault}
 use Rattle.gql_registry.specs.Keeping.{Keeping, AreSchemaFaults, IsKnownOf}
 use Rattle.gql_registry.specs.Report.{IsReport}
