@@ -12,7 +12,7 @@ use Rattle.gql_http.specs.Answers.{Said, answer_bytes, edit_said, report_said}
 use Rattle.gql_http.specs.Connections.{requests_of, joined, held_after, Serves, Breaks}
 use Rattle.gql_http.specs.Events.{with_connection, does_open, does_feed, does_break, does_close, ignores}
 use Rattle.gql_http.specs.Laws.{OneStep, OneRun, OneDeed}
-use Rattle.gql_http.specs.Routes.{Call, report, put, remove, refused, call_of}
+use Rattle.gql_http.specs.Routes.{Call, report, put, remove, put_data, refused, call_of}
 use Rattle.gql_http.specs.Service.{Calls, Edits, Run, done, more}
 use Rattle.gql_http.proofs.Joining.{some_same}
 
@@ -32,6 +32,7 @@ module _ (edits : OneEdit) (reports : OneReport) where
   one_call s t u report body a b h k = (h.0.2 ∙ ap (report_said s.revision) (reports s.files h.0.0 k.0.0 h.0.1 k.0.1) ∙ sym k.0.2, h.1 ∙ sym k.1)
   one_call s t u (put side name expected) body a b h k = one_answer s t u expected (edit.put side name body) a b h k
   one_call s t u (remove side name expected) body a b h k = one_answer s t u expected (edit.remove side name) a b h k
+  one_call s t u (put_data expected) body a b h k = one_answer s t u expected (edit.put_data body) a b h k
   one_call s t u (refused said) body a b h k = (h.0 ∙ sym k.0, h.1 ∙ sym k.1)
 
   pub one_step_lem : OneStep

@@ -18,9 +18,11 @@ abbrev pub call_said : Call → spec.Call
 call_said call.Report = spec.report
 call_said (call.Put side name expected) = spec.put side name expected
 call_said (call.Remove side name expected) = spec.remove side name expected
+call_said (call.PutData expected) = spec.put_data expected
 call_said (call.Refused r) = spec.refused (route_said r)
 
 abbrev pub resource_said : Resource → spec.Resource
 resource_said resource.Nothing = spec.nothing
 resource_said resource.Report = spec.the_report
+resource_said resource.Data = spec.the_data
 resource_said (resource.File side name) = spec.file side name

@@ -10,7 +10,7 @@ use Rattle.gql_registry.specs.declared.registry.Edited.{Edited}
 use Rattle.gql_wire.specs.Head.{is_head}
 use Rattle.gql_wire.specs.Stream.{Req, request, refused as refused_head}
 use Rattle.gql_http.specs.Answers.{Said, answer_bytes, edit_said, head_said, report_said}
-use Rattle.gql_http.specs.Routes.{Call, report, put, remove, refused, call_of}
+use Rattle.gql_http.specs.Routes.{Call, report, put, remove, put_data, refused, call_of}
 
 -- what an edit is answered, and the state that it leaves; unless an allocation fails
 abbrev pub Edits : State → Option ℕ → Edit → Said → State → Type 0
@@ -23,6 +23,7 @@ Calls s report body a t = ((faults : List Fault) × IsReport s.files faults
     × (a ≡ report_said s.revision faults)) × (t ≡ s)
 Calls s (put side name expected) body a t = Edits s expected (edit.put side name body) a t
 Calls s (remove side name expected) body a t = Edits s expected (edit.remove side name) a t
+Calls s (put_data expected) body a t = Edits s expected (edit.put_data body) a t
 Calls s (refused said) body a t = (a ≡ said) × (t ≡ s)
 
 -- one step: a request in the state s is answered with these bytes, and leaves the state t

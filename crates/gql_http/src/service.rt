@@ -139,6 +139,27 @@ fn answer_removal(
     write_edit(alloc, out, edited, ending)
 }
 
+fn answer_data(
+    alloc: Global,
+    registry: &mut Registry,
+    out: &mut Vec<u8>,
+    expected: Option<u64>,
+    body: &[u8],
+    ending: Ending,
+) -> Result<(), AllocError>
+    ensures ok { OnOk result ((a : Said)
+        × Calls (state_of registry.old) (routes.put_data expected) body.now a
+        (state_of registry.new)
+        × (out.new.items ≡ out.old.items ++ ended_bytes ending a)) }
+    ensures err { OnErr result ((state_of registry.new ≡ state_of registry.old)
+        × (out.new.items ≡ out.old.items)) }
+{
+    out.reserve(EDIT_ROOM)?;
+    let mut meter = Meter::new(alloc);
+    let edited = registry.put_data(body, expected, &mut meter);
+    write_edit(alloc, out, edited, ending)
+}
+
 fn make_call(
     alloc: Global,
     registry: &mut Registry,
@@ -161,6 +182,7 @@ fn make_call(
         Call::Remove(side, name, expected) => {
             answer_removal(alloc, registry, out, side, name, expected, ending)
         }
+        Call::PutData(expected) => answer_data(alloc, registry, out, expected, body, ending),
         Call::Refused(refusal) => write_answer(out, &route_answer(alloc, refusal)?, ending),
     }
 }

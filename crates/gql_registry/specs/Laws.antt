@@ -7,7 +7,7 @@ use Rattle.gql_ast.specs.declared.definition.Document.{Document}
 use Rattle.gql_ast.specs.declared.fault.Fault.{Fault}
 use Rattle.gql_ast.specs.declared.fault.FileSide.{FileSide}
 use Rattle.gql_ast.specs.declared.files.Files.{Files}
-use Rattle.gql_registry.specs.Edits.{Edit, put, remove, name_of, side_of, Leaves, Makes}
+use Rattle.gql_registry.specs.Edits.{Edit, put, remove, EditsFile, Leaves, Makes}
 use Rattle.gql_registry.specs.Report.{IsReport}
 use Rattle.gql_registry.specs.Sides.{IsFileOn, files_on}
 use Rattle.gql_registry.specs.State.{State}
@@ -38,14 +38,14 @@ abbrev pub under : FileSide → List ℕ → State → Option Document
 under side name s = file_named (files_on side s.files) name
 
 -- What an accepted edit leaves under a name of a side, which held this before: the document that
--- was put, nothing after a removal, and the same as before where the edit names another file.
+-- was put, nothing after a removal, and the same as before where the edit changes another file or the
+-- data.
 pub data LeavesUnder (side : FileSide) (name : List ℕ) (before : Option Document) : Edit
     → Option Document → Type 0 where
   by_put : {bytes : List ℕ} {document : Document} → IsFileOn side name bytes document
       → LeavesUnder side name before (put side name bytes) (Some document)
   by_removal : LeavesUnder side name before (remove side name) None
-  elsewhere : {e : Edit} → ((side_of e ≡ side) → (name_of e ≡ name) → ⊥)
-      → LeavesUnder side name before e before
+  elsewhere : {e : Edit} → (EditsFile e side name → ⊥) → LeavesUnder side name before e before
 
 -- after an accepted edit each name of a side holds what the edit leaves under it, and the files of
 -- the side are in order again

@@ -246,6 +246,17 @@ impl Kept {
         Ok(report)
     }
 
+    /// How many faults the report has.
+    pub fn count(&self, alloc: Global) -> Result<u64, AllocError>
+        ensures { IfOk result (IsReportLength self.now.files) }
+    {
+        if let Some(known) = &self.known {
+            return Ok(known.report.len() as u64);
+        }
+        let report = self.report(alloc)?;
+        Ok(report.len() as u64)
+    }
+
     /// The change that puts a file on a side.
     pub fn change_by_put(
         &self,
