@@ -1,5 +1,5 @@
 -- Files then present: what each name holds after requests.
-use Rattle.std.proofs.Common.{◌≡◌, ℕ, List, [], ◌∷◌, ◌++◌, Bool, Option, Some, Result, Ok, Err, refl, sym, ap, ◌∙◌, subst}
+use Rattle.std.proofs.Common.{◌≡◌, ℕ, List, [], ◌∷◌, ◌++◌, Bool, Option, Some, None, Result, Ok, Err, refl, sym, ap, ◌∙◌, subst}
 use Rattle.gql_ast.specs.declared.fault.Fault.{Fault}
 use Rattle.gql_ast.specs.declared.fault.FileSide.{FileSide}
 use Rattle.gql_ast.specs.declared.fault.FileSide.TheVariants.{Schema, Documents}
@@ -54,7 +54,7 @@ put_refused s side method target body name closing expected r is fails e h = by 
     by : (e : Edit) (wanted : Option ℕ) → AsksFor (request method target body closing) wanted e → edit.IsAccepted s wanted e → ⊥
     by _ wanted (asks_to_put {side = on} {name = other} asks) accepted =
         let same = put_same side on name other expected wanted (sym is ∙ asks) in
-        accepted r (subst (λ d. Fails s wanted (edit.put d other body) r) same.0 (subst (λ n. Fails s wanted (edit.put side n body) r) same.1.0 (subst (λ x. Fails s x (edit.put side name body) r) same.1.1 fails)))
+        accepted r (subst (λ d. Fails s wanted (edit.put d other body) r) same.0 (subst (λ n. Fails s wanted (edit.put side n body) r) same.1 (subst (λ x. Fails s x (edit.put side name body) r) same.2 fails)))
     by _ wanted (asks_to_remove {side = on} {name = other} asks) accepted =
         let clash : put side name expected ≡ remove on other wanted = sym is ∙ asks in cc
     by _ wanted (asks_to_put_data asks) accepted =
@@ -67,7 +67,7 @@ removal_refused s side method target body name closing expected r is fails e h =
     by : (e : Edit) (wanted : Option ℕ) → AsksFor (request method target body closing) wanted e → edit.IsAccepted s wanted e → ⊥
     by _ wanted (asks_to_remove {side = on} {name = other} asks) accepted =
         let same = remove_same side on name other expected wanted (sym is ∙ asks) in
-        accepted r (subst (λ d. Fails s wanted (edit.remove d other) r) same.0 (subst (λ n. Fails s wanted (edit.remove side n) r) same.1.0 (subst (λ x. Fails s x (edit.remove side name) r) same.1.1 fails)))
+        accepted r (subst (λ d. Fails s wanted (edit.remove d other) r) same.0 (subst (λ n. Fails s wanted (edit.remove side n) r) same.1 (subst (λ x. Fails s x (edit.remove side name) r) same.2 fails)))
     by _ wanted (asks_to_put {side = on} {name = other} asks) accepted =
         let clash : remove side name expected ≡ put on other wanted = sym is ∙ asks in cc
     by _ wanted (asks_to_put_data asks) accepted =
@@ -89,8 +89,7 @@ module _ (holds : HoldsAfter) where
   put_deed : (s t : State) (side : FileSide) (method target body name : List ℕ) (closing : Bool) (expected : Option ℕ) (a : Said) (r : Result Edited Refusal) → ((on : FileSide) → IsOrderedOn on s) → call_of method target ≡ put side name expected
       → edit_said r ≡ Some a → Makes s expected (edit.put side name body) r t → Deed s t (request method target body closing)
   put_deed s t side method target body name closing expected a (Ok edited) ordered is said h =
-      let after = λ on. holds s t (edit.put side name body) on (ordered on) h.1 in
-      edits (edit.put side name body) (record { expected = expected; asks = asks_to_put is; accepted = h.0 }) (λ on. (after on).0) (λ on. (after on).1)
+      edits (edit.put side name body) (record { expected = expected; asks = asks_to_put is; accepted = h.0 }) (λ on. (holds s t (edit.put side name body) on (ordered on) h.1).0) (λ on. (holds s t (edit.put side name body) on (ordered on) h.1).1)
   put_deed s t side method target body name closing expected a (Err q) ordered is said h =
       let refusal = first_refusal s t expected (edit.put side name body) q (said_made (Err q) a said) h in
       keeps (put_refused s side method target body name closing expected q is refusal.0.fails) refusal.1
@@ -98,8 +97,7 @@ module _ (holds : HoldsAfter) where
   removal_deed : (s t : State) (side : FileSide) (method target body name : List ℕ) (closing : Bool) (expected : Option ℕ) (a : Said) (r : Result Edited Refusal) → ((on : FileSide) → IsOrderedOn on s)
       → call_of method target ≡ remove side name expected → edit_said r ≡ Some a → Makes s expected (edit.remove side name) r t → Deed s t (request method target body closing)
   removal_deed s t side method target body name closing expected a (Ok edited) ordered is said h =
-      let after = λ on. holds s t (edit.remove side name) on (ordered on) h.1 in
-      edits (edit.remove side name) (record { expected = expected; asks = asks_to_remove is; accepted = h.0 }) (λ on. (after on).0) (λ on. (after on).1)
+      edits (edit.remove side name) (record { expected = expected; asks = asks_to_remove is; accepted = h.0 }) (λ on. (holds s t (edit.remove side name) on (ordered on) h.1).0) (λ on. (holds s t (edit.remove side name) on (ordered on) h.1).1)
   removal_deed s t side method target body name closing expected a (Err q) ordered is said h =
       let refusal = first_refusal s t expected (edit.remove side name) q (said_made (Err q) a said) h in
       keeps (removal_refused s side method target body name closing expected q is refusal.0.fails) refusal.1
@@ -107,8 +105,7 @@ module _ (holds : HoldsAfter) where
   data_deed : (s t : State) (method target body : List ℕ) (closing : Bool) (expected : Option ℕ) (a : Said) (r : Result Edited Refusal) → ((on : FileSide) → IsOrderedOn on s)
       → call_of method target ≡ put_data expected → edit_said r ≡ Some a → Makes s expected (edit.put_data body) r t → Deed s t (request method target body closing)
   data_deed s t method target body closing expected a (Ok edited) ordered is said h =
-      let after = λ on. holds s t (edit.put_data body) on (ordered on) h.1 in
-      edits (edit.put_data body) (record { expected = expected; asks = asks_to_put_data is; accepted = h.0 }) (λ on. (after on).0) (λ on. (after on).1)
+      edits (edit.put_data body) (record { expected = expected; asks = asks_to_put_data is; accepted = h.0 }) (λ on. (holds s t (edit.put_data body) on (ordered on) h.1).0) (λ on. (holds s t (edit.put_data body) on (ordered on) h.1).1)
   data_deed s t method target body closing expected a (Err q) ordered is said h =
       let refusal = first_refusal s t expected (edit.put_data body) q (said_made (Err q) a said) h in
       keeps (data_refused s method target body closing expected q is refusal.0.fails) refusal.1
@@ -142,8 +139,13 @@ module _ (holds : HoldsAfter) where
 
   pub files_present_lem : FilesPresent
   unfolding Rattle.std.specs.List.Sorted.IsStrictlySortedBy
-  files_present_lem t rs answers side name run = held empty t rs answers side name ordered run
+  files_present_lem t rs answers side name run =
+      subst (λ o. Holds side name empty o rs (under side name t)) (nothing side) (held empty t rs answers side name ordered run)
     where
+      nothing : (on : FileSide) → under on name empty ≡ None
+      nothing Schema = refl
+      nothing Documents = refl
+
       ordered : (on : FileSide) → IsOrderedOn on empty
       ordered Schema = tt
       ordered Documents = tt
