@@ -1,3 +1,4 @@
 #!/bin/sh
-# Runs the benchmarks. Figures depend on the machine and on what else it does: compare lines of one run alone.
+# Runs the benchmarks. Figures depend on the machine and on what else it does: compare lines of one
+# run alone.
 cd "$(dirname "$0")/../crates/benchmarks" && rt run -- run 2>/dev/null | grep 'MB/s\|s for'

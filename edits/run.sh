@@ -1,15 +1,20 @@
 #!/bin/sh
-# Tries wrong bodies, each of which the prover has to refuse: those of this folder and those of the crate's must-fail/.
+# Tries wrong bodies, each of which the prover has to refuse: those of this folder and those of the
+# crate's must-fail/.
 #   edits/run.sh CRATE..             those of the crates that are named
 #   edits/run.sh --changed REVISION  those of the crates in which a file changed since that commit
 #   edits/run.sh                     all of them
-# It works in a copy of the repository, which it removes at the end. The last line says how many crates passed.
+# It works in a copy of the repository, which it removes at the end. The last line says how many
+# crates passed.
 set -eu
 cd "$(dirname "$0")/.."
 crates=
 if [ "${1:-}" = --changed ]; then
-    for crate in $(git diff --name-only "$2" -- crates edits | sed -n 's,^\(crates\|edits\)/\([^/]*\)/.*,\2,p' | sort -u); do
-        if [ -d "edits/$crate" ] || [ -d "crates/$crate/must-fail" ]; then crates="$crates $crate"; fi
+    changed=$(git diff --name-only "$2" -- crates edits)
+    for crate in $(echo "$changed" | sed -n 's,^\(crates\|edits\)/\([^/]*\)/.*,\2,p' | sort -u); do
+        if [ -d "edits/$crate" ] || [ -d "crates/$crate/must-fail" ]; then
+            crates="$crates $crate"
+        fi
     done
 else
     crates=${*:-$(for folder in edits/*/; do basename "$folder"; done)}
@@ -20,9 +25,17 @@ trap 'exit 1' INT TERM
 cp -a . "$copy/repository"
 passed=0 failed=0
 for crate in $crates; do
-    mkdir -p "$copy/repository/crates/$crate/must-fail"
-    if [ -d "edits/$crate" ]; then cp edits/"$crate"/*.edit "$copy/repository/crates/$crate/must-fail/"; fi
-    if (cd "$copy/repository" && rt must-fail "$crate"); then passed=$((passed + 1)); else failed=$((failed + 1)); echo "$crate: failed"; fi
+    tried="$copy/repository/crates/$crate/must-fail"
+    mkdir -p "$tried"
+    if [ -d "edits/$crate" ]; then
+        cp edits/"$crate"/*.edit "$tried/"
+    fi
+    if (cd "$copy/repository" && rt must-fail "$crate"); then
+        passed=$((passed + 1))
+    else
+        failed=$((failed + 1))
+        echo "$crate: failed"
+    fi
 done
 echo "crates: $passed passed, $failed failed"
 [ "$failed" = 0 ]

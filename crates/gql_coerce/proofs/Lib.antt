@@ -14,3 +14,9 @@ pub mod Inserted
 pub mod JsonFields
 pub mod JsonForms
 pub mod Arguments
+pub mod LiteralCases
+pub mod FitSingles
+pub mod Reported
+pub mod Fitted
+pub mod Settled
+pub mod Named

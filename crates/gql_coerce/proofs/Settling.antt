@@ -63,18 +63,19 @@ null_settled (Some t) = unless_settled (is_non_null t) (refused reason.NullForNo
 
 -- ---- an input that comes to none is a variable without a value
 
-abbrev is_none : Reached (Option Data) → Bool
+-- it comes to none
+abbrev pub is_none : Reached (Option Data) → Bool
 is_none (value None) = true
 is_none (value (Some d)) = false
 is_none (refused r path) = false
 is_none too_deep = false
 
-some_none : (o : Reached Data) → is_none (some o) ≡ false
+pub some_none : (o : Reached Data) → is_none (some o) ≡ false
 some_none (value d) = refl
 some_none (refused r path) = refl
 some_none too_deep = refl
 
-once_none : (e : Option Written) (o : Reached Data) → is_none (once e (some o)) ≡ false
+pub once_none : (e : Option Written) (o : Reached Data) → is_none (once e (some o)) ≡ false
 once_none None o = some_none o
 once_none (Some t) (value d) = refl
 once_none (Some t) (refused r path) = refl

@@ -13,6 +13,7 @@ pub mod Parts
 pub mod Frames
 pub mod Requests
 pub mod Defaults
+pub mod Fitting
 pub mod Laws
 pub mod Paths
 pub mod Examples

@@ -25,3 +25,30 @@ pub fn one_of_arguments()
 pub fn some_outcome()
     ensures { laws.SomeOutcome }
 {}
+
+/// What coercion refuses of a literal without variables is among what `bad_values` reports, where
+/// the fields of input objects are good and the type is known.
+pub fn refusal_is_reported()
+    ensures { laws.RefusalIsReported }
+{}
+
+/// A literal without variables in which no field is given twice fits exactly where coercion comes
+/// to a value, under the same premises.
+pub fn fits_where_coerced()
+    ensures { laws.FitsWhereCoerced }
+{}
+
+/// Where no default leads back to itself, the variables of a request come to some outcome.
+pub fn some_of_variables()
+    ensures { laws.SomeOfVariables }
+{}
+
+/// Where no default leads back to itself, the arguments of a field come to some outcome.
+pub fn some_of_arguments()
+    ensures { laws.SomeOfArguments }
+{}
+
+/// A refusal of the variables of a request begins with the name of one of them.
+pub fn named_refusals()
+    ensures { laws.NamedRefusals }
+{}

@@ -24,7 +24,7 @@ module _ (g : Given) (t : List ℕ) where
     pub nodes : List FieldNode
     pub unfolds : Unfolds g t xs nodes
 
-  both : {xs ys : List FileSelection} {ns ms : List FieldNode} → Unfolds g t xs ns → Unfolds g t ys ms → Unfolds g t (xs ++ ys) (ns ++ ms)
+  pub both : {xs ys : List FileSelection} {ns ms : List FieldNode} → Unfolds g t xs ns → Unfolds g t ys ms → Unfolds g t (xs ++ ys) (ns ++ ms)
   both nothing v = v
   both (kept e u) v = kept e (both u v)
   both {ys = ys} {ms = ms} (replaced {xs = zs} {rest = rest} {ns = ns} e u) v =
@@ -45,12 +45,12 @@ module _ (g : Given) (t : List ℕ) where
 
 -- ---- the form of a selection
 
-data Form (x : Selection) : Type 0 where
+pub data Form (x : Selection) : Type 0 where
   of_field : (f : Field) → x ≡ s.Field f → Form x
   of_spread : (y : Spread) → x ≡ s.Spread y → Form x
   of_inline : (i : InlineFragment) → x ≡ s.InlineFragment i → Form x
 
-form : (x : Selection) → Form x
+pub form : (x : Selection) → Form x
 form x = by (out-Selection x) refl where
   by : (y : Selection-F Selection Field InlineFragment) → out-Selection x ≡ y → Form x
   by (Selection-F.Field f) e = of_field f (sym (roll-out-Selection x) ∙ ap roll-Selection e ∙ s.rolls-Field f)

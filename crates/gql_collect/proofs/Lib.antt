@@ -6,3 +6,5 @@ pub mod Grouping
 pub mod Runs
 pub mod Visiting
 pub mod Walking
+pub mod Nested
+pub mod NestedGroups

@@ -1,7 +1,9 @@
 -- Laws of collection.
-use Rattle.std.specs.Prelude.{◌≡◌, ℕ, List, map}
+use Rattle.std.specs.Prelude.{◌≡◌, ℕ, suc, List, map}
 use Rattle.gql_collect.specs.Collection.{Collects}
 use Rattle.gql_collect.specs.Groups.{Group}
+use Rattle.gql_ast.specs.declared.executable.Selection.{Selection}
+use Rattle.gql_collect.specs.Nesting.{AllNest, NestedGroups, selections_of}
 use Rattle.gql_collect.specs.Nodes.{FileSelection}
 use Rattle.gql_collect.specs.Spreads.{NoCycles}
 use Rattle.gql_collect.specs.Unfolding.{Given}
@@ -16,3 +18,12 @@ abbrev pub SomeCollection : Type 0
 SomeCollection = (g : Given) → (t : List ℕ) → (xs : List FileSelection)
     → NoCycles g (map (λ (x : FileSelection). x.selection) xs)
     → (groups : List Group) × Collects g t xs groups
+
+-- selections that lead to no fragment which leads back to itself nest at some depth
+abbrev pub SomeDepth : Type 0
+SomeDepth = (g : Given) → (xs : List Selection) → NoCycles g xs → (k : ℕ) × AllNest g k xs
+
+-- selections that nest at some depth have groups, and what each group selects nests less deep
+abbrev pub SomeGroups : Type 0
+SomeGroups = (g : Given) → (t : List ℕ) → (k : ℕ) → (xs : List FileSelection)
+    → AllNest g (suc k) (selections_of xs) → NestedGroups g t k xs

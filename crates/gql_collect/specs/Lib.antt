@@ -12,3 +12,4 @@ pub mod Spreads
 pub mod Unfolding
 pub mod Visiting
 pub mod Walks
+pub mod Nesting

@@ -19,7 +19,7 @@ use std::alloc::{AllocError, Global};
 /// of itself, the sets have no groups, and the result is some of their fields.
 pub fn collect<'a>(
     alloc: Global,
-    context: &Context<'a>,
+    context: &Context<'a, '_>,
     of_type: &str,
     sets: &[SelectionSet<'a>],
 ) -> Result<Groups<'a>, AllocError>

@@ -110,7 +110,7 @@ pub fn is_possible(schema: &Schema, of_type: &str, condition: &str) -> bool
 }
 
 /// Whether an inline fragment applies to objects of a type: without a condition it always does.
-pub fn has_condition_met(context: &Context<'_>, of_type: &str, condition: &Option<Name>) -> bool
+pub fn has_condition_met(context: &Context<'_, '_>, of_type: &str, condition: &Option<Name>) -> bool
     ensures { result ≡ applies (given context.now) of_type.now condition.now }
 {
     match condition {

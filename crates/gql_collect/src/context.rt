@@ -4,10 +4,10 @@ use serde_json::Value;
 
 /// What selections are collected with.
 #[derive(Clone, Copy)]
-pub struct Context<'a> {
+pub struct Context<'a, 'v> {
     pub schema: &'a Schema,
     /// The fragments of the documents.
     pub fragments: &'a Fragments,
     /// The values of the operation's variables, as an object.
-    pub values: &'a Value,
+    pub values: &'v Value,
 }

@@ -10,3 +10,13 @@ pub fn one_collection()
 pub fn some_collection()
     ensures { laws.SomeCollection }
 {}
+
+/// Selections that lead to no fragment which leads back to itself nest at some depth.
+pub fn some_depth()
+    ensures { laws.SomeDepth }
+{}
+
+/// Selections that nest at some depth have groups, and what each group selects nests less deep.
+pub fn some_groups()
+    ensures { laws.SomeGroups }
+{}

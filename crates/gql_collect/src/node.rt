@@ -7,6 +7,7 @@ ghost use Rattle.gql_collect.specs.SameFields.{same_field_equiv, same_field_hash
 ghost use Rattle.gql_collect.specs.Nodes.{in_file};
 
 use gql_ast::{Field, FileName, Name, Selection};
+use gql_text::Place;
 use std::hash::{Hash, Hasher};
 
 /// A selection set, and the file that it is in.
@@ -40,6 +41,13 @@ impl<'a> FieldNode<'a> {
         ensures { result.now ≡ key_of (node_of self.now) }
     {
         own_name(self.field).as_str()
+    }
+
+    /// Where the field starts: the place of its alias, or else of its name (2.5).
+    pub fn place(&self) -> Place
+        ensures { result ≡ (response_name (node_of self.now).field).place }
+    {
+        own_name(self.field).place
     }
 
     /// The selections of the field.

@@ -48,7 +48,7 @@ fn split_first(set: SelectionSet<'_>) -> Option<(&Selection, SelectionSet<'_>)>
 /// once, where it comes first. Each fragment is entered once.
 pub fn unfold<'a>(
     alloc: Global,
-    context: &Context<'a>,
+    context: &Context<'a, '_>,
     of_type: &str,
     sets: &[SelectionSet<'a>],
 ) -> Result<IndexSet<FieldNode<'a>>, AllocError>

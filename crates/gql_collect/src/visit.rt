@@ -35,7 +35,7 @@ fn nothing(file: &FileName) -> SelectionSet<'_>
 
 /// What a fragment holds for objects of a type: nothing where it is not defined, or does not apply.
 fn held_by<'a>(
-    context: &Context<'a>,
+    context: &Context<'a, '_>,
     of_type: &str,
     file: &'a FileName,
     name: &str,
@@ -57,7 +57,7 @@ fn held_by<'a>(
 
 /// Visits a field.
 fn visit_field<'a>(
-    context: &Context<'a>,
+    context: &Context<'a, '_>,
     file: &'a FileName,
     field: &'a Field,
     met: &mut Met<'a>,
@@ -75,7 +75,7 @@ fn visit_field<'a>(
 
 /// Visits a spread. A fragment that was entered before is passed by.
 fn visit_spread<'a>(
-    context: &Context<'a>,
+    context: &Context<'a, '_>,
     of_type: &str,
     file: &'a FileName,
     spread: &'a Spread,
@@ -98,7 +98,7 @@ fn visit_spread<'a>(
 
 /// What is in the place of an inline fragment.
 fn held_inline<'a>(
-    context: &Context<'a>,
+    context: &Context<'a, '_>,
     of_type: &str,
     file: &'a FileName,
     inline: &'a InlineFragment,
@@ -121,7 +121,7 @@ fn held_inline<'a>(
 
 /// Visits a selection. The result is what is to be visited next, in its place.
 pub fn visit<'a>(
-    context: &Context<'a>,
+    context: &Context<'a, '_>,
     of_type: &str,
     file: &'a FileName,
     selection: &'a Selection,

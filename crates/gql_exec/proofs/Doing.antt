@@ -7,8 +7,8 @@ use Rattle.gql_exec.specs.declared.ended.Ended.{Ended}
 use Rattle.gql_exec.specs.declared.ended.Ended.TheVariants.{Written, Bubbled}
 use Rattle.gql_exec.specs.declared.run.Run.{Run}
 use Rattle.gql_exec.specs.declared.outcome.Step.{Step}
-use Rattle.gql_exec.specs.declared.stop.Stop.{Stop}
-use Rattle.gql_exec.specs.declared.stop.Stop.TheVariants.{TooHeavy}
+use Rattle.gql_exec.specs.declared.refusal.ExecRefusal.{ExecRefusal}
+use Rattle.gql_exec.specs.declared.refusal.ExecRefusal.TheVariants.{TooHeavy}
 use Rattle.gql_exec.specs.Ended.{both}
 use Rattle.gql_exec.specs.Outcomes.{segment_of}
 use Rattle.gql_exec.specs.Parts.{Outcome, text, bubble, joined, Part, followed_by, plain, one, counted, comma, after_comma, within, all, numbered, has_own, settled, caught, or_null}
@@ -46,7 +46,7 @@ done-after a b d e s t u f g = done-both a (b (path_of s)) d e s t u f (subst (�
 heavier : (a : Part) (w : ℕ) (s t : Run) → Follows a s t → t.left < w → s.left < a.weight + w
 heavier a w s t f h = omega (arith, f.left, h)
 
-pub executes-after : (a : Part) (b : List Segment → Part) (result : Result Ended Stop) (s t u : Run) → Done a Written s t → Executes (b (path_of t)) result t u → Executes (followed_by a (b (path_of s))) result s u
+pub executes-after : (a : Part) (b : List Segment → Part) (result : Result Ended ExecRefusal) (s t u : Run) → Done a Written s t → Executes (b (path_of t)) result t u → Executes (followed_by a (b (path_of s))) result s u
 executes-after a b (Ok e) s t u f g = done-after a b Written e s t u f g
 executes-after a b (Err stop) s t u f g = λ heavy. heavier a _ s t f.follows (subst (λ p. t.left < (b (map segment_of p)).weight) f.follows.path (g heavy))
 
@@ -58,7 +58,7 @@ module _ {A : Type 0} (f : List Segment → ℕ → A → Part) (xs : List A) (k
   loop-more d e done next = rw (add-one, all-more (f (path_of s)) xs k x within here)
       (done-after (all (numbered (f (path_of s)) 0 (take k xs))) (λ p. f p k x) d e s t u done next)
 
-  pub loop-stops : (d : Ended) (stop : Stop) → Done (all (numbered (f (path_of s)) 0 (take k xs))) d s t → (stop ≡ TooHeavy → t.left < (f (path_of t) k x).weight)
+  pub loop-stops : (d : Ended) (stop : ExecRefusal) → Done (all (numbered (f (path_of s)) 0 (take k xs))) d s t → (stop ≡ TooHeavy → t.left < (f (path_of t) k x).weight)
       → stop ≡ TooHeavy → s.left < (all (numbered (f (path_of s)) 0 xs)).weight
   loop-stops d stop done heavy is =
       let more : (all (numbered (f (path_of s)) 0 (take (suc k) xs))).weight ≡ (all (numbered (f (path_of s)) 0 (take k xs))).weight + (f (path_of s) k x).weight
@@ -149,12 +149,12 @@ module _ (before after : List ℕ) (f : List Segment → Part) (s t u : Run) (op
   within-heavy h = omega (arith, heavier (plain before) (f (path_of s)).weight s t opens (subst (λ p. t.left < (f (map segment_of p)).weight) opens.path h))
 
 -- a call that stops
-pub stopped : (r : Part) (result : Result Ended Stop) (stop : Stop) (s t : Run) → IsErrAnd result (λ e. e ≡ stop) → (stop ≡ TooHeavy → s.left < r.weight) → Executes r result s t
+pub stopped : (r : Part) (result : Result Ended ExecRefusal) (stop : ExecRefusal) (s t : Run) → IsErrAnd result (λ e. e ≡ stop) → (stop ≡ TooHeavy → s.left < r.weight) → Executes r result s t
 stopped r (Ok x) stop s t e h = absurd e
 stopped r (Err x) stop s t e h = λ is. h (sym e ∙ is)
 
 -- a field or an item: the comma, the count, and what is counted
-pub counted-executes : (i : ℕ) (f : List Segment → Part) (result : Result Ended Stop) (s t u v : Run)
+pub counted-executes : (i : ℕ) (f : List Segment → Part) (result : Result Ended ExecRefusal) (s t u v : Run)
     → Follows (comma i) s t → Follows one t u → Executes (f (path_of u)) result u v → Executes (after_comma i (counted (f (path_of s)))) result s v
 counted-executes i f result s t u v first count rest =
     executes-after (comma i) (λ p. counted (f p)) result s t v (commas i s t first)

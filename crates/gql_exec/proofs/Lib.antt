@@ -1,7 +1,16 @@
+pub mod Alike
+pub mod Alone
+pub mod Completing
 pub mod Doing
+pub mod Ending
+pub mod Entries
 pub mod Enums
 pub mod Escapes
+pub mod Executing
+pub mod Grouped
 pub mod Leaving
+pub mod Listing
 pub mod Parts
-pub mod Alike
+pub mod Resolving
+pub mod Starting
 pub mod Texting

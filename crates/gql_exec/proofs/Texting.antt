@@ -13,6 +13,7 @@ use Rattle.gql_exec.specs.Parts.{Outcome, text, bubble, Part, joined, followed_b
 use Rattle.gql_exec.specs.Parts as part
 use Rattle.gql_exec.specs.Replies.{Segment, key, index, Path, Note, Reply}
 use Rattle.gql_exec.specs.Replies as reply
+use Rattle.gql_exec.specs.ValueParts.{placed_part}
 use Rattle.gql_exec.specs.Texts.{outcome_text, texted, value_part, member_text, comma_at, listed_text}
 
 -- ---- parts, one after the other
@@ -91,10 +92,6 @@ caught_part r = same_part _ _ (by r.value) refl refl where
   by : (o : Option Data) → outcome_text compact_text (Some (reply.or_null o)) ≡ part.or_null (outcome_text compact_text o)
   by (Some d) = refl
   by None = refl
-
--- a value at its place
-abbrev pub placed_part : Written → Part → Part
-placed_part t r = if is_non_null t then r else part.caught r
 
 pub placed_is : (t : Written) (r : Reply Data) → value_part (placed t r) ≡ placed_part t (value_part r)
 placed_is t r = by (is_non_null t) where

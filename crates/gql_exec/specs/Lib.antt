@@ -1,6 +1,7 @@
 pub mod Ended
 pub mod Examples
 pub mod Execution
+pub mod Laws
 pub mod LeafParts
 pub mod Leaves
 pub mod Outcomes
@@ -9,5 +10,8 @@ pub mod Plans
 pub mod Replies
 pub mod Requests
 pub mod Resolution
+pub mod Runs
 pub mod States
+pub mod Tables
 pub mod Texts
+pub mod ValueParts

@@ -1,6 +1,7 @@
 -- Which plan selections have (GraphQL 6.3.2, 6.4 and 6.4.1): their groups for each type that an
 -- object may have, each with the arguments and the type of its first field.
-use Rattle.std.specs.Prelude.{◌≡◌, ℕ, List, [], ◌∷◌, ◌++◌, true, codes, map, Some}
+use Rattle.std.specs.Prelude.{◌≡◌, ℕ, List, [], ◌∷◌, ◌++◌, Bool, true, false, bytes_eq, codes, map, Option, Some}
+use Rattle.std.specs.List.{list_any}
 use Rattle.std.specs.Option.{option_map_or}
 use Rattle.gql_ast.specs.declared.type_system.EnumValueDefinition.{EnumValueDefinition}
 use Rattle.gql_ast.specs.declared.type_system.FieldDefinition.{FieldDefinition}
@@ -13,13 +14,14 @@ use Rattle.gql_coerce.specs.Requests.{ArgumentsCome}
 use Rattle.gql_coerce.specs.declared.refusal.Reason.{Reason}
 use Rattle.gql_coerce.specs.declared.refusal.Segment.{Segment}
 use Rattle.gql_collect.specs.Collection.{Collects, selections_below}
-use Rattle.gql_collect.specs.Conditions.{is_possible}
 use Rattle.gql_collect.specs.Groups.{Group, response_name}
 use Rattle.gql_collect.specs.Nodes.{FileSelection, FieldNode}
 use Rattle.gql_collect.specs.Unfolding.{Given}
 use Rattle.gql_inputs.specs.InputTypes.{name_in}
 use Rattle.gql_types.specs.Schemas.{enum_named, field_named, kind_named, possible_named}
 use Rattle.gql_types.specs.Written.{written}
+use Rattle.gql_types.specs.declared.kind.TypeKind.{TypeKind}
+use Rattle.gql_types.specs.declared.kind.TypeKind.TheVariants as kind
 use Rattle.gql_types.specs.declared.schema.Schema.{Schema}
 use Rattle.serde_json.specs.Data.{Data}
 use Rattle.gql_exec.specs.Execution.{Arguments, given, refused, PlannedField, Plan, plan, Fields, no_fields, field, Types}
@@ -36,6 +38,17 @@ values_in s n = option_map_or (map (λ (v : Sited EnumValueDefinition). v.node.n
 -- what execution asks of a schema
 abbrev pub types_of : Schema → Types
 types_of s = record { kind = kind_named s; possible = possible_in s; values = values_in s }
+
+-- an object of the type t may be met where the type of a name, of this kind, is asked: that type
+-- itself where it is an object type, its possible types where it is abstract
+abbrev pub is_met_by : Types → List ℕ → List ℕ → Option TypeKind → Bool
+is_met_by types t name (Some kind.Object) = bytes_eq t name
+is_met_by types t name (Some kind.Interface) = list_any (bytes_eq t) (types.possible name)
+is_met_by types t name (Some kind.Union) = list_any (bytes_eq t) (types.possible name)
+is_met_by types t name _ = false
+
+abbrev pub is_met : Schema → List ℕ → List ℕ → Bool
+is_met s t name = is_met_by (types_of s) t name (kind_named s name)
 
 -- ---- arguments
 
@@ -73,9 +86,9 @@ pub record IsPlanned (g : Given) (t : List ℕ) (group : Group) (f : PlannedFiel
   pub is : f ≡ planned group first definition.node arguments
 
 abbrev mutual
-  -- x is the plan of selections, where the type of the object is one that `condition` stands for
+  -- x is the plan of selections on what a field of the type of this name gives
   pub IsPlan : Given → List ℕ → List FileSelection → Plan → Type 0
-  IsPlan g condition xs (plan by_type) = (t : List ℕ) → is_possible g.schema t condition ≡ true
+  IsPlan g name xs (plan by_type) = (t : List ℕ) → is_met g.schema t name ≡ true
       → (groups : List Group) × Collects g t xs groups × ArePlanned g t groups (by_type t)
 
   -- one by one, each with the plan of what it selects

@@ -1,5 +1,5 @@
 -- What a request of an operation comes to (GraphQL 6.1, 6.2 and 7.1).
-use Rattle.std.specs.Prelude.{◌≡◌, ℕ, List, [], ◌∷◌, codes, map, find, bytes_eq, Option, Some, None, unwrap_or}
+use Rattle.std.specs.Prelude.{◌≡◌, ◌<◌, ◌≤◌, ℕ, List, [], ◌∷◌, codes, map, find, bytes_eq, Option, Some, None, unwrap_or}
 use Rattle.gql_ast.specs.declared.executable.Operation.{Operation}
 use Rattle.gql_ast.specs.declared.executable.OperationKind.{OperationKind}
 use Rattle.gql_ast.specs.declared.executable.OperationKind.TheVariants as operation
@@ -11,7 +11,8 @@ use Rattle.gql_coerce.specs.declared.refusal.Segment.{Segment}
 use Rattle.gql_coerce.specs.declared.refusal.Segment.TheVariants as segment
 use Rattle.gql_collect.specs.Nodes.{in_file}
 use Rattle.gql_facts.specs.declared.fact.FragmentFact.{FragmentFact}
-use Rattle.gql_types.specs.Schemas.{root_of}
+use Rattle.gql_types.specs.Schemas.{kind_named, root_of}
+use Rattle.gql_types.specs.declared.kind.TypeKind.TheVariants as kind
 use Rattle.gql_types.specs.declared.roots.Root.{Root}
 use Rattle.gql_types.specs.declared.schema.Schema.{Schema}
 use Rattle.serde_json.specs.Data as json
@@ -84,7 +85,8 @@ response_of a = record {
 -- ---- requests
 
 -- The variables are coerced first (CoerceVariableValues). The first that is refused is a request
--- error. Else the selections are executed on the initial value, for the root type.
+-- error. Else the selections are executed on the initial value, for the root type, which is an object
+-- type.
 pub data Executes (r : Request) : Response → Type 0 where
   refused : {why : Reason} {path : List Segment} {v : VariableDefinition}
       → VariablesCome r.schema r.operation.variables r.variables (comes.refused why path)
@@ -92,7 +94,22 @@ pub data Executes (r : Request) : Response → Type 0 where
   executed : {values : Data} {root : Root} (x : Plan)
       → VariablesCome r.schema r.operation.variables r.variables (comes.value values)
       → root_of r.schema r.operation.kind ≡ Some root
+      → kind_named r.schema root.name.node.text ≡ Some kind.Object
       → IsPlan (record { schema = r.schema; fragments = r.fragments; values = values })
       root.name.node.text (in_file r.file r.operation.selections) x
       → Executes r (response_of (answer (types_of r.schema) x root.name.node.text
       (initial_value r.operation.kind r.stored)))
+
+-- ---- calls
+
+-- the most values that are completed
+abbrev pub most_values : ℕ
+most_values = 100000
+
+-- the outcome of a request: that of each response, of which so many values are completed at most
+abbrev pub IsOutcome : Request → AnOutcome → Type 0
+IsOutcome r o = (p : Response) → Executes r p → (p.weight ≤ most_values) × (o ≡ p.outcome)
+
+-- more values than these are to be completed
+abbrev pub IsTooHeavy : Request → Type 0
+IsTooHeavy r = (p : Response) → Executes r p → most_values < p.weight

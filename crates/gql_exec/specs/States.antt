@@ -9,8 +9,8 @@ use Rattle.gql_exec.specs.declared.run.FieldError.{FieldError}
 use Rattle.gql_exec.specs.declared.run.Reason.{Reason}
 use Rattle.gql_exec.specs.declared.run.Reason.TheVariants as reason
 use Rattle.gql_exec.specs.declared.run.Run.{Run}
-use Rattle.gql_exec.specs.declared.stop.Stop.{Stop}
-use Rattle.gql_exec.specs.declared.stop.Stop.TheVariants.{TooHeavy}
+use Rattle.gql_exec.specs.declared.refusal.ExecRefusal.{ExecRefusal}
+use Rattle.gql_exec.specs.declared.refusal.ExecRefusal.TheVariants.{TooHeavy}
 
 -- what is said of an error
 abbrev pub message_of : Reason → List ℕ
@@ -59,6 +59,6 @@ pub record Done (r : Part) (ended : Ended) (old new : Run) : Type 0 where
 
 -- A call does what the part says; or an allocation fails; or more values are to be completed than
 -- are left.
-abbrev pub Executes : Part → Result Ended Stop → Run → Run → Type 0
+abbrev pub Executes : Part → Result Ended ExecRefusal → Run → Run → Type 0
 Executes r (Ok ended) old new = Done r ended old new
 Executes r (Err stop) old new = stop ≡ TooHeavy → old.left < r.weight

@@ -11,9 +11,9 @@ ghost use Rattle.gql_exec.specs.States.{Executes, Follows, path_of};
 
 use crate::ended::Ended;
 use crate::kinds::is_enum_value;
+use crate::refusal::ExecRefusal;
 use crate::run::{Reason, Run};
 use crate::steps::{raise, write, write_any, write_text, write_whole};
-use crate::stop::Stop;
 use gql_inputs::{Scalar, scalar_named};
 use gql_text::Place;
 use gql_types::Schema;
@@ -28,7 +28,7 @@ pub struct Leaf<'d> {
 }
 
 /// The value is none of the type.
-fn not_of_type(alloc: Global, leaf: Leaf<'_>, run: &mut Run<'_>) -> Result<Ended, Stop>
+fn not_of_type(alloc: Global, leaf: Leaf<'_>, run: &mut Run<'_>) -> Result<Ended, ExecRefusal>
     ensures { Executes (leaf_part leaf.entry (path_of run.old) None) result run.old run.new }
 {
     raise(alloc, run, leaf.place, Reason::NotOfType(leaf.name))
@@ -47,7 +47,7 @@ fn complete_whole(
     leaf: Leaf<'_>,
     whole: i64,
     run: &mut Run<'_>,
-) -> Result<Ended, Stop>
+) -> Result<Ended, ExecRefusal>
     ensures { Executes (leaf_part leaf.entry (path_of run.old) (spec.int_of whole))
         result run.old run.new }
 {
@@ -64,7 +64,7 @@ fn complete_int(
     leaf: Leaf<'_>,
     value: &Value,
     run: &mut Run<'_>,
-) -> Result<Ended, Stop>
+) -> Result<Ended, ExecRefusal>
     ensures { Executes (leaf_part leaf.entry (path_of run.old) (spec.as_int (view value.now)))
         result run.old run.new }
 {
@@ -80,7 +80,7 @@ fn complete_id(
     leaf: Leaf<'_>,
     value: &Value,
     run: &mut Run<'_>,
-) -> Result<Ended, Stop>
+) -> Result<Ended, ExecRefusal>
     ensures { Executes (leaf_part leaf.entry (path_of run.old) (spec.as_id (view value.now)))
         result run.old run.new }
 {
@@ -104,7 +104,7 @@ fn complete_string(
     leaf: Leaf<'_>,
     value: &Value,
     run: &mut Run<'_>,
-) -> Result<Ended, Stop>
+) -> Result<Ended, ExecRefusal>
     ensures { Executes (leaf_part leaf.entry (path_of run.old) (spec.as_string (view value.now)))
         result run.old run.new }
 {
@@ -118,9 +118,9 @@ fn complete_string(
 }
 
 /// Writes `true` or `false`.
-fn write_truth(run: &mut Run<'_>, truth: bool) -> Result<(), Stop>
+fn write_truth(run: &mut Run<'_>, truth: bool) -> Result<(), ExecRefusal>
     ensures follows { OnOk result (Follows (plain (compact_text (boolean truth))) run.old run.new) }
-    ensures err { IfErr result (λ e. e ≡ Stop.Memory) }
+    ensures err { IfErr result (λ e. e ≡ ExecRefusal.Memory) }
 {
     if truth {
         write(run, b"true")
@@ -135,7 +135,7 @@ fn complete_boolean(
     leaf: Leaf<'_>,
     value: &Value,
     run: &mut Run<'_>,
-) -> Result<Ended, Stop>
+) -> Result<Ended, ExecRefusal>
     ensures { Executes (leaf_part leaf.entry (path_of run.old) (spec.as_boolean (view value.now)))
         result run.old run.new }
 {
@@ -154,7 +154,7 @@ pub fn complete_scalar(
     leaf: Leaf<'_>,
     value: &Value,
     run: &mut Run<'_>,
-) -> Result<Ended, Stop>
+) -> Result<Ended, ExecRefusal>
     ensures { Executes (leaf_part leaf.entry (path_of run.old)
         (spec.scalar_value leaf.entry.name.now (view value.now))) result run.old run.new }
 {
@@ -177,7 +177,7 @@ pub fn complete_enum(
     leaf: Leaf<'_>,
     value: &Value,
     run: &mut Run<'_>,
-) -> Result<Ended, Stop>
+) -> Result<Ended, ExecRefusal>
     ensures { Executes (leaf_part leaf.entry (path_of run.old)
         (spec.as_enum (values_in schema.now leaf.entry.name.now) (view value.now)))
         result run.old run.new }

@@ -2,17 +2,28 @@
 #![tactic(auto)]
 
 mod ended;
+mod executor;
 mod filter;
+mod items;
 mod kinds;
+pub mod laws;
 mod leaves;
+mod nulls;
 mod outcome;
+mod planning;
+mod refusal;
+mod resolve;
 mod run;
 mod same;
+mod site;
 mod steps;
-mod stop;
 mod strings;
+mod table;
 mod values;
+mod whole;
 
 pub use outcome::{Outcome, ResponseError, Step};
+pub use refusal::ExecRefusal;
 pub use strings::write_string;
 pub use values::{write_integer, write_unsigned, write_value};
+pub use whole::execute;

@@ -9,8 +9,8 @@ ghost use Rattle.gql_exec.specs.Parts.{comma, plain, one};
 ghost use Rattle.gql_exec.specs.States.{Executes, Follows, message_of, path_of};
 
 use crate::ended::Ended;
+use crate::refusal::ExecRefusal;
 use crate::run::{FieldError, Reason, Run};
-use crate::stop::Stop;
 use crate::strings::write_string;
 use crate::values::write_value;
 use gql_text::Place;
@@ -18,9 +18,9 @@ use serde_json::Value;
 use std::alloc::{AllocError, Global};
 
 /// Writes bytes as they are.
-pub fn write(run: &mut Run<'_>, bytes: &[u8]) -> Result<(), Stop>
+pub fn write(run: &mut Run<'_>, bytes: &[u8]) -> Result<(), ExecRefusal>
     ensures follows { OnOk result (Follows (plain bytes.now) run.old run.new) }
-    ensures err { IfErr result (λ e. e ≡ Stop.Memory) }
+    ensures err { IfErr result (λ e. e ≡ ExecRefusal.Memory) }
 {
     run.out.extend_from_slice(bytes)?;
     Ok(())
@@ -28,26 +28,26 @@ pub fn write(run: &mut Run<'_>, bytes: &[u8]) -> Result<(), Stop>
 
 /// Writes a comma, but not before the first part.
 #[tactic(auto, using(crate::proofs::Parts::comma_first, crate::proofs::Parts::comma_later))]
-pub fn write_comma(run: &mut Run<'_>, i: usize) -> Result<(), Stop>
+pub fn write_comma(run: &mut Run<'_>, i: usize) -> Result<(), ExecRefusal>
     ensures follows { OnOk result (Follows (comma i) run.old run.new) }
-    ensures err { IfErr result (λ e. e ≡ Stop.Memory) }
+    ensures err { IfErr result (λ e. e ≡ ExecRefusal.Memory) }
 {
     if i == 0 { Ok(()) } else { write(run, b",") }
 }
 
 /// Writes a string.
-pub fn write_text(run: &mut Run<'_>, text: &str) -> Result<(), Stop>
+pub fn write_text(run: &mut Run<'_>, text: &str) -> Result<(), ExecRefusal>
     ensures follows { OnOk result (Follows (plain (quoted text.now)) run.old run.new) }
-    ensures err { IfErr result (λ e. e ≡ Stop.Memory) }
+    ensures err { IfErr result (λ e. e ≡ ExecRefusal.Memory) }
 {
     write_string(text, &mut run.out)?;
     Ok(())
 }
 
 /// Writes a whole number.
-pub fn write_whole(run: &mut Run<'_>, number: i64) -> Result<(), Stop>
+pub fn write_whole(run: &mut Run<'_>, number: i64) -> Result<(), ExecRefusal>
     ensures follows { OnOk result (Follows (plain (signed_decimal number)) run.old run.new) }
-    ensures err { IfErr result (λ e. e ≡ Stop.Memory) }
+    ensures err { IfErr result (λ e. e ≡ ExecRefusal.Memory) }
 {
     let mut digits = itoa::Buffer::new();
     run.out.extend_from_slice(digits.format(number).as_bytes())?;
@@ -55,22 +55,22 @@ pub fn write_whole(run: &mut Run<'_>, number: i64) -> Result<(), Stop>
 }
 
 /// Writes any value.
-pub fn write_any(run: &mut Run<'_>, value: &Value) -> Result<(), Stop>
+pub fn write_any(run: &mut Run<'_>, value: &Value) -> Result<(), ExecRefusal>
     ensures follows { OnOk result
         (Follows (plain (compact_text (view value.now))) run.old run.new) }
-    ensures err { IfErr result (λ e. e ≡ Stop.Memory) }
+    ensures err { IfErr result (λ e. e ≡ ExecRefusal.Memory) }
 {
     write_value(value, &mut run.out)?;
     Ok(())
 }
 
 /// Counts one value, unless as many are completed as may be.
-pub fn count(run: &mut Run<'_>) -> Result<(), Stop>
+pub fn count(run: &mut Run<'_>) -> Result<(), ExecRefusal>
     ensures follows { OnOk result (Follows one run.old run.new) }
     ensures err { IfErr result (λ e. run.old.left ≡ 0) }
 {
     if run.left == 0 {
-        return Err(Stop::TooHeavy);
+        return Err(ExecRefusal::TooHeavy);
     }
     run.left -= 1;
     Ok(())
@@ -105,7 +105,7 @@ pub fn raise(
     run: &mut Run<'_>,
     place: Place,
     reason: Reason<'_>,
-) -> Result<Ended, Stop>
+) -> Result<Ended, ExecRefusal>
     ensures { Executes (spec.raise (record {
       message = message_of reason.entry;
       place = place;
@@ -126,10 +126,10 @@ pub fn raise(
 }
 
 /// Cuts the text back to a mark, and writes null.
-pub fn cut_to_null(run: &mut Run<'_>, mark: usize) -> Result<(), Stop>
+pub fn cut_to_null(run: &mut Run<'_>, mark: usize) -> Result<(), ExecRefusal>
     ensures out { OnOk result (run.new.out.items ≡ take mark run.old.out.items ++ codes "null") }
     ensures rest { OnOk result (run.new ≡ record run.old { out = run.new.out }) }
-    ensures err { IfErr result (λ e. e ≡ Stop.Memory) }
+    ensures err { IfErr result (λ e. e ≡ ExecRefusal.Memory) }
 {
     run.out.truncate(mark);
     run.out.extend_from_slice(b"null")?;

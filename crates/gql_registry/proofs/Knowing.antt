@@ -1,5 +1,5 @@
 -- What is known before an edit, from the verdicts that are kept.
-use Rattle.std.proofs.Common.{◌≡◌, List, [], refl}
+use Rattle.std.proofs.Common.{◌≡◌, List, [], None, refl}
 use Rattle.gql_ast.specs.declared.files.Files.{Files}
 use Rattle.gql_facts.specs.Facts.{fact_of}
 use Rattle.gql_facts.specs.ListMembers.{Contains-nil}
@@ -16,8 +16,9 @@ known before after shelf All current only = tt
 known before after shelf (Fragments names) current only = (fact_of before, record { held = current.holds; unchanged = only })
 
 -- without files nothing is to be kept
-pub none_kept : (shelf : List Judgement) → shelf ≡ [] → IsKept (record { schema = []; documents = [] }) shelf
+pub none_kept : (shelf : List Judgement) → shelf ≡ [] → IsKept (record { schema = []; documents = [] }) None shelf
 none_kept shelf is = rw is (record {
   placed = λ file h. absurd (Contains-nil file h);
+  known = tt;
   current = record { each = refl; holds = λ v h. absurd (Contains-nil v h) };
 })

@@ -63,7 +63,7 @@ pub record IsKnownOf (files : Files) (known : Known) : Type 0 where
   pub report : IsReport files known.report.items
 
 -- what is kept is of the files, and the definitions of the files are in order
-pub record IsKept (files : Files) (known : Option Known) (shelf : List Judgement) : Type 0 where
+pub record IsKept (files : Files) (o : Option Known) (shelf : List Judgement) : Type 0 where
   pub placed : AreFilesPlaced files.documents
-  pub known : IfSome known (IsKnownOf files)
+  pub known : IfSome o (IsKnownOf files)
   pub current : IsShelfOf files shelf

@@ -156,12 +156,7 @@ impl Registry {
     /// The change that puts bytes as the file of a name on a side. Refused by 203, 202, 201 and
     /// 205, in this order.
     #[tactic(none)]
-    fn change_by_put(
-        &self,
-        side: FileSide,
-        name: FileName,
-        bytes: &[u8],
-    ) -> Result<Change, Refusal>
+    fn change_by_put(&self, side: FileSide, name: FileName, bytes: &[u8]) -> Result<Change, Refusal>
         ensures change { IfOk result
             (IsChangeBy (state_of self.now) (edit.put side name bytes.now)) }
         ensures err { IfErr result
@@ -232,7 +227,8 @@ impl Registry {
     {
         let revision = self.next_revision(expected)?;
         let change = self.change_by_put(side, name, bytes)?;
-        Ok(self.accept(change, revision, meter)?)
+        let edited = self.accept(change, revision, meter)?;
+        Ok(edited)
     }
 
     /// Removes the file of a name from a side.

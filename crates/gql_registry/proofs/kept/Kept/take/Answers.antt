@@ -37,7 +37,7 @@ pub returns-clause-files : goal.returns-clause-files
 returns-clause-files c = search rules
 
 pub returns-clause-count : goal.returns-clause-count
-returns-clause-count c = (c.in_ok-planned.planned.known.report.items, c.in_ok-planned.ensures.planned.known.report, ?)
+returns-clause-count c = (c.in_ok-planned.planned.known.report.items, c.in_ok-planned.ensures.planned.known.report, search rules)
 
 pub returns-clause-work : goal.returns-clause-work
 returns-clause-work c = subst (λ (k : Keeping). IsWorkOn c.args.change.files k.shelf c.args.meter.now c.plan_change.new.meter) c.self.view_is c.in_ok-planned.ensures.work

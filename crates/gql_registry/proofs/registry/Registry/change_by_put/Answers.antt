@@ -25,9 +25,11 @@ returns-then-not-has_room-clause-change c = tt
 pub returns-then-not-has_room-clause-err : goal.returns-then-not-has_room-clause-err
 returns-then-not-has_room-clause-err c = λ expected time.
     let at : c.files_on.result.now ≡ files_on c.args.side c.args.self.now.kept.files = c.files_on.ensures ∙ ap (files_on c.args.side) c.files.ensures.files in
-    let full = no_room (file_named c.files_on.result.now c.args.name) (length c.files_on.result.now) (sym c.if-not-has_room.ensures) in
-    (first_files_full (state_of c.args.self.now) expected c.args.side c.args.name c.args.bytes.now time.present time.left c.in_ok-document.ensures.read.short c.in_ok-document.ensures.read.text
-    (λ f bad. apart_on c.one_answer.ensures.apart c.one_document_answer.ensures.apart c.args.side c.args.name c.args.bytes.now _ f c.in_ok-document.ensures.read.file bad) (subst (λ fs. file_named fs c.args.name ≡ None) at full.0) (subst (λ fs. most_files ≤ length fs) at full.1), refl)
+    let full = no_room (file_named c.files_on.result.now c.args.name) (length c.files_on.result.now) (sym c.if-not-has_room.ensures) in (
+      first_files_full (state_of c.args.self.now) expected c.args.side c.args.name c.args.bytes.now time.present time.left c.in_ok-document.ensures.read.short c.in_ok-document.ensures.read.text
+          (λ f bad. apart_on c.one_answer.ensures.apart c.one_document_answer.ensures.apart c.args.side c.args.name c.args.bytes.now _ f c.in_ok-document.ensures.read.file bad) (subst (λ fs. file_named fs c.args.name ≡ None) at full.0) (subst (λ fs. most_files ≤ length fs) at full.1),
+      refl,
+    )
 
 pub returns-in_err-change-clause-change : goal.returns-in_err-change-clause-change
 returns-in_err-change-clause-change c = search rules
@@ -43,5 +45,5 @@ returns-clause-change c =
           (λ f bad. apart_on c.one_answer.ensures.apart c.one_document_answer.ensures.apart c.args.side c.args.name c.args.bytes.now _ f c.in_ok-document.ensures.read.file bad)
           (subst (λ fs. file_named fs c.args.name ≡ None → most_files ≤ length fs → ⊥) at (room (file_named c.files_on.result.now c.args.name) (length c.files_on.result.now) (sym c.if-not-has_room.ensures)));
       leaves = (c.in_ok-document.document, c.in_ok-document.ensures.read.file, ap (λ (f : Files). next (state_of c.args.self.now) f) c.in_ok-change.ensures.files);
-      change = put_change_of c.args.side c.args.self.now.kept.files c.args.name c.in_ok-document.document _ (subst (λ (f : Files). AreFilesPlaced f.documents) c.files.ensures.files c.files.ensures.placed) c.in_ok-document.ensures.read.placed c.in_ok-change.ensures;
+      change = put_change_of c.args.side c.args.self.now.kept.files c.args.name c.in_ok-document.document _ c.files.ensures.placed c.in_ok-document.ensures.read.placed c.in_ok-change.ensures;
     }

@@ -16,7 +16,7 @@ returns-then-not-has-clause-change c = tt
 
 pub returns-then-not-has-clause-err : goal.returns-then-not-has-clause-err
 returns-then-not-has-clause-err c = λ expected time.
-    (first_no_file (state_of c.args.self.now) expected c.args.side c.args.name.now time.present time.left ?, refl)
+    (first_no_file (state_of c.args.self.now) expected c.args.side c.args.name.now time.present time.left (search rules), refl)
 
 pub returns-in_err-change-clause-change : goal.returns-in_err-change-clause-change
 returns-in_err-change-clause-change c = search rules
@@ -27,7 +27,7 @@ returns-in_err-change-clause-err c = in_vain (state_of c.args.self.now) (remove 
 pub returns-clause-change : goal.returns-clause-change
 returns-clause-change c =
     record {
-      accepted = λ expected time. removal_accepted (state_of c.args.self.now) expected c.args.side c.args.name.now time.present time.left ?;
+      accepted = λ expected time. removal_accepted (state_of c.args.self.now) expected c.args.side c.args.name.now time.present time.left (search rules);
       leaves = ap (λ (f : Files). next (state_of c.args.self.now) f) c.in_ok-change.ensures.files;
-      change = removal_change_of c.args.side c.args.self.now.kept.files c.args.name.now _ (subst (λ (f : Files). AreFilesPlaced f.documents) c.files.ensures.files c.files.ensures.placed) c.in_ok-change.ensures;
+      change = removal_change_of c.args.side c.args.self.now.kept.files c.args.name.now _ c.files.ensures.placed c.in_ok-change.ensures;
     }

@@ -29,20 +29,20 @@ accept-requires-clause-revision c = c.in_ok-revision.ensures.next
 pub accept-requires-clause-change : goal.accept-requires-clause-change
 accept-requires-clause-change c = c.in_ok-change.ensures.change.change
 
-pub returns-in_err-accept-clause-makes : goal.returns-in_err-accept-clause-makes
-returns-in_err-accept-clause-makes c = makes_memory (state_of c.args.self.now) _ c.args.expected (put c.args.side c.args.name c.args.bytes.now) _ c.from_residual-in_err-accept.ensures.1 c.in_err-accept.ensures.err
+pub returns-in_err-edited-clause-makes : goal.returns-in_err-edited-clause-makes
+returns-in_err-edited-clause-makes c = makes_memory (state_of c.args.self.now) _ c.args.expected (put c.args.side c.args.name c.args.bytes.now) _ c.from_residual-in_err-edited.ensures.1 c.in_err-edited.ensures.err
 
-pub returns-in_err-accept-clause-shelf : goal.returns-in_err-accept-clause-shelf
-returns-in_err-accept-clause-shelf c = on_err_of _ c.in_err-accept.ensures.shelf
+pub returns-in_err-edited-clause-shelf : goal.returns-in_err-edited-clause-shelf
+returns-in_err-edited-clause-shelf c = on_err_of _ c.in_err-edited.ensures.shelf
 
-pub returns-in_err-accept-clause-works : goal.returns-in_err-accept-clause-works
-returns-in_err-accept-clause-works c =
-    works_in_vain (state_of c.args.self.now) _ (shelf_of c.args.self.now) (put c.args.side c.args.name c.args.bytes.now) _ _ _ c.from_residual-in_err-accept.ensures.1
-    (inr (next (state_of c.args.self.now) c.in_ok-change.change.files, c.in_ok-change.ensures.change.leaves, c.in_err-accept.ensures.work))
+pub returns-in_err-edited-clause-works : goal.returns-in_err-edited-clause-works
+returns-in_err-edited-clause-works c =
+    works_in_vain (state_of c.args.self.now) _ (shelf_of c.args.self.now) (put c.args.side c.args.name c.args.bytes.now) _ _ _ c.from_residual-in_err-edited.ensures.1
+    (inr (next (state_of c.args.self.now) c.in_ok-change.change.files, c.in_ok-change.ensures.change.leaves, c.in_err-edited.ensures.work))
 
 pub returns-clause-makes : goal.returns-clause-makes
-returns-clause-makes c = accepted_answer (state_of c.args.self.now) _ c.args.expected (put c.args.side c.args.name c.args.bytes.now) _ _ c.in_ok-change.ensures.change c.in_ok-revision.ensures.time c.in_ok-accept.ensures.next c.in_ok-accept.ensures.reports
+returns-clause-makes c = accepted_answer (state_of c.args.self.now) _ c.args.expected (put c.args.side c.args.name c.args.bytes.now) _ _ c.in_ok-change.ensures.change c.in_ok-revision.ensures.time c.in_ok-edited.ensures.next c.in_ok-edited.ensures.reports
 
 pub returns-clause-works : goal.returns-clause-works
 returns-clause-works c =
-    subst (λ f. IsWorkOn f (shelf_of c.args.self.now) c.args.meter.now c.accept.new.meter) (sym (ap (λ (t : State). t.files) c.in_ok-accept.ensures.next)) c.in_ok-accept.ensures.work
+    subst (λ f. IsWorkOn f (shelf_of c.args.self.now) c.args.meter.now c.accept.new.meter) (sym (ap (λ (t : State). t.files) c.in_ok-edited.ensures.next)) c.in_ok-edited.ensures.work

@@ -1,0 +1,168 @@
+-- A request has one response.
+use Rattle.std.proofs.Common.{◌≡◌, ℕ, ◌+◌, List, [], ◌∷◌, ◌++◌, Bool, true, bytes_eq, codes, Option, Some, None, refl, sym, ap, ◌∙◌, subst, if◌then◌else◌}
+use Rattle.gql_ast.specs.declared.executable.VariableDefinition.{VariableDefinition}
+use Rattle.gql_ast.specs.declared.type_system.FieldDefinition.{FieldDefinition}
+use Rattle.gql_built_in.specs.declared.sited.Sited.{Sited}
+use Rattle.gql_coerce.specs.Comes as comes
+use Rattle.gql_coerce.specs.Comes.{Outcome}
+use Rattle.gql_coerce.specs.Laws.{OneOfArguments, OneOfVariables}
+use Rattle.gql_coerce.specs.Requests.{ArgumentsCome, VariablesCome}
+use Rattle.gql_coerce.specs.declared.refusal.Reason.{Reason}
+use Rattle.gql_coerce.specs.declared.refusal.Segment.{Segment}
+use Rattle.gql_collect.specs.Collection.{Collects, selections_below}
+use Rattle.gql_collect.specs.Groups.{Group}
+use Rattle.gql_collect.specs.Laws.{OneCollection}
+use Rattle.gql_collect.specs.Nodes.{FieldNode, FileSelection, in_file}
+use Rattle.gql_collect.specs.Unfolding.{Given}
+use Rattle.gql_inputs.specs.InputTypes.{name_in}
+use Rattle.gql_text.specs.declared.place.Place.{Place}
+use Rattle.gql_types.specs.Schemas.{field_named}
+use Rattle.gql_types.specs.Written.{Written, named, listed, required}
+use Rattle.gql_types.specs.declared.kind.TypeKind.{TypeKind}
+use Rattle.gql_types.specs.declared.kind.TypeKind.TheVariants as kind
+use Rattle.gql_types.specs.declared.roots.Root.{Root}
+use Rattle.serde_json.specs.Data as json
+use Rattle.serde_json.specs.Data.{Data}
+use Rattle.serde_json.specs.Find.{get}
+use Rattle.serde_json.specs.View.{items_of}
+use Rattle.gql_exec.specs.Execution.{Arguments, given, refused, Below, Fields, no_fields, field, Plan, plan, PlannedField, Site, Types, among, answer, answered, complete, each, execute, executed, fault, items_from, is_null, leaf, members_of, of_kind, on_abstract, on_list, on_object, placed, value_of}
+use Rattle.gql_exec.specs.Leaves.{as_enum, scalar_value}
+use Rattle.gql_exec.specs.Plans.{ArePlanned, IsPlan, IsPlanned, is_met, is_met_by, planned, types_of}
+use Rattle.gql_exec.specs.Replies.{Path, index, key, Reply, all, counted, mapped, returns, settled}
+use Rattle.gql_exec.specs.Requests.{Executes, Request, Response, initial_value, request_error, response_of, variable_at}
+use Rattle.gql_exec.specs.Requests as requests
+use Rattle.gql_exec.specs.Resolution.{list_of, resolved}
+use Rattle.gql_exec.proofs.Executing.{among_is, met_object, bytes_same}
+use Rattle.gql_exec.proofs.Ending.{first_same, path_same, value_same}
+use Rattle.gql_exec.proofs.Grouped.{same_first, same_some}
+
+-- ---- values, where two agree on what is below
+
+items_alike : (e f : Path → Data → Reply Data) → ((p : Path) (d : Data) → e p d ≡ f p d) → (i : ℕ) (p : Path) (ds : List Data) → items_from e i p ds ≡ items_from f i p ds
+items_alike e f same i p [] = refl
+items_alike e f same i p (d ∷ ds) = ap (λ r. counted r ∷ items_from e (i + 1) p ds) (same (p ++ index i ∷ []) d)
+    ∙ ap (λ rs. counted (f (p ++ index i ∷ []) d) ∷ rs) (items_alike e f same (i + 1) p ds)
+
+list_alike : (s u : Site) → s.place ≡ u.place → (e f : Path → Data → Reply Data) → ((p : Path) (d : Data) → e p d ≡ f p d) → (p : Path) (d : Data) → on_list s e p d ≡ on_list u f p d
+list_alike s u at e f same p json.null = ap (λ (x : Place). let v : Site = record s { place = x } in fault v p (codes "value is not a list")) at
+list_alike s u at e f same p (json.boolean b) = ap (λ (x : Place). let v : Site = record s { place = x } in fault v p (codes "value is not a list")) at
+list_alike s u at e f same p (json.number n) = ap (λ (x : Place). let v : Site = record s { place = x } in fault v p (codes "value is not a list")) at
+list_alike s u at e f same p (json.string t) = ap (λ (x : Place). let v : Site = record s { place = x } in fault v p (codes "value is not a list")) at
+list_alike s u at e f same p (json.array ds) = ap (λ rs. mapped (λ xs. json.array (items_of xs)) (all rs)) (items_alike e f same 0 p (list_of ds))
+list_alike s u at e f same p (json.object ms) = ap (λ (x : Place). let v : Site = record s { place = x } in fault v p (codes "value is not a list")) at
+
+-- the place of a field, and what is below for two plans
+abbrev site : Types → Place → Below → Site
+site types place a = record { types = types; place = place; below = a }
+
+-- they agree on the objects that may be met
+abbrev Alike : Types → List ℕ → Option TypeKind → Below → Below → Type 0
+Alike types n k a b = (m : List ℕ) → is_met_by types m n k ≡ true → (p : Path) (d : Data) → a m p d ≡ b m p d
+
+module _ (types : Types) (place : Place) (a b : Below) where
+  leaf_alike : (n : List ℕ) (p : Path) (o : Option Data) → leaf (site types place a) n p o ≡ leaf (site types place b) n p o
+  leaf_alike n p (Some d) = refl
+  leaf_alike n p None = refl
+
+  object_alike : (n : List ℕ) (p : Path) (d : Data) → ((q : Path) (e : Data) → a n q e ≡ b n q e) → on_object (site types place a) n p d ≡ on_object (site types place b) n p d
+  object_alike n p json.null h = refl
+  object_alike n p (json.boolean x) h = refl
+  object_alike n p (json.number x) h = refl
+  object_alike n p (json.string x) h = refl
+  object_alike n p (json.array ds) h = refl
+  object_alike n p (json.object ms) h = h p (json.object ms)
+
+  abstract_alike : (n : List ℕ) (p : Path) (d : Data) (o : Option (List ℕ)) → ((m : List ℕ) → o ≡ Some m → a m p d ≡ b m p d)
+      → on_abstract (site types place a) n p d o ≡ on_abstract (site types place b) n p d o
+  abstract_alike n p d (Some m) h = h m refl
+  abstract_alike n p d None h = refl
+
+  kind_alike : (n : List ℕ) (p : Path) (d : Data) (k : Option TypeKind) → Alike types n k a b → of_kind (site types place a) n p d k ≡ of_kind (site types place b) n p d k
+  kind_alike n p d (Some kind.Scalar) h = leaf_alike n p (scalar_value n d)
+  kind_alike n p d (Some kind.Enum) h = leaf_alike n p (as_enum (types.values n) d)
+  kind_alike n p d (Some kind.Object) h = object_alike n p d (h n (bytes_same n))
+  kind_alike n p d (Some kind.Interface) h = abstract_alike n p d (among (types.possible n) (get (codes "__typename") d))
+      (λ m e. h m (among_is (types.possible n) (get (codes "__typename") d) m e) p d)
+  kind_alike n p d (Some kind.Union) h = abstract_alike n p d (among (types.possible n) (get (codes "__typename") d))
+      (λ m e. h m (among_is (types.possible n) (get (codes "__typename") d) m e) p d)
+  kind_alike n p d (Some kind.InputObject) h = refl
+  kind_alike n p d None h = refl
+
+  complete_alike : (t : Written) → Alike types (name_in t) (types.kind (name_in t)) a b → (p : Path) (d : Data) → complete (site types place a) t p d ≡ complete (site types place b) t p d
+  complete_alike (named n) h p d = ap (λ r. if is_null d then returns json.null else r) (kind_alike n p d (types.kind n) h)
+  complete_alike (listed t) h p d = ap (λ r. if is_null d then returns json.null else r)
+      (list_alike (site types place a) (site types place b) refl (λ q x. placed t (complete (site types place a) t q x)) (λ q x. placed t (complete (site types place b) t q x))
+      (λ q x. ap (placed t) (complete_alike t h q x)) p d)
+  complete_alike (required t) h p d = ap (λ r. if is_null d then fault (site types place a) p (codes "null for a Non-Null type") else r) (complete_alike t h p d)
+
+value_alike : (types : Types) (f : PlannedField) (a b : Below) (arguments : Arguments) → Alike types (name_in f.of_type) (types.kind (name_in f.of_type)) a b → (p : Path) (d : Data)
+    → value_of (site types f.place a) f arguments p d ≡ value_of (site types f.place b) f arguments p d
+value_alike types f a b (given x) h p d = complete_alike types f.place a b f.of_type h p (resolved f.name f.of_type x d)
+value_alike types f a b (refused m) h p d = refl
+
+executed_alike : (types : Types) (f : PlannedField) (a b : Below) → Alike types (name_in f.of_type) (types.kind (name_in f.of_type)) a b → (p : Path) (d : Data)
+    → executed types f a p d ≡ executed types f b p d
+executed_alike types f a b h p d = ap (λ r. mapped (λ v. (f.response_name, v)) (counted (settled (placed f.of_type r))))
+    (value_alike types f a b f.arguments h (p ++ key f.response_name ∷ []) d)
+
+-- ---- plans
+
+module _ (collection : OneCollection) (of_arguments : OneOfArguments) (g : Given) where
+  planned_one : (t : List ℕ) (group : Group) (f e : PlannedField) → IsPlanned g t group f → IsPlanned g t group e → f ≡ e
+  planned_one t group f e h k =
+      let n : h.first ≡ k.first = same_first h.first k.first h.others k.others (sym h.nodes ∙ k.nodes) in
+      let d : h.definition ≡ k.definition = same_some h.definition k.definition (sym h.defined ∙ ap (λ (m : FieldNode). field_named g.schema t m.field.name.text) n ∙ k.defined) in
+      let come : ArgumentsCome g.schema k.definition.node.arguments k.first.field.arguments g.values h.arguments =
+      subst (λ (x : Sited FieldDefinition). ArgumentsCome g.schema x.node.arguments k.first.field.arguments g.values h.arguments) d
+      (subst (λ (m : FieldNode). ArgumentsCome g.schema h.definition.node.arguments m.field.arguments g.values h.arguments) n h.comes) in
+      let o : h.arguments ≡ k.arguments = of_arguments g.schema k.definition.node.arguments k.first.field.arguments g.values h.arguments k.arguments come k.comes in
+      h.is ∙ ap (λ m. planned group m h.definition.node h.arguments) n ∙ ap (λ (x : Sited FieldDefinition). planned group k.first x.node h.arguments) d
+      ∙ ap (planned group k.first k.definition.node) o ∙ sym k.is
+
+  mutual
+    plans_alike : (name : List ℕ) (xs : List FileSelection) (x y : Plan) → IsPlan g name xs x → IsPlan g name xs y → (t : List ℕ) → is_met g.schema t name ≡ true → (p : Path) (d : Data)
+        → execute (types_of g.schema) x t p d ≡ execute (types_of g.schema) y t p d
+    plans_alike name xs (plan a) (plan b) h k t met p d =
+        let u = h t met in
+        let v = k t met in
+        let same : u.0 ≡ v.0 = collection g t xs u.0 v.0 u.1 v.1 in
+        ap (λ rs. mapped (λ ms. json.object (members_of ms)) (all rs)) (fields_alike t v.0 (a t) (b t) (subst (λ gs. ArePlanned g t gs (a t)) same u.2) v.2 p d)
+
+    fields_alike : (t : List ℕ) (groups : List Group) (fs es : Fields) → ArePlanned g t groups fs → ArePlanned g t groups es → (p : Path) (d : Data)
+        → each (types_of g.schema) fs p d ≡ each (types_of g.schema) es p d
+    fields_alike t [] no_fields no_fields h k p d = refl
+    fields_alike t [] no_fields (field e under more) h k p d = absurd k
+    fields_alike t [] (field f below rest) es h k p d = absurd h
+    fields_alike t (group ∷ groups) no_fields es h k p d = absurd h
+    fields_alike t (group ∷ groups) (field f below rest) no_fields h k p d = absurd k
+    fields_alike t (group ∷ groups) (field f below rest) (field e under more) h k p d =
+        let types = types_of g.schema in
+        let same : f ≡ e = planned_one t group f e h.0 k.0 in
+        let alike : Alike types (name_in e.of_type) (types.kind (name_in e.of_type)) (execute types below) (execute types under) =
+        plans_alike (name_in e.of_type) (selections_below group.nodes) below under (subst (λ (q : PlannedField). IsPlan g (name_in q.of_type) (selections_below group.nodes) below) same h.1) k.1 in
+        ap (λ (q : PlannedField). executed types q (execute types below) p d ∷ each types rest p d) same
+        ∙ ap (λ r. r ∷ each types rest p d) (executed_alike types e (execute types below) (execute types under) alike p d)
+        ∙ ap (λ rs. executed types e (execute types under) p d ∷ rs) (fields_alike t groups rest more h.2 k.2 p d)
+
+-- ---- requests
+
+pub alone : OneCollection → OneOfArguments → OneOfVariables → (r : Request) (p q : Response) → Executes r p → Executes r q → p ≡ q
+alone collection of_arguments of_variables r p q (requests.refused {why} {path} {v} c at) (requests.refused {why = other} {path = others} {v = w} k there) =
+    let e : comes.refused why path ≡ comes.refused other others = of_variables r.schema r.operation.variables r.variables (comes.refused why path) (comes.refused other others) c k in
+    ap (request_error v why) (path_same e) ∙ ap (λ y. request_error v y others) (first_same e)
+    ∙ ap (λ y. request_error y other others) (same_some v w (sym at ∙ ap (variable_at r.operation.variables) (path_same e) ∙ there))
+alone collection of_arguments of_variables r p q (requests.refused {why} {path} {v} c at) (requests.executed {values} {root} x k is object plans) =
+    let e : comes.refused why path ≡ comes.value values = of_variables r.schema r.operation.variables r.variables (comes.refused why path) (comes.value values) c k in absurd (cc e)
+alone collection of_arguments of_variables r p q (requests.executed {values} {root} x k is object plans) (requests.refused {why} {path} {v} c at) =
+    let e : comes.refused why path ≡ comes.value values = of_variables r.schema r.operation.variables r.variables (comes.refused why path) (comes.value values) c k in absurd (cc e)
+alone collection of_arguments of_variables r p q (requests.executed {values} {root} x c is object plans) (requests.executed {values = others} {root = other} y k there kind_is planned) =
+    let e : comes.value values ≡ comes.value others = of_variables r.schema r.operation.variables r.variables (comes.value values) (comes.value others) c k in
+    let same : root ≡ other = same_some root other (sym is ∙ there) in
+    let g : Given = record { schema = r.schema; fragments = r.fragments; values = others } in
+    let here : IsPlan g other.name.node.text (in_file r.file r.operation.selections) x =
+    subst (λ (m : Root). IsPlan g m.name.node.text (in_file r.file r.operation.selections) x) same
+    (subst (λ d. IsPlan (record { schema = r.schema; fragments = r.fragments; values = d }) root.name.node.text (in_file r.file r.operation.selections) x) (value_same e) plans) in
+    let start = initial_value r.operation.kind r.stored in
+    ap (λ (m : Root). response_of (answer (types_of r.schema) x m.name.node.text start)) same
+    ∙ ap (λ y. response_of (answered y)) (plans_alike collection of_arguments g other.name.node.text (in_file r.file r.operation.selections) x y here planned
+    other.name.node.text (met_object r.schema other.name.node.text kind_is) [] start)

@@ -1,0 +1,149 @@
+-- What completing is at each form of a type and of a value, and what is written for it.
+use Rattle.std.proofs.Common.{◌≡◌, ℕ, zero, suc, ◌+◌, ◌⊎◌, inl, inr, Bool, true, false, List, [], ◌∷◌, ◌++◌, map, codes, is_some, Option, Some, None, refl, sym, ap, ◌∙◌, if◌then◌else◌}
+use Rattle.json.specs.Print.{quoted}
+use Rattle.gql_inputs.specs.InputTypes.{is_list, is_non_null, item_of}
+use Rattle.gql_text.specs.declared.place.Place.{Place}
+use Rattle.gql_types.specs.Written.{Written, named, listed, required}
+use Rattle.gql_types.specs.declared.kind.TypeKind.{TypeKind}
+use Rattle.gql_types.specs.declared.kind.TypeKind.TheVariants as kind
+use Rattle.serde_json.specs.Data as json
+use Rattle.serde_json.specs.Data.{Data, Items}
+use Rattle.serde_json.specs.Find.{as_array, as_object, get}
+use Rattle.serde_json.specs.View.{items_of}
+use Rattle.gql_exec.specs.Execution.{Site, Types, Plan, plan, Fields, no_fields, field, PlannedField, complete, each, execute, fault, is_null, items_from, leaf, members_of, of_kind, on_abstract, among, on_list, on_object, placed}
+use Rattle.gql_exec.specs.Leaves.{as_enum, scalar_value}
+use Rattle.gql_exec.specs.LeafParts.{leaf_at}
+use Rattle.gql_exec.specs.Parts.{Part, plain, raise, within, all, numbered, after_comma, comma_list, counted}
+use Rattle.gql_exec.specs.Replies.{Path, index, Reply}
+use Rattle.gql_exec.specs.Replies as reply
+use Rattle.gql_exec.specs.Tables.{pairs_of}
+use Rattle.gql_exec.specs.Texts.{value_part, texted, member_text}
+use Rattle.gql_exec.specs.ValueParts.{placed_part, member_part, field_part, fields_part, object_part, item_at, item_part, items_part, list_part, content_of_item}
+use Rattle.gql_exec.proofs.Resolving.{listed as listed_items}
+use Rattle.gql_exec.proofs.Texting as texting
+use Rattle.gql_exec.proofs.Texting.{placed_is, uncounted}
+
+-- ---- types
+
+module _ (s : Site) (p : Path) where
+  pub within_marks : (t : Written) (d : Data) → is_null d ≡ false → complete s (required t) p d ≡ complete s t p d
+  within_marks t d e = ap (λ b. if b then fault s p (codes "null for a Non-Null type") else complete s t p d) e
+
+  pub present_named : (n : List ℕ) (d : Data) → is_null d ≡ false → complete s (named n) p d ≡ of_kind s n p d (s.types.kind n)
+  present_named n d e = ap (λ b. if b then reply.returns json.null else of_kind s n p d (s.types.kind n)) e
+
+  pub present_list : (t : Written) (d : Data) → is_null d ≡ false → complete s (listed t) p d ≡ on_list s (item_at s t) p d
+  present_list t d e = ap (λ b. if b then reply.returns json.null else on_list s (item_at s t) p d) e
+
+  pub null_bubbles : (t : Written) → is_non_null t ≡ true
+      → value_part (complete s t p json.null) ≡ raise (record { message = codes "null for a Non-Null type"; place = s.place; path = p })
+  null_bubbles (named n) e = cc
+  null_bubbles (listed t) e = cc
+  null_bubbles (required t) e = refl
+
+  pub null_is_null : (t : Written) → is_non_null t ≡ false → value_part (complete s t p json.null) ≡ plain (codes "null")
+  null_is_null (named n) e = refl
+  null_is_null (listed t) e = refl
+  null_is_null (required t) e = cc
+
+  same_type : (t u : Written) → Some t ≡ Some u → t ≡ u
+  same_type t u e = cc
+
+  pub items_at : (t u : Written) (ds : Items) → item_of t ≡ Some u → complete s t p (json.array ds) ≡ on_list s (item_at s u) p (json.array ds)
+  items_at (named n) u ds e = cc
+  items_at (listed t) u ds e = ap (λ v. on_list s (item_at s v) p (json.array ds)) (same_type t u e)
+  items_at (required t) u ds e = items_at t u ds e
+
+-- a list has a type of items
+pub has_items : (t : Written) → is_list t ≡ true → item_of t ≡ None → ⊥
+has_items (named n) h e = absurd (cc h)
+has_items (listed t) h e = absurd (cc e)
+has_items (required t) h e = has_items t h e
+
+-- ---- values
+
+module _ (s : Site) (n : List ℕ) (p : Path) where
+  pub an_object : (d : Data) → is_some (as_object d) ≡ true → on_object s n p d ≡ s.below n p d
+  an_object json.null e = cc
+  an_object (json.boolean b) e = cc
+  an_object (json.number x) e = cc
+  an_object (json.string x) e = cc
+  an_object (json.array ds) e = cc
+  an_object (json.object ms) e = refl
+
+  pub no_object : (d : Data) → is_some (as_object d) ≡ false → on_object s n p d ≡ fault s p (codes "value is not an object")
+  no_object json.null e = refl
+  no_object (json.boolean b) e = refl
+  no_object (json.number x) e = refl
+  no_object (json.string x) e = refl
+  no_object (json.array ds) e = refl
+  no_object (json.object ms) e = cc
+
+  pub leaf_is : (o : Option Data) → value_part (leaf s n p o) ≡ leaf_at n s.place p o
+  leaf_is (Some d) = refl
+  leaf_is None = refl
+
+-- by the kind of the type
+module _ (s : Site) (n : List ℕ) (p : Path) (d : Data) (k : Option TypeKind) where
+  pub kind_scalar : k ≡ Some kind.Scalar → value_part (of_kind s n p d k) ≡ leaf_at n s.place p (scalar_value n d)
+  kind_scalar e = ap (λ o. value_part (of_kind s n p d o)) e ∙ leaf_is s n p (scalar_value n d)
+
+  pub kind_enum : k ≡ Some kind.Enum → value_part (of_kind s n p d k) ≡ leaf_at n s.place p (as_enum (s.types.values n) d)
+  kind_enum e = ap (λ o. value_part (of_kind s n p d o)) e ∙ leaf_is s n p (as_enum (s.types.values n) d)
+
+  pub kind_object : k ≡ Some kind.Object → value_part (of_kind s n p d k) ≡ value_part (on_object s n p d)
+  kind_object e = ap (λ o. value_part (of_kind s n p d o)) e
+
+  pub kind_abstract : (k ≡ Some kind.Interface) ⊎ (k ≡ Some kind.Union)
+      → value_part (of_kind s n p d k) ≡ value_part (on_abstract s n p d (among (s.types.possible n) (get (codes "__typename") d)))
+  kind_abstract (inl e) = ap (λ o. value_part (of_kind s n p d o)) e
+  kind_abstract (inr e) = ap (λ o. value_part (of_kind s n p d o)) e
+
+  pub kind_other : (k ≡ Some kind.InputObject) ⊎ (k ≡ None)
+      → value_part (of_kind s n p d k) ≡ raise (record { message = codes "value is not of type " ++ n; place = s.place; path = p })
+  kind_other (inl e) = ap (λ o. value_part (of_kind s n p d o)) e
+  kind_other (inr e) = ap (λ o. value_part (of_kind s n p d o)) e
+
+module _ (s : Site) (each : Path → Data → Reply Data) (p : Path) where
+  pub no_array : (d : Data) → as_array d ≡ None → on_list s each p d ≡ fault s p (codes "value is not a list")
+  no_array json.null e = refl
+  no_array (json.boolean b) e = refl
+  no_array (json.number x) e = refl
+  no_array (json.string x) e = refl
+  no_array (json.array ds) e = cc
+  no_array (json.object ms) e = refl
+
+-- ---- parts one by one
+
+module _ {A : Type 0} where
+  pub numbered-same : (f g : ℕ → A → Part) → ((i : ℕ) (x : A) → f i x ≡ g i x) → (n : ℕ) (xs : List A) → numbered f n xs ≡ numbered g n xs
+  numbered-same f g e n [] = refl
+  numbered-same f g e n (x ∷ xs) = ap (λ r. r ∷ numbered f (n + 1) xs) (e n x) ∙ ap (λ rs. g n x ∷ rs) (numbered-same f g e (n + 1) xs)
+
+  numbered-map : {B : Type 0} (f : ℕ → B → Part) (h : A → B) (n : ℕ) (xs : List A) → numbered f n (map h xs) ≡ numbered (λ i x. f i (h x)) n xs
+  numbered-map f h n [] = refl
+  numbered-map f h n (x ∷ xs) = ap (λ rs. f n (h x) ∷ rs) (numbered-map f h (n + 1) xs)
+
+-- what is written for the items of a list
+pub list_is : (s : Site) (t : Written) (p : Path) (ds : List Data) → value_part (on_list s (item_at s t) p (json.array (items_of ds))) ≡ list_part t s ds p
+list_is s t p ds = ap (λ xs. value_part (reply.mapped (λ ys. json.array (items_of ys)) (reply.all (items_from (item_at s t) 0 p xs)))) (listed_items ds)
+    ∙ texting.list_part (item_at s t) p ds
+    ∙ ap (λ rs. within (codes "[") (all rs) (codes "]"))
+    (numbered-same (λ i x. after_comma i (counted (value_part (item_at s t (p ++ index i ∷ []) x)))) (item_part t s p)
+    (λ i x. ap (λ r. after_comma i (counted r)) (placed_is t (complete s t (p ++ index i ∷ []) x))) 0 ds)
+
+each_is : (types : Types) (fs : Fields) (p : Path) (d : Data) → each types fs p d ≡ map reply.counted (map (λ (q : PlannedField × Plan). uncounted types q.0 (execute types q.1) p d) (pairs_of fs))
+each_is types no_fields p d = refl
+each_is types (field f below rest) p d = ap (λ rs. reply.counted (uncounted types f (execute types below) p d) ∷ rs) (each_is types rest p d)
+
+-- what is written for an object
+pub object_is : (types : Types) (by_type : List ℕ → Fields) (t : List ℕ) (p : Path) (d : Data)
+    → value_part (execute types (plan by_type) t p d) ≡ object_part types d (pairs_of (by_type t)) p
+object_is types by_type t p d =
+    let h : PlannedField × Plan → Reply (List ℕ × Data) = λ q. uncounted types q.0 (execute types q.1) p d in
+    let f : ℕ → Reply (List ℕ × Data) → Part = λ i r. after_comma i (counted (texted member_text r)) in
+    ap (λ rs. value_part (reply.mapped (λ ms. json.object (members_of ms)) (reply.all rs))) (each_is types (by_type t) p d)
+    ∙ texting.object_part (map h (pairs_of (by_type t)))
+    ∙ ap (λ rs. within (codes "{") (all rs) (codes "}")) (numbered-map f h 0 (pairs_of (by_type t))
+    ∙ numbered-same (λ i q. f i (h q)) (field_part types d p)
+    (λ i q. ap (λ r. after_comma i (counted r)) (texting.field_part types q.0 (execute types q.1) p d)) 0 (pairs_of (by_type t)))

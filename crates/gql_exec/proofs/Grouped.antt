@@ -1,0 +1,84 @@
+-- The fields that are planned for groups.
+use Rattle.std.proofs.Common.{◌≡◌, ℕ, List, [], ◌∷◌, ◌++◌, codes, Option, Some, None, refl, sym, ap, ◌∙◌, subst}
+use Rattle.json.specs.Print.{quoted}
+use Rattle.gql_ast.specs.declared.type_system.FieldDefinition.{FieldDefinition}
+use Rattle.gql_built_in.specs.declared.sited.Sited.{Sited}
+use Rattle.gql_coerce.specs.Requests.{ArgumentsCome}
+use Rattle.gql_collect.specs.Collection.{AreGroups, Collects, selections_below}
+use Rattle.gql_collect.specs.Groups.{Group}
+use Rattle.gql_collect.specs.Nodes.{FieldNode, FileSelection}
+use Rattle.gql_collect.specs.Unfolding.{Given}
+use Rattle.gql_inputs.specs.InputTypes.{name_in}
+use Rattle.gql_types.specs.Schemas.{field_named}
+use Rattle.gql_exec.specs.Execution.{PlannedField, Plan, Fields, no_fields, field}
+use Rattle.gql_exec.specs.Plans.{IsPlan, IsPlanned, ArePlanned, planned}
+use Rattle.gql_exec.specs.Tables.{PlansGroup, ArePairs, StandsFor, StandFor, Planning, Hold, pairs_of, planned_of}
+use Rattle.gql_exec.specs.declared.planning.FieldPlan.{FieldPlan}
+
+pub paired : (g : Given) (t : List ℕ) (groups : List Group) (fs : Fields) → ArePlanned g t groups fs → ArePairs g t groups (pairs_of fs)
+paired g t [] no_fields h = tt
+paired g t [] (field f below rest) h = absurd h
+paired g t (group ∷ groups) no_fields h = absurd h
+paired g t (group ∷ groups) (field f below rest) h = (h.0, h.1, paired g t groups rest h.2)
+
+-- the last of the groups
+record Split (g : Given) (t : List ℕ) (groups : List Group) (group : Group) (qs : List (PlannedField × Plan)) : Type 0 where
+  before : List (PlannedField × Plan)
+  last : PlannedField × Plan
+  is : qs ≡ before ++ last ∷ []
+  are : ArePairs g t groups before
+  first : IsPlanned g t group last.0
+  below : IsPlan g (name_in last.0.of_type) (selections_below group.nodes) last.1
+
+split : (g : Given) (t : List ℕ) (groups : List Group) (group : Group) (qs : List (PlannedField × Plan)) → ArePairs g t (groups ++ group ∷ []) qs → Split g t groups group qs
+split g t [] group [] h = absurd h
+split g t [] group (q ∷ []) h = record { before = []; last = q; is = refl; are = tt; first = h.0; below = h.1 }
+split g t [] group (q ∷ (r ∷ qs)) h = absurd h.2
+split g t (x ∷ groups) group [] h = absurd h
+split g t (x ∷ groups) group (q ∷ qs) h = let s = split g t groups group qs h.2 in
+    record { before = q ∷ s.before; last = s.last; is = ap (λ rs. q ∷ rs) s.is; are = (h.0, h.1, s.are); first = s.first; below = s.below }
+
+stand_more : (g : Given) (fs : List FieldPlan) (qs : List (PlannedField × Plan)) (f : FieldPlan) (q : PlannedField × Plan) → StandFor g fs qs → StandsFor g f q → StandFor g (fs ++ f ∷ []) (qs ++ q ∷ [])
+stand_more g [] [] f q h k = (k, tt)
+stand_more g [] (r ∷ qs) f q h k = absurd h
+stand_more g (e ∷ fs) [] f q h k = absurd h
+stand_more g (e ∷ fs) (r ∷ qs) f q h k = (h.0, stand_more g fs qs f q h.1 k)
+
+pub same_first : (x y : FieldNode) (xs ys : List FieldNode) → x ∷ xs ≡ y ∷ ys → x ≡ y
+same_first x y xs ys e = cc
+
+pub same_some : {A : Type 0} (x y : A) → Some x ≡ Some y → x ≡ y
+same_some x y e = cc
+
+-- the field of one more group, whose first node is n and has the definition d
+pub one_more : (g : Given) (t : List ℕ) (groups : List Group) (fs : List FieldPlan) (group : Group) (n : FieldNode) (rest : List FieldNode) (d : Sited FieldDefinition) (f : FieldPlan)
+    → Planning g t groups fs → group.nodes ≡ n ∷ rest → field_named g.schema t n.field.name.text ≡ Some d → PlansGroup g d.node group f
+    → Planning g t (groups ++ group ∷ []) (fs ++ f ∷ [])
+one_more g t groups fs group n rest d f planning nodes defined plans qs h =
+    let s = split g t groups group qs h in
+    let p = s.first in
+    let first_is : p.first ≡ n = same_first p.first n p.others rest (sym p.nodes ∙ nodes) in
+    let d_is : p.definition ≡ d = same_some p.definition d (sym p.defined ∙ ap (λ (m : FieldNode). field_named g.schema t m.field.name.text) first_is ∙ defined) in
+    let is : planned_of f ≡ planned group p.first p.definition.node p.arguments = subst (λ (e : Sited FieldDefinition). planned_of f ≡ planned group p.first e.node p.arguments) (sym d_is)
+    (plans.is p.first p.others p.arguments p.nodes (subst (λ (e : Sited FieldDefinition). ArgumentsCome g.schema e.node.arguments p.first.field.arguments g.values p.arguments) d_is p.comes)) in
+    subst (StandFor g (fs ++ f ∷ [])) (sym s.is) (stand_more g fs s.before f s.last (planning s.before s.are) (record {
+      planned = p.is ∙ sym is;
+      label = plans.label ∙ ap (λ (r : PlannedField). quoted r.response_name ++ codes ":") (sym p.is);
+      below = subst (λ xs. IsPlan g (name_in s.last.0.of_type) xs s.last.1) (sym plans.sets) s.below;
+    }))
+
+-- a field that the type does not have is in no plan
+pub none_more : (g : Given) (t : List ℕ) (groups : List Group) (fs : List FieldPlan) (group : Group) (n : FieldNode) (rest : List FieldNode)
+    → group.nodes ≡ n ∷ rest → field_named g.schema t n.field.name.text ≡ None → Planning g t (groups ++ group ∷ []) fs
+none_more g t groups fs group n rest nodes missing qs h =
+    let p = (split g t groups group qs h).first in
+    let first_is : p.first ≡ n = same_first p.first n p.others rest (sym p.nodes ∙ nodes) in
+    let e : None ≡ Some p.definition = sym (ap (λ (m : FieldNode). field_named g.schema t m.field.name.text) first_is ∙ missing) ∙ p.defined in
+    cc
+
+pub none_yet : (g : Given) (t : List ℕ) → Planning g t [] []
+none_yet g t [] h = tt
+none_yet g t (q ∷ qs) h = absurd h
+
+pub all_held : (g : Given) (t : List ℕ) (xs : List FileSelection) (groups : List Group) (fs : List FieldPlan) → AreGroups g t xs groups → Planning g t groups fs → Hold g t xs fs
+all_held g t xs groups fs are planning others h = subst (λ gs. Planning g t gs fs) (are others h) planning

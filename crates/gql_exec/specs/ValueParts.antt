@@ -1,0 +1,133 @@
+-- Helper definitions for private contracts: what is written for the fields of an object, and for
+-- values.
+use Rattle.std.specs.Prelude.{◌≡◌, ℕ, ◌≤◌, List, [], ◌∷◌, ◌++◌, codes, map, length, IsTrue, if◌then◌else◌, Option, Some, Result}
+use Rattle.std.proofs.Common.{◌⊎◌}
+use Rattle.std.specs.Borrow.{Bor}
+use Rattle.json.specs.Print.{quoted}
+use Rattle.gql_collect.specs.Borrowed.{all_selections}
+use Rattle.gql_collect.specs.Nodes.{FileSelection}
+use Rattle.gql_collect.specs.Unfolding.{Given}
+use Rattle.gql_inputs.specs.InputTypes.{is_list, is_non_null}
+use Rattle.gql_text.specs.declared.place.Place.{Place}
+use Rattle.gql_types.specs.Written.{Written, written}
+use Rattle.gql_types.specs.declared.kind.TypeKind.{TypeKind}
+use Rattle.gql_types.specs.declared.kind.TypeKind.TheVariants as kind
+use Rattle.serde_json.specs.Data as json
+use Rattle.serde_json.specs.Data.{Data}
+use Rattle.serde_json.specs.View.{items_of, view}
+use Rattle.serde_json.specs.declared.value.Value.{Value}
+use Rattle.gql_exec.specs.Ended.{both}
+use Rattle.gql_exec.specs.Execution.{PlannedField, Plan, Types, Site, complete, execute, placed, value_of}
+use Rattle.gql_exec.specs.Parts.{Part, plain, followed_by, within, all, numbered, after_comma, counted, settled, caught, comma_list}
+use Rattle.gql_exec.specs.Plans.{IsPlan, types_of}
+use Rattle.gql_exec.specs.Replies.{Path, key, index, Reply}
+use Rattle.gql_exec.specs.States.{Executes}
+use Rattle.gql_exec.specs.Tables.{IsRight, Grows, InTable, below_at}
+use Rattle.gql_exec.specs.Texts.{value_part}
+use Rattle.gql_exec.specs.declared.ended.Ended.{Ended}
+use Rattle.gql_exec.specs.declared.items.ListItems.{ListItems}
+use Rattle.gql_exec.specs.declared.planning.FieldPlan.{FieldPlan}
+use Rattle.gql_exec.specs.declared.resolve.Resolved.{Resolved}
+use Rattle.gql_exec.specs.declared.resolve.Resolved.TheVariants as found
+use Rattle.gql_exec.specs.declared.run.Run.{Run}
+use Rattle.gql_exec.specs.declared.refusal.ExecRefusal.{ExecRefusal}
+use Rattle.gql_exec.specs.declared.table.Slot.{Slot}
+use Rattle.gql_exec.specs.declared.table.Table.{Table}
+
+-- where the values of a field are completed, whose selections have the plan x
+abbrev pub site_of : Types → Place → Plan → Site
+site_of types place x = record { types = types; place = place; below = execute types x }
+
+-- a value at its place
+abbrev pub placed_part : Written → Part → Part
+placed_part t r = if is_non_null t then r else caught r
+
+-- ---- fields
+
+-- the value of a field, at this path
+abbrev pub called_part : Types → Data → PlannedField × Plan → Path → Part
+called_part types d q p = value_part (value_of (site_of types q.0.place q.1) q.0 q.0.arguments p d)
+
+-- the same for the object at this path, with the errors of the field
+abbrev pub content_part : Types → Data → PlannedField × Plan → Path → Part
+content_part types d q p = settled (placed_part q.0.of_type
+    (called_part types d q (p ++ key q.0.response_name ∷ [])))
+
+-- with the name of the field
+abbrev pub member_part : Types → Data → PlannedField × Plan → Path → Part
+member_part types d q p =
+    followed_by (plain (quoted q.0.response_name ++ codes ":")) (content_part types d q p)
+
+-- as it stands at this number
+abbrev pub field_part : Types → Data → Path → ℕ → PlannedField × Plan → Part
+field_part types d p i q = after_comma i (counted (member_part types d q p))
+
+abbrev pub fields_part : Types → Data → List (PlannedField × Plan) → Path → Part
+fields_part types d qs p = all (numbered (field_part types d p) 0 qs)
+
+abbrev pub object_part : Types → Data → List (PlannedField × Plan) → Path → Part
+object_part types d qs p = within (codes "{") (fields_part types d qs p) (codes "}")
+
+-- ---- values
+
+-- what a field was resolved to
+abbrev pub resolved_in : Resolved → Data
+resolved_in found.Null = json.null
+resolved_in (found.Value v) = view v.now
+resolved_in (found.Items vs) = json.array (items_of (map (λ (v : Bor Value). view v.now) vs.items))
+
+-- items alone are for a list
+abbrev pub IsOf : Written → Resolved → Type 0
+IsOf t found.Null = Unit {0}
+IsOf t (found.Value v) = Unit {0}
+IsOf t (found.Items vs) = IsTrue (is_list t)
+
+-- the items that are kept, where there are some, and else all
+abbrev pub items_from : List Data → List (Bor Value) → List Data
+items_from ds [] = ds
+items_from ds (v ∷ vs) = map (λ (x : Bor Value). view x.now) (v ∷ vs)
+
+-- the items of a list
+abbrev pub items_in : ListItems → List Data
+items_in l = items_from (map view l.all.now) l.kept.now
+
+-- an item at its place
+abbrev pub item_at : Site → Written → Path → Data → Reply Data
+item_at s t p d = placed t (complete s t p d)
+
+-- what is written for it, at its path
+abbrev pub content_of_item : Written → Site → ℕ → Data → Path → Part
+content_of_item t s i d p = placed_part t (value_part (complete s t (p ++ index i ∷ []) d))
+
+abbrev pub item_part : Written → Site → Path → ℕ → Data → Part
+item_part t s p i d = after_comma i (counted (content_of_item t s i d p))
+
+abbrev pub items_part : Written → Site → List Data → Path → Part
+items_part t s ds p = all (numbered (item_part t s p) 0 ds)
+
+abbrev pub list_part : Written → Site → List Data → Path → Part
+list_part t s ds p = within (codes "[") (items_part t s ds p) (codes "]")
+
+-- an interface or a union
+abbrev pub IsAbstract : Option TypeKind → Type 0
+IsAbstract o = (o ≡ Some kind.Interface) ⊎ (o ≡ Some kind.Union)
+
+-- ---- calls
+
+-- what a call does for selections that have a plan, whichever it is
+abbrev pub Does : Given → Place → List ℕ → List FileSelection → (Site → Part)
+    → Result Ended ExecRefusal → Run → Run → Type 0
+Does g place name xs part result old new = (x : Plan) → IsPlan g name xs x
+    → Executes (part (site_of (types_of g.schema) place x)) result old new
+
+-- what holds after each call: the table is right and has its old entries, and no fewer values were
+-- completed than before
+pub record Keeps (g : Given) (a b : Table) (old new : Run) : Type 0 where
+  pub right : IsRight g b
+  pub grows : Grows a b
+  pub left : new.left ≤ old.left
+
+-- this field is in the table here
+pub record IsAt (t : Table) (s : Slot) (f : FieldPlan) : Type 0 where
+  pub within : InTable t s
+  pub below : below_at t s ≡ all_selections f.sets.items

@@ -1,0 +1,286 @@
+//! The execution of an operation as a whole (GraphQL specification, 6.1 and 6.2).
+ghost use Rattle.std.specs.Prelude.{◌≡◌, ◌<◌, map, find, bytes_eq, true, option_map, IfOk, IfErr};
+ghost use Rattle.gql_ast.specs.declared.definition.Tree.TheVariants as tree;
+ghost use Rattle.gql_ast.specs.declared.executable.Operation.{Operation as AnOperation};
+ghost use Rattle.gql_ast.specs.declared.executable.VariableDefinition.{VariableDefinition as AVariable};
+ghost use Rattle.gql_collect.specs.Borrowed.{all_selections};
+ghost use Rattle.gql_collect.specs.Contexts.{given};
+ghost use Rattle.serde_json.specs.View.{view};
+ghost use Rattle.gql_exec.specs.Execution.{Plan, answer};
+ghost use Rattle.gql_exec.specs.Outcomes.{error_of, outcome_of};
+ghost use Rattle.gql_exec.specs.Plans.{IsPlan, is_met, types_of};
+ghost use Rattle.gql_exec.specs.Requests as spec;
+ghost use Rattle.gql_exec.specs.Requests.{IsOutcome, IsTooHeavy, most_values};
+ghost use Rattle.gql_exec.specs.Runs.{Answering, Finishes, IsOutcomeOf, IsRefused, came_to, request};
+ghost use Rattle.gql_exec.specs.States as states;
+
+use crate::ended::Ended;
+use crate::executor::execute_object;
+use crate::outcome::{Outcome, ResponseError};
+use crate::planning::refusal_text;
+use crate::refusal::ExecRefusal;
+use crate::run::{FieldError, Run};
+use crate::steps::cut_to_null;
+use crate::table::Table;
+use gql_ast::{Definition, FileName, Operation, OperationKind, Tree, VariableDefinition};
+use gql_coerce::{CoerceFault, Refusal, Segment, coerce_variables, laws};
+use gql_collect::{Context, SelectionSet};
+use gql_facts::Fragments;
+use gql_text::Place;
+use gql_types::Schema;
+use serde_json::{Map, Value};
+use std::alloc::{AllocError, Global};
+
+/// The most values that an execution completes.
+const MOST_VALUES: usize = 100_000;
+
+/// The errors of fields, as errors of an answer.
+fn response_errors<'d>(
+    alloc: Global,
+    errors: Vec<FieldError<'d>>,
+) -> Result<Vec<ResponseError<'d>>, AllocError>
+    ensures { IfOk result (λ all. map error_of all.items
+        ≡ map (λ e. spec.error_of (states.error_of e)) errors.entry.items) }
+{
+    let mut all = Vec::new(alloc);
+    for error in errors {
+        let FieldError {
+            message,
+            place,
+            path,
+        } = error;
+        all.push(ResponseError {
+            message,
+            place,
+            path: Some(path),
+        })?;
+    }
+    Ok(all)
+}
+
+/// What a run came to.
+fn outcome<'d>(alloc: Global, run: Run<'d>) -> Result<Outcome<'d>, ExecRefusal>
+    ensures came { IfOk result (λ o. outcome_of o ≡ came_to run.entry) }
+    ensures err { IfErr result (λ e. e ≡ ExecRefusal.Memory) }
+{
+    let Run {
+        out,
+        errors,
+        path: _,
+        left: _,
+        raised: _,
+    } = run;
+    Ok(Outcome {
+        data: Some(out),
+        errors: response_errors(alloc, errors)?,
+    })
+}
+
+/// What a run came to that ended so: a null that comes up to the data stays there.
+#[tactic(auto, using(crate::proofs::Ending::finished_written, crate::proofs::Ending::finished_cut))]
+fn finish<'d>(alloc: Global, ended: Ended, run: Run<'d>) -> Result<Outcome<'d>, ExecRefusal>
+    ensures outcome { IfOk result (λ o. Finishes ended run.entry (outcome_of o)) }
+    ensures err { IfErr result (λ e. e ≡ ExecRefusal.Memory) }
+{
+    match ended {
+        Ended::Written => outcome(alloc, run),
+        Ended::Bubbled => {
+            let mut run = run;
+            cut_to_null(&mut run, 0)?;
+            outcome(alloc, run)
+        }
+    }
+}
+
+/// Executes selection sets, taken as one, on the initial value.
+fn execute_sets<'d>(
+    alloc: Global,
+    context: &Context<'d, '_>,
+    root: &str,
+    sets: &[SelectionSet<'d>],
+    initial: &Value,
+) -> Result<Outcome<'d>, ExecRefusal>
+    ensures outcome { IfOk result (λ o. is_met context.now.schema.now root.now root.now ≡ true
+        → (x : Plan) → IsPlan (given context.now) root.now (all_selections sets.now) x
+        → IsOutcomeOf (outcome_of o)
+        (answer (types_of context.now.schema.now) x root.now (view initial.now))) }
+    ensures heavy { IfErr result (λ e. e ≡ ExecRefusal.TooHeavy
+        → is_met context.now.schema.now root.now root.now ≡ true
+        → (x : Plan) → IsPlan (given context.now) root.now (all_selections sets.now) x
+        → most_values
+        < (answer (types_of context.now.schema.now) x root.now (view initial.now)).weight) }
+{
+    let mut table = Table::new(alloc);
+    let entry = table.add_sets(alloc, context, root, sets)?;
+    let mut run = Run {
+        out: Vec::new(alloc),
+        errors: Vec::new(alloc),
+        path: Vec::new(alloc),
+        left: MOST_VALUES,
+        raised: false,
+    };
+    let ended = execute_object(alloc, context, &mut table, entry, initial, &mut run)?;
+    finish(alloc, ended, run)
+}
+
+/// The member of the data that an operation begins with.
+fn root_member(kind: OperationKind) -> &'static str
+    ensures { result.now ≡ spec.root_member kind }
+{
+    match kind {
+        OperationKind::Query => "query",
+        OperationKind::Mutation => "mutation",
+        OperationKind::Subscription => "subscription",
+    }
+}
+
+/// No data, and no errors.
+fn nothing<'d>(alloc: Global) -> Outcome<'d> {
+    Outcome {
+        data: None,
+        errors: Vec::new(alloc),
+    }
+}
+
+/// Executes an operation with the values of its variables.
+fn execute_operation<'d>(
+    alloc: Global,
+    context: &Context<'d, '_>,
+    file: &'d FileName,
+    operation: &'d Operation,
+    stored: &Value,
+) -> Result<Outcome<'d>, ExecRefusal>
+    ensures outcome { IfOk result (λ o. Answering (given context.now) file.now operation.now
+        (view stored.now) (λ a. IsOutcomeOf (outcome_of o) a)) }
+    ensures heavy { IfErr result (λ e. e ≡ ExecRefusal.TooHeavy
+        → Answering (given context.now) file.now operation.now (view stored.now)
+        (λ a. most_values < a.weight)) }
+{
+    let Some(root) = context.schema.root(operation.kind) else {
+        return Ok(nothing(alloc));
+    };
+    let root = root.name.node.as_str();
+    let sets = [SelectionSet {
+        file,
+        selections: operation.selections.as_slice(),
+    }];
+    match stored.get(root_member(operation.kind)) {
+        Some(initial) => execute_sets(alloc, context, root, &sets, initial),
+        None => {
+            let initial = Value::from(Map::new(alloc));
+            execute_sets(alloc, context, root, &sets, &initial)
+        }
+    }
+}
+
+/// The place of the definition of a variable; of those of one name the first counts.
+fn place_of_variable(definitions: &[VariableDefinition], name: &str) -> Option<Place>
+    ensures { result ≡ option_map (λ (v : AVariable). v.place)
+        (find (λ (v : AVariable). bytes_eq name.now v.name.text) definitions.now) }
+{
+    for definition in definitions {
+        if name == definition.name.as_str() {
+            return Some(definition.place);
+        }
+    }
+    None
+}
+
+/// The place of the definition of the variable that a path begins with.
+fn variable_place(definitions: &[VariableDefinition], path: &[Segment]) -> Option<Place>
+    ensures { result ≡ option_map (λ (v : AVariable). v.place)
+        (spec.variable_at definitions.now path.now) }
+{
+    match path {
+        [Segment::Key(name), ..] => place_of_variable(definitions, name.as_str()),
+        [Segment::Index(_), ..] => None,
+        [] => None,
+    }
+}
+
+/// What a refused variable comes to: a request error, without data.
+fn request_error<'d>(
+    alloc: Global,
+    definitions: &[VariableDefinition],
+    refusal: &Refusal,
+) -> Result<Outcome<'d>, AllocError>
+    ensures { IfOk result (λ o. IsRefused definitions.now refusal.now (outcome_of o)) }
+{
+    let Some(place) = variable_place(definitions, refusal.path.as_slice()) else {
+        return Ok(nothing(alloc));
+    };
+    let message = refusal_text(alloc, "variable $", refusal)?;
+    let mut errors = Vec::new(alloc);
+    errors.push(ResponseError {
+        message,
+        place,
+        path: None,
+    })?;
+    Ok(Outcome { data: None, errors })
+}
+
+/// Coerces the variables, and executes the operation.
+fn execute_request<'d>(
+    alloc: Global,
+    fragments: &'d Fragments,
+    schema: &'d Schema,
+    file: &'d FileName,
+    operation: &'d Operation,
+    variables: &Value,
+    stored: &Value,
+) -> Result<Outcome<'d>, ExecRefusal>
+    ensures outcome { IfOk result (λ o. IsOutcome (request schema.now fragments.now.all file.now
+        operation.now (view variables.now) (view stored.now)) (outcome_of o)) }
+    ensures heavy { IfErr result (λ e. e ≡ ExecRefusal.TooHeavy → IsTooHeavy (request schema.now
+        fragments.now.all file.now operation.now (view variables.now) (view stored.now))) }
+{
+    laws::one_of_variables();
+    let definitions = operation.variables.as_slice();
+    match coerce_variables(alloc, schema, definitions, variables) {
+        Ok(values) => {
+            let context = Context {
+                schema,
+                fragments,
+                values: &values,
+            };
+            execute_operation(alloc, &context, file, operation, stored)
+        }
+        Err(CoerceFault::Refused(refusal)) => Ok(request_error(alloc, definitions, &refusal)?),
+        Err(CoerceFault::Memory) => Err(ExecRefusal::Memory),
+    }
+}
+
+/// Executes an operation (GraphQL specification, 6.1, ExecuteRequest), where `variables` is the
+/// object of the values that a request gives its variables, and `stored` the data.
+///
+/// First the variables are coerced; the first that is refused is a request error, and nothing is
+/// executed. Then the selections are executed on the data. Where more than 100,000 values are to be
+/// completed, the execution is refused: each field of an answer counts as one, and each item of a
+/// list.
+///
+/// Each fragment is looked up among these; a definition that is no operation has neither data nor
+/// errors.
+pub fn execute<'d>(
+    alloc: Global,
+    fragments: &'d Fragments,
+    schema: &'d Schema,
+    definition: &'d Definition,
+    variables: &Value,
+    stored: &Value,
+) -> Result<Outcome<'d>, ExecRefusal>
+    ensures outcome { IfOk result (λ o. (operation : AnOperation)
+        → definition.now.tree ≡ tree.Operation operation
+        → IsOutcome (request schema.now fragments.now.all definition.now.file operation
+        (view variables.now) (view stored.now)) (outcome_of o)) }
+    ensures heavy { IfErr result (λ e. e ≡ ExecRefusal.TooHeavy → (operation : AnOperation)
+        → definition.now.tree ≡ tree.Operation operation
+        → IsTooHeavy (request schema.now fragments.now.all definition.now.file operation
+        (view variables.now) (view stored.now))) }
+{
+    let Tree::Operation(operation) = &definition.tree else {
+        return Ok(nothing(alloc));
+    };
+    let file = &definition.file;
+    let operation = operation.get();
+    execute_request(alloc, fragments, schema, file, operation, variables, stored)
+}
