@@ -1,5 +1,5 @@
 -- What a list that is made of another has at a place.
-use Rattle.std.specs.Prelude.{◌≡◌, ℕ, List, map, Option, option_map, option_and_then, slice_get, refl, Some, None}
+use Rattle.std.specs.Prelude.{◌≡◌, ℕ, List, map, Option, option_map, option_and_then, slice_get, Some, None}
 use Rattle.std.proofs.Common.{ap, ◌∙◌}
 use Rattle.std.proofs.lemmas.Option.{slice_get-map}
 

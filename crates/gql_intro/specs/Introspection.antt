@@ -13,7 +13,7 @@ use Rattle.gql_ast.specs.declared.type_system.EnumValueDefinition.{EnumValueDefi
 use Rattle.gql_ast.specs.declared.type_system.FieldDefinition.{FieldDefinition}
 use Rattle.gql_ast.specs.declared.type_system.InputValueDefinition.{InputValueDefinition}
 use Rattle.gql_built_in.specs.declared.sited.Sited.{Sited}
-use Rattle.gql_types.specs.Schemas.{type_named, possible_named, root_of}
+use Rattle.gql_types.specs.Schemas.{possible_named, root_of}
 use Rattle.gql_types.specs.Written.{Written, written}
 use Rattle.gql_types.specs.declared.kind.TypeKind.{TypeKind}
 use Rattle.gql_types.specs.declared.kind.TypeKind.TheVariants as kind
@@ -66,8 +66,10 @@ schema_rows s i =
     ∷ (codes "queryType", optional_node (root_node s operation.Query))
     ∷ (codes "mutationType", optional_node (root_node s operation.Mutation))
     ∷ (codes "subscriptionType", optional_node (root_node s operation.Subscription))
-    ∷ (codes "directives",
-    nodes_of (map (λ (d : Sited DirectiveDefinition). Some (directive d.node)) s.directives))
+    ∷ (
+      codes "directives",
+      nodes_of (map (λ (d : Sited DirectiveDefinition). Some (directive d.node)) s.directives),
+    )
     ∷ []
 
 -- ---- __Type (4.2.2)

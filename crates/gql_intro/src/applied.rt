@@ -7,17 +7,7 @@ use gql_ast::{Argument, Directive, Literal, Shared, TypeExtension};
 use gql_types::{SchemaType, Sited};
 
 /// The value of a string; none of another literal.
-#[tactic(auto, using(
-    crate::specs::Applied::string_is,
-    crate::specs::Applied::null_is_none,
-    crate::specs::Applied::variable_is_none,
-    crate::specs::Applied::int_is_none,
-    crate::specs::Applied::float_is_none,
-    crate::specs::Applied::boolean_is_none,
-    crate::specs::Applied::enum_is_none,
-    crate::specs::Applied::list_is_none,
-    crate::specs::Applied::object_is_none
-))]
+#[tactic(auto, using(crate::specs::Applied::string_is, crate::specs::Applied::null_is_none, crate::specs::Applied::variable_is_none, crate::specs::Applied::int_is_none, crate::specs::Applied::float_is_none, crate::specs::Applied::boolean_is_none, crate::specs::Applied::enum_is_none, crate::specs::Applied::list_is_none, crate::specs::Applied::object_is_none))]
 fn string_of(literal: &Literal) -> Option<&str>
     ensures { option_copied result ≡ spec.string_of literal.now }
 {

@@ -3,9 +3,7 @@ ghost use Rattle.std.specs.Prelude.{◌≡◌, IfOk};
 ghost use Rattle.std.specs.Option.{option_copied};
 ghost use Rattle.gql_intro.specs.MetaFields as spec;
 
-use gql_ast::{
-    Boxed, FieldDefinition, InputValueDefinition, Items, Name, Shared, Text, TypeRef,
-};
+use gql_ast::{Boxed, FieldDefinition, InputValueDefinition, Items, Name, Shared, Text, TypeRef};
 use gql_text::Place;
 use std::alloc::{AllocError, Global};
 

@@ -43,11 +43,7 @@ pub fn named_node<'s>(schema: &'s Schema, name: &str) -> Option<IntroNode<'s>>
 }
 
 /// A type as it is written.
-#[tactic(auto, using(
-    gql_types::specs::Written::written_named,
-    gql_types::specs::Written::written_list,
-    gql_types::specs::Written::written_non_null
-))]
+#[tactic(auto, using(gql_types::specs::Written::written_named, gql_types::specs::Written::written_list, gql_types::specs::Written::written_non_null))]
 pub fn type_node<'s>(schema: &'s Schema, of_type: &'s TypeRef) -> Option<IntroNode<'s>>
     ensures { option_map node_of result ≡ spec.type_node schema.now (written of_type.now) }
 {

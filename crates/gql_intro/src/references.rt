@@ -11,11 +11,7 @@ use gql_ast::{
 };
 
 /// The name within lists and Non-Nulls.
-#[tactic(auto, using(
-    crate::specs::References::name_in_named,
-    crate::specs::References::name_in_list,
-    crate::specs::References::name_in_non_null
-))]
+#[tactic(auto, using(crate::specs::References::name_in_named, crate::specs::References::name_in_list, crate::specs::References::name_in_non_null))]
 fn name_in(of_type: &TypeRef) -> &str
     ensures { result.now ≡ spec.name_in (written of_type.now) }
 {

@@ -73,11 +73,7 @@ fn of_root<'s>(
     })
 }
 
-fn of_schema<'s>(
-    schema: &'s Schema,
-    made: &'s IntroSchema,
-    field: &str,
-) -> Option<IntroAnswer<'s>>
+fn of_schema<'s>(schema: &'s Schema, made: &'s IntroSchema, field: &str) -> Option<IntroAnswer<'s>>
     ensures { option_map (answer_of schema.now) result
         ≡ answer_in (spec.schema_rows schema.now made.now) field.now }
 {
