@@ -1,5 +1,5 @@
 -- The answers of a schema's tables are those of the schema.
-use Rattle.std.specs.Prelude.{◌≡◌, ℕ, List, find, bytes_eq, refl, Bool, false, Option, Some, None, option_map, option_and_then}
+use Rattle.std.specs.Prelude.{◌≡◌, ℕ, List, find, bytes_eq, refl, false, Option, Some, None, option_map, option_and_then}
 use Rattle.std.specs.Option.{option_map_or}
 use Rattle.std.proofs.Common.{ap, sym, ◌∙◌}
 use Rattle.std.proofs.lemmas.Slice.Eq.{bytes_eq-Decides}
