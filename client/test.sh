@@ -124,7 +124,7 @@ changed/documents/cut.graphql:2:3: syntax: bad character (201)
 TEXT
 rm changed/documents/cut.graphql
 printf 'query Two {\n\tuser(id: "é", ida: 2) { id }\n}\n' > changed/documents/two.graphql
-has 'a caret after other characters' 1 '^  	               ^' "$client" check changed
+has 'a caret after other characters' 1 '^  	              ^' "$client" check changed
 rm changed/documents/two.graphql
 mkdir -p pair/schema pair/documents
 printf 'type Query { x: Int y: Int }\n' > pair/schema/s.graphql
