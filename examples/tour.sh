@@ -1,7 +1,7 @@
 #!/bin/sh
 # A tour of the registry with curl, against a server on an empty registry: examples/tour.sh [PORT], by default 8080.
 # Start the server in another terminal by examples/serve.sh. The tour prints each request and its answer, and compares
-# what it printed with examples/tour.txt. It makes twelve connections.
+# what it printed with examples/tour.txt. It makes sixteen connections.
 set -eu
 folder=$(cd "$(dirname "$0")" && pwd)
 at="http://127.0.0.1:${1:-8080}"
@@ -23,21 +23,25 @@ tour() {
 type User { id: ID! name: String }'
     ask PUT /documents/profile 'query Profile($id: ID!) { user(id: $id) { id ...Shown } }
 fragment Shown on User { name }'
+    ask PUT /data '{"query":{"user":[{"id":"7","name":"Ann"},{"id":"8","name":"Bob"}]}}'
+    ask POST /run '{"operationName":"Profile","variables":{"id":"8"}}'
     # this breaks the operation, which reaches the fragment
     ask PUT /schema/users 'type Query { user(id: ID!): User }
 type User { id: ID! fullName: String }'
     ask GET /report
-    ask PUT '/schema/users?revision=2' 'type Query { user: Int }'
+    ask POST /run '{"operationName":"Profile","variables":{"id":"8"}}'
+    ask PUT '/schema/users?revision=3' 'type Query { user: Int }'
     # this mends it
-    ask PUT '/schema/users?revision=3' 'type Query { user(id: ID!): User }
+    ask PUT '/schema/users?revision=4' 'type Query { user(id: ID!): User }
 type User { id: ID! fullName: String name: String @deprecated }'
     ask GET /report
+    ask POST /run '{"operationName":"Profile","variables":{"id":7}}'
     ask PUT /schema/reviews 'extend type User { reviews: [Review!] }
 type Review { stars: Int }
 type User { id: ID! }'
     ask GET /report
     ask PUT /schema/reviews 'type Review { stars: }'
-    ask DELETE '/schema/reviews?revision=5'
+    ask DELETE '/schema/reviews?revision=6'
     ask GET /report
 }
 

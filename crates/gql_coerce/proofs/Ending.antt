@@ -107,7 +107,7 @@ module _ (s : Schema) where
   taken : {x : Input} {e : Option Written} {d : InputValueDefinition} → Takes s x e d → Contains (fields s) d
   taken (here {fs} {e} {d} es m is has defined left_out) = subst (Of (fields s)) is (of_entries (all_fields fs) e) m has d defined
   taken (in_field es m x is has gives takes) = taken takes
-  taken (in_item item x is has takes) = taken takes
+  taken (in_item item x is has fits takes) = taken takes
 
   -- ---- chains
 

@@ -59,17 +59,17 @@ abbrev starts : {A : Type 0} → List A → Bool
 starts [] = false
 starts (y ∷ ys) = true
 
-empty_left : {A : Type 0} (xs ys : List A) → xs ++ ys ≡ [] → xs ≡ []
+pub empty_left : {A : Type 0} (xs ys : List A) → xs ++ ys ≡ [] → xs ≡ []
 empty_left [] ys is = refl
 empty_left (x ∷ xs) ys is = absurd (true≢false (ap starts is))
 
-empty_right : {A : Type 0} (xs ys : List A) → xs ++ ys ≡ [] → ys ≡ []
+pub empty_right : {A : Type 0} (xs ys : List A) → xs ++ ys ≡ [] → ys ≡ []
 empty_right xs ys is = sym (ap (λ zs. zs ++ ys) (empty_left xs ys is)) ∙ is
 
 append_empty : {A : Type 0} (xs ys : List A) → xs ≡ [] → ys ≡ [] → xs ++ ys ≡ []
 append_empty xs ys a b = ap (λ zs. zs ++ ys) a ∙ b
 
-each_empty : {A B : Type 0} (f : A → List B) (xs : List A) → flat_map f xs ≡ [] → (x : A) → Contains xs x → f x ≡ []
+pub each_empty : {A B : Type 0} (f : A → List B) (xs : List A) → flat_map f xs ≡ [] → (x : A) → Contains xs x → f x ≡ []
 each_empty f [] is x has = absurd (Contains-nil x has)
 each_empty f (y ∷ ys) is x has = elim (Contains-cases x y ys has) [
   | inl e ↦ ap f e ∙ empty_left (f y) (flat_map f ys) is
@@ -80,7 +80,7 @@ all_empty : {A B : Type 0} (f : A → List B) (xs : List A) → ((x : A) → Con
 all_empty f [] each = refl
 all_empty f (x ∷ xs) each = append_empty (f x) (flat_map f xs) (each x (Contains-here x xs)) (all_empty f xs (λ y has. each y (Contains-there y x xs has)))
 
-none_found : {A : Type 0} (test : A → Bool) (xs : List A) → find test xs ≡ None → (x : A) → Contains xs x → test x ≡ false
+pub none_found : {A : Type 0} (test : A → Bool) (xs : List A) → find test xs ≡ None → (x : A) → Contains xs x → test x ≡ false
 none_found test [] h x has = absurd (Contains-nil x has)
 none_found test (y ∷ ys) h x has = by_test (λ i later. none_found test ys i x later) (test y) refl h where
   by_test : (find test ys ≡ None → Contains ys x → test x ≡ false) → (b : Bool) → test y ≡ b → (if b then Some y else find test ys) ≡ None → test x ≡ false
@@ -90,7 +90,7 @@ none_found test (y ∷ ys) h x has = by_test (λ i later. none_found test ys i x
     | inr later ↦ rest i later
   ]
 
-none_passes : {A : Type 0} (test : A → Bool) (xs : List A) → ((x : A) → Contains xs x → test x ≡ false) → list_any test xs ≡ false
+pub none_passes : {A : Type 0} (test : A → Bool) (xs : List A) → ((x : A) → Contains xs x → test x ≡ false) → list_any test xs ≡ false
 none_passes test [] each = refl
 none_passes test (x ∷ xs) each = ap (λ b. b || list_any test xs) (each x (Contains-here x xs)) ∙ none_passes test xs (λ y has. each y (Contains-there y x xs has))
 
@@ -168,7 +168,7 @@ module _ {A : Type 0} (test : A → Bool) where
   fewer true n h = omega (arith, h)
   fewer false n h = omega (arith, h)
 
-  at_most_one : (xs : List A) → count_by test xs ≤ 1 → (x y : A) → Contains xs x → Contains xs y → test x ≡ true → test y ≡ true → x ≡ y
+  pub at_most_one : (xs : List A) → count_by test xs ≤ 1 → (x y : A) → Contains xs x → Contains xs y → test x ≡ true → test y ≡ true → x ≡ y
   at_most_one [] few x y a b p q = absurd (Contains-nil x a)
   at_most_one (z ∷ zs) few x y a b p q = by_cases (λ u v. at_most_one zs (fewer (test z) (count_by test zs) (subst (λ n. n ≤ 1) (one_more z zs) few)) x y u v p q) (Contains-cases x z zs a) (Contains-cases y z zs b) where
     first : (w : A) → w ≡ z → test w ≡ true → cond true 1 0 + count_by test zs ≤ 1
@@ -180,11 +180,11 @@ module _ {A : Type 0} (test : A → Bool) where
     by_cases rest (inr later) (inl f) = absurd (too_many (count_by test zs) (some_count x zs later p) (first y f q))
     by_cases rest (inr u) (inr v) = rest u v
 
-count_made : {A B : Type 0} (f : A → B) (test : B → Bool) (xs : List A) → count_by test (map f xs) ≡ count_by (λ x. test (f x)) xs
+pub count_made : {A B : Type 0} (f : A → B) (test : B → Bool) (xs : List A) → count_by test (map f xs) ≡ count_by (λ x. test (f x)) xs
 count_made f test [] = refl
 count_made f test (x ∷ xs) = one_more test (f x) (map f xs) ∙ ap (λ n. cond (test (f x)) 1 0 + n) (count_made f test xs) ∙ sym (one_more (λ y. test (f y)) x xs)
 
-no_filtered : {A : Type 0} (test : A → Bool) (xs : List A) → filter test xs ≡ [] → (x : A) → Contains xs x → test x ≡ false
+pub no_filtered : {A : Type 0} (test : A → Bool) (xs : List A) → filter test xs ≡ [] → (x : A) → Contains xs x → test x ≡ false
 no_filtered test [] is x has = absurd (Contains-nil x has)
 no_filtered test (y ∷ ys) is x has = by_test (λ h later. no_filtered test ys h x later) (test y) refl is where
   by_test : (filter test ys ≡ [] → Contains ys x → test x ≡ false) → (b : Bool) → test y ≡ b → (if b then y ∷ filter test ys else filter test ys) ≡ [] → test x ≡ false
@@ -205,7 +205,7 @@ abbrev names_in : List ObjectField → List (Sited Name)
 names_in fs = sited None (map (λ (f : GivenField). f.name) (map given_field fs))
 
 -- the fields of an object differ in their names
-unique : (fs : List ObjectField) → field_repeats (map given_field fs) ≡ [] → (g h : ObjectField) → Contains fs g → Contains fs h → g.name.text ≡ h.name.text → g ≡ h
+pub unique : (fs : List ObjectField) → field_repeats (map given_field fs) ≡ [] → (g h : ObjectField) → Contains fs g → Contains fs h → g.name.text ≡ h.name.text → g ≡ h
 unique fs is g h a b same = at_most_one (λ (f : ObjectField). bytes_eq g.name.text f.name.text) fs (few (count_by (λ (f : ObjectField). bytes_eq g.name.text f.name.text) fs) not_more) g h a b
     (bytes_same g.name.text g.name.text refl) (bytes_same g.name.text h.name.text same) where
       names_are : (gs : List ObjectField) → sited None (map (λ (f : GivenField). f.name) (map given_field gs)) ≡ map as_name gs
@@ -237,10 +237,10 @@ module _ (s : Schema) where
   InCustom n = (vs : Data) (x : Literal) → IsConstant x → NoRepeats x → (name : List ℕ) (v : Option Data)
       → coerced n s (literal vs x) None ≡ value v → within_custom name (value_of x) ≡ []
 
-  item_no_repeats : (p : Place) (xs : List Literal) → NoRepeats (l.List p xs) → (x : Literal) → Contains xs x → NoRepeats x
+  pub item_no_repeats : (p : Place) (xs : List Literal) → NoRepeats (l.List p xs) → (x : Literal) → Contains xs x → NoRepeats x
   item_no_repeats p xs is x has = each_empty (λ (y : Literal). repeats (value_of y)) xs (sym (repeats_list p xs) ∙ is) x has
 
-  field_no_repeats : (p : Place) (fs : List ObjectField) → NoRepeats (l.Object p fs) → (f : ObjectField) → Contains fs f → NoRepeats f.value
+  pub field_no_repeats : (p : Place) (fs : List ObjectField) → NoRepeats (l.Object p fs) → (f : ObjectField) → Contains fs f → NoRepeats f.value
   field_no_repeats p fs is f has = each_empty (λ (g : ObjectField). repeats (value_of g.value)) fs
       (empty_right (field_repeats (map given_field fs)) (flat_map (λ (g : ObjectField). repeats (value_of g.value)) fs) (sym (repeats_object p fs) ∙ is)) f has
 

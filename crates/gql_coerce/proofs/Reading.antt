@@ -16,44 +16,44 @@ use Rattle.gql_coerce.specs.Coercion.{coerced, at_level, once, single_at, null_a
 use Rattle.gql_coerce.specs.Inputs.{Input, Field, null, single, list, object, fraction, text, truth, name, of_whole, of_variable, all_inputs, all_fields, inputs_of, fields_of, firsts, literal, literal_at, literal_field, field_in, may_be_list}
 use Rattle.gql_coerce.specs.Outcomes.{Reached, some, too_deep}
 
-all_inputs_of : (xs : List Input) → all_inputs (inputs_of xs) ≡ xs
+pub all_inputs_of : (xs : List Input) → all_inputs (inputs_of xs) ≡ xs
 all_inputs_of [] = refl
 all_inputs_of (x ∷ xs) = ap (λ ys. x ∷ ys) (all_inputs_of xs)
 
-all_fields_of : (fs : List Field) → all_fields (fields_of fs) ≡ fs
+pub all_fields_of : (fs : List Field) → all_fields (fields_of fs) ≡ fs
 all_fields_of [] = refl
 all_fields_of (f ∷ fs) = ap (λ gs. f ∷ gs) (all_fields_of fs)
 
 module _ (vs : Data) (place : Place) where
-  is_variable : (n : List ℕ) → literal vs (l.Variable place n) ≡ of_variable (get n vs)
+  pub is_variable : (n : List ℕ) → literal vs (l.Variable place n) ≡ of_variable (get n vs)
   unfolding literal
   is_variable n = ap (literal vs) (sym (l.rolls-Variable place n)) ∙ fold-roll-Literal Input Field (literal_at vs) field_in (Literal-F.Variable place n)
 
-  is_int : (t : List ℕ) → literal vs (l.Int place t) ≡ single (of_whole (whole_number t))
+  pub is_int : (t : List ℕ) → literal vs (l.Int place t) ≡ single (of_whole (whole_number t))
   unfolding literal
   is_int t = ap (literal vs) (sym (l.rolls-Int place t)) ∙ fold-roll-Literal Input Field (literal_at vs) field_in (Literal-F.Int place t)
 
-  is_float : (t : List ℕ) → literal vs (l.Float place t) ≡ single fraction
+  pub is_float : (t : List ℕ) → literal vs (l.Float place t) ≡ single fraction
   unfolding literal
   is_float t = ap (literal vs) (sym (l.rolls-Float place t)) ∙ fold-roll-Literal Input Field (literal_at vs) field_in (Literal-F.Float place t)
 
-  is_string : (t : List ℕ) → literal vs (l.String place t) ≡ single (text t)
+  pub is_string : (t : List ℕ) → literal vs (l.String place t) ≡ single (text t)
   unfolding literal
   is_string t = ap (literal vs) (sym (l.rolls-String place t)) ∙ fold-roll-Literal Input Field (literal_at vs) field_in (Literal-F.String place t)
 
-  is_boolean : (b : Bool) → literal vs (l.Boolean place b) ≡ single (truth b)
+  pub is_boolean : (b : Bool) → literal vs (l.Boolean place b) ≡ single (truth b)
   unfolding literal
   is_boolean b = ap (literal vs) (sym (l.rolls-Boolean place b)) ∙ fold-roll-Literal Input Field (literal_at vs) field_in (Literal-F.Boolean place b)
 
-  is_null : literal vs (l.Null place) ≡ null
+  pub is_null : literal vs (l.Null place) ≡ null
   unfolding literal
   is_null = ap (literal vs) (sym (l.rolls-Null place)) ∙ fold-roll-Literal Input Field (literal_at vs) field_in (Literal-F.Null place)
 
-  is_enum : (n : List ℕ) → literal vs (l.Enum place n) ≡ single (name n)
+  pub is_enum : (n : List ℕ) → literal vs (l.Enum place n) ≡ single (name n)
   unfolding literal
   is_enum n = ap (literal vs) (sym (l.rolls-Enum place n)) ∙ fold-roll-Literal Input Field (literal_at vs) field_in (Literal-F.Enum place n)
 
-  is_list : (xs : List Literal) → literal vs (l.List place xs) ≡ list (inputs_of (map (literal vs) xs))
+  pub is_list : (xs : List Literal) → literal vs (l.List place xs) ≡ list (inputs_of (map (literal vs) xs))
   unfolding literal
   is_list xs = ap (literal vs) (sym (l.rolls-List place xs)) ∙ fold-roll-Literal Input Field (literal_at vs) field_in (Literal-F.List place xs)
 
@@ -63,7 +63,7 @@ module _ (vs : Data) (place : Place) where
   fields_in (f ∷ fs) = ap (λ x. x ∷ map (fold-ObjectField Input Field (literal_at vs) field_in) fs) (fold_out-ObjectField Input Field (literal_at vs) field_in f)
       ∙ ap (λ xs. literal_field vs f ∷ xs) (fields_in fs)
 
-  is_object : (fs : List ObjectField) → literal vs (l.Object place fs) ≡ object (fields_of (firsts (map (literal_field vs) fs)))
+  pub is_object : (fs : List ObjectField) → literal vs (l.Object place fs) ≡ object (fields_of (firsts (map (literal_field vs) fs)))
   unfolding literal
   is_object fs = ap (literal vs) (sym (l.rolls-Object place fs)) ∙ fold-roll-Literal Input Field (literal_at vs) field_in (Literal-F.Object place fs)
       ∙ ap (λ xs. object (fields_of (firsts xs))) (fields_in fs)

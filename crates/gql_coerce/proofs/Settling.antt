@@ -245,19 +245,31 @@ module _ (s : Schema) where
   item_settled n e x is = unless_settled (is_list_expected e && not (may_be_list x)) wrong_kind (after (coerced n s x e) (or_null e)) refl
       (after_settled (coerced n s x e) (or_null e) is (λ v i. or_null_settled e v))
 
-  items_settle : (e : Option Written) (xs : List Input) → ((x : Input) → Contains xs x → Settles x e) → (m : ℕ) → Eventually (λ n. Settled (all (items_from (item_at (coerced n s) e) m xs)))
-  items_settle e [] each m = (0, λ n. refl)
-  items_settle e (x ∷ xs) each m = both (λ n. Settled (coerced n s x e)) (λ n. Settled (all (items_from (item_at (coerced n s) e) (suc m) xs))) (λ n. Settled (all (items_from (item_at (coerced n s) e) m (x ∷ xs))))
-      (λ n a b. after_settled (within (Index m) (item_at (coerced n s) e x)) (λ d. after (all (items_from (item_at (coerced n s) e) (suc m) xs)) (λ ds. value (d ∷ ds)))
-      (within_settled (Index m) (item_at (coerced n s) e x) (item_settled n e x a))
-      (λ d i. after_settled (all (items_from (item_at (coerced n s) e) (suc m) xs)) (λ ds. value (d ∷ ds)) b (λ ds j. refl)))
-      (each x (Contains-here x xs)) (items_settle e xs (λ y h. each y (Contains-there y x xs h)) (suc m))
+  item_refused : (n : ℕ) (e : Option Written) (x : Input) → (is_list_expected e && not (may_be_list x)) ≡ true → Settled (item_at (coerced n s) e x)
+  item_refused n e x is = ap (λ c. is_too_deep (if c then wrong_kind else after (coerced n s x e) (or_null e))) is
 
-  array_settles : (e : Option Written) (xs : List Input) → ((x : Input) → Contains xs x → Settles x e) → Eventually (λ n. Settled (array_of (item_at (coerced n s) e) xs))
+  -- an item is refused, or comes to something
+  item_settles : (e : Option Written) (x : Input) (b : Bool) → (is_list_expected e && not (may_be_list x)) ≡ b → (b ≡ false → Settles x e) → Eventually (λ n. Settled (item_at (coerced n s) e x))
+  item_settles e x true is settles = (0, λ n. item_refused (0 + n) e x is)
+  item_settles e x false is settles = onward (λ n. Settled (coerced n s x e)) (λ n. Settled (item_at (coerced n s) e x)) (λ n a. item_settled n e x a) (settles refl)
+
+  abbrev ItemsSettle : Option Written → List Input → Type 0
+  ItemsSettle e xs = (x : Input) → Contains xs x → (is_list_expected e && not (may_be_list x)) ≡ false → Settles x e
+
+  items_settle : (e : Option Written) (xs : List Input) → ItemsSettle e xs → (m : ℕ) → Eventually (λ n. Settled (all (items_from (item_at (coerced n s) e) m xs)))
+  items_settle e [] each m = (0, λ n. refl)
+  items_settle e (x ∷ xs) each m = both (λ n. Settled (item_at (coerced n s) e x)) (λ n. Settled (all (items_from (item_at (coerced n s) e) (suc m) xs))) (λ n. Settled (all (items_from (item_at (coerced n s) e) m (x ∷ xs))))
+      (λ n a b. after_settled (within (Index m) (item_at (coerced n s) e x)) (λ d. after (all (items_from (item_at (coerced n s) e) (suc m) xs)) (λ ds. value (d ∷ ds)))
+      (within_settled (Index m) (item_at (coerced n s) e x) a)
+      (λ d i. after_settled (all (items_from (item_at (coerced n s) e) (suc m) xs)) (λ ds. value (d ∷ ds)) b (λ ds j. refl)))
+      (item_settles e x (is_list_expected e && not (may_be_list x)) refl (each x (Contains-here x xs))) (items_settle e xs (λ y h. each y (Contains-there y x xs h)) (suc m))
+
+  array_settles : (e : Option Written) (xs : List Input) → ItemsSettle e xs → Eventually (λ n. Settled (array_of (item_at (coerced n s) e) xs))
   array_settles e xs each = onward (λ n. Settled (all (items_from (item_at (coerced n s) e) 0 xs))) (λ n. Settled (array_of (item_at (coerced n s) e) xs))
       (λ n a. after_settled (all (items_from (item_at (coerced n s) e) 0 xs)) (λ ds. value (json.array (items_of ds))) a (λ ds i. refl)) (items_settle e xs each 0)
 
-  list_settles : (xs : List Input) (ex : Expected) → ((x : Input) → Contains xs x → (item : Option Written) → IsExpected ex item → Settles x item) → Eventually (λ n. Settled (list_by (coerced n s) xs ex))
+  list_settles : (xs : List Input) (ex : Expected) → ((x : Input) → Contains xs x → (item : Option Written) → IsExpected ex item → (is_list_expected item && not (may_be_list x)) ≡ false → Settles x item)
+      → Eventually (λ n. Settled (list_by (coerced n s) xs ex))
   list_settles xs nothing each = (0, λ n. refl)
   list_settles xs anything each = array_settles None xs (λ x h. each x h None of_any)
   list_settles xs (this t) each = array_settles (Some t) xs (λ x h. each x h (Some t) (of_type t))
@@ -347,7 +359,7 @@ module _ (s : Schema) where
     settles (single x) e defaults = up (single x) e (0, λ n. once_settled e (some (single_at s e x)) (some_settled (single_at s e x) (single_settled s e x)))
     settles (list xs) e defaults = up (list xs) e (onward (λ n. Settled (list_by (coerced n s) (all_inputs xs) (items_expected s e))) (λ n. Settled (at_level (coerced n s) s (list xs) e))
         (λ n a. some_settled (list_by (coerced n s) (all_inputs xs) (items_expected s e)) a)
-        (list_settles (all_inputs xs) (items_expected s e) (λ x has item is. items_settled xs x has item (λ d takes. defaults d (in_item item x is has takes)))))
+        (list_settles (all_inputs xs) (items_expected s e) (λ x has item is fits. items_settled xs x has item (λ d takes. defaults d (in_item item x is has fits takes)))))
     settles (object fs) e defaults = up (object fs) e (onward (λ n. Settled (object_at (coerced n s) (entries_for s (all_fields fs) e))) (λ n. Settled (at_level (coerced n s) s (object fs) e))
         (λ n a. once_settled e (some (object_at (coerced n s) (entries_for s (all_fields fs) e))) (some_settled (object_at (coerced n s) (entries_for s (all_fields fs) e)) a))
         (object_settles (entries_for s (all_fields fs) e) (λ l is m has. member_settles m

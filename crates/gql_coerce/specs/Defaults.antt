@@ -1,13 +1,13 @@
 -- Which defaults the coercion of an input takes (GraphQL specification, 3.10), and cycles of them.
-use Rattle.std.specs.Prelude.{◌≡◌, List, Bool, true, false, Option, Some, None, option_map, Contains}
+use Rattle.std.specs.Prelude.{◌≡◌, ◌&&◌, List, Bool, true, false, not, Option, Some, None, option_map, Contains}
 use Rattle.gql_ast.specs.declared.literal.Literal.{Literal}
 use Rattle.gql_ast.specs.declared.type_system.InputValueDefinition.{InputValueDefinition}
 use Rattle.gql_types.specs.Written.{Written, written}
 use Rattle.gql_types.specs.declared.schema.Schema.{Schema}
 use Rattle.serde_json.specs.Data as json
 use Rattle.serde_json.specs.Data.{Data}
-use Rattle.gql_coerce.specs.Coercion.{Entry, are, entries_for, Expected, anything, this, items_expected}
-use Rattle.gql_coerce.specs.Inputs.{Input, Inputs, Fields, absent, given, null, single, list, object, all_inputs, all_fields, literal}
+use Rattle.gql_coerce.specs.Coercion.{Entry, are, entries_for, Expected, anything, this, items_expected, is_list_expected}
+use Rattle.gql_coerce.specs.Inputs.{Input, Inputs, Fields, absent, given, null, single, list, object, all_inputs, all_fields, literal, may_be_list}
 
 -- a variable without a value
 abbrev pub is_absent : Input → Bool
@@ -29,7 +29,8 @@ pub data IsExpected : Expected → Option Written → Type 0 where
   of_any : IsExpected anything None
 
 -- the coercion of an input, at a type or within a custom scalar, takes the default of this field:
--- an object within the input leaves it out
+-- an object within the input leaves it out; an item that is refused, since it is not made a list of
+-- one, takes none
 pub data Takes (s : Schema) : Input → Option Written → InputValueDefinition → Type 0 where
   here : {fs : Fields} {e : Option Written} {d : InputValueDefinition} (es : List Entry) (m : Entry)
       → entries_for s (all_fields fs) e ≡ are es → Contains es m → m.definition ≡ Some d
@@ -39,7 +40,8 @@ pub data Takes (s : Schema) : Input → Option Written → InputValueDefinition 
       → Takes s x (option_map (λ (v : InputValueDefinition). written v.of_type) m.definition) d
       → Takes s (object fs) e d
   in_item : {xs : Inputs} {e : Option Written} {d : InputValueDefinition} (item : Option Written) (x : Input)
-      → IsExpected (items_expected s e) item → Contains (all_inputs xs) x → Takes s x item d
+      → IsExpected (items_expected s e) item → Contains (all_inputs xs) x
+      → (is_list_expected item && not (may_be_list x)) ≡ false → Takes s x item d
       → Takes s (list xs) e d
 
 -- the default of a field takes the default of another

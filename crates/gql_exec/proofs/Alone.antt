@@ -27,7 +27,7 @@ use Rattle.serde_json.specs.Find.{get}
 use Rattle.serde_json.specs.View.{items_of}
 use Rattle.gql_exec.specs.Execution.{Arguments, given, refused, Below, Fields, no_fields, field, Plan, plan, PlannedField, Site, Types, among, answer, answered, complete, each, execute, executed, fault, items_from, is_null, leaf, members_of, of_kind, on_abstract, on_list, on_object, placed, value_of}
 use Rattle.gql_exec.specs.Leaves.{as_enum, scalar_value}
-use Rattle.gql_exec.specs.Plans.{ArePlanned, IsPlan, IsPlanned, is_met, is_met_by, planned, types_of}
+use Rattle.gql_exec.specs.Plans.{ArePlanned, IsPlan, IsPlanned, defined, is_met, is_met_by, planned, types_of}
 use Rattle.gql_exec.specs.Replies.{Path, index, key, Reply, all, counted, mapped, returns, settled}
 use Rattle.gql_exec.specs.Requests.{Executes, Request, Response, initial_value, request_error, response_of, variable_at}
 use Rattle.gql_exec.specs.Requests as requests
@@ -126,7 +126,8 @@ module _ (collection : OneCollection) (of_arguments : OneOfArguments) (g : Given
         let u = h t met in
         let v = k t met in
         let same : u.0 ≡ v.0 = collection g t xs u.0 v.0 u.1 v.1 in
-        ap (λ rs. mapped (λ ms. json.object (members_of ms)) (all rs)) (fields_alike t v.0 (a t) (b t) (subst (λ gs. ArePlanned g t gs (a t)) same u.2) v.2 p d)
+        ap (λ rs. mapped (λ ms. json.object (members_of ms)) (all rs)) (fields_alike t (defined g.schema t v.0) (a t) (b t)
+        (subst (λ gs. ArePlanned g t (defined g.schema t gs) (a t)) same u.2) v.2 p d)
 
     fields_alike : (t : List ℕ) (groups : List Group) (fs es : Fields) → ArePlanned g t groups fs → ArePlanned g t groups es → (p : Path) (d : Data)
         → each (types_of g.schema) fs p d ≡ each (types_of g.schema) es p d

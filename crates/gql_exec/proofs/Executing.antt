@@ -19,7 +19,7 @@ use Rattle.serde_json.specs.View.{items_of, view}
 use Rattle.serde_json.specs.declared.value.Value.{Value}
 use Rattle.gql_exec.specs.Execution.{Fields, Plan, plan, PlannedField, Site, Types, among, complete, execute, is_null, of_kind, on_list, value_of}
 use Rattle.gql_exec.specs.Parts.{Part, caught, plain, raise}
-use Rattle.gql_exec.specs.Plans.{IsPlan, is_met, is_met_by, possible_in, types_of}
+use Rattle.gql_exec.specs.Plans.{IsPlan, defined, is_met, is_met_by, possible_in, types_of}
 use Rattle.gql_exec.specs.Replies.{Path}
 use Rattle.gql_exec.specs.Resolution.{resolved}
 use Rattle.gql_exec.specs.States.{Done, Executes, Follows, path_of}
@@ -112,7 +112,7 @@ placed_nullable t r e = ap (λ b. if b then r else caught r) e
 -- the fields of an entry stand for those of each plan
 pub entry_stands : (g : Given) (table : Table) (k : ℕ) (t name : List ℕ) (xs : List FileSelection) (by_type : List ℕ → Fields) → Has g table k t xs → is_met g.schema t name ≡ true
     → IsPlan g name xs (plan by_type) → StandFor g (fields_at table.entries.items k) (pairs_of (by_type t))
-entry_stands g table k t name xs by_type has met is = let p = is t met in has.holds p.0 p.1 (pairs_of (by_type t)) (paired g t p.0 (by_type t) p.2)
+entry_stands g table k t name xs by_type has met is = let p = is t met in has.holds p.0 p.1 (pairs_of (by_type t)) (paired g t (defined g.schema t p.0) (by_type t) p.2)
 
 pub on_entry : (g : Given) (table : Table) (k : ℕ) (t name : List ℕ) (xs : List FileSelection) (x : Plan) (d : Data) (result : Result Ended ExecRefusal) (s u : Run)
     → Has g table k t xs → is_met g.schema t name ≡ true → IsPlan g name xs x

@@ -1,5 +1,6 @@
 -- The fields that are planned for groups.
-use Rattle.std.proofs.Common.{◌≡◌, ℕ, List, [], ◌∷◌, ◌++◌, codes, Option, Some, None, refl, sym, ap, ◌∙◌, subst}
+use Rattle.std.proofs.Common.{◌≡◌, ℕ, List, [], ◌∷◌, ◌++◌, codes, append-nil, cond, is_some, Option, Some, None, refl, sym, ap, ◌∙◌, subst}
+use Rattle.std.proofs.lemmas.List.Elements.{filter-append}
 use Rattle.json.specs.Print.{quoted}
 use Rattle.gql_ast.specs.declared.type_system.FieldDefinition.{FieldDefinition}
 use Rattle.gql_built_in.specs.declared.sited.Sited.{Sited}
@@ -11,7 +12,7 @@ use Rattle.gql_collect.specs.Unfolding.{Given}
 use Rattle.gql_inputs.specs.InputTypes.{name_in}
 use Rattle.gql_types.specs.Schemas.{field_named}
 use Rattle.gql_exec.specs.Execution.{PlannedField, Plan, Fields, no_fields, field}
-use Rattle.gql_exec.specs.Plans.{IsPlan, IsPlanned, ArePlanned, planned}
+use Rattle.gql_exec.specs.Plans.{IsPlan, IsPlanned, ArePlanned, defined, definition_of, planned}
 use Rattle.gql_exec.specs.Tables.{PlansGroup, ArePairs, StandsFor, StandFor, Planning, Hold, pairs_of, planned_of}
 use Rattle.gql_exec.specs.declared.planning.FieldPlan.{FieldPlan}
 
@@ -50,15 +51,28 @@ same_first x y xs ys e = cc
 pub same_some : {A : Type 0} (x y : A) → Some x ≡ Some y → x ≡ y
 same_some x y e = cc
 
+-- the groups of fields that the type has, with one more
+with_one : (g : Given) (t : List ℕ) (groups : List Group) (group : Group) (n : FieldNode) (rest : List FieldNode) (d : Sited FieldDefinition)
+    → group.nodes ≡ n ∷ rest → field_named g.schema t n.field.name.text ≡ Some d → defined g.schema t (groups ++ group ∷ []) ≡ defined g.schema t groups ++ group ∷ []
+with_one g t groups group n rest d nodes is = filter-append (λ (x : Group). is_some (definition_of g.schema t x.nodes)) groups (group ∷ [])
+    ∙ ap (λ (o : Option (Sited FieldDefinition)). defined g.schema t groups ++ cond (is_some o) (group ∷ []) []) (ap (definition_of g.schema t) nodes ∙ is)
+
+-- without one whose field it does not have
+without_one : (g : Given) (t : List ℕ) (groups : List Group) (group : Group) (n : FieldNode) (rest : List FieldNode)
+    → group.nodes ≡ n ∷ rest → field_named g.schema t n.field.name.text ≡ None → defined g.schema t (groups ++ group ∷ []) ≡ defined g.schema t groups
+without_one g t groups group n rest nodes is = filter-append (λ (x : Group). is_some (definition_of g.schema t x.nodes)) groups (group ∷ [])
+    ∙ ap (λ (o : Option (Sited FieldDefinition)). defined g.schema t groups ++ cond (is_some o) (group ∷ []) []) (ap (definition_of g.schema t) nodes ∙ is)
+    ∙ append-nil (defined g.schema t groups)
+
 -- the field of one more group, whose first node is n and has the definition d
 pub one_more : (g : Given) (t : List ℕ) (groups : List Group) (fs : List FieldPlan) (group : Group) (n : FieldNode) (rest : List FieldNode) (d : Sited FieldDefinition) (f : FieldPlan)
     → Planning g t groups fs → group.nodes ≡ n ∷ rest → field_named g.schema t n.field.name.text ≡ Some d → PlansGroup g d.node group f
     → Planning g t (groups ++ group ∷ []) (fs ++ f ∷ [])
-one_more g t groups fs group n rest d f planning nodes defined plans qs h =
-    let s = split g t groups group qs h in
+one_more g t groups fs group n rest d f planning nodes has plans qs h =
+    let s = split g t (defined g.schema t groups) group qs (subst (λ gs. ArePairs g t gs qs) (with_one g t groups group n rest d nodes has) h) in
     let p = s.first in
     let first_is : p.first ≡ n = same_first p.first n p.others rest (sym p.nodes ∙ nodes) in
-    let d_is : p.definition ≡ d = same_some p.definition d (sym p.defined ∙ ap (λ (m : FieldNode). field_named g.schema t m.field.name.text) first_is ∙ defined) in
+    let d_is : p.definition ≡ d = same_some p.definition d (sym p.defined ∙ ap (λ (m : FieldNode). field_named g.schema t m.field.name.text) first_is ∙ has) in
     let is : planned_of f ≡ planned group p.first p.definition.node p.arguments = subst (λ (e : Sited FieldDefinition). planned_of f ≡ planned group p.first e.node p.arguments) (sym d_is)
     (plans.is p.first p.others p.arguments p.nodes (subst (λ (e : Sited FieldDefinition). ArgumentsCome g.schema e.node.arguments p.first.field.arguments g.values p.arguments) d_is p.comes)) in
     subst (StandFor g (fs ++ f ∷ [])) (sym s.is) (stand_more g fs s.before f s.last (planning s.before s.are) (record {
@@ -69,12 +83,9 @@ one_more g t groups fs group n rest d f planning nodes defined plans qs h =
 
 -- a field that the type does not have is in no plan
 pub none_more : (g : Given) (t : List ℕ) (groups : List Group) (fs : List FieldPlan) (group : Group) (n : FieldNode) (rest : List FieldNode)
-    → group.nodes ≡ n ∷ rest → field_named g.schema t n.field.name.text ≡ None → Planning g t (groups ++ group ∷ []) fs
-none_more g t groups fs group n rest nodes missing qs h =
-    let p = (split g t groups group qs h).first in
-    let first_is : p.first ≡ n = same_first p.first n p.others rest (sym p.nodes ∙ nodes) in
-    let e : None ≡ Some p.definition = sym (ap (λ (m : FieldNode). field_named g.schema t m.field.name.text) first_is ∙ missing) ∙ p.defined in
-    cc
+    → Planning g t groups fs → group.nodes ≡ n ∷ rest → field_named g.schema t n.field.name.text ≡ None → Planning g t (groups ++ group ∷ []) fs
+none_more g t groups fs group n rest planning nodes missing qs h =
+    planning qs (subst (λ gs. ArePairs g t gs qs) (without_one g t groups group n rest nodes missing) h)
 
 pub none_yet : (g : Given) (t : List ℕ) → Planning g t [] []
 none_yet g t [] h = tt

@@ -12,5 +12,7 @@ pub mod Leaving
 pub mod Listing
 pub mod Parts
 pub mod Resolving
+pub mod SomePlan
+pub mod SomeResponse
 pub mod Starting
 pub mod Texting

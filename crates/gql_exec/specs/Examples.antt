@@ -1,13 +1,21 @@
 -- Worked examples of the definitions.
 use Rattle.std.specs.Fmt.{signed_decimal}
-use Rattle.std.specs.Prelude.{◌≡◌, ℕ, ◌-◌, pos, List, [], ◌∷◌, codes, refl, Option, Some, bytes_eq, if◌then◌else◌}
+use Rattle.std.specs.Prelude.{◌≡◌, ℕ, ◌-◌, pos, List, [], ◌∷◌, codes, refl, Option, Some, None, bytes_eq, if◌then◌else◌}
+use Rattle.gql_ast.specs.declared.text.Name.{Name}
+use Rattle.gql_ast.specs.declared.type_ref.TypeRef.TheVariants as type_ref
+use Rattle.gql_ast.specs.declared.type_system.FieldDefinition.{FieldDefinition}
+use Rattle.gql_ast.specs.declared.type_system.TypeParts.TheVariants as parts
+use Rattle.gql_collect.specs.Collection.{groups_from}
+use Rattle.gql_collect.specs.Nodes.{FieldNode}
 use Rattle.gql_text.specs.declared.place.Place.{Place}
 use Rattle.gql_types.specs.Written.{Written, named, listed, required}
 use Rattle.gql_types.specs.declared.kind.TypeKind.{TypeKind}
 use Rattle.gql_types.specs.declared.kind.TypeKind.TheVariants as kind
+use Rattle.gql_types.specs.declared.schema.Schema.{Schema}
 use Rattle.serde_json.specs.Data as json
 use Rattle.serde_json.specs.Data.{Data, item, no_items, member, no_members}
 use Rattle.gql_exec.specs.Execution.{Arguments, given, refused, PlannedField, Plan, plan, Fields, no_fields, field, Types, answer}
+use Rattle.gql_exec.specs.Plans.{defined}
 use Rattle.gql_exec.specs.Replies.{Error, Path, key, index}
 
 -- ---- terms for the examples
@@ -203,3 +211,70 @@ no_pet : answer types pet (codes "Query")
       weight = 1;
     }
 no_pet = refl
+
+-- ---- fields that a type lacks
+
+abbrev word : ℕ → List ℕ → Name
+word column text = record { place = at column; text = text }
+
+-- a field of a query, without anything else
+abbrev node : ℕ → List ℕ → FieldNode
+node column name = record {
+  file = codes "find";
+  field = record {
+    alias = None;
+    name = word column name;
+    arguments = [];
+    directives = [];
+    selections = [];
+  };
+}
+
+abbrev id_field : FieldDefinition
+id_field = record {
+  description = None;
+  name = word 14 (codes "id");
+  arguments = [];
+  of_type = type_ref.Named (word 18 (codes "ID"));
+  directives = [];
+}
+
+-- `type Query { id: ID }`
+abbrev schema : Schema
+schema = record {
+  types = record {
+    definition = record {
+      file = None;
+      node = record {
+        place = at 1;
+        description = None;
+        name = word 6 (codes "Query");
+        directives = [];
+        parts = parts.Object [] (id_field ∷ []);
+      };
+    };
+    extensions = [];
+    kind = kind.Object;
+    interfaces = [];
+    fields = record { file = None; node = id_field } ∷ [];
+    members = [];
+    values = [];
+    input_fields = [];
+  } ∷ [];
+  directives = [];
+  roots = [];
+  possible = [];
+}
+
+-- `{ age id age id }`: the group of `age` is left out, that of `id` has both of its fields
+left_out : defined schema (codes "Query") (groups_from (node 3 (codes "age")
+    ∷ node 7 (codes "id") ∷ node 10 (codes "age") ∷ node 14 (codes "id") ∷ []))
+    ≡ record {
+      key = codes "id";
+      nodes = node 7 (codes "id") ∷ node 14 (codes "id") ∷ [];
+    } ∷ []
+left_out = refl
+
+-- a type that is not in the schema has no fields
+no_type : defined schema (codes "Pet") (groups_from (node 3 (codes "id") ∷ [])) ≡ []
+no_type = refl

@@ -1,6 +1,6 @@
 -- Which plan selections have (GraphQL 6.3.2, 6.4 and 6.4.1): their groups for each type that an
 -- object may have, each with the arguments and the type of its first field.
-use Rattle.std.specs.Prelude.{◌≡◌, ℕ, List, [], ◌∷◌, ◌++◌, Bool, true, false, bytes_eq, codes, map, Option, Some}
+use Rattle.std.specs.Prelude.{◌≡◌, ℕ, List, [], ◌∷◌, ◌++◌, Bool, true, false, bytes_eq, codes, map, filter, is_some, Option, Some, None}
 use Rattle.std.specs.List.{list_any}
 use Rattle.std.specs.Option.{option_map_or}
 use Rattle.gql_ast.specs.declared.type_system.EnumValueDefinition.{EnumValueDefinition}
@@ -85,11 +85,21 @@ pub record IsPlanned (g : Given) (t : List ℕ) (group : Group) (f : PlannedFiel
       ArgumentsCome g.schema definition.node.arguments first.field.arguments g.values arguments
   pub is : f ≡ planned group first definition.node arguments
 
+-- the definition of the field of a group, by its first node
+abbrev pub definition_of : Schema → List ℕ → List FieldNode → Option (Sited FieldDefinition)
+definition_of s t [] = None
+definition_of s t (first ∷ others) = field_named s t first.field.name.text
+
+-- the groups of fields that the type has; others are left out (6.3)
+abbrev pub defined : Schema → List ℕ → List Group → List Group
+defined s t groups = filter (λ (group : Group). is_some (definition_of s t group.nodes)) groups
+
 abbrev mutual
   -- x is the plan of selections on what a field of the type of this name gives
   pub IsPlan : Given → List ℕ → List FileSelection → Plan → Type 0
   IsPlan g name xs (plan by_type) = (t : List ℕ) → is_met g.schema t name ≡ true
-      → (groups : List Group) × Collects g t xs groups × ArePlanned g t groups (by_type t)
+      → (groups : List Group) × Collects g t xs groups
+      × ArePlanned g t (defined g.schema t groups) (by_type t)
 
   -- one by one, each with the plan of what it selects
   pub ArePlanned : Given → List ℕ → List Group → Fields → Type 0

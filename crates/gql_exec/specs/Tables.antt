@@ -16,7 +16,7 @@ use Rattle.gql_types.specs.Written.{written}
 use Rattle.serde_json.specs.Data.{Data}
 use Rattle.serde_json.specs.View.{view}
 use Rattle.gql_exec.specs.Execution.{Arguments, given, refused, PlannedField, Plan, Fields, no_fields, field}
-use Rattle.gql_exec.specs.Plans.{IsPlan, IsPlanned, ArePlanned, planned}
+use Rattle.gql_exec.specs.Plans.{IsPlan, IsPlanned, ArePlanned, defined, planned}
 use Rattle.gql_exec.specs.declared.planning.Called.{Called}
 use Rattle.gql_exec.specs.declared.planning.Called.TheVariants as called
 use Rattle.gql_exec.specs.declared.planning.FieldPlan.{FieldPlan}
@@ -75,9 +75,10 @@ StandFor g [] [] = Unit {0}
 StandFor g (f ∷ fs) (q ∷ qs) = StandsFor g f q × StandFor g fs qs
 StandFor g _ _ = ⊥
 
--- these stand for the fields of groups, whichever plan has them
+-- these stand for the fields of the groups of fields that the type has, whichever plan has them
 abbrev pub Planning : Given → List ℕ → List Group → List FieldPlan → Type 0
-Planning g t groups fs = (qs : List (PlannedField × Plan)) → ArePairs g t groups qs → StandFor g fs qs
+Planning g t groups fs = (qs : List (PlannedField × Plan))
+    → ArePairs g t (defined g.schema t groups) qs → StandFor g fs qs
 
 -- these stand for what selections ask of objects of the type t
 abbrev pub Hold : Given → List ℕ → List FileSelection → List FieldPlan → Type 0

@@ -9,3 +9,15 @@ pub fn one_response()
     gql_coerce::laws::one_of_arguments();
     gql_coerce::laws::one_of_variables();
 }
+
+/// A request has a response, where the root type of its operation is an object type, no default
+/// leads back to itself, and the operation leads to no fragment that leads back to itself.
+pub fn some_response()
+    ensures { laws.SomeResponse }
+{
+    gql_collect::laws::some_depth();
+    gql_collect::laws::some_groups();
+    gql_coerce::laws::some_of_variables();
+    gql_coerce::laws::some_of_arguments();
+    gql_coerce::laws::named_refusals();
+}

@@ -1,19 +1,25 @@
 -- A request, a list of requests and an event each have one answer and leave one state.
-use Rattle.std.proofs.Common.{◌≡◌, ℕ, List, ◌∷◌, ◌++◌, take, Option, Some, None, IsSome, Result, refl, sym, ap, ap₂, ◌∙◌, subst}
+use Rattle.std.proofs.Common.{◌≡◌, ℕ, List, ◌∷◌, ◌++◌, take, Option, Some, None, IsSome, Result, Err, refl, sym, ap, ap₂, ◌∙◌, subst}
+use Rattle.gql_bodies.specs.CallBodies as ask
+use Rattle.gql_bodies.specs.CallBodies.{Asked, Asks, asked_by, reads, not_json, not_text}
+use Rattle.gql_registry.specs.Calls.{Answers}
 use Rattle.gql_registry.specs.Edits as edit
-use Rattle.gql_registry.specs.Laws.{OneEdit, OneReport, WasMade}
+use Rattle.gql_registry.specs.Laws.{OneAnswer as OneCall, OneEdit, OneReport, WasMade}
 use Rattle.gql_registry.specs.State.{State}
 use Rattle.gql_registry.specs.declared.refusal.Refusal.{Refusal}
+use Rattle.gql_registry.specs.declared.refusal.Refusal.TheVariants.{Memory}
 use Rattle.gql_registry.specs.declared.registry.Edited.{Edited}
 use Rattle.gql_wire.specs.Head.{is_head}
 use Rattle.gql_wire.specs.Stream.{request, refused as refused_head}
 use Rattle.gql_wire.specs.Laws.{OneSplit}
-use Rattle.gql_http.specs.Answers.{Said, answer_bytes, edit_said, report_said}
+use Rattle.gql_http.specs.Answers.{Said, answer_bytes, edit_said, report_said, run_said}
 use Rattle.gql_http.specs.Connections.{requests_of, joined, held_after, Serves, Breaks}
 use Rattle.gql_http.specs.Events.{with_connection, does_open, does_feed, does_break, does_close, ignores}
 use Rattle.gql_http.specs.Laws.{OneStep, OneRun, OneDeed}
-use Rattle.gql_http.specs.Routes.{Call, report, put, remove, refused, call_of}
-use Rattle.gql_http.specs.Service.{Calls, Edits, Run, done, more}
+use Rattle.gql_http.specs.Routes.{Call, report, put, remove, put_data, run, refused, call_of}
+use Rattle.gql_http.specs.Service.{Calls, Edits, Run, Runs, calls, gives_text, bad_body, done, more}
+use Rattle.serde_json.specs.Data.{Data}
+use Rattle.serde_json.specs.Read.{read}
 use Rattle.gql_http.proofs.Joining.{some_same}
 
 pub said_made : (r : Result Edited Refusal) (a : Said) → edit_said r ≡ Some a → WasMade r
@@ -22,7 +28,52 @@ said_made r a said is = let none : ◌≡◌ {A = Option Said} None (Some a) = s
 one_said : (r q : Result Edited Refusal) (a b : Said) → edit_said r ≡ Some a → edit_said q ≡ Some b → r ≡ q → a ≡ b
 one_said r q a b x y same = let some : ◌≡◌ {A = Option Said} (Some a) (Some b) = sym x ∙ ap edit_said same ∙ y in cc
 
-module _ (edits : OneEdit) (reports : OneReport) where
+-- a body asks for one thing
+read_same : (r : Option Data) (d e : Data) → r ≡ Some d → r ≡ Some e → d ≡ e
+read_same r d e x y = some_same d e (sym x ∙ y)
+
+read_clash : (r : Option Data) (d : Data) → r ≡ Some d → r ≡ None → ⊥
+read_clash r d x y = let clash : Some d ≡ None = sym x ∙ y in cc clash
+
+one_asked : (body : List ℕ) (x y : Asked) → Asks body x → Asks body y → x ≡ y
+one_asked body _ _ (reads {d = d} text is) (reads {d = e} other also) = ap asked_by (read_same (read body) d e is also)
+one_asked body _ _ (reads {d = d} text is) (not_json other none) = absurd (read_clash (read body) d is none)
+one_asked body _ _ (reads text is) (not_text bad) = absurd (bad text)
+one_asked body _ _ (not_json text none) (reads {d = e} other also) = absurd (read_clash (read body) e also none)
+one_asked body _ _ (not_json text none) (not_json other also) = refl
+one_asked body _ _ (not_json text none) (not_text bad) = absurd (bad text)
+one_asked body _ _ (not_text bad) (reads other also) = absurd (bad other)
+one_asked body _ _ (not_text bad) (not_json other also) = absurd (bad other)
+one_asked body _ _ (not_text bad) (not_text also) = refl
+
+-- a call of an operation that is answered did not fail for memory
+run_made : (r : Result (List ℕ) Refusal) (a : Said) → run_said r ≡ Some a → r ≡ Err Memory → ⊥
+run_made r a said is = let none : ◌≡◌ {A = Option Said} None (Some a) = subst (λ q. run_said q ≡ Some a) is said in cc
+
+one_run_said : (r q : Result (List ℕ) Refusal) (a b : Said) → run_said r ≡ Some a → run_said q ≡ Some b → r ≡ q → a ≡ b
+one_run_said r q a b x y same = let some : ◌≡◌ {A = Option Said} (Some a) (Some b) = sym x ∙ ap run_said same ∙ y in cc
+
+module _ (edits : OneEdit) (calls_one : OneCall) (reports : OneReport) where
+  one_called : (s : State) (name other : Option (List ℕ)) (variables values : Data) (r q : Result (List ℕ) Refusal) (a b : Said) → ask.call name variables ≡ ask.call other values
+      → Answers s.files s.stored name variables r → Answers s.files s.stored other values q → run_said r ≡ Some a → run_said q ≡ Some b → a ≡ b
+  one_called s name other variables values r q a b asked h k x y =
+      let names : name ≡ other = cc asked in
+      let vars : variables ≡ values = cc asked in
+      let moved = subst (λ n. Answers s.files s.stored n values r) names (subst (λ v. Answers s.files s.stored name v r) vars h) in
+      one_run_said r q a b x y (calls_one s.files s.stored other values r q moved k (run_made r a x) (run_made q b y))
+
+  one_run_answer : (s : State) (body : List ℕ) (a b : Said) → Runs s body a → Runs s body b → a ≡ b
+  one_run_answer s body a b (calls {name = n} {variables = v} {r = r} asks h x) (calls {name = m} {variables = w} {r = q} also k y) =
+      one_called s n m v w r q a b (one_asked body (ask.call n v) (ask.call m w) asks also) h k x y
+  one_run_answer s body a _ (calls {name = n} {variables = v} asks h x) (gives_text also) = let clash : ask.call n v ≡ ask.stored_only = one_asked body _ _ asks also in absurd (cc clash)
+  one_run_answer s body a _ (calls {name = n} {variables = v} asks h x) (bad_body also) = let clash : ask.call n v ≡ ask.bad_call = one_asked body _ _ asks also in absurd (cc clash)
+  one_run_answer s body _ b (gives_text asks) (calls {name = m} {variables = w} also k y) = let clash : ask.stored_only ≡ ask.call m w = one_asked body _ _ asks also in absurd (cc clash)
+  one_run_answer s body _ _ (gives_text asks) (gives_text also) = refl
+  one_run_answer s body _ _ (gives_text asks) (bad_body also) = let clash : ask.stored_only ≡ ask.bad_call = one_asked body _ _ asks also in absurd (cc clash)
+  one_run_answer s body _ b (bad_body asks) (calls {name = m} {variables = w} also k y) = let clash : ask.bad_call ≡ ask.call m w = one_asked body _ _ asks also in absurd (cc clash)
+  one_run_answer s body _ _ (bad_body asks) (gives_text also) = let clash : ask.bad_call ≡ ask.stored_only = one_asked body _ _ asks also in absurd (cc clash)
+  one_run_answer s body _ _ (bad_body asks) (bad_body also) = refl
+
   one_answer : (s t u : State) (expected : Option ℕ) (e : edit.Edit) (a b : Said) → Edits s expected e a t → Edits s expected e b u → (a ≡ b) × (t ≡ u)
   one_answer s t u expected e a b h k =
       let same = edits s t u expected e h.0 k.0 h.2 k.2 (said_made h.0 a h.1) (said_made k.0 b k.1) in
@@ -32,6 +83,8 @@ module _ (edits : OneEdit) (reports : OneReport) where
   one_call s t u report body a b h k = (h.0.2 ∙ ap (report_said s.revision) (reports s.files h.0.0 k.0.0 h.0.1 k.0.1) ∙ sym k.0.2, h.1 ∙ sym k.1)
   one_call s t u (put side name expected) body a b h k = one_answer s t u expected (edit.put side name body) a b h k
   one_call s t u (remove side name expected) body a b h k = one_answer s t u expected (edit.remove side name) a b h k
+  one_call s t u (put_data expected) body a b h k = one_answer s t u expected (edit.put_data body) a b h k
+  one_call s t u run body a b h k = (one_run_answer s body a b h.0 k.0, h.1 ∙ sym k.1)
   one_call s t u (refused said) body a b h k = (h.0 ∙ sym k.0, h.1 ∙ sym k.1)
 
   pub one_step_lem : OneStep

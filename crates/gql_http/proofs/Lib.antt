@@ -11,5 +11,6 @@ pub mod Pieces
 pub mod PipeConnections
 pub mod Presence
 pub mod Queries
+pub mod Refused
 pub mod Serving
 pub mod TwoParts

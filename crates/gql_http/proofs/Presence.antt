@@ -14,9 +14,10 @@ use Rattle.gql_registry.proofs.OneEdit.{refused as first_refusal}
 use Rattle.gql_wire.specs.Head.{is_head}
 use Rattle.gql_wire.specs.Stream.{Req, request, refused as refused_head}
 use Rattle.gql_http.specs.Answers.{Said, answer_bytes, edit_said, report_said}
-use Rattle.gql_http.specs.History.{AsksFor, asks_to_put, asks_to_remove, IsAcceptedEdit, Holds, no_requests, by_edit, by_other}
+use Rattle.gql_http.specs.History.{AsksFor, asks_to_put, asks_to_remove, asks_to_put_data, IsAcceptedEdit, Holds, no_requests, by_edit, by_other}
 use Rattle.gql_http.specs.Laws.{FilesPresent, ReportThen}
-use Rattle.gql_http.specs.Routes.{Call, report, put, remove, refused, call_of}
+use Rattle.gql_http.specs.Routes.{Call, report, put, remove, put_data, refused, call_of}
+use Rattle.gql_http.specs.Routes as routes
 use Rattle.gql_http.specs.Service.{Step, Calls, Run, done, more}
 use Rattle.gql_http.proofs.Determined.{said_made}
 
@@ -32,15 +33,19 @@ put_same side on name other expected wanted e = (let h : side ≡ on = cc in h, 
 remove_same : (side on : FileSide) (name other : List ℕ) (expected wanted : Option ℕ) → remove side name expected ≡ remove on other wanted → (side ≡ on) × (name ≡ other) × (expected ≡ wanted)
 remove_same side on name other expected wanted e = (let h : side ≡ on = cc in h, let h : name ≡ other = cc in h, let h : expected ≡ wanted = cc in h)
 
+data_same : (expected wanted : Option ℕ) → put_data expected ≡ put_data wanted → expected ≡ wanted
+data_same expected wanted e = cc
+
 -- a request that is no edit
 no_edit : (s : State) (method target body : List ℕ) (closing : Bool) (call : Call) → call_of method target ≡ call
     → ((side : FileSide) (name : List ℕ) (expected : Option ℕ) → call ≡ put side name expected → ⊥) → ((side : FileSide) (name : List ℕ) (expected : Option ℕ) → call ≡ remove side name expected → ⊥)
-    → (e : Edit) → IsAcceptedEdit s (request method target body closing) e → ⊥
-no_edit s method target body closing call is no_put no_removal e h = by e h.expected h.asks
+    → ((expected : Option ℕ) → call ≡ put_data expected → ⊥) → (e : Edit) → IsAcceptedEdit s (request method target body closing) e → ⊥
+no_edit s method target body closing call is no_put no_removal no_data e h = by e h.expected h.asks
   where
     by : (e : Edit) (expected : Option ℕ) → AsksFor (request method target body closing) expected e → ⊥
     by _ expected (asks_to_put {side = side} {name = name} asks) = no_put side name expected (sym is ∙ asks)
     by _ expected (asks_to_remove {side = side} {name = name} asks) = no_removal side name expected (sym is ∙ asks)
+    by _ expected (asks_to_put_data asks) = no_data expected (sym is ∙ asks)
 
 -- a refused edit
 put_refused : (s : State) (side : FileSide) (method target body name : List ℕ) (closing : Bool) (expected : Option ℕ) (r : Refusal) → call_of method target ≡ put side name expected → Fails s expected (edit.put side name body) r
@@ -53,6 +58,8 @@ put_refused s side method target body name closing expected r is fails e h = by 
         accepted r (subst (λ d. Fails s wanted (edit.put d other body) r) same.0 (subst (λ n. Fails s wanted (edit.put side n body) r) same.1 (subst (λ x. Fails s x (edit.put side name body) r) same.2 fails)))
     by _ wanted (asks_to_remove {side = on} {name = other} asks) accepted =
         let clash : put side name expected ≡ remove on other wanted = sym is ∙ asks in cc
+    by _ wanted (asks_to_put_data asks) accepted =
+        let clash : put side name expected ≡ put_data wanted = sym is ∙ asks in cc
 
 removal_refused : (s : State) (side : FileSide) (method target body name : List ℕ) (closing : Bool) (expected : Option ℕ) (r : Refusal) → call_of method target ≡ remove side name expected
     → Fails s expected (edit.remove side name) r → (e : Edit) → IsAcceptedEdit s (request method target body closing) e → ⊥
@@ -64,6 +71,20 @@ removal_refused s side method target body name closing expected r is fails e h =
         accepted r (subst (λ d. Fails s wanted (edit.remove d other) r) same.0 (subst (λ n. Fails s wanted (edit.remove side n) r) same.1 (subst (λ x. Fails s x (edit.remove side name) r) same.2 fails)))
     by _ wanted (asks_to_put {side = on} {name = other} asks) accepted =
         let clash : remove side name expected ≡ put on other wanted = sym is ∙ asks in cc
+    by _ wanted (asks_to_put_data asks) accepted =
+        let clash : remove side name expected ≡ put_data wanted = sym is ∙ asks in cc
+
+data_refused : (s : State) (method target body : List ℕ) (closing : Bool) (expected : Option ℕ) (r : Refusal) → call_of method target ≡ put_data expected → Fails s expected (edit.put_data body) r
+    → (e : Edit) → IsAcceptedEdit s (request method target body closing) e → ⊥
+data_refused s method target body closing expected r is fails e h = by e h.expected h.asks h.accepted
+  where
+    by : (e : Edit) (wanted : Option ℕ) → AsksFor (request method target body closing) wanted e → edit.IsAccepted s wanted e → ⊥
+    by _ wanted (asks_to_put_data asks) accepted =
+        accepted r (subst (λ x. Fails s x (edit.put_data body) r) (data_same expected wanted (sym is ∙ asks)) fails)
+    by _ wanted (asks_to_put {side = on} {name = other} asks) accepted =
+        let clash : put_data expected ≡ put on other wanted = sym is ∙ asks in cc
+    by _ wanted (asks_to_remove {side = on} {name = other} asks) accepted =
+        let clash : put_data expected ≡ remove on other wanted = sym is ∙ asks in cc
 
 module _ (holds : HoldsAfter) where
   put_deed : (s t : State) (side : FileSide) (method target body name : List ℕ) (closing : Bool) (expected : Option ℕ) (a : Said) (r : Result Edited Refusal) → ((on : FileSide) → IsOrderedOn on s) → call_of method target ≡ put side name expected
@@ -82,14 +103,25 @@ module _ (holds : HoldsAfter) where
       let refusal = first_refusal s t expected (edit.remove side name) q (said_made (Err q) a said) h in
       keeps (removal_refused s side method target body name closing expected q is refusal.0.fails) refusal.1
 
+  data_deed : (s t : State) (method target body : List ℕ) (closing : Bool) (expected : Option ℕ) (a : Said) (r : Result Edited Refusal) → ((on : FileSide) → IsOrderedOn on s)
+      → call_of method target ≡ put_data expected → edit_said r ≡ Some a → Makes s expected (edit.put_data body) r t → Deed s t (request method target body closing)
+  data_deed s t method target body closing expected a (Ok edited) ordered is said h =
+      edits (edit.put_data body) (record { expected = expected; asks = asks_to_put_data is; accepted = h.0 }) (λ on. (holds s t (edit.put_data body) on (ordered on) h.1).0) (λ on. (holds s t (edit.put_data body) on (ordered on) h.1).1)
+  data_deed s t method target body closing expected a (Err q) ordered is said h =
+      let refusal = first_refusal s t expected (edit.put_data body) q (said_made (Err q) a said) h in
+      keeps (data_refused s method target body closing expected q is refusal.0.fails) refusal.1
+
   call_deed : (s t : State) (method target body : List ℕ) (closing : Bool) (call : Call) (a : Said) → ((on : FileSide) → IsOrderedOn on s) → call_of method target ≡ call → Calls s call body a t
       → Deed s t (request method target body closing)
   call_deed s t method target body closing report a ordered is h =
-      keeps (no_edit s method target body closing report is (λ side name expected clash. cc) (λ side name expected clash. cc)) h.1
+      keeps (no_edit s method target body closing report is (λ side name expected clash. cc) (λ side name expected clash. cc) (λ expected clash. cc)) h.1
   call_deed s t method target body closing (put side name expected) a ordered is h = put_deed s t side method target body name closing expected a h.0 ordered is h.1 h.2
   call_deed s t method target body closing (remove side name expected) a ordered is h = removal_deed s t side method target body name closing expected a h.0 ordered is h.1 h.2
+  call_deed s t method target body closing (put_data expected) a ordered is h = data_deed s t method target body closing expected a h.0 ordered is h.1 h.2
+  call_deed s t method target body closing routes.run a ordered is h =
+      keeps (no_edit s method target body closing routes.run is (λ side name expected clash. cc) (λ side name expected clash. cc) (λ expected clash. cc)) h.1
   call_deed s t method target body closing (refused said) a ordered is h =
-      keeps (no_edit s method target body closing (refused said) is (λ side name expected clash. cc) (λ side name expected clash. cc)) h.1
+      keeps (no_edit s method target body closing (refused said) is (λ side name expected clash. cc) (λ side name expected clash. cc) (λ expected clash. cc)) h.1
 
   deed : (s t : State) (r : Req) (bytes : List ℕ) → ((on : FileSide) → IsOrderedOn on s) → Step s r bytes t → Deed s t r
   deed s t (request method target body closing) bytes ordered h = call_deed s t method target body closing (call_of method target) h.0 ordered refl h.1

@@ -123,6 +123,19 @@ not_allowed methods = record { status = 405; allow = Some methods; body = error_
 abbrev pub bad_query : Said
 bad_query = said 400 (error_text (codes "bad query") 308)
 
+-- the body of a run is not what it has to be
+abbrev pub bad_run_body : Said
+bad_run_body = said 400 (error_text (codes "bad run body") 310)
+
+-- the body of a run gives an operation as a text
+abbrev pub stored_operations_only : Said
+stored_operations_only = said 400 (error_text (codes "stored operations only") 311)
+
+-- the answer to a run that calls an operation; none if an allocation failed
+abbrev pub run_said : Result (List ℕ) Refusal → Option Said
+run_said (Ok reply) = Some (said 200 reply)
+run_said (Err r) = refusal_said r
+
 -- the answer to a call for the report, with these faults
 abbrev pub report_said : ℕ → List Fault → Said
 report_said revision faults = said 200 (report_text revision faults)

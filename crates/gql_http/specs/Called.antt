@@ -1,5 +1,8 @@
 -- Helper definitions for private contracts: what the code's calls, resources and refusals mean.
-use Rattle.gql_http.specs.Answers.{Said, no_route, not_allowed, bad_query}
+use Rattle.std.specs.Prelude.{Option, Some, None}
+use Rattle.gql_bodies.specs.declared.call.CallFault.{CallFault}
+use Rattle.gql_bodies.specs.declared.call.CallFault.TheVariants as fault
+use Rattle.gql_http.specs.Answers.{Said, bad_query, bad_run_body, no_route, not_allowed, stored_operations_only}
 use Rattle.gql_http.specs.Routes as spec
 use Rattle.gql_http.specs.declared.route.Call.{Call}
 use Rattle.gql_http.specs.declared.route.Call.TheVariants as call
@@ -14,13 +17,23 @@ route_said refusal.NoRoute = no_route
 route_said (refusal.NotAllowed methods) = not_allowed methods
 route_said refusal.BadQuery = bad_query
 
+-- the answer to a run whose body is refused; none if an allocation failed
+abbrev pub body_said : CallFault → Option Said
+body_said fault.BadCall = Some bad_run_body
+body_said fault.StoredOnly = Some stored_operations_only
+body_said fault.Memory = None
+
 abbrev pub call_said : Call → spec.Call
 call_said call.Report = spec.report
 call_said (call.Put side name expected) = spec.put side name expected
 call_said (call.Remove side name expected) = spec.remove side name expected
+call_said (call.PutData expected) = spec.put_data expected
+call_said call.Run = spec.run
 call_said (call.Refused r) = spec.refused (route_said r)
 
 abbrev pub resource_said : Resource → spec.Resource
 resource_said resource.Nothing = spec.nothing
 resource_said resource.Report = spec.the_report
+resource_said resource.Data = spec.the_data
+resource_said resource.Run = spec.the_run
 resource_said (resource.File side name) = spec.file side name

@@ -7,7 +7,7 @@ use Rattle.gql_registry.specs.Edits as edit
 use Rattle.gql_registry.specs.Laws.{LeavesUnder}
 use Rattle.gql_registry.specs.State.{State}
 use Rattle.gql_wire.specs.Stream.{Req, request}
-use Rattle.gql_http.specs.Routes.{put, remove, call_of}
+use Rattle.gql_http.specs.Routes.{put, remove, put_data, call_of}
 use Rattle.gql_http.specs.Service.{Step}
 
 -- the request asks for this edit, and expects this revision or any
@@ -18,6 +18,9 @@ pub data AsksFor : Req → Option ℕ → Edit → Type 0 where
   asks_to_remove : {side : FileSide} {method target body name : List ℕ} {closing : Bool} {expected : Option ℕ}
       → call_of method target ≡ remove side name expected
       → AsksFor (request method target body closing) expected (edit.remove side name)
+  asks_to_put_data : {method target body : List ℕ} {closing : Bool} {expected : Option ℕ}
+      → call_of method target ≡ put_data expected
+      → AsksFor (request method target body closing) expected (edit.put_data body)
 
 -- the request is an accepted edit in this state
 pub record IsAcceptedEdit (s : State) (r : Req) (e : Edit) : Type 0 where

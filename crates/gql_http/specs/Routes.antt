@@ -5,22 +5,26 @@ use Rattle.gql_ast.specs.FileNames.{is_file_name}
 use Rattle.gql_ast.specs.declared.fault.FileSide.{FileSide}
 use Rattle.gql_ast.specs.declared.fault.FileSide.TheVariants.{Schema, Documents}
 use Rattle.gql_wire.specs.Number.{number_in}
-use Rattle.gql_wire.specs.declared.answer.Allow.TheVariants.{PutDelete, Get}
+use Rattle.gql_wire.specs.declared.answer.Allow.TheVariants.{PutDelete, Put, Get, Post}
 use Rattle.gql_http.specs.Answers.{Said, no_route, not_allowed, bad_query}
 use Rattle.gql_http.specs.declared.query.Query.{Query}
 use Rattle.gql_http.specs.declared.query.Query.TheVariants.{Absent, Revision, Other}
 
--- a call, of which an edit may expect a revision; or a request that is refused with this answer
+-- a call, of which an edit may expect a revision; a run is told by its body. Or a request that is refused with this answer
 pub data Call : Type 0 where
   report : Call
   put : FileSide → List ℕ → Option ℕ → Call
   remove : FileSide → List ℕ → Option ℕ → Call
+  put_data : Option ℕ → Call
+  run : Call
   refused : Said → Call
 
 -- what a path names
 pub data Resource : Type 0 where
   nothing : Resource
   the_report : Resource
+  the_data : Resource
+  the_run : Resource
   file : FileSide → List ℕ → Resource
 
 abbrev pub is_question_mark : ℕ → Bool
@@ -58,12 +62,19 @@ documents_prefix = codes "/documents/"
 abbrev pub file_resource : FileSide → List ℕ → Resource
 file_resource side name = if is_file_name name then file side name else nothing
 
+-- a file of a side
+abbrev pub file_of : List ℕ → Resource
+file_of path =
+    if starts_with nat_eq path schema_prefix then file_resource Schema (drop 8 path)
+    else if starts_with nat_eq path documents_prefix then file_resource Documents (drop 11 path)
+    else nothing
+
 abbrev pub resource_of : List ℕ → Resource
 resource_of path =
     if bytes_eq path (codes "/report") then the_report
-    else if starts_with nat_eq path schema_prefix then file_resource Schema (drop 8 path)
-    else if starts_with nat_eq path documents_prefix then file_resource Documents (drop 11 path)
-    else nothing
+    else if bytes_eq path (codes "/data") then the_data
+    else if bytes_eq path (codes "/run") then the_run
+    else file_of path
 
 -- a call that takes no query
 abbrev pub without_query : Query → Call → Call
@@ -82,11 +93,21 @@ removing Absent side name = remove side name None
 removing (Revision n) side name = remove side name (Some n)
 removing Other side name = refused bad_query
 
+-- data that are put, by an edit that may expect a revision
+abbrev pub putting_data : Query → Call
+putting_data Absent = put_data None
+putting_data (Revision n) = put_data (Some n)
+putting_data Other = refused bad_query
+
 -- the call on a resource by a method
 abbrev pub call_on : Resource → List ℕ → Query → Call
 call_on nothing method query = refused no_route
 call_on the_report method query = if bytes_eq method (codes "GET") then without_query query report
     else refused (not_allowed Get)
+call_on the_data method query = if bytes_eq method (codes "PUT") then putting_data query
+    else refused (not_allowed Put)
+call_on the_run method query = if bytes_eq method (codes "POST") then without_query query run
+    else refused (not_allowed Post)
 call_on (file side name) method query =
     if bytes_eq method (codes "PUT") then putting query side name
     else if bytes_eq method (codes "DELETE") then removing query side name

@@ -1,21 +1,33 @@
 -- The service as a machine: what each request answers, and the state that it leaves.
 use Rattle.std.specs.Prelude.{ℕ, ◌≡◌, List, [], ◌∷◌, true, Option, Some, Result}
 use Rattle.gql_ast.specs.declared.fault.Fault.{Fault}
+use Rattle.gql_bodies.specs.CallBodies.{Asks, call, stored_only, bad_call}
+use Rattle.gql_registry.specs.Calls.{Answers}
 use Rattle.gql_registry.specs.Edits.{Edit, Makes}
 use Rattle.gql_registry.specs.Edits as edit
 use Rattle.gql_registry.specs.Report.{IsReport}
 use Rattle.gql_registry.specs.State.{State}
 use Rattle.gql_registry.specs.declared.refusal.Refusal.{Refusal}
 use Rattle.gql_registry.specs.declared.registry.Edited.{Edited}
+use Rattle.serde_json.specs.Data.{Data}
 use Rattle.gql_wire.specs.Head.{is_head}
 use Rattle.gql_wire.specs.Stream.{Req, request, refused as refused_head}
-use Rattle.gql_http.specs.Answers.{Said, answer_bytes, edit_said, head_said, report_said}
-use Rattle.gql_http.specs.Routes.{Call, report, put, remove, refused, call_of}
+use Rattle.gql_http.specs.Answers.{Said, answer_bytes, bad_run_body, edit_said, head_said, report_said, run_said, stored_operations_only}
+use Rattle.gql_http.specs.Routes.{Call, report, put, remove, put_data, run, refused, call_of}
 
 -- what an edit is answered, and the state that it leaves; unless an allocation fails
 abbrev pub Edits : State → Option ℕ → Edit → Said → State → Type 0
 Edits s expected e a t = (r : Result Edited Refusal) × (edit_said r ≡ Some a)
     × Makes s expected e r t
+
+-- what a run with this body is answered in the state s: a call of an operation as the registry
+-- answers it, unless an allocation fails
+pub data Runs (s : State) (body : List ℕ) : Said → Type 0 where
+  calls : {name : Option (List ℕ)} {variables : Data} {r : Result (List ℕ) Refusal} {a : Said}
+      → Asks body (call name variables) → Answers s.files s.stored name variables r
+      → run_said r ≡ Some a → Runs s body a
+  gives_text : Asks body stored_only → Runs s body stored_operations_only
+  bad_body : Asks body bad_call → Runs s body bad_run_body
 
 -- what a call with this body is answered in the state s, and the state t that it leaves
 abbrev pub Calls : State → Call → List ℕ → Said → State → Type 0
@@ -23,6 +35,8 @@ Calls s report body a t = ((faults : List Fault) × IsReport s.files faults
     × (a ≡ report_said s.revision faults)) × (t ≡ s)
 Calls s (put side name expected) body a t = Edits s expected (edit.put side name body) a t
 Calls s (remove side name expected) body a t = Edits s expected (edit.remove side name) a t
+Calls s (put_data expected) body a t = Edits s expected (edit.put_data body) a t
+Calls s run body a t = Runs s body a × (t ≡ s)
 Calls s (refused said) body a t = (a ≡ said) × (t ≡ s)
 
 -- one step: a request in the state s is answered with these bytes, and leaves the state t

@@ -2,12 +2,13 @@
 ghost use Rattle.std.specs.Prelude.{◌≡◌, IfOk, Some, IsTrue};
 ghost use Rattle.gql_wire.specs.Answer.{is_answered};
 ghost use Rattle.gql_http.specs.Answers.{refusal_said, head_said, head_status, head_message, said, error_text};
-ghost use Rattle.gql_http.specs.Called.{route_said};
+ghost use Rattle.gql_http.specs.Called.{body_said, route_said};
 ghost use Rattle.gql_http.specs.Said.{answer_said};
 
 use crate::answer::Answer;
 use crate::refusal_body::{error_body, faulty_body, stale_body, syntax_body};
 use crate::route::RouteRefusal;
+use gql_bodies::CallFault;
 use gql_registry::Refusal;
 use gql_wire::HeadRefusal;
 use http::StatusCode;
@@ -84,6 +85,24 @@ fn with_body(status: StatusCode, body: Vec<u8>) -> Answer
         status,
         allow: None,
         body,
+    }
+}
+
+/// The answer to a run whose body is refused. There is none if an allocation failed.
+pub fn body_answer(alloc: Global, fault: CallFault) -> Result<Answer, AllocError>
+    ensures { IfOk result (λ a. body_said fault ≡ Some (answer_said a)) }
+{
+    match fault {
+        CallFault::BadCall => simple(alloc, StatusCode::BAD_REQUEST, "bad run body", 310),
+        CallFault::StoredOnly => {
+            simple(
+                alloc,
+                StatusCode::BAD_REQUEST,
+                "stored operations only",
+                311,
+            )
+        }
+        CallFault::Memory => Err(AllocError),
     }
 }
 

@@ -2,7 +2,7 @@
 ghost use Rattle.std.specs.Prelude.{◌≡◌, Some, None, drop, bytes_eq, codes, if◌then◌else◌, nat_eq};
 ghost use Rattle.std.specs.List.{starts_with};
 ghost use Rattle.gql_ast.specs.FileNames.{is_file_name};
-ghost use Rattle.gql_http.specs.Routes.{call_of, call_on, resource_of, file_resource, without_query, putting, removing};
+ghost use Rattle.gql_http.specs.Routes.{call_of, call_on, resource_of, file_of, file_resource, without_query, putting, putting_data, removing};
 ghost use Rattle.gql_http.specs.Called.{call_said, resource_said};
 
 use crate::query::{Query, path_of, query_of};
@@ -27,6 +27,8 @@ pub enum Call {
     Report,
     Put(FileSide, FileName, Option<u64>),
     Remove(FileSide, FileName, Option<u64>),
+    PutData(Option<u64>),
+    Run,
     Refused(RouteRefusal),
 }
 
@@ -35,6 +37,8 @@ pub enum Call {
 pub enum Resource {
     Nothing,
     Report,
+    Data,
+    Run,
     File(FileSide, FileName),
 }
 
@@ -56,17 +60,30 @@ fn file_resource(side: FileSide, name: &[u8]) -> Resource
     }
 }
 
-fn resource_of(path: &[u8]) -> Resource
-    ensures { resource_said result ≡ resource_of path.now }
+/// The file that a path names.
+fn file_of(path: &[u8]) -> Resource
+    ensures { resource_said result ≡ file_of path.now }
 {
-    if path == b"/report".as_slice() {
-        Resource::Report
-    } else if path.starts_with(b"/schema/") {
+    if path.starts_with(b"/schema/") {
         file_resource(FileSide::Schema, &path[8..])
     } else if path.starts_with(b"/documents/") {
         file_resource(FileSide::Documents, &path[11..])
     } else {
         Resource::Nothing
+    }
+}
+
+fn resource_of(path: &[u8]) -> Resource
+    ensures { resource_said result ≡ resource_of path.now }
+{
+    if path == b"/report".as_slice() {
+        Resource::Report
+    } else if path == b"/data".as_slice() {
+        Resource::Data
+    } else if path == b"/run".as_slice() {
+        Resource::Run
+    } else {
+        file_of(path)
     }
 }
 
@@ -102,6 +119,17 @@ fn removing(query: Query, side: FileSide, name: FileName) -> Call
     }
 }
 
+/// Data that are put.
+fn putting_data(query: Query) -> Call
+    ensures { call_said result ≡ putting_data query }
+{
+    match query {
+        Query::Absent => Call::PutData(None),
+        Query::Revision(revision) => Call::PutData(Some(revision)),
+        Query::Other => Call::Refused(RouteRefusal::BadQuery),
+    }
+}
+
 fn call_on(resource: Resource, method: &[u8], query: Query) -> Call
     ensures { call_said result ≡ call_on (resource_said resource) method.now query }
 {
@@ -109,6 +137,10 @@ fn call_on(resource: Resource, method: &[u8], query: Query) -> Call
         Resource::Nothing => Call::Refused(RouteRefusal::NoRoute),
         Resource::Report if method == b"GET".as_slice() => without_query(query, Call::Report),
         Resource::Report => Call::Refused(RouteRefusal::NotAllowed(Allow::Get)),
+        Resource::Data if method == b"PUT".as_slice() => putting_data(query),
+        Resource::Data => Call::Refused(RouteRefusal::NotAllowed(Allow::Put)),
+        Resource::Run if method == b"POST".as_slice() => without_query(query, Call::Run),
+        Resource::Run => Call::Refused(RouteRefusal::NotAllowed(Allow::Post)),
         Resource::File(side, name) if method == b"PUT".as_slice() => { putting(query, side, name) }
         Resource::File(side, name) if method == b"DELETE".as_slice() => {
             removing(query, side, name)

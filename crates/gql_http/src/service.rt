@@ -1,25 +1,27 @@
 //! One request after the other, made on the registry.
 ghost use Rattle.std.specs.Prelude.{◌≡◌, ◌++◌, ◌+◌, ◌≤◌, OnOk, OnErr, IfOk, IsErr, List, [], ℕ, Some, vec_len, vec_capacity};
 ghost use Rattle.gql_ast.specs.declared.fault.Fault.{Fault};
+ghost use Rattle.gql_registry.specs.Calls.{answer_of};
 ghost use Rattle.gql_registry.specs.Edits as edit;
 ghost use Rattle.gql_registry.specs.Edits.{Makes};
 ghost use Rattle.gql_registry.specs.Report.{IsReport};
 ghost use Rattle.gql_registry.specs.State.{state_of};
 ghost use Rattle.gql_wire.specs.Stream.{req};
-ghost use Rattle.gql_http.specs.Answers.{Said, edit_said, report_said};
+ghost use Rattle.gql_http.specs.Answers.{Said, edit_said, report_said, run_said};
 ghost use Rattle.gql_http.specs.Called.{call_said};
 ghost use Rattle.gql_http.specs.Said.{answer_said, ended_bytes};
 ghost use Rattle.gql_http.specs.Routes as routes;
 ghost use Rattle.gql_wire.specs.Head.{is_head};
-ghost use Rattle.gql_http.specs.Service.{Step, Calls};
+ghost use Rattle.gql_http.specs.Service.{Step, Calls, Runs};
 
 use crate::answer::{Answer, Ending};
-use crate::refusal_answer::{head_answer, refusal_answer, route_answer};
+use crate::refusal_answer::{body_answer, head_answer, refusal_answer, route_answer};
 use crate::report_body::report_body;
 use crate::route::{Call, call_of};
 use crate::write_answer::{EDIT_ROOM, write_answer, write_edited};
 use gql_ast::{FileName, FileSide};
-use gql_registry::{Edited, Refusal, Registry};
+use gql_bodies::call_in;
+use gql_registry::{Edited, Refusal, Registry, Reply};
 use gql_verdict::Meter;
 use gql_wire::Framed;
 use http::StatusCode;
@@ -139,6 +141,69 @@ fn answer_removal(
     write_edit(alloc, out, edited, ending)
 }
 
+fn answer_data(
+    alloc: Global,
+    registry: &mut Registry,
+    out: &mut Vec<u8>,
+    expected: Option<u64>,
+    body: &[u8],
+    ending: Ending,
+) -> Result<(), AllocError>
+    ensures ok { OnOk result ((a : Said)
+        × Calls (state_of registry.old) (routes.put_data expected) body.now a
+        (state_of registry.new)
+        × (out.new.items ≡ out.old.items ++ ended_bytes ending a)) }
+    ensures err { OnErr result ((state_of registry.new ≡ state_of registry.old)
+        × (out.new.items ≡ out.old.items)) }
+{
+    out.reserve(EDIT_ROOM)?;
+    let mut meter = Meter::new(alloc);
+    let edited = registry.put_data(body, expected, &mut meter);
+    write_edit(alloc, out, edited, ending)
+}
+
+/// The answer to a call of an operation that was run.
+fn reply_answer(alloc: Global, ran: Result<Reply, Refusal>) -> Result<Answer, AllocError>
+    ensures { IfOk result (λ a. run_said (answer_of ran) ≡ Some (answer_said a)) }
+{
+    match ran {
+        Ok(reply) => Ok(Answer {
+            status: StatusCode::OK,
+            allow: None,
+            body: reply.body,
+        }),
+        Err(refusal) => refusal_answer(alloc, &refusal),
+    }
+}
+
+/// The answer to a run with this body.
+fn run_answer(alloc: Global, registry: &mut Registry, body: &[u8]) -> Result<Answer, AllocError>
+    ensures answer { IfOk result (λ a. Runs (state_of registry.old) body.now (answer_said a)) }
+    ensures state { state_of registry.new ≡ state_of registry.old }
+{
+    match call_in(alloc, body) {
+        Ok(call) => reply_answer(alloc, registry.run(call.name(), call.variables())),
+        Err(fault) => body_answer(alloc, fault),
+    }
+}
+
+fn answer_run(
+    alloc: Global,
+    registry: &mut Registry,
+    out: &mut Vec<u8>,
+    body: &[u8],
+    ending: Ending,
+) -> Result<(), AllocError>
+    ensures ok { OnOk result ((a : Said)
+        × Calls (state_of registry.old) routes.run body.now a (state_of registry.new)
+        × (out.new.items ≡ out.old.items ++ ended_bytes ending a)) }
+    ensures err { OnErr result ((state_of registry.new ≡ state_of registry.old)
+        × (out.new.items ≡ out.old.items)) }
+{
+    let answer = run_answer(alloc, registry, body)?;
+    write_answer(out, &answer, ending)
+}
+
 fn make_call(
     alloc: Global,
     registry: &mut Registry,
@@ -161,6 +226,8 @@ fn make_call(
         Call::Remove(side, name, expected) => {
             answer_removal(alloc, registry, out, side, name, expected, ending)
         }
+        Call::PutData(expected) => answer_data(alloc, registry, out, expected, body, ending),
+        Call::Run => answer_run(alloc, registry, out, body, ending),
         Call::Refused(refusal) => write_answer(out, &route_answer(alloc, refusal)?, ending),
     }
 }

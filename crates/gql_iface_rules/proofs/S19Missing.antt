@@ -9,7 +9,7 @@ use Rattle.gql_built_in.specs.declared.sited.Sited.{Sited}
 use Rattle.gql_cycles.proofs.Members.{Contains-nil, Contains-here, Contains-there, Contains-cases}
 use Rattle.gql_inputs.specs.InputTypes.{item_of, is_list, name_in}
 use Rattle.gql_iface_rules.proofs.S19Literals.{Each, by_literal}
-use Rattle.gql_iface_rules.specs.S19DefaultValueCycles.{Numbered, NumberedObject, ObjectValue, ObjectsAt, Given, numbered_from, objects_from, fields_of, object_named, object_values, values_in_field, given, values_of_object, default_values}
+use Rattle.gql_iface_rules.specs.S19DefaultValueCycles.{Numbered, NumberedObject, ObjectValue, ObjectsAt, name_given, numbered_from, objects_from, fields_of, object_named, object_values, values_in_field, given, values_of_object, default_values}
 use Rattle.gql_iface_rules.proofs.S19Equations as forms
 use Rattle.gql_iface_rules.specs.S19Ranges.{first_number}
 use Rattle.gql_cycles.specs.Cover.{IsWithin}
@@ -152,9 +152,9 @@ module _ (all : List NumberedObject) where
   in_object : (fields : List ObjectField) (name : List ℕ) (o : Option NumberedObject) (st : ObjectValue) → object_named all name ≡ o → Each (λ (f : ObjectField). Stands f.value) fields →
       Contains (option_map_or (values_of_object (map (given all) fields)) o []) st → Contains all st.input_object
   in_object fields name None st e each h = absurd (Contains-nil st h)
-  in_object fields name (Some o) st e each h = elim (Contains-append_cases (flat_map (values_in_field o.of_type) (map (given all) fields)) (record { input_object = o; names = map (λ (f : Given). f.name) (map (given all) fields) } ∷ []) st h) [
+  in_object fields name (Some o) st e each h = elim (Contains-append_cases (flat_map (values_in_field o.of_type) (map (given all) fields)) (record { input_object = o; names = flat_map name_given (map (given all) fields) } ∷ []) st h) [
     | inl g ↦ in_fields o.of_type fields st each g
-    | inr g ↦ elim (Contains-cases st (record { input_object = o; names = map (λ (f : Given). f.name) (map (given all) fields) }) [] g) [
+    | inr g ↦ elim (Contains-cases st (record { input_object = o; names = flat_map name_given (map (given all) fields) }) [] g) [
       | inl s ↦
           let same : st.input_object ≡ o = ap (λ (x : ObjectValue). x.input_object) s in
           subst (λ x. Contains all x) (sym same) (found_in (λ (x : NumberedObject). bytes_eq name x.of_type.definition.node.name.text) all o e).0

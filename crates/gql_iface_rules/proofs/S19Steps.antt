@@ -7,7 +7,7 @@ use Rattle.gql_ast.specs.declared.literal.Literal.{Literal}
 use Rattle.gql_ast.specs.declared.literal.ObjectField.{ObjectField}
 use Rattle.gql_ast.specs.declared.type_system.InputValueDefinition.{InputValueDefinition}
 use Rattle.gql_built_in.specs.declared.sited.Sited.{Sited}
-use Rattle.gql_iface_rules.specs.S19DefaultValueCycles.{Numbered, NumberedObject, ObjectValue, Given, object_values, given, values_in_field, values_of_object, input_objects, fields_of, numbered_from, objects_from}
+use Rattle.gql_iface_rules.specs.S19DefaultValueCycles.{Numbered, NumberedObject, ObjectValue, name_given, name_of_given, object_values, given, values_in_field, values_of_object, input_objects, fields_of, numbered_from, objects_from}
 use Rattle.gql_types.specs.Kinds.{same_kind}
 use Rattle.gql_types.specs.Written.{Written}
 use Rattle.gql_types.specs.declared.kind.TypeKind.TheVariants.{InputObject}
@@ -17,16 +17,16 @@ pub no_object_values : (xs : List ObjectValue) (all : List NumberedObject) (is_i
 no_object_values xs all is_item t x is = rw is (sym (append-nil xs))
 
 -- what was given has its names
-pub given_names : (all : List NumberedObject) (fields : List ObjectField) → map (λ (f : Given). f.name) (map (given all) fields) ≡ map (λ (f : ObjectField). f.name.text) fields
+pub given_names : (all : List NumberedObject) (fields : List ObjectField) → flat_map name_given (map (given all) fields) ≡ flat_map name_of_given fields
 given_names all [] = refl
-given_names all (f ∷ fields) = ap (λ (ns : List (List ℕ)). f.name.text ∷ ns) (given_names all fields)
+given_names all (f ∷ fields) = ap (λ (ns : List (List ℕ)). name_of_given f ++ ns) (given_names all fields)
 
 -- the objects of an object are those within its fields, and the object itself
 pub with_itself : (all : List NumberedObject) (fields : List ObjectField) (o : NumberedObject) (start middle after : List ObjectValue) → middle ≡ start ++ flat_map (values_in_field o.of_type) (map (given all) fields) →
-    after ≡ middle ++ record { input_object = o; names = map (λ (f : ObjectField). f.name.text) fields } ∷ [] → after ≡ start ++ values_of_object (map (given all) fields) o
+    after ≡ middle ++ record { input_object = o; names = flat_map name_of_given fields } ∷ [] → after ≡ start ++ values_of_object (map (given all) fields) o
 with_itself all fields o start middle after first second =
-    second ∙ ap (λ (xs : List ObjectValue). xs ++ record { input_object = o; names = map (λ (f : ObjectField). f.name.text) fields } ∷ []) first
-    ∙ append_assoc start (flat_map (values_in_field o.of_type) (map (given all) fields)) (record { input_object = o; names = map (λ (f : ObjectField). f.name.text) fields } ∷ [])
+    second ∙ ap (λ (xs : List ObjectValue). xs ++ record { input_object = o; names = flat_map name_of_given fields } ∷ []) first
+    ∙ append_assoc start (flat_map (values_in_field o.of_type) (map (given all) fields)) (record { input_object = o; names = flat_map name_of_given fields } ∷ [])
     ∙ ap (λ (ns : List (List ℕ)). start ++ (flat_map (values_in_field o.of_type) (map (given all) fields) ++ record { input_object = o; names = ns } ∷ [])) (sym (given_names all fields))
 
 -- one field more

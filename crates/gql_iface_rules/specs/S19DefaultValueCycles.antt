@@ -2,6 +2,8 @@
 -- rule).
 -- Reported at the field's name, about the field.
 -- Where an object does not give a field, the field takes its default value, which is needed then.
+-- A field whose value is a variable counts as not given, as in the coercion of a default value, in
+-- which no variable has a value. (No default value that is parsed has one.)
 use Rattle.std.specs.Prelude.{ℕ, suc, ◌+◌, List, [], ◌∷◌, ◌++◌, ◌&&◌, Bool, true, false, not, Option, is_some, Contains, map, flat_map, filter, find, length, bytes_eq, slice_get, if◌then◌else◌}
 use Rattle.std.specs.List.{list_any}
 use Rattle.std.specs.Option.{option_map_or}
@@ -14,6 +16,7 @@ use Rattle.gql_ast.specs.declared.type_system.InputValueDefinition.{InputValueDe
 use Rattle.gql_built_in.specs.declared.sited.Sited.{Sited}
 use Rattle.gql_cycles.specs.Nodes.{Trail}
 use Rattle.gql_inputs.specs.InputTypes.{item_of, is_list, name_in}
+use Rattle.gql_inputs.specs.Values.{Value, variable, value_of}
 use Rattle.gql_faults.specs.Faults.{fault_of, own_name_of, where_known}
 use Rattle.gql_cycles.specs.declared.cover.Range.{Range}
 use Rattle.gql_types.specs.Kinds.{same_kind}
@@ -69,6 +72,14 @@ object_named all name = find (λ (o : NumberedObject). bytes_eq name (name_of o.
 
 -- ---- which defaults a value needs
 
+-- a variable
+abbrev pub is_variable_value : Value → Bool
+is_variable_value (variable place name) = true
+is_variable_value _ = false
+
+abbrev pub is_variable : Literal → Bool
+is_variable x = is_variable_value (value_of x)
+
 -- an object within a value: the input object of its type, and the names of the fields that it gives
 pub record ObjectValue : Type 0 where
   pub input_object : NumberedObject
@@ -78,10 +89,20 @@ pub record ObjectValue : Type 0 where
 abbrev pub ObjectsAt : Type 0
 ObjectsAt = Bool → Written → List ObjectValue
 
--- a field that an object gives
+-- what is within a value: the objects; and whether it is a variable
+pub record Within : Type 0 where
+  pub is_variable : Bool
+  pub objects : ObjectsAt
+
+-- a field that stands in an object
 pub record Given : Type 0 where
   pub name : List ℕ
+  pub is_variable : Bool
   pub value : ObjectsAt
+
+-- its name, where the object gives it
+abbrev pub name_given : Given → List (List ℕ)
+name_given f = if f.is_variable then [] else f.name ∷ []
 
 -- the objects within the value of a field, at the type of the field of its name
 abbrev pub values_in_field : SchemaType → Given → List ObjectValue
@@ -92,7 +113,7 @@ values_in_field t f = option_map_or
 -- the objects within the fields of an object, and itself
 abbrev pub values_of_object : List Given → NumberedObject → List ObjectValue
 values_of_object fields o = flat_map (values_in_field o.of_type) fields
-    ++ record { input_object = o; names = map (λ (f : Given). f.name) fields } ∷ []
+    ++ record { input_object = o; names = flat_map name_given fields } ∷ []
 
 -- the objects within an object, at the input object within lists and Non-Nulls, as a list of one;
 -- but an item is not made a list of one
@@ -106,9 +127,9 @@ list_at items t = option_map_or
     (λ item. flat_map (λ (x : ObjectsAt). x true item) items) (item_of t) []
 
 -- the objects within a value, by its form and the objects within its parts
-abbrev pub object_values_at : List NumberedObject → Literal-F ObjectsAt Given → ObjectsAt
+abbrev pub object_values_at : List NumberedObject → Literal-F Within Given → ObjectsAt
 object_values_at all (Literal-F.Object place fields) is_item t = object_at all fields is_item t
-object_values_at all (Literal-F.List place items) is_item t = list_at items t
+object_values_at all (Literal-F.List place items) is_item t = list_at (map (λ (w : Within). w.objects) items) t
 object_values_at all (Literal-F.Variable place name) is_item t = []
 object_values_at all (Literal-F.Int place text) is_item t = []
 object_values_at all (Literal-F.Float place text) is_item t = []
@@ -117,17 +138,41 @@ object_values_at all (Literal-F.Boolean place value) is_item t = []
 object_values_at all (Literal-F.Null place) is_item t = []
 object_values_at all (Literal-F.Enum place name) is_item t = []
 
+-- a variable, by its form
+abbrev pub is_variable_at : Literal-F Within Given → Bool
+is_variable_at (Literal-F.Variable place name) = true
+is_variable_at (Literal-F.Object place fields) = false
+is_variable_at (Literal-F.List place items) = false
+is_variable_at (Literal-F.Int place text) = false
+is_variable_at (Literal-F.Float place text) = false
+is_variable_at (Literal-F.String place value) = false
+is_variable_at (Literal-F.Boolean place value) = false
+is_variable_at (Literal-F.Null place) = false
+is_variable_at (Literal-F.Enum place name) = false
+
+-- what is within a value, by its form and what is within its parts
+abbrev pub within_at : List NumberedObject → Literal-F Within Given → Within
+within_at all x = record { is_variable = is_variable_at x; objects = object_values_at all x }
+
 -- a field of an object
-abbrev pub given_in : ObjectField-F ObjectsAt Given → Given
-given_in f = record { name = f.name.text; value = f.value }
+abbrev pub given_in : ObjectField-F Within Given → Given
+given_in f = record { name = f.name.text; is_variable = f.value.is_variable; value = f.value.objects }
+
+-- what is within a value
+unfoldable pub within : List NumberedObject → Literal → Within
+within all = fold-Literal Within Given (within_at all) given_in
 
 -- the objects within a value
 unfoldable pub object_values : List NumberedObject → Literal → ObjectsAt
-object_values all = fold-Literal ObjectsAt Given (object_values_at all) given_in
+object_values all x = (within all x).objects
 
--- a field that an object gives, with the objects within its value
+-- a field that stands in an object, with the objects within its value
 abbrev pub given : List NumberedObject → ObjectField → Given
-given all f = record { name = f.name.text; value = object_values all f.value }
+given all f = record { name = f.name.text; is_variable = is_variable f.value; value = object_values all f.value }
+
+-- the name of a field that an object gives
+abbrev pub name_of_given : ObjectField → List (List ℕ)
+name_of_given f = if is_variable f.value then [] else f.name.text ∷ []
 
 -- the name is among these
 abbrev pub is_among : List (List ℕ) → List ℕ → Bool

@@ -1,6 +1,6 @@
 -- Helper definitions for private contracts: input fields and input objects as the code holds them.
-use Rattle.std.specs.Prelude.{map}
-use Rattle.gql_iface_rules.specs.S19DefaultValueCycles.{Numbered, NumberedObject, ObjectValue as TheObjectValue}
+use Rattle.std.specs.Prelude.{map, flat_map}
+use Rattle.gql_iface_rules.specs.S19DefaultValueCycles.{Numbered, NumberedObject, ObjectValue as TheObjectValue, name_of_given}
 use Rattle.gql_iface_rules.specs.declared.s19_inputs.InputObject.{InputObject}
 use Rattle.gql_iface_rules.specs.declared.s19_inputs.NumberedInput.{NumberedInput}
 use Rattle.gql_iface_rules.specs.declared.s19_object_values.ObjectValue.{ObjectValue}
@@ -14,5 +14,5 @@ object o = record { of_type = o.of_type.now; numbers = o.numbers; inputs = map n
 abbrev pub object_value : ObjectValue → TheObjectValue
 object_value x = record {
   input_object = object x.input_object.now;
-  names = map (λ f. f.name.text) x.fields.now;
+  names = flat_map name_of_given x.fields.now;
 }

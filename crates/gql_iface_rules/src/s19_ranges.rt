@@ -4,13 +4,14 @@ ghost use Rattle.std.specs.Prelude.{◌≡◌, ◌<◌, ◌++◌, ◌↔◌, ◌
 ghost use Rattle.std.specs.List.Sorted.{IsNonDecreasing, IsPermutation};
 ghost use Rattle.gql_ast.specs.declared.type_system.InputValueDefinition.{InputValueDefinition};
 ghost use Rattle.gql_built_in.specs.declared.sited.Sited.{Sited};
-ghost use Rattle.gql_iface_rules.specs.S19DefaultValueCycles.{default_values};
+ghost use Rattle.gql_iface_rules.specs.S19DefaultValueCycles.{default_values, is_variable, name_of_given};
 ghost use Rattle.gql_iface_rules.specs.S19Inputs.{object, object_value};
 ghost use Rattle.gql_iface_rules.specs.S19Ranges as spec;
 ghost use Rattle.gql_cycles.specs.Cover.{IsWithinAny};
 
 use crate::s19_inputs::{Input, InputObject};
 use crate::s19_object_values::{ObjectValue, default_values};
+use gql_ast::{Literal, ObjectField};
 use gql_cycles::Range;
 use gql_types::Named;
 use std::alloc::{AllocError, Global};
@@ -33,13 +34,48 @@ fn add_first(
     }
 }
 
+/// Whether a value is a variable.
+#[tactic(auto, using(gql_inputs::proofs::ValueForms::value_variable, gql_inputs::proofs::ValueForms::value_int, gql_inputs::proofs::ValueForms::value_float, gql_inputs::proofs::ValueForms::value_string, gql_inputs::proofs::ValueForms::value_boolean, gql_inputs::proofs::ValueForms::value_null, gql_inputs::proofs::ValueForms::value_enum, gql_inputs::proofs::ValueForms::value_list, gql_inputs::proofs::ValueForms::value_object))]
+fn is_variable(value: &Literal) -> bool
+    ensures { result ≡ is_variable value.now }
+{
+    match value {
+        Literal::Variable { .. } => true,
+        Literal::Int { .. }
+        | Literal::Float { .. }
+        | Literal::String { .. }
+        | Literal::Boolean { .. }
+        | Literal::Null { .. }
+        | Literal::Enum { .. }
+        | Literal::List { .. }
+        | Literal::Object { .. } => false,
+    }
+}
+
+/// Adds the number of the first field of the name of a field, where the object gives it.
+fn add_given(
+    input_object: &InputObject<'_>,
+    field: &ObjectField,
+    numbers: &mut Vec<usize>,
+) -> Result<(), AllocError>
+    ensures { OnOk result (numbers.new.items ≡ numbers.old.items
+        ++ flat_map (spec.first_number (object input_object.now).inputs)
+        (name_of_given field.now)) }
+{
+    if is_variable(&field.value) {
+        Ok(())
+    } else {
+        add_first(input_object, field.name.as_str(), numbers)
+    }
+}
+
 /// The numbers of the first fields of the names that an object gives.
 fn given_numbers(alloc: Global, at: &ObjectValue<'_, '_>) -> Result<Vec<usize>, AllocError>
     ensures { IfOk result (λ numbers. numbers.items ≡ spec.given_numbers (object_value at.now)) }
 {
     let mut numbers = Vec::new(alloc);
     for field in at.fields {
-        add_first(at.input_object, field.name.as_str(), &mut numbers)?;
+        add_given(at.input_object, field, &mut numbers)?;
     }
     Ok(numbers)
 }

@@ -11,14 +11,16 @@ use Rattle.gql_grammar.specs.declared.fault.SyntaxFault.TheVariants as fault
 use Rattle.gql_ast.specs.FileMaps.{file_named}
 use Rattle.gql_ast.specs.declared.definition.Document.{Document}
 use Rattle.gql_ast.specs.declared.fault.FileSide.{FileSide}
+use Rattle.gql_bodies.specs.DataBodies.{IsDataText}
 use Rattle.gql_registry.specs.Checks.{IsExpected}
-use Rattle.gql_registry.specs.Edits.{Edit, put, remove, Fails, stale, spent, too_long, not_text, syntax, no_file, files_full, rank, IsFirstRefusal, IsAccepted, Makes}
+use Rattle.gql_registry.specs.Edits.{Edit, put, remove, put_data, Fails, stale, spent, too_long, not_text, data_not_text, bad_data, syntax, no_file, files_full, rank, IsFirstRefusal, IsAccepted, Makes}
 use Rattle.gql_registry.specs.Refusals.{refusal_of}
 use Rattle.gql_registry.specs.Sides.{IsFaultOn, files_on}
 use Rattle.gql_registry.specs.State.{State, last_revision, file_limit, most_files}
 use Rattle.gql_registry.specs.declared.refusal.Refusal.{Refusal}
 use Rattle.gql_registry.specs.declared.refusal.Refusal.TheVariants as refusal
 use Rattle.gql_registry.specs.declared.registry.Edited.{Edited}
+use Rattle.serde_json.specs.Data.{Data}
 
 -- 206 comes before all others
 pub first_stale : (s : State) (expected : ℕ) (e : Edit) → expected ≢ s.revision → IsFirstRefusal s (Some expected) e (refusal.Stale s.revision)
@@ -29,6 +31,8 @@ after_stale s _ e _ same (stale apart) = absurd (apart same)
 after_stale s _ e _ same (spent is) = omega arith
 after_stale s _ _ _ same (too_long long) = omega arith
 after_stale s _ _ _ same (not_text bad) = omega arith
+after_stale s _ _ _ same (data_not_text bad) = omega arith
+after_stale s _ _ _ same (bad_data bad) = omega arith
 after_stale s _ _ _ same (syntax bad) = omega arith
 after_stale s _ _ _ same (no_file none) = omega arith
 after_stale s _ _ _ same (files_full none many) = omega arith
@@ -42,6 +46,8 @@ after_spent s _ e _ same left (stale apart) = absurd (apart same)
 after_spent s _ e _ same left (spent is) = absurd (omega arith)
 after_spent s _ _ _ same left (too_long long) = omega arith
 after_spent s _ _ _ same left (not_text bad) = omega arith
+after_spent s _ _ _ same left (data_not_text bad) = omega arith
+after_spent s _ _ _ same left (bad_data bad) = omega arith
 after_spent s _ _ _ same left (syntax bad) = omega arith
 after_spent s _ _ _ same left (no_file none) = omega arith
 after_spent s _ _ _ same left (files_full none many) = omega arith
@@ -134,6 +140,36 @@ pub removal_accepted : (s : State) (expected : Option ℕ) (side : FileSide) (na
 removal_accepted s _ side name same left some _ (stale apart) = apart same
 removal_accepted s _ side name same left some _ (spent is) = omega arith
 removal_accepted s _ side name same left some _ (no_file none) = some none
+
+-- ---- data that are put
+
+-- 202
+pub first_data_not_text : (s : State) (expected : Option ℕ) (bytes : List ℕ) → IsExpected s expected → s.revision < last_revision → (IsUtf8 bytes → ⊥)
+    → IsFirstRefusal s expected (put_data bytes) refusal.NotText
+first_data_not_text s expected bytes same left bad = record { fails = data_not_text bad; first = λ other h. after_length s expected bytes other same left h }
+  where
+    after_length : (s : State) (expected : Option ℕ) (bytes : List ℕ) (r : Refusal) → IsExpected s expected → s.revision < last_revision → Fails s expected (put_data bytes) r → 3 ≤ rank r
+    after_length s _ bytes _ same left (stale apart) = absurd (apart same)
+    after_length s _ bytes _ same left (spent is) = absurd (omega arith)
+    after_length s _ bytes _ same left (data_not_text bad) = omega arith
+    after_length s _ bytes _ same left (bad_data bad) = omega arith
+
+-- then 207
+pub first_bad_data : (s : State) (expected : Option ℕ) (bytes : List ℕ) → IsExpected s expected → s.revision < last_revision → IsUtf8 bytes
+    → ((d : Data) → IsDataText bytes d → ⊥) → IsFirstRefusal s expected (put_data bytes) refusal.BadData
+first_bad_data s expected bytes same left text bad = record { fails = bad_data bad; first = λ other h. after_text s expected bytes other same left text h }
+  where
+    after_text : (s : State) (expected : Option ℕ) (bytes : List ℕ) (r : Refusal) → IsExpected s expected → s.revision < last_revision → IsUtf8 bytes → Fails s expected (put_data bytes) r → 4 ≤ rank r
+    after_text s _ bytes _ same left text (stale apart) = absurd (apart same)
+    after_text s _ bytes _ same left text (spent is) = absurd (omega arith)
+    after_text s _ bytes _ same left text (data_not_text bad) = absurd (bad text)
+    after_text s _ bytes _ same left text (bad_data bad) = omega arith
+
+pub data_accepted : (s : State) (expected : Option ℕ) (bytes : List ℕ) (d : Data) → IsExpected s expected → s.revision < last_revision → IsUtf8 bytes → IsDataText bytes d → IsAccepted s expected (put_data bytes)
+data_accepted s _ bytes d same left text read _ (stale apart) = apart same
+data_accepted s _ bytes d same left text read _ (spent is) = omega arith
+data_accepted s _ bytes d same left text read _ (data_not_text bad) = bad text
+data_accepted s _ bytes d same left text read _ (bad_data bad) = bad d read
 
 -- ---- answers
 

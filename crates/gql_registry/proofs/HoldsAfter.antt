@@ -8,7 +8,7 @@ use Rattle.gql_ast.specs.FileMaps.{file_named, name_order, with_file, without_fi
 use Rattle.gql_ast.specs.declared.definition.Document.{Document}
 use Rattle.gql_ast.specs.declared.fault.FileSide.{FileSide}
 use Rattle.gql_ast.specs.declared.fault.FileSide.TheVariants.{Schema, Documents}
-use Rattle.gql_registry.specs.Edits.{Edit, put, remove, side_of, name_of, Leaves}
+use Rattle.gql_registry.specs.Edits.{Edit, put, remove, put_data, EditsFile, Leaves}
 use Rattle.gql_registry.specs.Laws.{LeavesUnder, by_put, by_removal, elsewhere, HoldsAfter}
 use Rattle.gql_registry.specs.Sides.{IsFileOn}
 use Rattle.gql_registry.specs.State.{State}
@@ -41,7 +41,7 @@ after_put side name bytes document files is q = elim (apart_or_same q name) [
       subst (λ n. LeavesUnder side n (file_named files n) (put side name bytes) (file_named (with_file files name document) n)) same
       (subst (λ o. LeavesUnder side name (file_named files name) (put side name bytes) o) (sym (put_found name document files)) (by_put is))
   | inr other ↦
-      subst (λ o. LeavesUnder side q (file_named files q) (put side name bytes) o) (sym (put_other q name document files other.1)) (elsewhere (λ _ e. other.0 e))
+      subst (λ o. LeavesUnder side q (file_named files q) (put side name bytes) o) (sym (put_other q name document files other.1)) (elsewhere (λ h. other.0 h.1))
 ]
 
 -- a file that is removed
@@ -51,12 +51,18 @@ after_removal side name files sorted q = elim (apart_or_same q name) [
       subst (λ n. LeavesUnder side n (file_named files n) (remove side name) (file_named (without_file files name) n)) same
       (subst (λ o. LeavesUnder side name (file_named files name) (remove side name) o) (sym (removed_none name files sorted)) by_removal)
   | inr other ↦
-      subst (λ o. LeavesUnder side q (file_named files q) (remove side name) o) (sym (removed_other q name files other.1)) (elsewhere (λ _ e. other.0 e))
+      subst (λ o. LeavesUnder side q (file_named files q) (remove side name) o) (sym (removed_other q name files other.1)) (elsewhere (λ h. other.0 h.1))
 ]
 
--- an edit of the other side
-after_other : (side : FileSide) (e : Edit) (files : FileList) → (side_of e ≡ side → ⊥) → LeavesAll side e files files
-after_other side e files apart q = elsewhere (λ same _. apart same)
+-- an edit of the other side, or of the data
+after_other : (side : FileSide) (e : Edit) (files : FileList) → ((q : List ℕ) → EditsFile e side q → ⊥) → LeavesAll side e files files
+after_other side e files apart q = elsewhere (apart q)
+
+documents_apart : Documents ≡ Schema → ⊥
+documents_apart e = cc e
+
+schema_apart : Schema ≡ Documents → ⊥
+schema_apart e = cc e
 
 -- files that are in order, and what each name holds
 abbrev Holds : FileSide → Edit → FileList → FileList → Type 0
@@ -74,10 +80,10 @@ holds_after s t (put Documents name bytes) Documents ordered left =
     (put_sorted name left.0 s.files.documents ordered, after_put Documents name bytes left.0 s.files.documents left.1)
 holds_after s t (put Documents name bytes) Schema ordered left =
     carried Schema (put Documents name bytes) s.files.schema s.files.schema t.files.schema (ap (λ (u : State). u.files.schema) left.2)
-    (ordered, after_other Schema (put Documents name bytes) s.files.schema (λ e. cc e))
+    (ordered, after_other Schema (put Documents name bytes) s.files.schema (λ q h. documents_apart h.0))
 holds_after s t (put Schema name bytes) Documents ordered left =
     carried Documents (put Schema name bytes) s.files.documents s.files.documents t.files.documents (ap (λ (u : State). u.files.documents) left.2)
-    (ordered, after_other Documents (put Schema name bytes) s.files.documents (λ e. cc e))
+    (ordered, after_other Documents (put Schema name bytes) s.files.documents (λ q h. schema_apart h.0))
 holds_after s t (remove Schema name) Schema ordered left =
     carried Schema (remove Schema name) s.files.schema (without_file s.files.schema name) t.files.schema (ap (λ (u : State). u.files.schema) left)
     (removed_sorted name s.files.schema ordered, after_removal Schema name s.files.schema ordered)
@@ -86,7 +92,13 @@ holds_after s t (remove Documents name) Documents ordered left =
     (removed_sorted name s.files.documents ordered, after_removal Documents name s.files.documents ordered)
 holds_after s t (remove Documents name) Schema ordered left =
     carried Schema (remove Documents name) s.files.schema s.files.schema t.files.schema (ap (λ (u : State). u.files.schema) left)
-    (ordered, after_other Schema (remove Documents name) s.files.schema (λ e. cc e))
+    (ordered, after_other Schema (remove Documents name) s.files.schema (λ q h. documents_apart h.0))
 holds_after s t (remove Schema name) Documents ordered left =
     carried Documents (remove Schema name) s.files.documents s.files.documents t.files.documents (ap (λ (u : State). u.files.documents) left)
-    (ordered, after_other Documents (remove Schema name) s.files.documents (λ e. cc e))
+    (ordered, after_other Documents (remove Schema name) s.files.documents (λ q h. schema_apart h.0))
+holds_after s t (put_data bytes) Schema ordered left =
+    carried Schema (put_data bytes) s.files.schema s.files.schema t.files.schema (ap (λ (u : State). u.files.schema) left.2)
+    (ordered, after_other Schema (put_data bytes) s.files.schema (λ q h. h))
+holds_after s t (put_data bytes) Documents ordered left =
+    carried Documents (put_data bytes) s.files.documents s.files.documents t.files.documents (ap (λ (u : State). u.files.documents) left.2)
+    (ordered, after_other Documents (put_data bytes) s.files.documents (λ q h. h))

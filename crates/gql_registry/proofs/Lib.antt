@@ -1,3 +1,6 @@
+pub mod Against
+pub mod Called
+pub mod OneCall
 pub mod FilesByName
 pub mod FirstRefusals
 pub mod HoldsAfter

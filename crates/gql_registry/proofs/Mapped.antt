@@ -1,6 +1,10 @@
--- What holds of the value of an answer, if there is one.
-use Rattle.std.proofs.Common.{Result, Ok, Err, IfOk}
+-- What holds of the value of an answer, or of its error.
+use Rattle.std.proofs.Common.{Result, Ok, Err, IfOk, IfErr}
 
 pub ok_map : {T E : Type 0} (r : Result T E) (P Q : T → Type 0) → ((x : T) → P x → Q x) → IfOk r P → IfOk r Q
 ok_map (Ok x) P Q f h = f x h
 ok_map (Err e) P Q f h = h
+
+pub err_map : {T E : Type 0} (r : Result T E) (P Q : E → Type 0) → ((x : E) → P x → Q x) → IfErr r P → IfErr r Q
+err_map (Ok x) P Q f h = h
+err_map (Err e) P Q f h = f e h

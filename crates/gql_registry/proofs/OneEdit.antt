@@ -1,5 +1,5 @@
 -- An edit has one answer, and leaves one state.
-use Rattle.std.proofs.Common.{◌≡◌, ◌≤◌, ◌⊎◌, inl, inr, ℕ, List, length, Result, Ok, Err, Option, refl, sym, ap, ap₂, subst, ◌∙◌, arith}
+use Rattle.std.proofs.Common.{◌≡◌, ◌≤◌, ◌⊎◌, inl, inr, ℕ, List, length, Result, Ok, Err, Option, Some, refl, sym, ap, ap₂, subst, ◌∙◌, arith}
 use Rattle.gql_text.specs.declared.place.Place.{Place}
 use Rattle.gql_grammar.specs.declared.fault.SyntaxRefusal.{SyntaxRefusal}
 use Rattle.gql_grammar.specs.declared.fault.SyntaxFault.{SyntaxFault}
@@ -9,13 +9,14 @@ use Rattle.gql_ast.specs.declared.fault.FileSide.{FileSide}
 use Rattle.gql_ast.specs.declared.fault.FileSide.TheVariants.{Schema, Documents}
 use Rattle.gql_parse_sdl.specs.SchemaFiles.{IsSchemaFile, IsSchemaFault}
 use Rattle.gql_parse_sdl.specs.DocumentFiles.{IsDocumentFile, IsDocumentFault}
-use Rattle.gql_registry.specs.Edits.{Edit, put, remove, Fails, stale, spent, too_long, not_text, syntax, no_file, files_full, rank, IsFirstRefusal, Leaves, Reports, Makes}
+use Rattle.gql_registry.specs.Edits.{Edit, put, remove, put_data, Fails, stale, spent, too_long, not_text, data_not_text, bad_data, syntax, no_file, files_full, rank, IsFirstRefusal, Leaves, Reports, Makes}
 use Rattle.gql_registry.specs.Laws.{WasMade, OneReport, OneEdit}
 use Rattle.gql_registry.specs.Sides.{IsFileOn, IsFaultOn, with_put}
-use Rattle.gql_registry.specs.State.{State, next}
+use Rattle.gql_registry.specs.State.{State, next, next_data}
 use Rattle.gql_registry.specs.declared.refusal.Refusal.{Refusal}
 use Rattle.gql_registry.specs.declared.refusal.Refusal.TheVariants as refusal
 use Rattle.gql_registry.specs.declared.registry.Edited.{Edited}
+use Rattle.serde_json.specs.Data.{Data}
 
 -- what the laws of the parsers say of every text
 pub record OneReading : Type 0 where
@@ -43,6 +44,9 @@ same_syntax m n p q e =
     let numbers : m ≡ n = cc in
     let places : p ≡ q = cc in
     ap₂ (λ a b. refusal.Syntax a b) numbers places
+
+some_same : (d e : Data) → Some d ≡ Some e → d ≡ e
+some_same d e same = cc same
 
 module _ (one : OneReading) where
   -- checks that are made at the same time give the same refusal
@@ -89,6 +93,18 @@ module _ (one : OneReading) where
   same_refusal s _ _ _ _ (files_full none many) (not_text bad) same = absurd (omega arith)
   same_refusal s _ _ _ _ (files_full none many) (syntax bad) same = absurd (omega arith)
   same_refusal s _ _ _ _ (files_full none many) (files_full other so_many) same = refl
+  same_refusal s _ _ _ _ (stale apart) (data_not_text bad) same = absurd (omega arith)
+  same_refusal s _ _ _ _ (stale apart) (bad_data bad) same = absurd (omega arith)
+  same_refusal s _ _ _ _ (spent is) (data_not_text bad) same = absurd (omega arith)
+  same_refusal s _ _ _ _ (spent is) (bad_data bad) same = absurd (omega arith)
+  same_refusal s _ _ _ _ (data_not_text bad) (stale apart) same = absurd (omega arith)
+  same_refusal s _ _ _ _ (data_not_text bad) (spent is) same = absurd (omega arith)
+  same_refusal s _ _ _ _ (data_not_text bad) (data_not_text other) same = refl
+  same_refusal s _ _ _ _ (data_not_text bad) (bad_data other) same = absurd (omega arith)
+  same_refusal s _ _ _ _ (bad_data bad) (stale apart) same = absurd (omega arith)
+  same_refusal s _ _ _ _ (bad_data bad) (spent is) same = absurd (omega arith)
+  same_refusal s _ _ _ _ (bad_data bad) (data_not_text other) same = absurd (omega arith)
+  same_refusal s _ _ _ _ (bad_data bad) (bad_data other) same = refl
 
   one_first : (s : State) (expected : Option ℕ) (e : Edit) (r q : Refusal) → IsFirstRefusal s expected e r → IsFirstRefusal s expected e q → r ≡ q
   one_first s expected e r q x y =
@@ -99,6 +115,7 @@ module _ (one : OneReading) where
   one_left : (s t u : State) (e : Edit) → Leaves s e t → Leaves s e u → t ≡ u
   one_left s t u (put side name bytes) x y = x.2 ∙ ap (λ d. next s (with_put side s.files name d)) (one.document side name bytes x.0 y.0 x.1 y.1) ∙ sym y.2
   one_left s t u (remove side name) x y = x ∙ sym y
+  one_left s t u (put_data bytes) x y = x.2 ∙ ap (next_data s) (some_same x.0 y.0 (sym x.1.0 ∙ y.1.0)) ∙ sym y.2
 
 -- the answer to an accepted edit is one for a state
 one_edited : OneReport → (t u : State) (e g : Edited) → t ≡ u → Reports t e → Reports u g → e ≡ g

@@ -19,7 +19,7 @@ pub sound_if_none : (files : Files) (faults : List Fault) → faults ≡ [] → 
 sound_if_none files faults none lists f is = Contains-nil f (subst (λ xs. Contains xs f) none (lists.complete f is))
 
 -- a schema with some is not sound
-unsound_if_some : (files : Files) (faults : List Fault) → faults ≢ [] → AreSchemaFaults files faults → IsSound files → ⊥
+pub unsound_if_some : (files : Files) (faults : List Fault) → faults ≢ [] → AreSchemaFaults files faults → IsSound files → ⊥
 unsound_if_some files [] some lists sound = some refl
 unsound_if_some files (f ∷ fs) some lists sound = sound f (lists.sound f (Contains-here f fs))
 

@@ -102,6 +102,7 @@ fault_before files documents s f (by_p02 h) = by_p02 h
 pub same_side : (files : Files) (documents : FileList) (side : SchemaSide) → IsSideOf files side
     → IsSideOf (with_documents files documents) side
 same_side files documents side is = record {
+  schema = is.schema;
   facts = is.facts;
   faults = record {
     sound = λ f h. fault_after files documents _ f (is.faults.sound f h);

@@ -5,8 +5,8 @@ use Rattle.gql_ast.specs.declared.definition.DefinitionId.{DefinitionId}
 use Rattle.gql_ast.specs.declared.files.Files.{Files}
 use Rattle.gql_facts.specs.Facts.{fact_of}
 use Rattle.gql_registry.specs.Changes.{IsChangeBy, IsRefusedBy}
-use Rattle.gql_registry.specs.Checks.{IsInTime}
-use Rattle.gql_registry.specs.Edits.{Edit, IsFirstRefusal, Leaves, Makes, Reports}
+use Rattle.gql_registry.specs.Checks.{IsBadData, IsInTime}
+use Rattle.gql_registry.specs.Edits.{Edit, put_data, IsFirstRefusal, Leaves, Makes, Reports}
 use Rattle.gql_registry.specs.Keeping.{IsWorkOn}
 use Rattle.gql_registry.specs.State.{State, next}
 use Rattle.gql_registry.specs.declared.change.Change.{Change}
@@ -59,6 +59,12 @@ pub refused_answer : (s : State) (expected : Option ℕ) (e : Edit) (r : Result 
     → Makes s expected e r s
 refused_answer s expected e (Ok edited) q is h time = absurd is
 refused_answer s expected e (Err x) q is h time = subst (λ y. Makes s expected e (Err y) s) (sym is) (h expected time)
+
+-- data that come in time and are refused
+pub bad_data_answer : (s : State) (expected : Option ℕ) (bytes : List ℕ) (r : Result Edited Refusal) (q : Refusal) → IsErrAnd r (λ x. x ≡ q) → IsBadData bytes q → IsInTime s expected
+    → Makes s expected (put_data bytes) r s
+bad_data_answer s expected bytes (Ok edited) q is h time = absurd is
+bad_data_answer s expected bytes (Err x) q is h time = subst (λ y. Makes s expected (put_data bytes) (Err y) s) (sym is) (h s expected time)
 
 -- an edit that failed for memory before it came to be taken
 pub in_vain : (s : State) (e : Edit) (r : Result Change Refusal) → IsErrAnd r (λ x. x ≡ refusal.Memory) → IfErr r (IsRefusedBy s e)

@@ -4,7 +4,7 @@ use Rattle.std.specs.Prelude.{ℕ, ◌≡◌, ◌<◌, ◌≤◌, List, length, 
 use Rattle.gql_ast.specs.declared.definition.Document.{Document}
 use Rattle.gql_ast.specs.declared.fault.FileSide.{FileSide}
 use Rattle.gql_ast.specs.declared.fault.FileSide.TheVariants.{Schema, Documents}
-use Rattle.gql_registry.specs.Edits.{put, Makes}
+use Rattle.gql_registry.specs.Edits.{put, put_data, Makes}
 use Rattle.gql_registry.specs.Sides.{IsFileOn}
 use Rattle.gql_registry.specs.State.{State, last_revision, file_limit}
 use Rattle.gql_registry.specs.declared.refusal.Refusal.{Refusal}
@@ -36,3 +36,8 @@ pub record IsRead (side : FileSide) (name bytes : List ℕ) (document : Document
 abbrev pub IsUnread : FileSide → List ℕ → List ℕ → Refusal → Type 0
 IsUnread side name bytes r = (s : State) (expected : Option ℕ) → IsInTime s expected
     → Makes s expected (put side name bytes) (Err r) s
+
+-- an edit that puts the bytes as data is refused with this, where it comes in time
+abbrev pub IsBadData : List ℕ → Refusal → Type 0
+IsBadData bytes r = (s : State) (expected : Option ℕ) → IsInTime s expected
+    → Makes s expected (put_data bytes) (Err r) s

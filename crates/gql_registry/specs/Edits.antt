@@ -1,5 +1,5 @@
 -- What an edit answers, and the state that it leaves: the checks in their order, and the change of
--- one map of files.
+-- one map of files or of the data.
 use Rattle.std.specs.Prelude.{ℕ, ◌≡◌, ◌≢◌, ◌<◌, ◌≤◌, List, length, Option, Some, None, Result, Ok, Err, IsUtf8}
 use Rattle.gql_text.specs.declared.place.Place.{Place}
 use Rattle.gql_grammar.specs.declared.fault.SyntaxFault.TheVariants.{At}
@@ -8,28 +8,27 @@ use Rattle.gql_ast.specs.FileMaps.{file_named}
 use Rattle.gql_ast.specs.declared.definition.Document.{Document}
 use Rattle.gql_ast.specs.declared.fault.Fault.{Fault}
 use Rattle.gql_ast.specs.declared.fault.FileSide.{FileSide}
+use Rattle.gql_bodies.specs.DataBodies.{IsDataText}
 use Rattle.gql_registry.specs.Report.{IsReport}
 use Rattle.gql_registry.specs.Sides.{IsFileOn, IsFaultOn, files_on, with_put, with_removed}
-use Rattle.gql_registry.specs.State.{State, next, last_revision, file_limit, most_files}
+use Rattle.gql_registry.specs.State.{State, next, next_data, last_revision, file_limit, most_files}
 use Rattle.gql_registry.specs.declared.refusal.Refusal.{Refusal}
 use Rattle.gql_registry.specs.declared.refusal.Refusal.TheVariants.{Syntax, NotText, TooLong, NoFile, FilesFull, Stale, BadData, NoOperation, Faulty, TooLarge, Memory, Spent}
 use Rattle.gql_registry.specs.declared.registry.Edited.{Edited}
+use Rattle.serde_json.specs.Data.{Data}
 
--- an edit: bytes put on a side as the file of a name, in place of any of that name, or the file of
--- a name removed from a side
+-- an edit: bytes put on a side as the file of a name, in place of any of that name; the file of a
+-- name removed from a side; or bytes put as the data, in place of those before
 pub data Edit : Type 0 where
   put : FileSide → List ℕ → List ℕ → Edit
   remove : FileSide → List ℕ → Edit
+  put_data : List ℕ → Edit
 
--- the side of the file that an edit changes
-abbrev pub side_of : Edit → FileSide
-side_of (put side name bytes) = side
-side_of (remove side name) = side
-
--- its name
-abbrev pub name_of : Edit → List ℕ
-name_of (put side name bytes) = name
-name_of (remove side name) = name
+-- the edit changes the file of this name on this side
+abbrev pub EditsFile : Edit → FileSide → List ℕ → Type 0
+EditsFile (put on other bytes) side name = (on ≡ side) × (other ≡ name)
+EditsFile (remove on other) side name = (on ≡ side) × (other ≡ name)
+EditsFile (put_data bytes) side name = ⊥
 
 -- The edit fails a check in this state, with this refusal. An edit may expect a revision.
 pub data Fails : State → Option ℕ → Edit → Refusal → Type 0 where
@@ -45,6 +44,11 @@ pub data Fails : State → Option ℕ → Edit → Refusal → Type 0 where
   -- 202: the bytes are not UTF-8
   not_text : {s : State} {expected : Option ℕ} {side : FileSide} {name bytes : List ℕ} → (IsUtf8 bytes → ⊥)
       → Fails s expected (put side name bytes) NotText
+  data_not_text : {s : State} {expected : Option ℕ} {bytes : List ℕ} → (IsUtf8 bytes → ⊥)
+      → Fails s expected (put_data bytes) NotText
+  -- 207: the text is not accepted as data
+  bad_data : {s : State} {expected : Option ℕ} {bytes : List ℕ}
+      → ((d : Data) → IsDataText bytes d → ⊥) → Fails s expected (put_data bytes) BadData
   -- 201: the text is not a file of the side
   syntax : {s : State} {expected : Option ℕ} {side : FileSide} {name bytes : List ℕ} {number : SyntaxRefusal}
       {place : Place}
@@ -89,6 +93,7 @@ Leaves s (put side name bytes) t =
     (document : Document) × IsFileOn side name bytes document
     × (t ≡ next s (with_put side s.files name document))
 Leaves s (remove side name) t = t ≡ next s (with_removed side s.files name)
+Leaves s (put_data bytes) t = (d : Data) × IsDataText bytes d × (t ≡ next_data s d)
 
 -- what an accepted edit that leaves this state answers: the revision, and the number of faults in
 -- the report

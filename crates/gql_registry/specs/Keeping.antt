@@ -2,13 +2,15 @@
 use Rattle.std.specs.Prelude.{◌≡◌, List, [], Option, IfSome}
 use Rattle.gql_ast.specs.declared.fault.Fault.{Fault}
 use Rattle.gql_ast.specs.declared.files.Files.{Files}
-use Rattle.gql_facts.specs.Facts.{fact_of}
+use Rattle.gql_facts.specs.Facts.{fact_of, fragments}
 use Rattle.gql_facts.specs.Members.{Lists}
 use Rattle.gql_facts.specs.Tables.{tables_of}
 use Rattle.gql_facts.specs.declared.schema_facts.SchemaFacts.{SchemaFacts}
 use Rattle.gql_ast.specs.declared.definition.DefinitionId.{DefinitionId}
+use Rattle.gql_operations.specs.Indexed.{IsIndexOf as IsOperationIndex}
 use Rattle.gql_schema_rules.specs.SchemaFaults.{IsSchemaFault}
 use Rattle.gql_registry.specs.Report.{IsReport}
+use Rattle.gql_registry.specs.declared.index.DocumentIndex.{DocumentIndex}
 use Rattle.gql_registry.specs.declared.report.Known.{Known}
 use Rattle.gql_registry.specs.declared.report.SchemaSide.{SchemaSide}
 use Rattle.gql_types.specs.Schemas.{schema_of}
@@ -52,14 +54,21 @@ AreFactsOf files facts = facts ≡ tables_of (schema_of files)
 abbrev pub AreSchemaFaults : Files → List Fault → Type 0
 AreSchemaFaults files faults = Lists faults (IsSchemaFault files)
 
--- the schema of the files: its facts and its faults
+-- the schema of the files, its facts and its faults
 pub record IsSideOf (files : Files) (side : SchemaSide) : Type 0 where
+  pub schema : side.schema ≡ schema_of files
   pub facts : AreFactsOf files side.facts
   pub faults : AreSchemaFaults files side.faults.items
+
+-- the fragments and the operations of the document files
+pub record IsIndexOf (files : Files) (index : DocumentIndex) : Type 0 where
+  pub fragments : index.fragments.all ≡ fragments files.documents
+  pub operations : IsOperationIndex files.documents index.operations
 
 -- what is known of the files
 pub record IsKnownOf (files : Files) (known : Known) : Type 0 where
   pub schema : IsSideOf files known.schema
+  pub index : IsIndexOf files known.index
   pub report : IsReport files known.report.items
 
 -- what is kept is of the files, and the definitions of the files are in order

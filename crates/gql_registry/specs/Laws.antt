@@ -7,13 +7,15 @@ use Rattle.gql_ast.specs.declared.definition.Document.{Document}
 use Rattle.gql_ast.specs.declared.fault.Fault.{Fault}
 use Rattle.gql_ast.specs.declared.fault.FileSide.{FileSide}
 use Rattle.gql_ast.specs.declared.files.Files.{Files}
-use Rattle.gql_registry.specs.Edits.{Edit, put, remove, name_of, side_of, Leaves, Makes}
+use Rattle.gql_registry.specs.Calls.{Answers}
+use Rattle.gql_registry.specs.Edits.{Edit, put, remove, EditsFile, Leaves, Makes}
 use Rattle.gql_registry.specs.Report.{IsReport}
 use Rattle.gql_registry.specs.Sides.{IsFileOn, files_on}
 use Rattle.gql_registry.specs.State.{State}
 use Rattle.gql_registry.specs.declared.refusal.Refusal.{Refusal}
 use Rattle.gql_registry.specs.declared.refusal.Refusal.TheVariants.{Memory}
 use Rattle.gql_registry.specs.declared.registry.Edited.{Edited}
+use Rattle.serde_json.specs.Data.{Data}
 
 -- no allocation failed
 abbrev pub WasMade : Result Edited Refusal → Type 0
@@ -24,6 +26,12 @@ abbrev pub OneEdit : Type 0
 OneEdit = (s t u : State) (expected : Option ℕ) (e : Edit) (r q : Result Edited Refusal)
     → Makes s expected e r t
     → Makes s expected e q u → WasMade r → WasMade q → (r ≡ q) × (t ≡ u)
+
+-- a call has one answer, unless an allocation fails
+abbrev pub OneAnswer : Type 0
+OneAnswer = (files : Files) (stored : Data) (name : Option (List ℕ)) (variables : Data)
+    (r q : Result (List ℕ) Refusal) → Answers files stored name variables r
+    → Answers files stored name variables q → (r ≡ Err Memory → ⊥) → (q ≡ Err Memory → ⊥) → r ≡ q
 
 -- files have one report
 abbrev pub OneReport : Type 0
@@ -38,14 +46,14 @@ abbrev pub under : FileSide → List ℕ → State → Option Document
 under side name s = file_named (files_on side s.files) name
 
 -- What an accepted edit leaves under a name of a side, which held this before: the document that
--- was put, nothing after a removal, and the same as before where the edit names another file.
+-- was put, nothing after a removal, and the same as before where the edit changes another file or the
+-- data.
 pub data LeavesUnder (side : FileSide) (name : List ℕ) (before : Option Document) : Edit
     → Option Document → Type 0 where
   by_put : {bytes : List ℕ} {document : Document} → IsFileOn side name bytes document
       → LeavesUnder side name before (put side name bytes) (Some document)
   by_removal : LeavesUnder side name before (remove side name) None
-  elsewhere : {e : Edit} → ((side_of e ≡ side) → (name_of e ≡ name) → ⊥)
-      → LeavesUnder side name before e before
+  elsewhere : {e : Edit} → (EditsFile e side name → ⊥) → LeavesUnder side name before e before
 
 -- after an accepted edit each name of a side holds what the edit leaves under it, and the files of
 -- the side are in order again

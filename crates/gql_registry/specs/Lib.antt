@@ -5,6 +5,8 @@ pub mod Keeping
 pub mod State
 pub mod Edits
 pub mod Works
+pub mod Calls
+pub mod Calling
 pub mod Checks
 pub mod Laws
 pub mod Changes

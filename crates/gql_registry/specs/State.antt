@@ -3,27 +3,39 @@ use Rattle.std.specs.Prelude.{ℕ, ◌+◌, ◌^◌, ◌-◌, List, []}
 use Rattle.gql_ast.specs.declared.files.Files.{Files}
 use Rattle.gql_registry.specs.declared.registry.Registry.{Registry}
 use Rattle.gql_verdict.specs.Verdicts.{Judgement}
+use Rattle.serde_json.specs.Data.{Data, object, no_members}
+use Rattle.serde_json.specs.View.{view}
 
--- the files that are present, and the number of edits that were accepted
+-- the files that are present, the data that operations are executed on, and the number of edits that
+-- were accepted
 pub record State : Type 0 where
   pub files : Files
+  pub stored : Data
   pub revision : ℕ
 
 -- what a registry holds
 abbrev pub state_of : Registry → State
-state_of r = record { files = r.kept.files; revision = r.revision }
+state_of r = record { files = r.kept.files; stored = view r.stored; revision = r.revision }
 
 -- the verdicts that a registry keeps
 abbrev pub shelf_of : Registry → List Judgement
 shelf_of r = r.kept.shelf
 
--- no files, and no edit
+-- no files, data without members, and no edit
 abbrev pub empty : State
-empty = record { files = record { schema = []; documents = [] }; revision = 0 }
+empty = record {
+  files = record { schema = []; documents = [] };
+  stored = object no_members;
+  revision = 0;
+}
 
 -- the state after an accepted edit that leaves these files
 abbrev pub next : State → Files → State
 next s files = record s { files = files; revision = s.revision + 1 }
+
+-- the state after an accepted edit that leaves these data
+abbrev pub next_data : State → Data → State
+next_data s d = record s { stored = d; revision = s.revision + 1 }
 
 -- the greatest revision
 abbrev pub last_revision : ℕ

@@ -1,8 +1,11 @@
 //! Files, with a verdict on each definition of the document files.
 ghost use Rattle.std.specs.Prelude.{◌≡◌, IfOk, IfSome, OnOk, OnErr};
+ghost use Rattle.std.specs.Option.{option_copied};
+ghost use Rattle.serde_json.specs.View.{view};
+ghost use Rattle.gql_registry.specs.Calls.{Answers, answer_of};
 ghost use Rattle.gql_registry.specs.Changes.{IsChangeOf, IsChangeTo, IsReportLength};
 ghost use Rattle.gql_registry.specs.Keeping.{AreFactsOf, AreSchemaFaults, IsPlanFor, IsShelfOf};
-ghost use Rattle.gql_registry.specs.Keeping.{IsKnownOf, IsSideOf, IsWorkOn, nothing_kept};
+ghost use Rattle.gql_registry.specs.Keeping.{IsIndexOf, IsKnownOf, IsSideOf, IsWorkOn, nothing_kept};
 ghost use Rattle.gql_registry.specs.Plans.{IsPlannedFor};
 ghost use Rattle.gql_registry.specs.Report.{IsReport};
 ghost use Rattle.gql_facts.specs.Facts as facts;
@@ -11,11 +14,16 @@ ghost use Rattle.gql_registry.specs.Sides as spec;
 ghost use Rattle.gql_verdict.specs.FileOrder.{AreFilesPlaced};
 ghost use Rattle.gql_verdict.specs.TouchedFacts.{IsKnown};
 
+use crate::calling::answer_call;
 use crate::change::{Change, change_by_put, change_by_removal};
+use crate::index::{DocumentIndex, document_index};
+use crate::refusal::Refusal;
+use crate::registry::Reply;
 use crate::report::{Known, SchemaSide, copies, documents_report, schema_report, schema_side};
 use gql_ast::{Document, Fault, FileName, FileSide, Files, Shared};
 use gql_facts::{Fragments, Present, SchemaFacts};
 use gql_verdict::{Meter, Prepared, Shelf, Touched};
+use serde_json::Value;
 use std::alloc::{AllocError, Global};
 use std::marker::Model;
 
@@ -128,15 +136,21 @@ fn known_then(
     shelf: &Shelf,
     verdicts: &Prepared,
     schema: Shared<SchemaSide>,
+    index: DocumentIndex,
     files: &Files,
 ) -> Result<Known, AllocError>
     requires planned { IsPlanFor files.now shelf.now verdicts.now }
     requires schema { IsSideOf files.now schema }
+    requires index { IsIndexOf files.now index }
     ensures { IfOk result (IsKnownOf files.now) }
 {
     let faults = schema.get().faults.as_slice();
     let report = prepared_report(alloc, shelf, verdicts, faults, files)?;
-    Ok(Known { schema, report })
+    Ok(Known {
+        schema,
+        index,
+        report,
+    })
 }
 
 /// The report of files that are present.
@@ -159,27 +173,44 @@ fn present_report(
     Ok(report)
 }
 
+/// What is known of files that are present.
+fn known_of(alloc: Global, shelf: &Shelf, files: &Files) -> Result<Known, AllocError>
+    requires { IsShelfOf files.now shelf.now }
+    ensures { IfOk result (IsKnownOf files.now) }
+{
+    let schema = schema_side(alloc, files)?;
+    let report = present_report(alloc, shelf, schema.faults.as_slice(), files)?;
+    let index = document_index(alloc, files)?;
+    let schema = Shared::new(alloc, schema)?;
+    Ok(Known {
+        schema,
+        index,
+        report,
+    })
+}
+
 /// Prepares the verdicts for files that are to be present and have this schema.
 fn verdicts_for(
     alloc: Global,
     shelf: &Shelf,
     schema: &SchemaSide,
+    index: &DocumentIndex,
     change: &Change,
     meter: &mut Meter,
 ) -> Result<Prepared, AllocError>
     requires schema { IsSideOf change.now.files schema.now }
+    requires index { IsIndexOf change.now.files index.now }
     requires placed { AreFilesPlaced change.now.files.documents }
     requires known { IsKnown (fact_of change.now.files) shelf.now change.now.touched }
     ensures planned { IfOk result (IsPlanFor change.now.files shelf.now) }
     ensures work { IsWorkOn change.now.files shelf.now meter.old meter.new }
 {
     let files = &change.files;
-    let fragments = Fragments::new(alloc, &files.documents)?;
     let verdicts = prepared_verdicts(
         alloc,
         shelf,
         &schema.facts,
-        &fragments,
+        &index.fragments,
         files,
         &change.touched,
         meter,
@@ -201,8 +232,9 @@ fn plan_change(
     ensures work { IsWorkOn change.now.files shelf.now meter.old meter.new }
 {
     let schema = known_side(alloc, &change.schema, &change.files)?;
-    let verdicts = verdicts_for(alloc, shelf, schema.get(), change, meter)?;
-    let known = known_then(alloc, shelf, &verdicts, schema, &change.files)?;
+    let index = document_index(alloc, &change.files)?;
+    let verdicts = verdicts_for(alloc, shelf, schema.get(), &index, change, meter)?;
+    let known = known_then(alloc, shelf, &verdicts, schema, index, &change.files)?;
     Ok(Planned { known, verdicts })
 }
 
@@ -244,6 +276,36 @@ impl Kept {
         let side = schema_side(alloc, &self.files)?;
         let report = present_report(alloc, &self.shelf, side.faults.as_slice(), &self.files)?;
         Ok(report)
+    }
+
+    /// How many faults the report has.
+    pub fn count(&self, alloc: Global) -> Result<u64, AllocError>
+        ensures { IfOk result (IsReportLength self.now.files) }
+    {
+        if let Some(known) = &self.known {
+            return Ok(known.report.len() as u64);
+        }
+        let report = self.report(alloc)?;
+        Ok(report.len() as u64)
+    }
+
+    /// Answers a call of the operation of a name, or of the only one, with these values for its
+    /// variables, on these data.
+    pub fn answer_call(
+        &self,
+        alloc: Global,
+        name: Option<&str>,
+        variables: &Value,
+        stored: &Value,
+    ) -> Result<Reply, Refusal>
+        ensures { Answers self.now.files (view stored.now) (option_copied name.entry)
+            (view variables.now) (answer_of result) }
+    {
+        if let Some(known) = &self.known {
+            return answer_call(alloc, known, name, variables, stored);
+        }
+        let known = known_of(alloc, &self.shelf, &self.files)?;
+        answer_call(alloc, &known, name, variables, stored)
     }
 
     /// The change that puts a file on a side.

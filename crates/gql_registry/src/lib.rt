@@ -1,8 +1,10 @@
-//! The registry: schema files and document files in, faults out, and a verdict on each definition
-//! of the document files.
+//! The registry: schema files, document files and data in, faults out, a verdict on each definition
+//! of the document files, and calls of stored operations.
 #![tactic(auto)]
 
+mod calling;
 mod change;
+mod index;
 mod kept;
 pub mod laws;
 mod refusal;
@@ -11,4 +13,4 @@ mod report;
 mod sides;
 
 pub use refusal::Refusal;
-pub use registry::{Edited, MAX_FILE_BYTES, MAX_FILES, Registry};
+pub use registry::{Edited, MAX_FILE_BYTES, MAX_FILES, Registry, Reply};

@@ -1,15 +1,20 @@
-//! The registry, and its edits.
-ghost use Rattle.std.specs.Prelude.{◌≡◌, ◌||◌, ◌<◌, ℕ, Option, IfErr, IfOk, is_some, nat_lt, length};
+//! The registry: its edits, and runs of stored operations.
+ghost use Rattle.std.specs.Prelude.{◌≡◌, ◌||◌, ◌<◌, ℕ, Option, IfErr, IfOk, IsUtf8, is_some, nat_lt, length};
+ghost use Rattle.std.specs.Option.{option_copied};
 ghost use Rattle.gql_ast.specs.FileMaps.{file_named};
-ghost use Rattle.gql_registry.specs.Checks.{IsRead, IsUnread};
+ghost use Rattle.gql_bodies.specs.DataBodies.{IsDataText};
+ghost use Rattle.gql_registry.specs.Checks.{IsBadData, IsRead, IsUnread};
+ghost use Rattle.serde_json.specs.View.{view};
 
 use crate::change::Change;
 use crate::kept::Kept;
 use crate::refusal::Refusal;
 use crate::sides::{files_on, parse_on};
 use gql_ast::{Document, Fault, FileMap, FileName, FileSide, Shared};
+use gql_bodies::{DataFault, data_in};
 use gql_parse_sdl::{one_answer, one_document_answer};
 use gql_verdict::{Meter, Shelf};
+use serde_json::{Map, Value};
 use std::alloc::{AllocError, Global};
 use std::str;
 
@@ -26,12 +31,19 @@ pub struct Edited {
     pub faults: u64,
 }
 
+/// The reply to a call of a stored operation, as JSON.
+#[derive(Drop)]
+pub struct Reply {
+    pub body: Vec<u8>,
+}
+
 /// The files that services and clients have put, a verdict on each definition of the document
-/// files, and how many edits were accepted.
+/// files, the data that operations are executed on, and how many edits were accepted.
 #[derive(Drop)]
 pub struct Registry {
     alloc: Global,
     kept: Kept,
+    stored: Value,
     revision: u64,
 }
 
@@ -62,12 +74,28 @@ fn read_file(
     Ok(document)
 }
 
+/// Reads bytes as data. Refused by 202 and 207, in this order.
+fn read_data(alloc: Global, bytes: &[u8]) -> Result<Value, Refusal>
+    ensures read { IfOk result (λ v. IsUtf8 bytes.now × IsDataText bytes.now (view v)) }
+    ensures err { IfErr result (IsBadData bytes.now) }
+{
+    let Ok(text) = str::from_utf8(bytes) else {
+        return Err(Refusal::NotText);
+    };
+    match data_in(alloc, text) {
+        Ok(data) => Ok(data),
+        Err(DataFault::Refused) => Err(Refusal::BadData),
+        Err(DataFault::Memory) => Err(Refusal::Memory),
+    }
+}
+
 impl Registry {
     ghost use Rattle.std.specs.Prelude.{◌≡◌, ◌+◌, ◌<◌, IfErr, IfOk, OnErr, OnOk, length};
     ghost use Rattle.gql_ast.specs.declared.fault.FileSide.TheVariants as side;
     ghost use Rattle.gql_registry.specs.Checks.{IsInTime};
     ghost use Rattle.gql_registry.specs.Edits.{Edit, IsFirstRefusal, Makes, Reports};
     ghost use Rattle.gql_registry.specs.Edits as edit;
+    ghost use Rattle.gql_registry.specs.Calls.{Answers, answer_of};
     ghost use Rattle.gql_registry.specs.Changes.{IsChangeBy, IsChangeOf, IsRefusedBy};
     ghost use Rattle.gql_registry.specs.Keeping.{IsShelfOf, IsWorkOn};
     ghost use Rattle.gql_registry.specs.Report as spec;
@@ -75,7 +103,7 @@ impl Registry {
     ghost use Rattle.gql_registry.specs.Works.{Works};
     ghost use Rattle.std.specs.Prelude.{[]};
 
-    /// A registry without files, at revision 0.
+    /// A registry without files and with data that have no members, at revision 0.
     pub fn new(alloc: Global) -> Registry
         ensures state { state_of result ≡ empty }
         ensures shelf { shelf_of result ≡ [] }
@@ -83,6 +111,7 @@ impl Registry {
         Registry {
             alloc,
             kept: Kept::new(alloc),
+            stored: Value::Object(Map::new(alloc)),
             revision: 0,
         }
     }
@@ -309,5 +338,47 @@ impl Registry {
             meter.old meter.new }
     {
         self.remove(FileSide::Documents, name, expected, meter)
+    }
+
+    /// Puts bytes as the data that operations are executed on, in place of those before, and returns
+    /// the new revision and how many faults the report has. The data are a JSON object whose numbers
+    /// are integers, and whose members `query` and `mutation` are objects. Refused, in this order, by
+    /// 206, 212, 202 and 207, and by 211 if an allocation fails; the registry is then as it was.
+    /// Nothing is examined.
+    #[tactic(none)]
+    pub fn put_data(
+        &mut self,
+        bytes: &[u8],
+        expected: Option<u64>,
+        _meter: &mut Meter,
+    ) -> Result<Edited, Refusal>
+        ensures makes { Makes (state_of self.old) expected (edit.put_data bytes.now) result
+            (state_of self.new) }
+        ensures shelf { shelf_of self.new ≡ shelf_of self.old }
+        ensures meter { _meter.new ≡ _meter.old }
+    {
+        let revision = self.next_revision(expected)?;
+        let stored = read_data(self.alloc, bytes)?;
+        let faults = self.kept.count(self.alloc)?;
+        self.stored = stored;
+        self.revision = revision;
+        Ok(Edited { revision, faults })
+    }
+
+    /// Runs the stored operation of a name, or without a name the only one, with the values of its
+    /// variables, which are an object or null, on the data that were put. Refused, in this order: by
+    /// 208 if there is no such operation; by 209 with the faults that stand against it, where these
+    /// are faults of the schema, of the operation or of fragments that it reaches; by 210 if more
+    /// than 100,000 values are to be completed; and by 211 if an allocation fails. Nothing is
+    /// changed.
+    #[tactic(none)]
+    pub fn run(&mut self, name: Option<&str>, variables: &Value) -> Result<Reply, Refusal>
+        ensures answers { Answers (state_of self.old).files (state_of self.old).stored
+            (option_copied name.entry) (view variables.now) (answer_of result) }
+        ensures state { state_of self.new ≡ state_of self.old }
+        ensures shelf { shelf_of self.new ≡ shelf_of self.old }
+    {
+        self.kept
+            .answer_call(self.alloc, name, variables, &self.stored)
     }
 }

@@ -5,25 +5,29 @@ ghost use Rattle.gql_facts.specs.Members.{Lists};
 ghost use Rattle.gql_registry.specs.Keeping.{AreSchemaFaults, IsDefinitionFault, IsSideOf};
 ghost use Rattle.gql_registry.specs.Report.{IsReport, IsSound};
 
+use crate::index::DocumentIndex;
 use gql_ast::{Fault, Files, Shared};
 use gql_facts::SchemaFacts;
 use gql_report::in_order;
 use gql_schema_rules::schema_faults;
-use gql_types::assemble;
+use gql_types::{Schema, assemble};
 use gql_verdict::name_faults;
 use std::alloc::{AllocError, Global};
 
-/// The schema files as one schema: the facts of the schema, and its faults.
+/// The schema files as one schema, with its facts and its faults.
 #[derive(Drop)]
 pub struct SchemaSide {
+    pub schema: Schema,
     pub facts: SchemaFacts,
     pub faults: Vec<Fault>,
 }
 
-/// What is known of files: their schema, and their report.
+/// What is known of files: their schema, the definitions of the document files by their names, and
+/// the report.
 #[derive(Drop)]
 pub struct Known {
     pub schema: Shared<SchemaSide>,
+    pub index: DocumentIndex,
     pub report: Vec<Fault>,
 }
 
@@ -34,7 +38,11 @@ pub fn schema_side(alloc: Global, files: &Files) -> Result<SchemaSide, AllocErro
     let schema = assemble(alloc, files)?;
     let faults = schema_faults(alloc, files, &schema)?;
     let facts = SchemaFacts::new(alloc, &schema)?;
-    Ok(SchemaSide { facts, faults })
+    Ok(SchemaSide {
+        schema,
+        facts,
+        faults,
+    })
 }
 
 /// Copies of faults.

@@ -1,6 +1,7 @@
 //! Edits on one registry, one after the other: what each answers, and which definitions it examines.
 use crate::faults::written_faults;
 use crate::joined::join;
+use crate::running::run_step;
 use gql_ast::{DefinitionId, FileName};
 use gql_registry::{Edited, Refusal, Registry};
 use gql_verdict::Meter;
@@ -110,5 +111,10 @@ impl Editing {
             }
             _ => None,
         }
+    }
+
+    /// What a question about runs of stored operations gives; `None` for another question.
+    pub fn run_step(&mut self, question: &str) -> Option<String> {
+        run_step(self.alloc, &mut self.registry, question)
     }
 }

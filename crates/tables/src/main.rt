@@ -32,6 +32,7 @@ mod operations;
 mod pipes;
 mod quoted;
 mod row;
+mod running;
 mod servers;
 mod steps;
 mod streams;
@@ -50,11 +51,20 @@ use table::Table;
 
 fn main(rt: HostRuntime) -> Result<()> {
     let mut table = Table::new(rt.alloc());
-    for path in env::args(&rt)?.skip(1) {
-        table.read_file(&rt, path.as_str())?;
+    read_tables(&rt, &mut table)?;
+    tell(&rt, table.answers, table.differences.as_str())
+}
+
+/// Reads each table that an argument names.
+fn read_tables(rt: &HostRuntime, table: &mut Table) -> Result<()> {
+    for path in env::args(rt)?.skip(1) {
+        table.read_file(rt, path.as_str())?;
     }
-    let answers = table.answers;
-    let differences = table.differences.as_str();
+    Ok(())
+}
+
+/// Prints how many answers there were, and the differences before it where there are any.
+fn tell(rt: &HostRuntime, answers: u64, differences: &str) -> Result<()> {
     if differences.is_empty() {
         println!(rt; "{answers} answers, all as expected")?;
         Ok(())

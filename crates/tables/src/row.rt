@@ -49,7 +49,7 @@ pub struct Row {
     document: String,
     /// The service that `hub` lines are about.
     transcript: Transcript,
-    /// The registry that `edit` lines are about.
+    /// The registry that `edit`, `on` and `run` lines are about.
     editing: Editing,
     /// The answers that are expected of a stream, each on a line.
     answers: String,
@@ -205,7 +205,8 @@ impl Row {
     }
 
     /// The answer to a question about the row's service with connections, about the registry that
-    /// it edits, or about its text as a stream to a server; `None` for another question.
+    /// it edits and whose operations it runs, or about its text as a stream to a server; `None` for
+    /// another question.
     fn service_answer(&mut self, rt: &HostRuntime, question: &str) -> Option<String> {
         if question == "serves" {
             return serves_answer(rt, self.text.as_str());
@@ -213,7 +214,10 @@ impl Row {
         if let Some(step) = question.strip_prefix("edit ") {
             return self.editing.step(step);
         }
-        self.transcript.step(question.strip_prefix("hub ")?)
+        if let Some(step) = question.strip_prefix("hub ") {
+            return self.transcript.step(step);
+        }
+        self.editing.run_step(question)
     }
 
     /// The answer to a question of the table. The answers to a stream are `as above` where they are

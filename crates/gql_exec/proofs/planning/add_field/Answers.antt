@@ -12,7 +12,7 @@ use Rattle.gql_exec.proofs.planning.add_field.Goals as goal
 pub returns-in_default : goal.returns-in_default
 returns-in_default c = λ groups h.
     let group : Group = record { key = c.args.name.now; nodes = nodes_in c.args.group.now } in
-    none_more (given c.args.context.now) c.args.of_type.now groups c.args.fields.now.items group (node_of c.args.group.now.first) (others_of c.args.group.now.others.items) refl
+    none_more (given c.args.context.now) c.args.of_type.now groups c.args.fields.now.items group (node_of c.args.group.now.first) (others_of c.args.group.now.others.items) h refl
     (ap (field_named c.args.context.now.schema.now c.args.of_type.now) (sym c.as_str.ensures) ∙ sym c.field.ensures ∙ ap option_copied c.in_default.is)
 
 pub returns : goal.returns

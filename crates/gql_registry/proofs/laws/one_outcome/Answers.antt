@@ -1,3 +1,4 @@
+use Rattle.gql_registry.proofs.OneCall.{one_answer}
 use Rattle.gql_registry.proofs.OneEdit.{one_edit, one_reading}
 use Rattle.gql_registry.proofs.OneReport.{one_report}
 use Rattle.gql_registry.proofs.laws.one_outcome.Goals as goal
@@ -10,3 +11,6 @@ returns-clause-edit c =
 
 pub returns-clause-report : goal.returns-clause-report
 returns-clause-report c = one_report c.one_order.ensures
+
+pub returns-clause-call : goal.returns-clause-call
+returns-clause-call c = one_answer c.one_response.ensures c.one_order.ensures

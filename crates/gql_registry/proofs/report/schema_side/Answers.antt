@@ -16,6 +16,7 @@ returns-in_err-facts c = search rules
 
 pub returns : goal.returns
 returns c = record {
+  schema = c.in_ok-schema.ensures;
   facts = c.in_ok-facts.ensures ∙ ap tables_of c.in_ok-schema.ensures;
   faults = record { sound = c.in_ok-faults.ensures.sound; complete = c.in_ok-faults.ensures.complete };
 }

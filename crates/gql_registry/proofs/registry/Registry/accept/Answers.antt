@@ -3,6 +3,7 @@ use Rattle.gql_ast.specs.declared.files.Files.{Files}
 use Rattle.gql_registry.specs.Keeping.{Keeping}
 use Rattle.gql_registry.specs.State.{State, state_of, next}
 use Rattle.gql_registry.proofs.Working.{on_err_of}
+use Rattle.serde_json.specs.View.{view}
 use Rattle.gql_registry.proofs.registry.Registry.accept.Goals as goal
 
 pub take-requires : goal.take-requires
@@ -16,7 +17,7 @@ returns-in_err-faults-clause-reports c = search rules
 
 pub returns-in_err-faults-clause-err : goal.returns-in_err-faults-clause-err
 returns-in_err-faults-clause-err c =
-    on_err_of _ (ap (λ (k : Keeping). let s : State = record { files = k.files; revision = c.args.self.now.revision } in s) c.in_err-faults.ensures.err)
+    on_err_of _ (ap (λ (k : Keeping). let s : State = record { files = k.files; stored = view c.args.self.now.stored; revision = c.args.self.now.revision } in s) c.in_err-faults.ensures.err)
 
 pub returns-in_err-faults-clause-shelf : goal.returns-in_err-faults-clause-shelf
 returns-in_err-faults-clause-shelf c = on_err_of _ (ap (λ (k : Keeping). k.shelf) c.in_err-faults.ensures.err)
@@ -26,7 +27,7 @@ returns-in_err-faults-clause-work c = c.in_err-faults.ensures.work
 
 pub returns-clause-next : goal.returns-clause-next
 returns-clause-next c =
-    ap₂ (λ (f : Files) r. let s : State = record { files = f; revision = r } in s) c.in_ok-faults.ensures.files c.requires.revision
+    ap₂ (λ (f : Files) r. let s : State = record { files = f; stored = view c.args.self.now.stored; revision = r } in s) c.in_ok-faults.ensures.files c.requires.revision
 
 pub returns-clause-reports : goal.returns-clause-reports
 returns-clause-reports c = (c.requires.revision, c.in_ok-faults.ensures.count)

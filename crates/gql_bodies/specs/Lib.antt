@@ -1,0 +1,3 @@
+pub mod DataBodies
+pub mod CallBodies
+pub mod Calls

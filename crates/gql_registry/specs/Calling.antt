@@ -1,0 +1,32 @@
+-- Helper definitions for private contracts: what the execution of an operation gives, for each
+-- response of the request.
+use Rattle.std.specs.Prelude.{◌≡◌, ◌<◌, ◌≤◌}
+use Rattle.gql_ast.specs.declared.definition.Definition.{Definition}
+use Rattle.gql_ast.specs.declared.definition.Tree.TheVariants as tree
+use Rattle.gql_ast.specs.declared.executable.Operation.{Operation}
+use Rattle.gql_ast.specs.declared.files.Files.{Files}
+use Rattle.gql_exec.specs.Requests.{Executes, Response, most_values}
+use Rattle.gql_reply.specs.ReplyText.{reply_text}
+use Rattle.gql_serving.specs.Laws.{request_of}
+use Rattle.gql_registry.specs.declared.refusal.Refusal.{Refusal}
+use Rattle.gql_registry.specs.declared.refusal.Refusal.TheVariants.{TooLarge, Memory}
+use Rattle.gql_registry.specs.declared.registry.Reply.{Reply}
+use Rattle.serde_json.specs.Data.{Data}
+
+-- this holds of each response to the request of an operation
+abbrev pub OfResponses : Files → Definition → Data → Data → (Response → Type 0) → Type 0
+OfResponses files d variables stored Holds = (operation : Operation)
+    → d.tree ≡ tree.Operation operation → (p : Response)
+    → Executes (request_of files d operation variables stored) p → Holds p
+
+-- the reply has the text of the response
+abbrev pub IsReplyOf : Files → Definition → Data → Data → Reply → Type 0
+IsReplyOf files d variables stored reply = OfResponses files d variables stored
+    (λ p. (p.weight ≤ most_values) × (reply.body.items ≡ reply_text p.outcome))
+
+-- the response has too many values, or an allocation failed
+abbrev pub IsOver : Files → Definition → Data → Data → Refusal → Type 0
+IsOver files d variables stored TooLarge =
+    OfResponses files d variables stored (λ p. most_values < p.weight)
+IsOver files d variables stored Memory = Unit {0}
+IsOver files d variables stored _ = ⊥

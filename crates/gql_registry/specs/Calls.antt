@@ -1,0 +1,73 @@
+-- What a call of a stored operation is answered (this registry's own rules): refused, where there is
+-- no such operation or a fault stands against it; else the response that its execution gives.
+use Rattle.std.specs.Prelude.{◌≡◌, ◌≢◌, ◌↔◌, ◌<◌, ◌≤◌, ℕ, List, [], Contains, Option, Some, None, Result, Ok, Err}
+use Rattle.std.specs.List.Sorted.{IsStrictlySortedBy}
+use Rattle.gql_ast.specs.declared.definition.Definition.{Definition}
+use Rattle.gql_ast.specs.declared.definition.Tree.TheVariants as tree
+use Rattle.gql_ast.specs.declared.executable.Operation.{Operation}
+use Rattle.gql_ast.specs.declared.fault.Fault.{Fault}
+use Rattle.gql_ast.specs.declared.files.Files.{Files}
+use Rattle.gql_exec.specs.Requests.{Executes, Response, most_values}
+use Rattle.gql_facts.specs.Facts.{fact_of}
+use Rattle.gql_operations.specs.Chosen as operations
+use Rattle.gql_reply.specs.ReplyText.{reply_text}
+use Rattle.gql_report.specs.Order.{fault_order}
+use Rattle.gql_schema_rules.specs.SchemaFaults.{IsSchemaFault}
+use Rattle.gql_serving.specs.Laws.{request_of}
+use Rattle.gql_serving.specs.Owned.{IsOwned}
+use Rattle.gql_registry.specs.Report.{IsFault}
+use Rattle.gql_registry.specs.declared.refusal.Refusal.{Refusal}
+use Rattle.gql_registry.specs.declared.refusal.Refusal.TheVariants.{NoOperation, Faulty, TooLarge, Memory}
+use Rattle.gql_registry.specs.declared.registry.Reply.{Reply}
+use Rattle.serde_json.specs.Data.{Data}
+
+-- A fault stands against the operation d: it is one of the schema; or it is one of the files, and d
+-- or a fragment that d reaches owns it.
+pub data StandsAgainst (files : Files) (d : Definition) (f : Fault) : Type 0 where
+  of_schema : IsSchemaFault files f → StandsAgainst files d f
+  of_documents : IsFault files f → IsOwned (fact_of files) d f → StandsAgainst files d f
+
+-- these are the faults that stand against d, each once, in the order of reports
+abbrev pub AreAgainst : Files → Definition → List Fault → Type 0
+AreAgainst files d faults = IsStrictlySortedBy fault_order faults
+    × ((f : Fault) → Contains faults f ↔ StandsAgainst files d f)
+
+-- the call of this name is one of the operation d, which no fault stands against
+pub record IsServed (files : Files) (name : Option (List ℕ)) (d : Definition) (o : Operation)
+    : Type 0 where
+  pub called : operations.chosen files.documents name ≡ Some d
+  pub operation : d.tree ≡ tree.Operation o
+  pub sound : (f : Fault) → StandsAgainst files d f → ⊥
+
+-- the response to a call, on these data
+pub record IsResponse (files : Files) (stored : Data) (name : Option (List ℕ)) (variables : Data)
+    (p : Response) : Type 0 where
+  pub definition : Definition
+  pub operation : Operation
+  pub served : IsServed files name definition operation
+  pub executes : Executes (request_of files definition operation variables stored) p
+
+-- What a call is answered, with these values for the operation's variables: the text of a reply, or a
+-- refusal.
+pub data Answers (files : Files) (stored : Data) (name : Option (List ℕ)) (variables : Data)
+    : Result (List ℕ) Refusal → Type 0 where
+  -- 208: there is no operation of the name, or without a name there is not just one
+  no_operation : operations.chosen files.documents name ≡ None
+      → Answers files stored name variables (Err NoOperation)
+  -- 209: faults stand against the operation, which are these
+  faulty : {d : Definition} {faults : List Fault} → operations.chosen files.documents name ≡ Some d
+      → AreAgainst files d faults → faults ≢ []
+      → Answers files stored name variables (Err (Faulty faults))
+  -- 210: too many values are to be completed
+  too_large : {p : Response} → IsResponse files stored name variables p → most_values < p.weight
+      → Answers files stored name variables (Err TooLarge)
+  -- the response
+  served : {p : Response} → IsResponse files stored name variables p → p.weight ≤ most_values
+      → Answers files stored name variables (Ok (reply_text p.outcome))
+  -- an allocation failed
+  memory : Answers files stored name variables (Err Memory)
+
+-- the text of a reply, or the refusal
+abbrev pub answer_of : Result Reply Refusal → Result (List ℕ) Refusal
+answer_of (Ok reply) = Ok reply.body.items
+answer_of (Err r) = Err r

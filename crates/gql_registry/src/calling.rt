@@ -1,0 +1,95 @@
+//! Calls of stored operations.
+ghost use Rattle.std.specs.Prelude.{◌≡◌, ◌≢◌, ℕ, List, [], IfErr, IfOk};
+ghost use Rattle.std.specs.Option.{option_copied};
+ghost use Rattle.gql_ast.specs.declared.files.Files.{Files as TheFiles};
+ghost use Rattle.gql_registry.specs.Calling.{IsOver, IsReplyOf};
+ghost use Rattle.gql_registry.specs.Calls.{Answers, AreAgainst, answer_of};
+ghost use Rattle.gql_registry.specs.Keeping.{IsKnownOf};
+ghost use Rattle.serde_json.specs.View.{view};
+
+use crate::refusal::Refusal;
+use crate::registry::Reply;
+use crate::report::{Known, copies};
+use gql_ast::{Definition, Fault, Items};
+use gql_exec::{ExecRefusal, execute};
+use gql_facts::Present;
+use gql_reply::reply_text;
+use gql_serving::{laws, owned_faults};
+use serde_json::Value;
+use std::alloc::{AllocError, Global};
+
+/// The faults that stand against an operation.
+fn faults_against(
+    alloc: Global,
+    known: &Known,
+    definition: &Definition,
+) -> Result<Vec<Fault>, AllocError>
+    ensures { IfOk result (λ faults. (files : TheFiles) → IsKnownOf files known.now
+        → AreAgainst files definition.now faults.items) }
+{
+    let schema = known.schema.get();
+    if !schema.faults.as_slice().is_empty() {
+        return copies(alloc, known.report.as_slice());
+    }
+    let mut world = Present::new(&schema.facts, &known.index.fragments);
+    let faults = owned_faults(alloc, &mut world, definition, known.report.as_slice())?;
+    Ok(faults)
+}
+
+/// Executes an operation, and lays out the answer.
+fn reply_of(
+    alloc: Global,
+    known: &Known,
+    definition: &Definition,
+    variables: &Value,
+    stored: &Value,
+) -> Result<Reply, Refusal>
+    ensures reply { IfOk result (λ reply. (files : TheFiles) → IsKnownOf files known.now
+        → IsReplyOf files definition.now (view variables.now) (view stored.now) reply) }
+    ensures err { IfErr result (λ e. (files : TheFiles) → IsKnownOf files known.now
+        → IsOver files definition.now (view variables.now) (view stored.now) e) }
+{
+    let schema = known.schema.get();
+    let fragments = &known.index.fragments;
+    match execute(
+        alloc,
+        fragments,
+        &schema.schema,
+        definition,
+        variables,
+        stored,
+    ) {
+        Ok(outcome) => Ok(Reply {
+            body: reply_text(alloc, &outcome)?,
+        }),
+        Err(ExecRefusal::TooHeavy) => Err(Refusal::TooLarge),
+        Err(ExecRefusal::Memory) => Err(Refusal::Memory),
+    }
+}
+
+/// Answers a call of the operation of a name, or of the only one, with these values for its
+/// variables, on these data. Refused by 208, 209 and 210, in this order.
+pub fn answer_call(
+    alloc: Global,
+    known: &Known,
+    name: Option<&str>,
+    variables: &Value,
+    stored: &Value,
+) -> Result<Reply, Refusal>
+    ensures { (files : TheFiles) → IsKnownOf files known.now
+        → Answers files (view stored.now) (option_copied name.entry) (view variables.now)
+        (answer_of result) }
+{
+    // The law that there is a response to each request of an operation without faults.
+    laws::some_answer();
+    let Some(definition) = known.index.operations.chosen(name) else {
+        return Err(Refusal::NoOperation);
+    };
+    let faults = faults_against(alloc, known, definition)?;
+    if !faults.as_slice().is_empty() {
+        return Err(Refusal::Faulty {
+            faults: Items::from_vec(faults),
+        });
+    }
+    reply_of(alloc, known, definition, variables, stored)
+}

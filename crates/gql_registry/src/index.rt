@@ -1,0 +1,27 @@
+//! The definitions of the document files, by their names.
+ghost use Rattle.std.specs.Prelude.{IfOk};
+ghost use Rattle.gql_registry.specs.Keeping.{IsIndexOf};
+
+use gql_ast::Files;
+use gql_facts::Fragments;
+use gql_operations::Operations;
+use std::alloc::{AllocError, Global};
+
+/// The fragments and the operations of the document files.
+#[derive(Drop)]
+pub struct DocumentIndex {
+    pub fragments: Fragments,
+    pub operations: Operations,
+}
+
+/// Finds the fragments and the operations of the document files.
+pub fn document_index(alloc: Global, files: &Files) -> Result<DocumentIndex, AllocError>
+    ensures { IfOk result (IsIndexOf files.now) }
+{
+    let fragments = Fragments::new(alloc, &files.documents)?;
+    let operations = Operations::new(alloc, &files.documents)?;
+    Ok(DocumentIndex {
+        fragments,
+        operations,
+    })
+}

@@ -1,0 +1,6 @@
+pub mod Listed
+pub mod Spreading
+pub mod Reaching
+pub mod BuiltIns
+pub mod Roots
+pub mod Owning

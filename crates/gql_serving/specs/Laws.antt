@@ -1,0 +1,39 @@
+-- Law of operations that are served: there is a response to each request of one.
+use Rattle.std.specs.Prelude.{◌≡◌, Contains}
+use Rattle.gql_ast.specs.declared.definition.Definition.{Definition}
+use Rattle.gql_ast.specs.declared.definition.Tree.TheVariants as tree
+use Rattle.gql_ast.specs.declared.executable.Operation.{Operation}
+use Rattle.gql_ast.specs.declared.fault.Fault.{Fault}
+use Rattle.gql_ast.specs.declared.files.Files.{Files}
+use Rattle.gql_exec.specs.Requests.{Executes, Request, Response}
+use Rattle.gql_facts.specs.Facts.{fact_of, fragments}
+use Rattle.gql_sound.specs.Laws.{IsSound}
+use Rattle.gql_serving.specs.Owned.{IsOwned}
+use Rattle.gql_types.specs.Schemas.{schema_of}
+use Rattle.gql_verdict.specs.Definitions.{all_definitions}
+use Rattle.gql_verdict.specs.Faults.{IsFaultIn}
+use Rattle.serde_json.specs.Data.{Data}
+
+-- a request of an operation of the document files, with these values for its variables and these
+-- data
+abbrev pub request_of : Files → Definition → Operation → Data → Data → Request
+request_of files d operation variables stored = record {
+  schema = schema_of files;
+  fragments = fragments files.documents;
+  file = d.file;
+  operation = operation;
+  variables = variables;
+  stored = stored;
+}
+
+-- no definition of the document files has a fault that d or a fragment that d reaches owns
+abbrev pub HasNoFault : Files → Definition → Type 0
+HasNoFault files d = (x : Definition) (f : Fault) → Contains (all_definitions files.documents) x
+    → IsFaultIn (fact_of files) x f → IsOwned (fact_of files) d f → ⊥
+
+-- where the schema has no fault, an operation without faults answers each request
+abbrev pub SomeAnswer : Type 0
+SomeAnswer = (files : Files) (d : Definition) (operation : Operation)
+    → d.tree ≡ tree.Operation operation → Contains (all_definitions files.documents) d
+    → IsSound files → HasNoFault files d → (variables stored : Data)
+    → (p : Response) × Executes (request_of files d operation variables stored) p

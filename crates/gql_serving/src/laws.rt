@@ -1,0 +1,10 @@
+//! Law of operations that are served. The function does nothing; its contract holds.
+ghost use Rattle.gql_serving.specs.Laws as laws;
+
+/// Where the schema has no fault, an operation without faults answers each request.
+pub fn some_answer()
+    ensures { laws.SomeAnswer }
+{
+    gql_sound::laws::no_default_cycles();
+    gql_exec::laws::some_response();
+}
