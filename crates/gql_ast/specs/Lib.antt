@@ -1,5 +1,6 @@
 pub mod FileMaps
 pub mod FileNames
+pub mod LiteralTexts
 pub mod Rules
 pub mod Texts
 pub mod Trees

@@ -1,0 +1,7 @@
+use Rattle.std.proofs.Common.{◌≡◌, drop, flat_map}
+use Rattle.gql_intro.specs.Applied.{directive_of, extension_directives}
+use Rattle.gql_intro.proofs.applied.directive_in.Given as goal
+
+abbrev pub invariant-loop-extension : goal.invariant-loop-extension
+invariant-loop-extension l = directive_of l.name (flat_map extension_directives l.extensions)
+    ≡ directive_of l.name (flat_map extension_directives (drop l.extension-index l.extensions))

@@ -1,0 +1,192 @@
+-- Worked examples of the definitions.
+use Rattle.std.specs.Prelude.{◌≡◌, ℕ, List, [], ◌∷◌, codes, refl, Some, None, true, false}
+use Rattle.gql_text.specs.declared.place.Place.{Place}
+use Rattle.gql_ast.specs.declared.executable.OperationKind.TheVariants as operation
+use Rattle.gql_ast.specs.declared.literal.Directive.{Directive}
+use Rattle.gql_ast.specs.declared.literal.Literal.TheVariants as l
+use Rattle.gql_ast.specs.declared.text.Name.{Name}
+use Rattle.gql_ast.specs.declared.type_ref.TypeRef.TheVariants as t
+use Rattle.gql_ast.specs.declared.type_system.FieldDefinition.{FieldDefinition}
+use Rattle.gql_ast.specs.declared.type_system.TypeParts.{TypeParts}
+use Rattle.gql_ast.specs.declared.type_system.TypeParts.TheVariants as parts
+use Rattle.gql_built_in.specs.declared.sited.Sited.{Sited}
+use Rattle.gql_types.specs.Written.{named, required}
+use Rattle.gql_types.specs.declared.kind.TypeKind.{TypeKind}
+use Rattle.gql_types.specs.declared.kind.TypeKind.TheVariants as kind
+use Rattle.gql_types.specs.declared.schema.Schema.{Schema}
+use Rattle.gql_types.specs.declared.schema_type.SchemaType.{SchemaType}
+use Rattle.gql_intro.specs.Applied.{deprecation_reason, null_is_none}
+use Rattle.gql_intro.specs.declared.made.IntroSchema.{IntroSchema}
+use Rattle.gql_intro.specs.Introspection.{Given, resolve}
+use Rattle.gql_intro.specs.Made.{shown_types}
+use Rattle.gql_intro.specs.MetaFields.{meta_fields}
+use Rattle.gql_intro.specs.Nodes.{query_root, schema, named_type, list_type, non_null_type, field, null, text, enum_name, node, nodes}
+
+-- a name, wherever it is written
+abbrev name : Place → List ℕ → Name
+name p n = record { place = p; text = n }
+
+-- `@deprecated`
+abbrev deprecated : Place → Directive
+deprecated p = record { place = p; name = name p (codes "deprecated"); arguments = [] }
+
+-- `@deprecated(reason: null)`
+abbrev deprecated_by_null : Place → Directive
+deprecated_by_null p = record {
+  place = p;
+  name = name p (codes "deprecated");
+  arguments = record { name = name p (codes "reason"); value = l.Null p } ∷ [];
+}
+
+-- a field of type Int
+abbrev int_field : Place → List ℕ → List Directive → FieldDefinition
+int_field p n directives = record {
+  description = None;
+  name = name p n;
+  arguments = [];
+  of_type = t.Named (name p (codes "Int"));
+  directives = directives;
+}
+
+abbrev new_field : Place → FieldDefinition
+new_field p = int_field p (codes "new") []
+
+abbrev old_field : Place → FieldDefinition
+old_field p = int_field p (codes "old") (deprecated p ∷ [])
+
+-- a type of this kind
+abbrev a_type : Place → TypeKind → TypeParts → List (Sited FieldDefinition) → List ℕ → SchemaType
+a_type p its_kind its_parts fields n = record {
+  definition = record {
+    file = None;
+    node = record {
+      place = p;
+      description = Some (codes "words");
+      name = name p n;
+      directives = [];
+      parts = its_parts;
+    };
+  };
+  extensions = [];
+  kind = its_kind;
+  interfaces = [];
+  fields = fields;
+  members = [];
+  values = [];
+  input_fields = [];
+}
+
+abbrev int : Place → SchemaType
+int p = a_type p kind.Scalar parts.Scalar [] (codes "Int")
+
+abbrev query : Place → SchemaType
+query p = a_type p kind.Object (parts.Object [] (old_field p ∷ new_field p ∷ []))
+    (record { file = None; node = old_field p } ∷ record { file = None; node = new_field p } ∷ [])
+    (codes "Query")
+
+-- `type Query { old: Int @deprecated new: Int }`, with the scalars Int and ID
+abbrev the_schema : Place → Schema
+the_schema p = record {
+  types = query p ∷ int p ∷ a_type p kind.Scalar parts.Scalar [] (codes "ID") ∷ [];
+  directives = [];
+  roots = record {
+    kind = operation.Query;
+    entry = None;
+    name = record { file = None; node = name p (codes "Query") };
+  } ∷ [];
+  possible = [];
+}
+
+-- Int is referred to, and ID is not
+abbrev made : IntroSchema
+made = record {
+  types = codes "Int" ∷ codes "Query" ∷ [];
+  has_int = true;
+  has_id = false;
+  description = None;
+  meta = meta_fields;
+}
+
+-- without arguments
+abbrev plain : Given
+plain = record { name = None; include_deprecated = None }
+
+abbrev by_name : List ℕ → Given
+by_name n = record { name = Some n; include_deprecated = None }
+
+-- the types, in the order of their names, without ID
+types_in_order : (p : Place) → shown_types (the_schema p) true false
+    ≡ codes "Int" ∷ codes "Query" ∷ []
+types_in_order p = refl
+
+-- `{ __schema { types } }`
+types_of_schema : (p : Place) → resolve (the_schema p) made plain schema (codes "types")
+    ≡ Some (nodes (named_type (int p) ∷ named_type (query p) ∷ []))
+types_of_schema p = refl
+
+-- `{ __type(name: "Query") }` is a type, and `{ __type(name: "ID") }` is null
+type_query : (p : Place)
+    → resolve (the_schema p) made (by_name (codes "Query")) query_root (codes "__type")
+    ≡ Some (node (named_type (query p)))
+type_query p = refl
+
+type_id : (p : Place)
+    → resolve (the_schema p) made (by_name (codes "ID")) query_root (codes "__type") ≡ Some null
+type_id p = refl
+
+-- `fields`, and `fields(includeDeprecated: true)`
+fields_of_query : (p : Place)
+    → resolve (the_schema p) made plain (named_type (query p)) (codes "fields")
+    ≡ Some (nodes (field (new_field p) ∷ []))
+fields_of_query p = refl
+
+all_fields_of_query : (p : Place)
+    → resolve (the_schema p) made (record { name = None; include_deprecated = Some true })
+    (named_type (query p)) (codes "fields")
+    ≡ Some (nodes (field (old_field p) ∷ field (new_field p) ∷ []))
+all_fields_of_query p = refl
+
+-- `fields(includeDeprecated: false)`
+some_fields_of_query : (p : Place)
+    → resolve (the_schema p) made (record { name = None; include_deprecated = Some false })
+    (named_type (query p)) (codes "fields")
+    ≡ Some (nodes (field (new_field p) ∷ []))
+some_fields_of_query p = refl
+
+-- a scalar has no fields, a type of the schema no `ofType`, and no type has a field `size`
+fields_of_int : (p : Place)
+    → resolve (the_schema p) made plain (named_type (int p)) (codes "fields") ≡ Some null
+fields_of_int p = refl
+
+of_type_of_query : (p : Place)
+    → resolve (the_schema p) made plain (named_type (query p)) (codes "ofType") ≡ Some null
+of_type_of_query p = refl
+
+no_such_field : (p : Place)
+    → resolve (the_schema p) made plain (named_type (query p)) (codes "size") ≡ None
+no_such_field p = refl
+
+-- `[Int!]`: its kind, it has no name, and what it is around
+kind_of_list : (p : Place)
+    → resolve (the_schema p) made plain (list_type (required (named (codes "Int"))))
+    (codes "kind") ≡ Some (enum_name (codes "LIST"))
+kind_of_list p = refl
+
+name_of_list : (p : Place)
+    → resolve (the_schema p) made plain (list_type (required (named (codes "Int"))))
+    (codes "name") ≡ Some null
+name_of_list p = refl
+
+of_type_of_list : (p : Place)
+    → resolve (the_schema p) made plain (list_type (required (named (codes "Int"))))
+    (codes "ofType") ≡ Some (node (non_null_type (named (codes "Int"))))
+of_type_of_list p = refl
+
+-- the default reason, and `null` as the reason
+reason_of_old : (p : Place)
+    → resolve (the_schema p) made plain (field (old_field p)) (codes "deprecationReason")
+    ≡ Some (text (codes "No longer supported"))
+reason_of_old p = refl
+
+reason_of_null : (p : Place) → deprecation_reason (deprecated_by_null p ∷ []) ≡ None
+reason_of_null p = null_is_none p

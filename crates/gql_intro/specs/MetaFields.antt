@@ -1,0 +1,63 @@
+-- The three fields that no type lists, as definitions of no file (GraphQL 4.1, 4.2):
+-- `__typename: String!`, `__schema: __Schema!` and `__type(name: String!): __Type`.
+use Rattle.std.specs.Prelude.{ℕ, List, [], ◌∷◌, Option, Some, None, codes, bytes_eq, if◌then◌else◌}
+use Rattle.gql_text.specs.declared.place.Place.{Place}
+use Rattle.gql_ast.specs.declared.text.Name.{Name}
+use Rattle.gql_ast.specs.declared.type_ref.TypeRef.{TypeRef}
+use Rattle.gql_ast.specs.declared.type_ref.TypeRef.TheVariants as r
+use Rattle.gql_ast.specs.declared.type_system.FieldDefinition.{FieldDefinition}
+use Rattle.gql_ast.specs.declared.type_system.InputValueDefinition.{InputValueDefinition}
+use Rattle.gql_intro.specs.declared.meta_fields.MetaFields.{MetaFields}
+
+-- no place of a file, since lines count from 1
+abbrev pub nowhere : Place
+nowhere = record { line = 0; column = 0; offset = 0 }
+
+-- Name (2.1.9)
+abbrev pub word : List ℕ → Name
+word text = record { place = nowhere; text = text }
+
+-- NamedType (2.11)
+abbrev pub named : List ℕ → TypeRef
+named text = r.Named (word text)
+
+-- NonNullType (2.11)
+abbrev pub required : List ℕ → TypeRef
+required text = r.NonNull (named text)
+
+-- an argument without default
+abbrev pub argument : List ℕ → TypeRef → InputValueDefinition
+argument name type = record {
+  description = None;
+  name = word name;
+  of_type = type;
+  default = None;
+  directives = [];
+}
+
+-- a field
+abbrev pub field : List ℕ → List InputValueDefinition → TypeRef → FieldDefinition
+field name arguments type = record {
+  description = None;
+  name = word name;
+  arguments = arguments;
+  of_type = type;
+  directives = [];
+}
+
+-- the three fields
+abbrev pub meta_fields : MetaFields
+meta_fields = record {
+  typename = field (codes "__typename") [] (required (codes "String"));
+  schema = field (codes "__schema") [] (required (codes "__Schema"));
+  of_type = field (codes "__type") (argument (codes "name") (required (codes "String")) ∷ [])
+      (named (codes "__Type"));
+}
+
+-- the field of this name among the three
+abbrev pub meta_field : MetaFields → List ℕ → Option FieldDefinition
+meta_field m name =
+    if bytes_eq name (codes "__typename") then Some m.typename
+    else if bytes_eq name (codes "__schema") then Some m.schema
+    else if bytes_eq name (codes "__type") then Some m.of_type
+    else None

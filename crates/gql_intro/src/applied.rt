@@ -1,0 +1,125 @@
+//! What the directives of a definition say of it (GraphQL specification, 3.13.3, 3.13.4).
+ghost use Rattle.std.specs.Prelude.{◌≡◌, flat_map};
+ghost use Rattle.std.specs.Option.{option_copied};
+ghost use Rattle.gql_intro.specs.Applied as spec;
+
+use gql_ast::{Argument, Directive, Literal, Shared, TypeExtension};
+use gql_types::{SchemaType, Sited};
+
+/// The value of a string; none of another literal.
+#[tactic(auto, using(crate::specs::Applied::string_is, crate::specs::Applied::null_is_none, crate::specs::Applied::variable_is_none, crate::specs::Applied::int_is_none, crate::specs::Applied::float_is_none, crate::specs::Applied::boolean_is_none, crate::specs::Applied::enum_is_none, crate::specs::Applied::list_is_none, crate::specs::Applied::object_is_none))]
+fn string_of(literal: &Literal) -> Option<&str>
+    ensures { option_copied result ≡ spec.string_of literal.now }
+{
+    match literal {
+        Literal::String { value, .. } => Some(value.as_str()),
+        Literal::Null { .. }
+        | Literal::Variable { .. }
+        | Literal::Int { .. }
+        | Literal::Float { .. }
+        | Literal::Boolean { .. }
+        | Literal::Enum { .. }
+        | Literal::List { .. }
+        | Literal::Object { .. } => None,
+    }
+}
+
+/// The first directive of that name.
+fn directive_of<'d>(name: &str, directives: &'d [Directive]) -> Option<&'d Directive>
+    ensures { option_copied result ≡ spec.directive_of name.now directives.now }
+{
+    for directive in directives {
+        if name == directive.name.as_str() {
+            return Some(directive);
+        }
+    }
+    None
+}
+
+/// The first argument of that name.
+fn argument_of<'d>(name: &str, directive: &'d Directive) -> Option<&'d Argument>
+    ensures { option_copied result ≡ spec.argument_of name.now directive.now }
+{
+    for argument in directive.arguments.as_slice() {
+        if name == argument.name.as_str() {
+            return Some(argument);
+        }
+    }
+    None
+}
+
+/// Whether a field or an enum value with these directives is deprecated.
+pub fn is_deprecated(directives: &[Directive]) -> bool
+    ensures { result ≡ spec.is_deprecated directives.now }
+{
+    directive_of("deprecated", directives).is_some()
+}
+
+/// The reason that a directive gives: its argument, which may be null, or else the default.
+fn reason_of(directive: &Directive) -> Option<&str>
+    ensures { option_copied result ≡ spec.reason_of directive.now }
+{
+    match argument_of("reason", directive) {
+        Some(argument) => string_of(&argument.value),
+        None => Some("No longer supported"),
+    }
+}
+
+/// The reason why what has these directives is deprecated.
+pub fn deprecation_reason(directives: &[Directive]) -> Option<&str>
+    ensures { option_copied result ≡ spec.deprecation_reason directives.now }
+{
+    match directive_of("deprecated", directives) {
+        Some(directive) => reason_of(directive),
+        None => None,
+    }
+}
+
+/// The URL that a directive gives.
+fn url_of(directive: &Directive) -> Option<&str>
+    ensures { option_copied result ≡ spec.url_of directive.now }
+{
+    match argument_of("url", directive) {
+        Some(argument) => string_of(&argument.value),
+        None => None,
+    }
+}
+
+/// The first directive of that name that these extensions have.
+#[tactic(auto, using(crate::proofs::Finding::next_found, crate::proofs::Finding::next_after))]
+fn directive_in<'t>(
+    name: &str,
+    extensions: &'t [Sited<Shared<TypeExtension>>],
+) -> Option<&'t Directive>
+    ensures { option_copied result
+        ≡ spec.directive_of name.now (flat_map spec.extension_directives extensions.now) }
+{
+    for extension in extensions {
+        if let Some(directive) = directive_of(name, extension.node.get().directives.as_slice()) {
+            return Some(directive);
+        }
+    }
+    None
+}
+
+/// The first directive of that name that a type has, by its definition or by an extension.
+#[tactic(auto, using(crate::proofs::Finding::found_before, crate::proofs::Finding::found_after))]
+fn type_directive<'t>(name: &str, of_type: &'t SchemaType) -> Option<&'t Directive>
+    ensures { option_copied result ≡ spec.directive_of name.now (spec.type_directives of_type.now) }
+{
+    let definition = of_type.definition.node.get();
+    match directive_of(name, definition.directives.as_slice()) {
+        Some(directive) => Some(directive),
+        None => directive_in(name, of_type.extensions.as_slice()),
+    }
+}
+
+/// Where a type is specified, if its directives say so.
+pub fn specified_by_url(of_type: &SchemaType) -> Option<&str>
+    ensures { option_copied result ≡ spec.specified_by_url of_type.now }
+{
+    match type_directive("specifiedBy", of_type) {
+        Some(directive) => url_of(directive),
+        None => None,
+    }
+}

@@ -1,0 +1,22 @@
+//! Introspection (GraphQL specification, 4): what each field of the schema's own description
+//! resolves to. Answers borrow the schema; nothing is copied to be answered.
+#![tactic(auto)]
+
+mod answer;
+mod applied;
+mod made;
+mod meta_fields;
+mod named_type;
+mod names;
+mod node;
+mod nodes;
+mod parts;
+mod references;
+mod resolve;
+
+pub use answer::{IntroAnswer, IntroArguments};
+pub use made::{IntroSchema, intro_schema};
+pub use names::location_name;
+pub use node::IntroNode;
+pub use nodes::IntroNodes;
+pub use resolve::intro_resolve;

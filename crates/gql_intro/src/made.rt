@@ -1,0 +1,199 @@
+//! What is made once for a schema (GraphQL specification, 4.2.1).
+ghost use Rattle.std.specs.Prelude.{◌≡◌, ◌++◌, map, filter, IfOk};
+ghost use Rattle.std.specs.Option.{option_copied};
+ghost use Rattle.gql_types.specs.Possible.{entries_of, in_order as in_order_of, name_of};
+ghost use Rattle.gql_intro.specs.Made as spec;
+ghost use Rattle.gql_intro.specs.MetaFields.{meta_field};
+
+use crate::meta_fields::MetaFields;
+use crate::references::refer;
+use gql_ast::{
+    Definition, Document, FieldDefinition, FileMap, Files, Items, SchemaDefinition, Shared, Text,
+    Tree,
+};
+use gql_types::{HasName, Schema, SchemaType};
+use std::alloc::{AllocError, Global};
+use std::collections::BTreeMap;
+
+/// What introspection says of a schema as a whole. It is made once for a schema, and is valid as long
+/// as the schema is.
+#[derive(Drop)]
+pub struct IntroSchema {
+    /// The names of the types, in the order of their bytes.
+    types: Items<Text>,
+    /// Whether the schema files refer to Int, and to ID.
+    has_int: bool,
+    has_id: bool,
+    description: Option<Text>,
+    meta: MetaFields,
+}
+
+/// Whether introspection knows a type of that name.
+fn is_shown(has_int: bool, has_id: bool, name: &str) -> bool
+    ensures { result ≡ spec.is_shown has_int has_id name.now }
+{
+    if name == "Int" {
+        has_int
+    } else if name == "ID" {
+        has_id
+    } else {
+        true
+    }
+}
+
+/// The names of the types that introspection knows.
+fn shown_names(
+    alloc: Global,
+    types: &[SchemaType],
+    has_int: bool,
+    has_id: bool,
+) -> Result<Vec<&str>, AllocError>
+    ensures { IfOk result (λ names. map (λ n. n.now) names.items
+        ≡ filter (spec.is_shown has_int has_id) (map name_of types.now)) }
+{
+    let mut names = Vec::new(alloc);
+    for of_type in types {
+        let name = of_type.name();
+        if is_shown(has_int, has_id, name) {
+            names.push(name)?;
+        }
+    }
+    Ok(names)
+}
+
+fn ordered(alloc: Global, names: &[&str]) -> Result<BTreeMap<Text, ()>, AllocError>
+    ensures { IfOk result (λ set. set.entries ≡ entries_of (map (λ n. n.now) names.now)) }
+{
+    let mut set = BTreeMap::new(alloc);
+    for name in names {
+        set.insert(Text::from_str(alloc, name)?, ())?;
+    }
+    Ok(set)
+}
+
+fn names_in(alloc: Global, set: &BTreeMap<Text, ()>) -> Result<Items<Text>, AllocError>
+    ensures { IfOk result (λ found. found ≡ map (λ e. e.0) set.now.entries) }
+{
+    let mut found = Items::new(alloc);
+    for (name, _unit) in set.iter() {
+        found.push(name.copy()?)?;
+    }
+    Ok(found)
+}
+
+/// These names, each once, in the order of their bytes.
+fn in_order(alloc: Global, names: &[&str]) -> Result<Items<Text>, AllocError>
+    ensures { IfOk result (λ found. found ≡ in_order_of (map (λ n. n.now) names.now)) }
+{
+    let set = ordered(alloc, names)?;
+    let found = names_in(alloc, &set)?;
+    Ok(found)
+}
+
+/// The names of the types that introspection knows, in the order of their bytes.
+fn shown_types(
+    alloc: Global,
+    schema: &Schema,
+    has_int: bool,
+    has_id: bool,
+) -> Result<Items<Text>, AllocError>
+    ensures { IfOk result (λ names. names ≡ spec.shown_types schema.now has_int has_id) }
+{
+    let names = shown_names(alloc, schema.types(), has_int, has_id)?;
+    let types = in_order(alloc, names.as_slice())?;
+    Ok(types)
+}
+
+/// The first definition of a schema in a file.
+fn schema_in(definitions: &[Definition]) -> Option<&SchemaDefinition>
+    ensures { option_copied result ≡ spec.schema_in definitions.now }
+{
+    for definition in definitions {
+        if let Tree::Schema(found) = &definition.tree {
+            return Some(found.get());
+        }
+    }
+    None
+}
+
+/// The first definition of a schema in these files.
+fn first_schema(files: &FileMap<Shared<Document>>) -> Option<&SchemaDefinition>
+    ensures { option_copied result ≡ spec.first_schema files.now }
+{
+    for (_file, document) in files.entries().iter() {
+        if let Some(found) = schema_in(document.get().definitions.as_slice()) {
+            return Some(found);
+        }
+    }
+    None
+}
+
+fn copied(text: &Option<Text>) -> Result<Option<Text>, AllocError>
+    ensures { IfOk result (λ copy. copy ≡ text.now) }
+{
+    match text {
+        Some(text) => Ok(Some(text.copy()?)),
+        None => Ok(None),
+    }
+}
+
+/// The description of the schema: that of its definition.
+fn description(files: &FileMap<Shared<Document>>) -> Result<Option<Text>, AllocError>
+    ensures { IfOk result (λ text. text ≡ spec.description_of files.now) }
+{
+    match first_schema(files) {
+        Some(definition) => copied(&definition.description),
+        None => Ok(None),
+    }
+}
+
+/// What introspection says of the schema of these files as a whole: `schema` is what
+/// `gql_types::assemble` gives for them. It is made once for a schema.
+pub fn intro_schema(
+    alloc: Global,
+    files: &Files,
+    schema: &Schema,
+) -> Result<IntroSchema, AllocError>
+    ensures { IfOk result (λ made. made ≡ spec.made_of files.now schema.now) }
+{
+    let has_int = refer(&files.schema, "Int");
+    let has_id = refer(&files.schema, "ID");
+    Ok(IntroSchema {
+        types: shown_types(alloc, schema, has_int, has_id)?,
+        has_int,
+        has_id,
+        description: description(&files.schema)?,
+        meta: MetaFields::new(alloc)?,
+    })
+}
+
+impl IntroSchema {
+    /// The definition of `__typename`, `__schema` or `__type` (4.1, 4.2): the first is a field of
+    /// every composite type, the others are fields of the query root, and no type lists them.
+    pub fn meta_field(&self, name: &str) -> Option<&FieldDefinition>
+        ensures { option_copied result ≡ meta_field self.now.meta name.now }
+    {
+        self.meta.get(name)
+    }
+
+    /// The names of the types, in the order of their bytes.
+    pub(crate) fn types(&self) -> &[Text]
+        ensures { result.now ≡ self.now.types }
+    {
+        self.types.as_slice()
+    }
+
+    /// The description of the schema.
+    pub(crate) fn description(&self) -> &Option<Text>
+        ensures { result.now ≡ self.now.description }
+    {
+        &self.description
+    }
+
+    /// Whether introspection knows a type of that name.
+    pub(crate) fn shows(&self, name: &str) -> bool
+        ensures { result ≡ spec.is_shown self.now.has_int self.now.has_id name.now }
+    {
+        is_shown(self.has_int, self.has_id, name)
+    }
+}

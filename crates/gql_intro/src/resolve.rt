@@ -1,0 +1,197 @@
+//! What each field of each node resolves to (GraphQL specification, 4.1 and 4.2).
+ghost use Rattle.std.specs.Prelude.{◌≡◌, None, Some, option_and_then, option_map};
+ghost use Rattle.std.specs.Option.{option_copied};
+ghost use Rattle.gql_intro.specs.Borrowed.{answer_of, given_of, node_of};
+ghost use Rattle.gql_intro.specs.Introspection as spec;
+ghost use Rattle.gql_intro.specs.Nodes.{answer_in};
+ghost use Rattle.gql_types.specs.declared.schema.Schema.{Schema as ASchema};
+
+use crate::answer::{IntroAnswer, IntroArguments, node_or_null, optional_text, text_or_null};
+use crate::applied::{deprecation_reason, is_deprecated};
+use crate::made::IntroSchema;
+use crate::named_type::{of_named, of_wrapper};
+use crate::node::{IntroNode, named_node, type_node};
+use crate::nodes::IntroNodes;
+use gql_ast::{
+    DirectiveDefinition, EnumValueDefinition, FieldDefinition, InputValueDefinition, Literal,
+    OperationKind,
+};
+use gql_types::Schema;
+
+fn root_node(schema: &Schema, kind: OperationKind) -> Option<IntroNode<'_>>
+    ensures { option_map node_of result ≡ spec.root_node schema.now kind }
+{
+    match schema.root(kind) {
+        Some(root) => named_node(schema, root.name.node.as_str()),
+        None => None,
+    }
+}
+
+fn root_name(schema: &Schema) -> Option<&str>
+    ensures { option_copied result ≡ spec.root_name schema.now }
+{
+    match schema.root(OperationKind::Query) {
+        Some(root) => Some(root.name.node.as_str()),
+        None => None,
+    }
+}
+
+fn type_called<'s>(
+    schema: &'s Schema,
+    made: &IntroSchema,
+    name: Option<&str>,
+) -> Option<IntroNode<'s>>
+    ensures { option_map node_of result
+        ≡ option_and_then (spec.type_called schema.now made.now) (option_copied name.entry) }
+{
+    match name {
+        Some(name) => {
+            if made.shows(name) {
+                named_node(schema, name)
+            } else {
+                None
+            }
+        }
+        None => None,
+    }
+}
+
+fn of_root<'s>(
+    schema: &'s Schema,
+    made: &'s IntroSchema,
+    arguments: IntroArguments<'_>,
+    field: &str,
+) -> Option<IntroAnswer<'s>>
+    ensures { option_map (answer_of schema.now) result
+        ≡ answer_in (spec.root_rows schema.now made.now (given_of arguments.entry)) field.now }
+{
+    Some(match field {
+        "__typename" => text_or_null(root_name(schema)),
+        "__schema" => IntroAnswer::Node(IntroNode::Schema),
+        "__type" => node_or_null(type_called(schema, made, arguments.name)),
+        _ => return None,
+    })
+}
+
+fn of_schema<'s>(schema: &'s Schema, made: &'s IntroSchema, field: &str) -> Option<IntroAnswer<'s>>
+    ensures { option_map (answer_of schema.now) result
+        ≡ answer_in (spec.schema_rows schema.now made.now) field.now }
+{
+    Some(match field {
+        "__typename" => IntroAnswer::Text("__Schema"),
+        "description" => optional_text(made.description()),
+        "types" => IntroAnswer::Nodes(IntroNodes::Types(made.types())),
+        "queryType" => node_or_null(root_node(schema, OperationKind::Query)),
+        "mutationType" => node_or_null(root_node(schema, OperationKind::Mutation)),
+        "subscriptionType" => node_or_null(root_node(schema, OperationKind::Subscription)),
+        "directives" => IntroAnswer::Nodes(IntroNodes::Directives(schema.directives())),
+        _ => return None,
+    })
+}
+
+fn of_field<'s>(
+    schema: &'s Schema,
+    definition: &'s FieldDefinition,
+    field: &str,
+) -> Option<IntroAnswer<'s>>
+    ensures { option_map (answer_of schema.now) result
+        ≡ answer_in (spec.field_rows schema.now definition.now) field.now }
+{
+    let directives = definition.directives.as_slice();
+    Some(match field {
+        "__typename" => IntroAnswer::Text("__Field"),
+        "name" => IntroAnswer::Text(definition.name.as_str()),
+        "description" => optional_text(&definition.description),
+        "args" => IntroAnswer::Nodes(IntroNodes::Arguments(definition.arguments.as_slice())),
+        "type" => node_or_null(type_node(schema, &definition.of_type)),
+        "isDeprecated" => IntroAnswer::Boolean(is_deprecated(directives)),
+        "deprecationReason" => text_or_null(deprecation_reason(directives)),
+        _ => return None,
+    })
+}
+
+/// A default, as it is written.
+fn default_of(default: &Option<Literal>) -> IntroAnswer<'_>
+    ensures { (s : ASchema) → answer_of s result ≡ spec.default_text default.now }
+{
+    match default {
+        Some(literal) => IntroAnswer::Literal(literal),
+        None => IntroAnswer::Null,
+    }
+}
+
+fn of_input<'s>(
+    schema: &'s Schema,
+    definition: &'s InputValueDefinition,
+    field: &str,
+) -> Option<IntroAnswer<'s>>
+    ensures { option_map (answer_of schema.now) result
+        ≡ answer_in (spec.input_rows schema.now definition.now) field.now }
+{
+    Some(match field {
+        "__typename" => IntroAnswer::Text("__InputValue"),
+        "name" => IntroAnswer::Text(definition.name.as_str()),
+        "description" => optional_text(&definition.description),
+        "type" => node_or_null(type_node(schema, &definition.of_type)),
+        "defaultValue" => default_of(&definition.default),
+        _ => return None,
+    })
+}
+
+fn of_value<'s>(definition: &'s EnumValueDefinition, field: &str) -> Option<IntroAnswer<'s>>
+    ensures { (s : ASchema) → option_map (answer_of s) result
+        ≡ answer_in (spec.value_rows definition.now) field.now }
+{
+    let directives = definition.directives.as_slice();
+    Some(match field {
+        "__typename" => IntroAnswer::Text("__EnumValue"),
+        "name" => IntroAnswer::Text(definition.name.as_str()),
+        "description" => optional_text(&definition.description),
+        "isDeprecated" => IntroAnswer::Boolean(is_deprecated(directives)),
+        "deprecationReason" => text_or_null(deprecation_reason(directives)),
+        _ => return None,
+    })
+}
+
+fn of_directive<'s>(definition: &'s DirectiveDefinition, field: &str) -> Option<IntroAnswer<'s>>
+    ensures { (s : ASchema) → option_map (answer_of s) result
+        ≡ answer_in (spec.directive_rows definition.now) field.now }
+{
+    Some(match field {
+        "__typename" => IntroAnswer::Text("__Directive"),
+        "name" => IntroAnswer::Text(definition.name.as_str()),
+        "description" => optional_text(&definition.description),
+        "locations" => IntroAnswer::Locations(definition.locations.as_slice()),
+        "args" => IntroAnswer::Nodes(IntroNodes::Arguments(definition.arguments.as_slice())),
+        "isRepeatable" => IntroAnswer::Boolean(definition.is_repeatable),
+        _ => return None,
+    })
+}
+
+/// What the field of that name of a node resolves to, called with these arguments; none where the
+/// type of the node has no such field. `made` is what `intro_schema` made for the schema.
+pub fn intro_resolve<'s>(
+    schema: &'s Schema,
+    made: &'s IntroSchema,
+    node: IntroNode<'s>,
+    field: &str,
+    arguments: IntroArguments<'_>,
+) -> Option<IntroAnswer<'s>>
+    ensures { option_map (answer_of schema.now) result
+        ≡ spec.resolve schema.now made.now (given_of arguments.entry)
+        (node_of node.entry) field.now }
+{
+    match node {
+        IntroNode::QueryRoot => of_root(schema, made, arguments, field),
+        IntroNode::Schema => of_schema(schema, made, field),
+        IntroNode::Named(of_type) => {
+            of_named(schema, of_type, arguments.includes_deprecated(), field)
+        }
+        IntroNode::List(item) => of_wrapper(schema, "LIST", item, field),
+        IntroNode::NonNull(nullable) => of_wrapper(schema, "NON_NULL", nullable, field),
+        IntroNode::Field(definition) => of_field(schema, definition, field),
+        IntroNode::InputValue(definition) => of_input(schema, definition, field),
+        IntroNode::EnumValue(definition) => of_value(definition, field),
+        IntroNode::Directive(definition) => of_directive(definition, field),
+    }
+}
