@@ -12,7 +12,7 @@ if [ -x out/tables ]; then
 fi
 echo "tables is not built yet: the same sources run without proof" >&2
 set -- -- "$@"
-for schema in data/schemas/*.graphql; do
+for schema in data/schemas/*.graphql data/introspection/*; do
     set -- --data "$schema=$schema" "$@"
 done
 exec rt try --seconds 600 "$@" < /dev/null

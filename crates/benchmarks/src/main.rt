@@ -11,6 +11,7 @@ mod facts;
 mod lexer;
 mod merging;
 mod rules;
+mod runs;
 mod schemas;
 mod speed;
 mod stored;
@@ -36,6 +37,7 @@ fn main(rt: HostRuntime) -> Result<()> {
         merging::measure(&rt)?;
         edits::measure(&rt)?;
         stored::measure(&rt)?;
+        runs::measure(&rt)?;
         values::measure(&rt)?;
     }
     Ok(())

@@ -104,6 +104,7 @@ pub same_side : (files : Files) (documents : FileList) (side : SchemaSide) → I
 same_side files documents side is = record {
   schema = is.schema;
   facts = is.facts;
+  made = is.made;
   faults = record {
     sound = λ f h. fault_after files documents _ f (is.faults.sound f h);
     complete = λ f h. is.faults.complete f (fault_before files documents _ f h);

@@ -7,6 +7,7 @@ use Rattle.gql_facts.specs.Members.{Lists}
 use Rattle.gql_facts.specs.Tables.{tables_of}
 use Rattle.gql_facts.specs.declared.schema_facts.SchemaFacts.{SchemaFacts}
 use Rattle.gql_ast.specs.declared.definition.DefinitionId.{DefinitionId}
+use Rattle.gql_intro.specs.Made.{made_of}
 use Rattle.gql_operations.specs.Indexed.{IsIndexOf as IsOperationIndex}
 use Rattle.gql_schema_rules.specs.SchemaFaults.{IsSchemaFault}
 use Rattle.gql_registry.specs.Report.{IsReport}
@@ -54,10 +55,11 @@ AreFactsOf files facts = facts ≡ tables_of (schema_of files)
 abbrev pub AreSchemaFaults : Files → List Fault → Type 0
 AreSchemaFaults files faults = Lists faults (IsSchemaFault files)
 
--- the schema of the files, its facts and its faults
+-- the schema of the files, its facts, what introspection says of it, and its faults
 pub record IsSideOf (files : Files) (side : SchemaSide) : Type 0 where
   pub schema : side.schema ≡ schema_of files
   pub facts : AreFactsOf files side.facts
+  pub made : side.made ≡ made_of files (schema_of files)
   pub faults : AreSchemaFaults files side.faults.items
 
 -- the fragments and the operations of the document files

@@ -55,6 +55,7 @@ fn reply_of(
         alloc,
         fragments,
         &schema.schema,
+        &schema.made,
         definition,
         variables,
         stored,

@@ -8,17 +8,19 @@ ghost use Rattle.gql_registry.specs.Report.{IsReport, IsSound};
 use crate::index::DocumentIndex;
 use gql_ast::{Fault, Files, Shared};
 use gql_facts::SchemaFacts;
+use gql_intro::{IntroSchema, intro_schema};
 use gql_report::in_order;
 use gql_schema_rules::schema_faults;
 use gql_types::{Schema, assemble};
 use gql_verdict::name_faults;
 use std::alloc::{AllocError, Global};
 
-/// The schema files as one schema, with its facts and its faults.
+/// The schema files as one schema, with its facts, what introspection says of it, and its faults.
 #[derive(Drop)]
 pub struct SchemaSide {
     pub schema: Schema,
     pub facts: SchemaFacts,
+    pub made: IntroSchema,
     pub faults: Vec<Fault>,
 }
 
@@ -38,9 +40,11 @@ pub fn schema_side(alloc: Global, files: &Files) -> Result<SchemaSide, AllocErro
     let schema = assemble(alloc, files)?;
     let faults = schema_faults(alloc, files, &schema)?;
     let facts = SchemaFacts::new(alloc, &schema)?;
+    let made = intro_schema(alloc, files, &schema)?;
     Ok(SchemaSide {
         schema,
         facts,
+        made,
         faults,
     })
 }

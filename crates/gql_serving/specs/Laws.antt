@@ -7,6 +7,7 @@ use Rattle.gql_ast.specs.declared.fault.Fault.{Fault}
 use Rattle.gql_ast.specs.declared.files.Files.{Files}
 use Rattle.gql_exec.specs.Requests.{Executes, Request, Response}
 use Rattle.gql_facts.specs.Facts.{fact_of, fragments}
+use Rattle.gql_intro.specs.Made.{made_of}
 use Rattle.gql_sound.specs.Laws.{IsSound}
 use Rattle.gql_serving.specs.Owned.{IsOwned}
 use Rattle.gql_types.specs.Schemas.{schema_of}
@@ -19,6 +20,7 @@ use Rattle.serde_json.specs.Data.{Data}
 abbrev pub request_of : Files → Definition → Operation → Data → Data → Request
 request_of files d operation variables stored = record {
   schema = schema_of files;
+  made = made_of files (schema_of files);
   fragments = fragments files.documents;
   file = d.file;
   operation = operation;

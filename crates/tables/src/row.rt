@@ -6,6 +6,7 @@ use crate::inputs::put_file;
 use crate::joined::join;
 use crate::look_ups::look_up_answer;
 use crate::operations::{Rules, operations_answer};
+use crate::running::only_run;
 use crate::servers::serves_answer;
 use crate::texts::text_answer;
 use crate::transcripts::{Transcript, written_request};
@@ -177,6 +178,16 @@ impl Row {
         }
     }
 
+    /// What the operation of the row's document answers on its files, whole; or `refused`.
+    fn run(&mut self) -> Option<String> {
+        self.put();
+        self.put_document();
+        if self.is_refused {
+            return String::from_str(self.alloc, "refused").ok();
+        }
+        only_run(self.alloc, &mut self.registry)
+    }
+
     /// The answer to a question about the schema of the files so far.
     fn schema_answer(&mut self, question: &str) -> Result<String, AllocError> {
         if self.schema.is_none() {
@@ -210,6 +221,9 @@ impl Row {
     fn service_answer(&mut self, rt: &HostRuntime, question: &str) -> Option<String> {
         if question == "serves" {
             return serves_answer(rt, self.text.as_str());
+        }
+        if question == "runs" {
+            return self.run();
         }
         if let Some(step) = question.strip_prefix("edit ") {
             return self.editing.step(step);

@@ -19,20 +19,20 @@ fn written_edit(alloc: Global, edited: Result<Edited, Refusal>) -> Option<String
     String::from_str(alloc, word).ok()
 }
 
-/// The text of a reply, or of a long one how many bytes it has.
-fn written_reply(alloc: Global, reply: &Reply) -> Option<String> {
+/// The text of a reply, or of one with more bytes than these how many it has.
+fn written_reply(alloc: Global, reply: &Reply, most: usize) -> Option<String> {
     let length = reply.body.len();
-    if length > SHORT {
+    if length > most {
         return format!(in alloc; "{length} bytes").ok();
     }
     let text = str::from_utf8(reply.body.as_slice()).ok()?;
     String::from_str(alloc, text).ok()
 }
 
-/// What a run answers: its reply, or why it is refused.
-fn written_run(alloc: Global, ran: Result<Reply, Refusal>) -> Option<String> {
+/// What a run answers: its reply, of at most so many bytes, or why it is refused.
+fn written_run(alloc: Global, ran: Result<Reply, Refusal>, most: usize) -> Option<String> {
     match ran {
-        Ok(reply) => written_reply(alloc, &reply),
+        Ok(reply) => written_reply(alloc, &reply, most),
         Err(Refusal::Faulty { faults }) => written_faults(alloc, faults.as_slice()).ok(),
         Err(Refusal::NoOperation) => String::from_str(alloc, "no such operation").ok(),
         Err(Refusal::TooLarge) => String::from_str(alloc, "too large").ok(),
@@ -85,15 +85,61 @@ fn run(alloc: Global, registry: &mut Registry, rest: &str) -> Option<String> {
     let (name, variables) = rest.split_once(" ")?;
     let variables = Value::from_str(alloc, variables).ok()?;
     let name = if name == "-" { None } else { Some(name) };
-    written_run(alloc, registry.run(name, &variables))
+    written_run(alloc, registry.run(name, &variables), SHORT)
+}
+
+/// What the only operation of a registry answers without variables: the whole of its reply, or why
+/// it is refused.
+pub fn only_run(alloc: Global, registry: &mut Registry) -> Option<String> {
+    written_run(alloc, registry.run(None, &Value::Null), usize::MAX)
+}
+
+/// A document with so many operations, each of which asks for the field `a` twice, once under a name
+/// of its own.
+fn many_operations(alloc: Global, count: u32) -> Option<String> {
+    let mut text = String::new(alloc);
+    for number in 0..count {
+        let line = format!(in alloc; "query Q{number} {{ a{number}: a b: a }}\n").ok()?;
+        text.push_str(line.as_str()).ok()?;
+    }
+    Some(text)
+}
+
+/// Whether the operation of that number answers the two fields, each with 1.
+fn answers_one(alloc: Global, registry: &mut Registry, number: u32) -> Option<bool> {
+    let name = format!(in alloc; "Q{number}").ok()?;
+    let expected = format!(in alloc; "{{\"data\":{{\"a{number}\":1,\"b\":1}}}}").ok()?;
+    let ran = registry.run(Some(name.as_str()), &Value::Null);
+    Some(written_run(alloc, ran, SHORT)?.as_str() == expected.as_str())
+}
+
+/// Puts a document with so many operations and runs each: how many bytes it has, and how many
+/// answers are as they should be.
+fn run_many(alloc: Global, registry: &mut Registry, count: &str) -> Option<String> {
+    let count = count.parse::<u32>().ok()?;
+    let text = many_operations(alloc, count)?;
+    let length = text.len();
+    let mut meter = Meter::new(alloc);
+    let put = registry.put_document(FileName::read("d")?, text.as_bytes(), None, &mut meter);
+    if put.is_err() {
+        return written_edit(alloc, put);
+    }
+    let mut good: u32 = 0;
+    for number in 0..count {
+        if answers_one(alloc, registry, number)? {
+            good = good.wrapping_add(1);
+        }
+    }
+    format!(in alloc; "{good} of a file of {length} bytes").ok()
 }
 
 /// What a question about a registry gives: `on schema TEXT`, `on document TEXT` or `on data JSON`,
-/// or a run, `run NAME VARIABLES`; `None` for another question.
+/// or a run, `run NAME VARIABLES`, or `many COUNT`; `None` for another question.
 pub fn run_step(alloc: Global, registry: &mut Registry, question: &str) -> Option<String> {
     match question.split_once(" ")? {
         ("on", rest) => put(alloc, registry, rest),
         ("run", rest) => run(alloc, registry, rest),
+        ("many", count) => run_many(alloc, registry, count),
         _ => None,
     }
 }

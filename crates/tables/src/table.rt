@@ -92,21 +92,30 @@ impl Table {
         }
     }
 
-    /// Adds the file that a line `file NAME PATH` names, whose path is seen from the table's
-    /// folder.
-    fn add_file(&mut self, rt: &HostRuntime, line: &str) -> Result<()> {
-        self.begin();
-        let Some((name, path)) = line.split_once(" ") else {
-            self.refuse(line)?;
-            return Ok(());
-        };
+    /// The text of a file, whose path is seen from the table's folder.
+    fn file_text(&self, rt: &HostRuntime, path: &str) -> Result<String> {
         let folder = match self.path.as_str().rsplit_once("/") {
             Some((folder, _)) => folder,
             None => ".",
         };
         let path = format!(in self.alloc; "{folder}/{path}")?;
-        let text = fs::read_to_string(rt, path.as_str()).context("reading a file of a table")?;
-        self.row.add_file(name, text.as_str())?;
+        fs::read_to_string(rt, path.as_str()).context("reading a file of a table")
+    }
+
+    /// Adds the schema file that a line `file NAME PATH` names; or with the name `d` the document,
+    /// which belongs to the question after it and begins no row.
+    fn add_file(&mut self, rt: &HostRuntime, line: &str) -> Result<()> {
+        let Some((name, path)) = line.split_once(" ") else {
+            self.refuse(line)?;
+            return Ok(());
+        };
+        let text = self.file_text(rt, path)?;
+        if name == "d" {
+            self.row.add_to_document(text.as_str())?;
+        } else {
+            self.begin();
+            self.row.add_file(name, text.as_str())?;
+        }
         Ok(())
     }
 
@@ -122,6 +131,13 @@ impl Table {
             }
             _ => self.row.add_answer(step),
         }
+    }
+
+    /// Asks a question whose answer is the text of a file.
+    fn ask_for_file(&mut self, rt: &HostRuntime, question: &str, path: &str) -> Result<()> {
+        let text = self.file_text(rt, path)?;
+        self.ask(rt, question, text.as_str().trim_end())?;
+        Ok(())
     }
 
     /// Asks the question of a line: `QUESTION => ANSWER`, or `QUESTION: ANSWER`.
@@ -146,6 +162,9 @@ impl Table {
         match line.split_once(" ") {
             Some(("text", rest)) => self.add_text(rest)?,
             Some(("file", rest)) => return self.add_file(rt, rest),
+            Some(("runs:", rest)) if rest.starts_with("file ") => {
+                return self.ask_for_file(rt, "runs", rest.strip_prefix("file ").unwrap_or(rest));
+            }
             Some((mark, rest)) if mark == ">" || mark == "<" => self.add_step(mark, rest, line)?,
             _ => match line.split_once("|") {
                 Some((name, text)) if !name.contains(" ") => self.add(name, text)?,

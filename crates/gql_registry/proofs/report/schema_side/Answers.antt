@@ -1,5 +1,6 @@
 use Rattle.std.proofs.Common.{◌∙◌, rules, ap}
 use Rattle.gql_facts.specs.Tables.{tables_of}
+use Rattle.gql_intro.specs.Made.{made_of}
 use Rattle.gql_registry.proofs.report.schema_side.Goals as goal
 
 pub schema_faults-requires : goal.schema_faults-requires
@@ -14,9 +15,13 @@ returns-in_err-faults c = search rules
 pub returns-in_err-facts : goal.returns-in_err-facts
 returns-in_err-facts c = search rules
 
+pub returns-in_err-made : goal.returns-in_err-made
+returns-in_err-made c = search rules
+
 pub returns : goal.returns
 returns c = record {
   schema = c.in_ok-schema.ensures;
   facts = c.in_ok-facts.ensures ∙ ap tables_of c.in_ok-schema.ensures;
+  made = c.in_ok-made.ensures ∙ ap (made_of c.args.files.now) c.in_ok-schema.ensures;
   faults = record { sound = c.in_ok-faults.ensures.sound; complete = c.in_ok-faults.ensures.complete };
 }
