@@ -1,6 +1,6 @@
 //! Times of runs of stored operations by the service, the reading of their requests and the writing
 //! of their answers included.
-use crate::speed::{micros, nanos_each};
+use crate::times::{micros, nanos_each};
 use anyhow::Result;
 use gql_http::Hub;
 use gql_registry::Registry;
