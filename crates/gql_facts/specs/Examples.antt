@@ -13,13 +13,14 @@ use Rattle.gql_ast.specs.declared.type_system.EnumValueDefinition.{EnumValueDefi
 use Rattle.gql_ast.specs.declared.type_system.TypeParts.{TypeParts}
 use Rattle.gql_ast.specs.declared.type_system.TypeParts.TheVariants as parts
 use Rattle.gql_built_in.specs.declared.sited.Sited.{Sited}
+use Rattle.gql_types.specs.Kinds.{same_operation}
 use Rattle.gql_types.specs.declared.kind.TypeKind.{TypeKind}
 use Rattle.gql_types.specs.declared.kind.TypeKind.TheVariants as kind
 use Rattle.gql_types.specs.declared.schema.Schema.{Schema}
 use Rattle.gql_types.specs.declared.schema_type.SchemaType.{SchemaType}
 use Rattle.gql_facts.specs.declared.fact.Fact.TheVariants as fact
 use Rattle.gql_facts.specs.declared.key.Key.TheVariants as key
-use Rattle.gql_facts.specs.Facts.{fact_in}
+use Rattle.gql_facts.specs.Facts.{fact_in, type_field, typename_field}
 use Rattle.gql_facts.specs.Nodes.{nodes_in, nodes_field, nodes_inline, nodes_spread}
 use Rattle.gql_facts.specs.OwnReads.{own_reads}
 use Rattle.gql_facts.specs.Worlds.{Facts}
@@ -162,10 +163,43 @@ values_of_state p = refl
 values_of_date : (p : Place) → fact_in (schema p) [] (key.EnumOf (codes "Date")) ≡ fact.Absent
 values_of_date p = refl
 
--- a field of introspection, of whichever type
-no_introspection : (p : Place)
+-- an enum has no `__typename`, as it is not composite
+no_typename : (p : Place)
     → fact_in (schema p) [] (key.FieldOf (codes "State") (codes "__typename")) ≡ fact.Absent
-no_introspection p = refl
+no_typename p = refl
+
+-- `type Query`, which is the query root, `type Other` and `union Both`
+abbrev rooted : Place → Schema
+rooted p = record {
+  types = with_values kind.Object (parts.Object [] []) [] p (codes "Query")
+      ∷ with_values kind.Object (parts.Object [] []) [] p (codes "Other")
+      ∷ with_values kind.Union (parts.Union []) [] p (codes "Both")
+      ∷ [];
+  directives = [];
+  roots = record {
+    kind = operation.Query;
+    entry = None;
+    name = record { file = None; node = name p (codes "Query") };
+  } ∷ [];
+  possible = [];
+}
+
+-- a union has `__typename`
+typename_of_union : (p : Place)
+    → fact_in (rooted p) [] (key.FieldOf (codes "Both") (codes "__typename"))
+    ≡ fact.Field typename_field
+typename_of_union p = refl
+
+-- the query root has `__type`, and another object has none
+type_of_root : (p : Place)
+    → fact_in (rooted p) [] (key.FieldOf (codes "Query") (codes "__type")) ≡ fact.Field type_field
+unfolding same_operation
+type_of_root p = refl
+
+type_of_other : (p : Place)
+    → fact_in (rooted p) [] (key.FieldOf (codes "Other") (codes "__type")) ≡ fact.Absent
+unfolding same_operation
+type_of_other p = refl
 
 -- a fragment, where no document file has one
 no_fragment : (p : Place) → fact_in (schema p) [] (key.FragmentOf (codes "Rest")) ≡ fact.Absent

@@ -1,11 +1,11 @@
 -- The facts of a schema and of document files: the answer to each key.
-use Rattle.std.specs.Prelude.{flat_map, codes, ℕ, List, [], ◌∷◌, map, find, bytes_eq, is_some, Bool, Option, option_and_then, if◌then◌else◌}
-use Rattle.std.specs.List.{list_any}
+use Rattle.std.specs.Prelude.{flat_map, codes, ℕ, List, [], ◌∷◌, map, find, bytes_eq, is_some, Bool, false, Option, option_and_then, if◌then◌else◌}
 use Rattle.std.specs.Option.{option_map_or}
 use Rattle.gql_ast.specs.declared.definition.Definition.{Definition}
 use Rattle.gql_ast.specs.declared.definition.Document.{Document}
 use Rattle.gql_ast.specs.declared.definition.Tree.{Tree}
 use Rattle.gql_ast.specs.declared.definition.Tree.TheVariants as tree
+use Rattle.gql_ast.specs.declared.executable.OperationKind.TheVariants as operation
 use Rattle.gql_ast.specs.declared.files.Files.{Files}
 use Rattle.gql_ast.specs.declared.type_system.DirectiveDefinition.{DirectiveDefinition}
 use Rattle.gql_ast.specs.declared.type_system.FieldDefinition.{FieldDefinition}
@@ -13,7 +13,8 @@ use Rattle.gql_ast.specs.declared.type_system.EnumValueDefinition.{EnumValueDefi
 use Rattle.gql_ast.specs.declared.type_system.InputValueDefinition.{InputValueDefinition}
 use Rattle.gql_built_in.specs.declared.sited.Sited.{Sited}
 use Rattle.gql_types.specs.Schemas.{schema_of, type_named, kind_named, field_named, possible_named, input_named, enum_named, directive_named, root_of}
-use Rattle.gql_types.specs.Written.{written}
+use Rattle.gql_types.specs.Kinds.{is_composite}
+use Rattle.gql_types.specs.Written.{named, required, written}
 use Rattle.gql_types.specs.declared.roots.Root.{Root}
 use Rattle.gql_types.specs.declared.schema.Schema.{Schema}
 use Rattle.gql_types.specs.declared.schema_type.SchemaType.{SchemaType}
@@ -23,6 +24,7 @@ use Rattle.gql_facts.specs.declared.fact.InputFact.{InputFact}
 use Rattle.gql_facts.specs.declared.fact.FieldFact.{FieldFact}
 use Rattle.gql_facts.specs.declared.fact.DirectiveFact.{DirectiveFact}
 use Rattle.gql_facts.specs.declared.fact.FragmentFact.{FragmentFact}
+use Rattle.gql_facts.specs.declared.meta_fields.MetaFields.{MetaFields}
 use Rattle.gql_facts.specs.declared.key.Key.TheVariants as key
 use Rattle.gql_facts.specs.Worlds.{Facts}
 use Rattle.gql_types.specs.WrittenTypes.{type_of}
@@ -66,16 +68,63 @@ answer f o = option_map_or f o fact.Absent
 
 -- ---- the facts of a schema
 
--- The fields that every composite type has, and those of the query root for introspection (GraphQL
--- specification, 4.1 and 4.2). They have no answer while introspection is not served.
-abbrev pub is_meta_field : List ℕ → Bool
-is_meta_field n =
-    list_any (bytes_eq n) (codes "__typename" ∷ codes "__schema" ∷ codes "__type" ∷ [])
+-- the field `__typename: String!` (GraphQL 4.1)
+abbrev pub typename_field : FieldFact
+typename_field = record {
+  of_type = type_of (required (named (codes "String")));
+  arguments = [];
+}
 
--- the field of this name of the type of this name, where that is an object or an interface
+-- the field `__schema: __Schema!` (GraphQL 4.2)
+abbrev pub schema_field : FieldFact
+schema_field = record {
+  of_type = type_of (required (named (codes "__Schema")));
+  arguments = [];
+}
+
+-- the field `__type(name: String!): __Type` (GraphQL 4.2)
+abbrev pub type_field : FieldFact
+type_field = record {
+  of_type = type_of (named (codes "__Type"));
+  arguments = record {
+    name = codes "name";
+    of_type = type_of (required (named (codes "String")));
+    has_default = false;
+  } ∷ [];
+}
+
+-- these three fields
+abbrev pub meta_fields : MetaFields
+meta_fields = record { typename = typename_field; schema = schema_field; of_type = type_field }
+
+-- a fact, under a condition
+abbrev pub fact_if : Bool → Fact → Fact
+fact_if holds f = if holds then f else fact.Absent
+
+-- The field of this name of a type: every composite type has `__typename`, and the query root has
+-- `__schema` and `__type`, whether or not fields of these names are defined. Other fields are the
+-- type's own.
+abbrev pub field_by : MetaFields → List ℕ → Bool → Bool → Fact → Fact
+field_by meta n composite query_root own =
+    if bytes_eq n (codes "__typename") then fact_if composite (fact.Field meta.typename)
+    else if bytes_eq n (codes "__schema") then fact_if query_root (fact.Field meta.schema)
+    else if bytes_eq n (codes "__type") then fact_if query_root (fact.Field meta.of_type)
+    else own
+
+-- the type of this name is composite
+abbrev pub is_composite_type : Schema → List ℕ → Bool
+is_composite_type s t = option_map_or is_composite (kind_named s t) false
+
+-- the query root has this name
+abbrev pub is_query_root : Schema → List ℕ → Bool
+is_query_root s t =
+    option_map_or (λ (r : Root). bytes_eq t r.name.node.text) (root_of s operation.Query) false
+
+-- the field of this name of the type of this name, where that is an object or an interface, or one
+-- of the three fields above
 abbrev pub field_answer : Schema → List ℕ → List ℕ → Fact
-field_answer s t n = if is_meta_field n then fact.Absent
-    else answer (λ d. fact.Field (field_fact d)) (field_named s t n)
+field_answer s t n = field_by meta_fields n (is_composite_type s t) (is_query_root s t)
+    (answer (λ d. fact.Field (field_fact d)) (field_named s t n))
 
 -- the possible types of the type of this name, where it is composite
 abbrev pub possible_answer : Schema → List ℕ → Fact

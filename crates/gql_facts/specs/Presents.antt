@@ -1,22 +1,24 @@
 -- The answers of a schema's tables and of document files are a world.
-use Rattle.std.specs.Prelude.{◌≡◌, ◌≢◌, ℕ, List, ◌++◌, map, bytes_eq, Bool, true, false, refl, Option, Some, None, Contains, option_and_then, if◌then◌else◌}
+use Rattle.std.specs.Prelude.{◌≡◌, ◌≢◌, ℕ, List, ◌++◌, map, bytes_eq, codes, Bool, true, false, refl, Option, Some, None, Contains, option_and_then, if◌then◌else◌}
 use Rattle.std.proofs.Common.{sym, subst}
 use Rattle.std.proofs.lemmas.Slice.Eq.{bytes_eq-Decides}
 use Rattle.std.proofs.lemmas.List.Elements.{Contains-append_left, Contains-append_right}
 use Rattle.gql_facts.specs.declared.fact.Fact.{Fact}
 use Rattle.gql_facts.specs.declared.fact.Fact.TheVariants as fact
+use Rattle.gql_facts.specs.declared.fact.FieldFact.{FieldFact}
 use Rattle.gql_facts.specs.declared.fact.FragmentFact.{FragmentFact}
 use Rattle.gql_facts.specs.declared.key.Key.{Key}
 use Rattle.gql_facts.specs.declared.key.Key.TheVariants as key
+use Rattle.gql_facts.specs.declared.meta_fields.MetaFields.{MetaFields}
 use Rattle.gql_facts.specs.declared.present.Present.{Present}
 use Rattle.gql_facts.specs.declared.schema_facts.SchemaFacts.{SchemaFacts}
 use Rattle.gql_facts.specs.declared.schema_facts.TypeEntry.{TypeEntry}
 use Rattle.gql_facts.specs.declared.schema_facts.FieldEntry.{FieldEntry}
 use Rattle.gql_facts.specs.declared.schema_facts.DirectiveEntry.{DirectiveEntry}
 use Rattle.gql_facts.specs.declared.schema_facts.RootEntry.{RootEntry}
-use Rattle.gql_facts.specs.Facts.{answer, is_meta_field}
+use Rattle.gql_facts.specs.Facts.{answer, fact_if, field_by}
 use Rattle.gql_facts.specs.ListMembers.{found_in, Contains-map}
-use Rattle.gql_facts.specs.Tables.{kept_fact, type_in, field_in, directive_in, root_in, fragment_in}
+use Rattle.gql_facts.specs.Tables.{kept_fact, type_in, field_in, is_composite_in, is_query_root_in, directive_in, root_in, fragment_in}
 use Rattle.gql_facts.specs.Worlds.{Facts, IsWorld, Answers}
 
 -- ---- the answers are a world
@@ -27,17 +29,40 @@ answered : {A : Type 0} (k : Key) (f : A → Fact) → ((x : A) → Answers k (f
 answered k f each None = tt
 answered k f each (Some x) = each x
 
-field_answered : (t n : List ℕ) (b : Bool) (o : Option FieldEntry)
-    → Answers (key.FieldOf t n)
-    (if b then fact.Absent else answer (λ (e : FieldEntry). fact.Field e.fact) o)
-field_answered t n true o = tt
-field_answered t n false o =
-    answered (key.FieldOf t n) (λ (e : FieldEntry). fact.Field e.fact) (λ x. tt) o
+-- so is a field's, whichever of these it is
+either : (t n : List ℕ) (b : Bool) (x y : Fact) → Answers (key.FieldOf t n) x
+    → Answers (key.FieldOf t n) y → Answers (key.FieldOf t n) (if b then x else y)
+either t n true x y p q = p
+either t n false x y p q = q
+
+under : (t n : List ℕ) (b : Bool) (f : FieldFact) → Answers (key.FieldOf t n)
+    (fact_if b (fact.Field f))
+under t n b f = either t n b (fact.Field f) fact.Absent tt tt
+
+field_answered : (m : MetaFields) (t n : List ℕ) (composite root : Bool) (own : Fact)
+    → Answers (key.FieldOf t n) own
+    → Answers (key.FieldOf t n) (field_by m n composite root own)
+field_answered m t n composite root own p =
+    either t n (bytes_eq n (codes "__typename"))
+    (fact_if composite (fact.Field m.typename))
+    (if bytes_eq n (codes "__schema") then fact_if root (fact.Field m.schema)
+    else if bytes_eq n (codes "__type") then fact_if root (fact.Field m.of_type)
+    else own)
+    (under t n composite m.typename)
+    (either t n (bytes_eq n (codes "__schema"))
+    (fact_if root (fact.Field m.schema))
+    (if bytes_eq n (codes "__type") then fact_if root (fact.Field m.of_type) else own)
+    (under t n root m.schema)
+    (either t n (bytes_eq n (codes "__type"))
+    (fact_if root (fact.Field m.of_type)) own (under t n root m.of_type) p))
 
 kinds : (s : SchemaFacts) (fs : List FragmentFact) (k : Key) → Answers k (kept_fact s fs k)
 kinds s fs (key.KindOf t) =
     answered (key.KindOf t) (λ (e : TypeEntry). fact.Kind e.kind) (λ x. tt) (type_in s t)
-kinds s fs (key.FieldOf t n) = field_answered t n (is_meta_field n) (field_in s t n)
+kinds s fs (key.FieldOf t n) =
+    field_answered s.meta t n (is_composite_in s t) (is_query_root_in s t)
+    (answer (λ (e : FieldEntry). fact.Field e.fact) (field_in s t n))
+    (answered (key.FieldOf t n) (λ (e : FieldEntry). fact.Field e.fact) (λ x. tt) (field_in s t n))
 kinds s fs (key.PossibleOf t) =
     answered (key.PossibleOf t) fact.Possible (λ x. tt)
     (option_and_then (λ (e : TypeEntry). e.possible) (type_in s t))

@@ -1,15 +1,18 @@
 -- The facts of a schema as they are kept: a table of its types, its directives and its root
--- operation types.
-use Rattle.std.specs.Prelude.{ℕ, List, map, find, bytes_eq, Option, option_map, option_and_then, if◌then◌else◌}
+-- operation types, and the three fields that no type lists.
+use Rattle.std.specs.Prelude.{ℕ, List, map, find, bytes_eq, Bool, false, Option, option_map, option_and_then}
+use Rattle.std.specs.Option.{option_map_or}
 use Rattle.gql_ast.specs.declared.executable.OperationKind.{OperationKind}
+use Rattle.gql_ast.specs.declared.executable.OperationKind.TheVariants as operation
 use Rattle.gql_ast.specs.declared.type_system.DirectiveDefinition.{DirectiveDefinition}
 use Rattle.gql_ast.specs.declared.type_system.FieldDefinition.{FieldDefinition}
 use Rattle.gql_built_in.specs.declared.sited.Sited.{Sited}
-use Rattle.gql_types.specs.Kinds.{same_operation}
+use Rattle.gql_types.specs.Kinds.{is_composite, same_operation}
 use Rattle.gql_types.specs.Schemas.{possible_named, inputs_by, values_by}
 use Rattle.gql_types.specs.declared.roots.Root.{Root}
 use Rattle.gql_types.specs.declared.schema.Schema.{Schema}
 use Rattle.gql_types.specs.declared.schema_type.SchemaType.{SchemaType}
+use Rattle.gql_facts.specs.declared.fact.Fact.{Fact}
 use Rattle.gql_facts.specs.declared.fact.Fact.TheVariants as fact
 use Rattle.gql_facts.specs.declared.fact.FragmentFact.{FragmentFact}
 use Rattle.gql_facts.specs.declared.key.Key.TheVariants as key
@@ -18,7 +21,7 @@ use Rattle.gql_facts.specs.declared.schema_facts.FieldEntry.{FieldEntry}
 use Rattle.gql_facts.specs.declared.schema_facts.TypeEntry.{TypeEntry}
 use Rattle.gql_facts.specs.declared.schema_facts.DirectiveEntry.{DirectiveEntry}
 use Rattle.gql_facts.specs.declared.schema_facts.RootEntry.{RootEntry}
-use Rattle.gql_facts.specs.Facts.{field_fact, input_facts, value_names, directive_fact, is_meta_field, answer}
+use Rattle.gql_facts.specs.Facts.{field_fact, input_facts, value_names, directive_fact, meta_fields, field_by, answer}
 use Rattle.gql_facts.specs.Worlds.{Facts}
 
 -- ---- what is kept
@@ -48,6 +51,7 @@ tables_of s = record {
   types = map (type_entry s) s.types;
   directives = map directive_entry s.directives;
   roots = map root_entry s.roots;
+  meta = meta_fields;
 }
 
 -- ---- what the tables answer
@@ -68,11 +72,24 @@ root_in f k = find (λ (r : RootEntry). same_operation k r.kind) f.roots
 abbrev pub fragment_in : List FragmentFact → List ℕ → Option FragmentFact
 fragment_in fs n = find (λ (f : FragmentFact). bytes_eq n f.fragment.name.text) fs
 
+-- the type of this name is composite
+abbrev pub is_composite_in : SchemaFacts → List ℕ → Bool
+is_composite_in f t = option_map_or (λ (e : TypeEntry). is_composite e.kind) (type_in f t) false
+
+-- the query root has this name
+abbrev pub is_query_root_in : SchemaFacts → List ℕ → Bool
+is_query_root_in f t =
+    option_map_or (λ (r : RootEntry). bytes_eq t r.name) (root_in f operation.Query) false
+
+-- the field of this name of the type of this name
+abbrev pub kept_field : SchemaFacts → List ℕ → List ℕ → Fact
+kept_field f t n = field_by f.meta n (is_composite_in f t) (is_query_root_in f t)
+    (answer (λ (e : FieldEntry). fact.Field e.fact) (field_in f t n))
+
 -- the answer of the tables and of these fragments to a key
 abbrev pub kept_fact : SchemaFacts → List FragmentFact → Facts
 kept_fact f fs (key.KindOf t) = answer (λ (e : TypeEntry). fact.Kind e.kind) (type_in f t)
-kept_fact f fs (key.FieldOf t n) = if is_meta_field n then fact.Absent
-    else answer (λ (e : FieldEntry). fact.Field e.fact) (field_in f t n)
+kept_fact f fs (key.FieldOf t n) = kept_field f t n
 kept_fact f fs (key.PossibleOf t) =
     answer fact.Possible (option_and_then (λ (e : TypeEntry). e.possible) (type_in f t))
 kept_fact f fs (key.InputOf t) =

@@ -6,6 +6,7 @@ mod fact;
 mod fragments;
 mod key;
 pub mod laws;
+mod meta_fields;
 mod present;
 mod scan;
 mod schema_facts;

@@ -1,10 +1,10 @@
 //! The world of a schema and of the fragments of document files.
-ghost use Rattle.std.specs.Prelude.{◌≡◌, ℕ, List, None, Some, IfOk, Bool, find, bytes_eq, if◌then◌else◌, option_and_then};
+ghost use Rattle.std.specs.Prelude.{◌≡◌, ℕ, List, None, Some, IfOk, Bool, find, bytes_eq, option_and_then};
 ghost use Rattle.std.specs.Option.{option_copied};
 ghost use Rattle.gql_types.specs.Kinds.{same_operation};
 ghost use Rattle.gql_facts.specs.Facts as spec;
-ghost use Rattle.gql_facts.specs.Facts.{answer, is_meta_field, fact_in};
-ghost use Rattle.gql_facts.specs.Tables.{type_in, field_in, directive_in, root_in, fragment_in, tables_of};
+ghost use Rattle.gql_facts.specs.Facts.{answer, fact_in};
+ghost use Rattle.gql_facts.specs.Tables.{type_in, field_in, is_composite_in, is_query_root_in, kept_field, directive_in, root_in, fragment_in, tables_of};
 ghost use Rattle.gql_facts.specs.Worlds.{Facts};
 ghost use Rattle.gql_facts.specs.declared.fact.Fact.TheVariants as fact;
 ghost use Rattle.gql_facts.specs.declared.schema_facts.SchemaFacts.{SchemaFacts};
@@ -13,20 +13,13 @@ ghost use Rattle.gql_facts.specs.declared.schema_facts.FieldEntry.{FieldEntry};
 ghost use Rattle.gql_facts.specs.declared.schema_facts.DirectiveEntry.{DirectiveEntry};
 ghost use Rattle.gql_facts.specs.declared.schema_facts.RootEntry.{RootEntry};
 
-use crate::fact::Fact;
+use crate::fact::{Fact, FieldFact};
 use crate::fragments::Fragments;
 use crate::key::Key;
 use crate::schema_facts::{FieldEntry, RootEntry, SchemaFacts};
 use crate::world::World;
-use gql_ast::OperationKind;
+use gql_ast::{OperationKind, Shared};
 use std::alloc::{AllocError, Global};
-
-/// Whether a field is one of introspection (GraphQL specification, 4.1 and 4.2).
-fn is_introspection(name: &str) -> bool
-    ensures { result ≡ is_meta_field name.now }
-{
-    name == "__typename" || name == "__schema" || name == "__type"
-}
 
 fn field_entry<'s>(schema: &'s SchemaFacts, of_type: &str, name: &str) -> Option<&'s FieldEntry>
     ensures { option_copied result ≡ field_in schema.entry.now of_type.now name.now }
@@ -66,17 +59,59 @@ fn kind_of(schema: &SchemaFacts, of_type: &str) -> Fact
     }
 }
 
-fn field_of(schema: &SchemaFacts, of_type: &str, name: &str) -> Result<Fact, AllocError>
-    ensures { IfOk result (λ f. f ≡ (if is_meta_field name.now then fact.Absent
-        else answer (λ (e : FieldEntry). fact.Field e.fact)
-        (field_in schema.now of_type.now name.now))) }
+/// Whether the type of that name is composite.
+fn is_composite(schema: &SchemaFacts, of_type: &str) -> bool
+    ensures { result ≡ is_composite_in schema.now of_type.now }
 {
-    if is_introspection(name) {
-        return Ok(Fact::Absent);
+    match schema.types.get(of_type) {
+        Some(entry) => entry.kind.is_composite(),
+        None => false,
     }
+}
+
+/// Whether the query root has that name.
+fn is_query_root(schema: &SchemaFacts, of_type: &str) -> bool
+    ensures { result ≡ is_query_root_in schema.now of_type.now }
+{
+    match root_entry(schema, OperationKind::Query) {
+        Some(root) => of_type == root.name.get().as_str(),
+        None => false,
+    }
+}
+
+/// The fact of a field, under a condition.
+fn fact_if(holds: bool, field: &Shared<FieldFact>) -> Result<Fact, AllocError>
+    ensures { IfOk result (λ f. f ≡ spec.fact_if holds (fact.Field field.now)) }
+{
+    if holds {
+        Ok(Fact::Field(field.clone()?))
+    } else {
+        Ok(Fact::Absent)
+    }
+}
+
+/// The fact of a field that the type lists.
+fn own_field(schema: &SchemaFacts, of_type: &str, name: &str) -> Result<Fact, AllocError>
+    ensures { IfOk result (λ f. f ≡ answer (λ (e : FieldEntry). fact.Field e.fact)
+        (field_in schema.now of_type.now name.now)) }
+{
     match field_entry(schema, of_type, name) {
         Some(entry) => Ok(Fact::Field(entry.fact.clone()?)),
         None => Ok(Fact::Absent),
+    }
+}
+
+fn field_of(schema: &SchemaFacts, of_type: &str, name: &str) -> Result<Fact, AllocError>
+    ensures { IfOk result (λ f. f ≡ kept_field schema.now of_type.now name.now) }
+{
+    if name == "__typename" {
+        fact_if(is_composite(schema, of_type), &schema.meta.typename)
+    } else if name == "__schema" {
+        fact_if(is_query_root(schema, of_type), &schema.meta.schema)
+    } else if name == "__type" {
+        fact_if(is_query_root(schema, of_type), &schema.meta.of_type)
+    } else {
+        own_field(schema, of_type, name)
     }
 }
 

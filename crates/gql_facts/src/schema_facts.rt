@@ -7,6 +7,7 @@ ghost use Rattle.gql_facts.specs.Facts as spec;
 ghost use Rattle.gql_facts.specs.Tables as tables;
 
 use crate::fact::{DirectiveFact, Fact, FieldFact, InputFact};
+use crate::meta_fields::MetaFields;
 use gql_ast::{
     DirectiveDefinition, DirectiveLocation, EnumValueDefinition, FieldDefinition,
     InputValueDefinition, Items, OperationKind, Shared, Text,
@@ -76,6 +77,7 @@ pub struct SchemaFacts {
     pub types: Named<TypeEntry>,
     pub directives: Named<DirectiveEntry>,
     pub roots: Items<RootEntry>,
+    pub meta: MetaFields,
 }
 
 fn input_fact(alloc: Global, definition: &InputValueDefinition) -> Result<InputFact, AllocError>
@@ -301,10 +303,12 @@ impl SchemaFacts {
         let types = Named::new(alloc, type_entries(alloc, schema)?)?;
         let directives = Named::new(alloc, directive_entries(alloc, schema)?)?;
         let roots = root_entries(alloc, schema.roots())?;
+        let meta = MetaFields::new(alloc)?;
         Ok(SchemaFacts {
             types,
             directives,
             roots,
+            meta,
         })
     }
 }
