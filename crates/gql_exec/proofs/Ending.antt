@@ -20,7 +20,7 @@ use Rattle.gql_exec.specs.Plans.{IsPlan}
 use Rattle.gql_exec.specs.Outcomes.{AnError, AnOutcome, error_of}
 use Rattle.gql_exec.specs.Parts.{Outcome, text, bubble}
 use Rattle.gql_exec.specs.Replies.{Error, Reply, kept, or_null}
-use Rattle.gql_exec.specs.Requests.{Request, Response, Executes, IsOutcome, IsTooHeavy, most_values, refused, executed, request_error, response_of, variable_at}
+use Rattle.gql_exec.specs.Requests.{Request, Response, Executes, IsOutcome, basis_of, IsTooHeavy, most_values, refused, executed, request_error, response_of, variable_at}
 use Rattle.gql_exec.specs.Requests as requests
 use Rattle.gql_exec.specs.Runs.{Answering, Finishes, IsFresh, IsOutcomeOf, IsRefused, came_to}
 use Rattle.gql_exec.specs.States.{Done, Leaves, ended_of, errors_of}
@@ -83,13 +83,13 @@ value_same h = cc
 
 -- a request whose variables have values
 pub answers : (r : Request) (values : Data) (Holds : Response → Type 0) → OneOfVariables → VariablesCome r.schema r.operation.variables r.variables (comes.value values)
-    → Answering (record { schema = r.schema; fragments = r.fragments; values = values }) r.file r.operation r.stored (λ a. Holds (response_of a))
+    → Answering (basis_of r values) r.file r.operation r.stored (λ a. Holds (response_of a))
     → (p : Response) → Executes r p → Holds p
 answers r values Holds one come h p (refused {why} {path} {v} c at) =
     let e : comes.value values ≡ comes.refused why path = one r.schema r.operation.variables r.variables (comes.value values) (comes.refused why path) come c in absurd (cc e)
 answers r values Holds one come h p (executed {values = others} {root = root} x c is object plans) =
     let e : comes.value values ≡ comes.value others = one r.schema r.operation.variables r.variables (comes.value values) (comes.value others) come c in
-    h root x is object (subst (λ d. IsPlan (record { schema = r.schema; fragments = r.fragments; values = d }) root.name.node.text (in_file r.file r.operation.selections) x) (sym (value_same e)) plans)
+    h root x is object (subst (λ d. IsPlan (basis_of r d) root.name.node.text (in_file r.file r.operation.selections) x) (sym (value_same e)) plans)
 
 -- a request with a variable that is refused
 pub answers_refused : (r : Request) (f : Refusal) (o : AnOutcome) → OneOfVariables → VariablesCome r.schema r.operation.variables r.variables (comes.refused f.reason f.path)

@@ -8,6 +8,8 @@ use Rattle.gql_ast.specs.declared.type_system.TypeParts.TheVariants as parts
 use Rattle.gql_collect.specs.Collection.{groups_from}
 use Rattle.gql_collect.specs.Nodes.{FieldNode}
 use Rattle.gql_text.specs.declared.place.Place.{Place}
+use Rattle.gql_intro.specs.MetaFields.{meta_fields}
+use Rattle.gql_intro.specs.Nodes.{null}
 use Rattle.gql_types.specs.Written.{Written, named, listed, required}
 use Rattle.gql_types.specs.declared.kind.TypeKind.{TypeKind}
 use Rattle.gql_types.specs.declared.kind.TypeKind.TheVariants as kind
@@ -15,7 +17,8 @@ use Rattle.gql_types.specs.declared.schema.Schema.{Schema}
 use Rattle.serde_json.specs.Data as json
 use Rattle.serde_json.specs.Data.{Data, item, no_items, member, no_members}
 use Rattle.gql_exec.specs.Execution.{Arguments, given, refused, PlannedField, Plan, plan, Fields, no_fields, field, Types, answer}
-use Rattle.gql_exec.specs.Plans.{defined}
+use Rattle.gql_exec.specs.Plans.{Basis, defined, types_of}
+use Rattle.gql_exec.specs.declared.planning.Source.TheVariants as source
 use Rattle.gql_exec.specs.Replies.{Error, Path, key, index}
 
 -- ---- terms for the examples
@@ -29,6 +32,7 @@ called name column arguments t = record {
   response_name = name;
   place = at column;
   name = name;
+  source = source.Stored;
   arguments = arguments;
   of_type = t;
 }
@@ -52,6 +56,7 @@ types = record {
   kind = kind_of;
   possible = λ n. codes "Dog" ∷ codes "Cat" ∷ [];
   values = λ n. [];
+  introspect = λ n name arguments. null;
 }
 
 -- the plan of fields on an object of any type
@@ -267,7 +272,7 @@ schema = record {
 }
 
 -- `{ age id age id }`: the group of `age` is left out, that of `id` has both of its fields
-left_out : defined schema (codes "Query") (groups_from (node 3 (codes "age")
+left_out : defined basis (codes "Query") (groups_from (node 3 (codes "age")
     ∷ node 7 (codes "id") ∷ node 10 (codes "age") ∷ node 14 (codes "id") ∷ []))
     ≡ record {
       key = codes "id";
@@ -276,5 +281,5 @@ left_out : defined schema (codes "Query") (groups_from (node 3 (codes "age")
 left_out = refl
 
 -- a type that is not in the schema has no fields
-no_type : defined schema (codes "Pet") (groups_from (node 3 (codes "id") ∷ [])) ≡ []
+no_type : defined basis (codes "Pet") (groups_from (node 3 (codes "id") ∷ [])) ≡ []
 no_type = refl
