@@ -7,7 +7,6 @@ ghost use Rattle.gql_inputs.specs.InputTypes.{is_non_null, name_in as name_of_ty
 ghost use Rattle.gql_intro.specs.Borrowed.{answer_of, node_of};
 ghost use Rattle.gql_types.specs.Schemas.{kind_named};
 ghost use Rattle.gql_types.specs.Written.{written};
-ghost use Rattle.gql_types.specs.declared.kind.TypeKind.TheVariants as kind;
 ghost use Rattle.gql_exec.specs.Execution as spec;
 ghost use Rattle.gql_exec.specs.Execution.{Plan};
 ghost use Rattle.gql_exec.specs.Objects.{basis, object_of};
@@ -560,7 +559,6 @@ fn complete_object<'d>(
 ) -> Result<Ended, ExecRefusal>
     requires right { IsRight (basis setting.now) table.old }
     requires within { InTable table.old site.slot }
-    requires object { kind_named setting.now.context.schema.now name.now ≡ Some kind.Object }
     ensures keeps { OnOk result (Keeps (basis setting.now) table.old table.new run.old run.new) }
     ensures does { Does (basis setting.now) site.place name.now (below_at table.old site.slot)
         (λ s. value_part (spec.on_object s name.now (path_of run.old) (view value.now)))
