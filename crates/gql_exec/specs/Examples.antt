@@ -11,6 +11,7 @@ use Rattle.gql_collect.specs.Nodes.{FieldNode}
 use Rattle.gql_text.specs.declared.place.Place.{Place}
 use Rattle.gql_intro.specs.MetaFields.{meta_fields}
 use Rattle.gql_intro.specs.Nodes.{null}
+use Rattle.gql_types.specs.Kinds.{same_operation}
 use Rattle.gql_types.specs.Written.{Written, named, listed, required}
 use Rattle.gql_types.specs.declared.kind.TypeKind.{TypeKind}
 use Rattle.gql_types.specs.declared.kind.TypeKind.TheVariants as kind
@@ -296,10 +297,12 @@ left_out : defined basis (codes "Query") (groups_from (node 3 (codes "age")
       key = codes "id";
       nodes = node 7 (codes "id") ∷ node 14 (codes "id") ∷ [];
     } ∷ []
+unfolding same_operation
 left_out = refl
 
 -- a type that is not in the schema has no fields
 no_type : defined basis (codes "Pet") (groups_from (node 3 (codes "id") ∷ [])) ≡ []
+unfolding same_operation
 no_type = refl
 
 -- `{ __schema }` and `{ __typename }`: of these a type that is not the query root has the second
@@ -307,10 +310,12 @@ abbrev meta_nodes : List FieldNode
 meta_nodes = node 3 (codes "__schema") ∷ node 12 (codes "__typename") ∷ []
 
 of_query : defined basis (codes "Query") (groups_from meta_nodes) ≡ groups_from meta_nodes
+unfolding same_operation
 of_query = refl
 
 of_another : defined basis (codes "Pet") (groups_from meta_nodes)
     ≡ groups_from (node 12 (codes "__typename") ∷ [])
+unfolding same_operation
 of_another = refl
 
 -- ---- introspection
@@ -352,6 +357,7 @@ name_of_query : answer (types_of basis) query_type (codes "Query") (json.object 
       errors = [];
       weight = 3;
     }
+unfolding same_operation
 name_of_query = refl
 
 -- `{ mine { name } }`, where the type of `mine` is `__Type`: the data is read

@@ -20,7 +20,7 @@ use Rattle.gql_collect.specs.Unfolding.{Given}
 use Rattle.gql_inputs.specs.InputTypes.{name_in}
 use Rattle.gql_intro.specs.Introspection as intro
 use Rattle.gql_intro.specs.MetaFields.{meta_field}
-use Rattle.gql_intro.specs.Nodes as nodes
+use Rattle.gql_intro.specs.Nodes as intro_nodes
 use Rattle.gql_intro.specs.declared.made.IntroSchema.{IntroSchema}
 use Rattle.gql_types.specs.Schemas.{enum_named, field_named, kind_named, possible_named}
 use Rattle.gql_types.specs.Written.{written}
@@ -59,9 +59,9 @@ intro_arguments arguments = record {
 
 -- what the field of a name of a node resolves to, called with these arguments; null where nodes of
 -- this form have no such field
-abbrev pub introspect_in : Basis → nodes.Node → List ℕ → Data → nodes.Answer
+abbrev pub introspect_in : Basis → intro_nodes.Node → List ℕ → Data → intro_nodes.Answer
 introspect_in g n name arguments =
-    unwrap_or (intro.resolve g.given.schema g.made (intro_arguments arguments) n name) nodes.null
+    unwrap_or (intro.resolve g.given.schema g.made (intro_arguments arguments) n name) intro_nodes.null
 
 -- what execution asks of a schema
 abbrev pub types_of : Basis → Types

@@ -357,11 +357,12 @@ fn list_nodes<'d>(
     let mut ended = Ended::Written;
     let mut listed: usize = 0;
     for i in 0..nodes.len() {
-        if let Some(node) = nodes.get(setting.context.schema, i) {
-            let node_ended = list_node(alloc, setting, table, site, name, listed, node, run)?;
-            ended = ended.and(node_ended);
-            listed += 1;
-        }
+        let Some(node) = nodes.get(setting.context.schema, i) else {
+            continue;
+        };
+        let node_ended = list_node(alloc, setting, table, site, name, listed, node, run)?;
+        ended = ended.and(node_ended);
+        listed += 1;
     }
     Ok(ended)
 }

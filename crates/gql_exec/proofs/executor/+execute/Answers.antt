@@ -4,27 +4,34 @@ use Rattle.std.proofs.lemmas.List.{take_all}
 use Rattle.json.specs.Print.{quoted}
 use Rattle.serde_json.specs.Data as json
 use Rattle.serde_json.specs.View.{items_of, items_view, view}
+use Rattle.serde_json.specs.Written.{compact_text}
 use Rattle.serde_json.specs.declared.value.Value.{Value}
+use Rattle.gql_ast.specs.LiteralTexts.{literal_text}
 use Rattle.gql_inputs.specs.InputTypes.{is_non_null, name_in}
+use Rattle.gql_intro.specs.Borrowed.{answer_of, elements, node_of}
+use Rattle.gql_intro.specs.Introspection.{location_name}
+use Rattle.gql_intro.specs.Nodes as intro
 use Rattle.gql_types.specs.Written.{written, written_named, written_list, written_non_null, listed, named}
-use Rattle.gql_exec.specs.Execution.{Plan, plan, PlannedField, no_fields, complete}
+use Rattle.gql_exec.specs.Execution.{Plan, plan, PlannedField, no_fields, complete, on_answer}
 use Rattle.gql_exec.specs.Objects.{basis, object_of}
 use Rattle.gql_exec.specs.Parts.{Part, all, numbered, plain, settled}
-use Rattle.gql_exec.specs.Plans.{IsPlan, types_of}
+use Rattle.gql_exec.specs.Plans.{IsPlan, introspect_in, types_of}
 use Rattle.gql_exec.specs.Replies.{Path, key}
 use Rattle.gql_exec.specs.States.{Done, Executes, Follows, path_of}
 use Rattle.gql_exec.specs.Tables.{InTable, StandsFor, below_at, fields_at}
 use Rattle.gql_exec.specs.Texts.{value_part}
-use Rattle.gql_exec.specs.ValueParts.{IsOf, called_part, content_of_item, content_part, field_part, fields_part, item_part, items_from, items_in, items_part, member_part, object_part, placed_part, resolved_in, site_of}
+use Rattle.gql_exec.specs.ValueParts.{IsOf, answer_part, content_of_node, name_list_part, node_list_part, node_part, nodes_in, nodes_part, source_part, called_part, content_of_item, content_part, field_part, fields_part, item_part, items_from, items_in, items_part, member_part, object_part, placed_part, resolved_in, site_of}
 use Rattle.gql_exec.specs.declared.ended.Ended.TheVariants.{Written, Bubbled}
 use Rattle.gql_exec.specs.declared.outcome.Step.TheVariants as step
 use Rattle.gql_exec.specs.declared.run.Run.{Run}
 use Rattle.gql_exec.specs.declared.table.Slot.{Slot}
-use Rattle.gql_exec.proofs.Completing.{has_items}
-use Rattle.gql_exec.proofs.Doing.{at-field, caught-cut, caught-written, counted-executes, executes-after, loop-more, loop-stops, stepped, stopped, within-done, wrote}
+use Rattle.gql_exec.proofs.Completing.{answer_names, has_items}
+use Rattle.gql_exec.proofs.Doing.{at-field, caught-cut, caught-written, counted-executes, executes-after, loop-more, loop-stops, stepped, stopped, within-done, within-heavy, wrote}
 use Rattle.gql_exec.proofs.Entries.{at_slot, below_still, fields_still, in_still, no_shorter}
-use Rattle.gql_exec.proofs.Executing.{as_many, at_array, at_items, at_list, at_named, keeps_same, keeps_twice, name_of_items, on_entry, placed_nullable, stand_at}
+use Rattle.gql_exec.proofs.Executing.{answer_at, as_part, called_described, called_stored, as_many, at_array, at_items, at_list, at_named, keeps_same, keeps_twice, name_of_items, on_entry, placed_nullable, stand_at}
+use Rattle.gql_exec.proofs.Introspecting.{at_answer, at_node, at_nodes}
 use Rattle.gql_exec.proofs.Listing.{kept_items}
+use Rattle.gql_exec.proofs.Picked.{after_picked, all_picked, here_rest, next_picked, within_rest}
 use Rattle.gql_exec.proofs.Resolving.{is_array}
 use Rattle.gql_exec.proofs.executor.+execute.Goals as goal
 
@@ -220,7 +227,7 @@ place_field-returns-in_ok-cut_to_null-in-Bubbled-clause-does t c = λ q h.
 pub call_field-returns-in-Stored-clause-does : goal.call_field-returns-in-Stored-clause-does
 call_field-returns-in-Stored-clause-does t c = λ q h.
     as_part (called_part (types_of (basis c.args.setting.now)) (object_of c.args.object) q (path_of c.args.run.now))
-    (source_part (types_of (basis c.args.setting.now)) (view c.in-Given.arguments.now) (view c.in-Stored.value.now) q (path_of c.args.run.now))
+    (source_part (types_of (basis c.args.setting.now)) (view c.in-Given.arguments) (view c.in-Stored.value.now) q (path_of c.args.run.now))
     c.call_stored.result c.args.run.now c.call_stored.new.run
     (ap (λ o. called_part (types_of (basis c.args.setting.now)) (object_of o) q (path_of c.args.run.now)) c.in-Stored.is
     ∙ called_stored (types_of (basis c.args.setting.now)) q (path_of c.args.run.now) c.args.field.now _ h.planned c.in-Given.is (view c.in-Stored.value.now))
@@ -229,8 +236,130 @@ call_field-returns-in-Stored-clause-does t c = λ q h.
 pub call_field-returns-in-Described-clause-does : goal.call_field-returns-in-Described-clause-does
 call_field-returns-in-Described-clause-does t c = λ q h.
     as_part (called_part (types_of (basis c.args.setting.now)) (object_of c.args.object) q (path_of c.args.run.now))
-    (answer_part (types_of (basis c.args.setting.now)) (view c.in-Given.arguments.now) (node_of c.in-Described.node) q (path_of c.args.run.now))
+    (answer_part (types_of (basis c.args.setting.now)) (view c.in-Given.arguments) (node_of c.in-Described.node) q (path_of c.args.run.now))
     c.call_node.result c.args.run.now c.call_node.new.run
     (ap (λ o. called_part (types_of (basis c.args.setting.now)) (object_of o) q (path_of c.args.run.now)) c.in-Described.is
     ∙ called_described (types_of (basis c.args.setting.now)) q (path_of c.args.run.now) c.args.field.now _ h.planned c.in-Given.is (node_of c.in-Described.node))
     (c.call_node.ensures.does q h)
+
+pub complete_answer-returns-in-Null-clause-does : goal.complete_answer-returns-in-Null-clause-does
+complete_answer-returns-in-Null-clause-does t c = at_answer (basis c.args.setting.now) c.args.site.place c.args.name.now (below_at c.args.table.now c.args.site.slot)
+    c.write_null.result c.args.run.now c.write_null.new.run
+    (answer_of c.args.setting.now.context.schema.now c.args.answer) (intro.null) (plain (codes "null")) (ap (answer_of c.args.setting.now.context.schema.now) c.in-Null.is) (λ site. refl) c.write_null.ensures
+
+pub complete_answer-returns-in-Text-clause-does : goal.complete_answer-returns-in-Text-clause-does
+complete_answer-returns-in-Text-clause-does t c = at_answer (basis c.args.setting.now) c.args.site.place c.args.name.now (below_at c.args.table.now c.args.site.slot)
+    c.write_name.result c.args.run.now c.write_name.new.run
+    (answer_of c.args.setting.now.context.schema.now c.args.answer) (intro.text c.in-Text.text.now) (plain (quoted c.in-Text.text.now)) (ap (answer_of c.args.setting.now.context.schema.now) c.in-Text.is) (λ site. refl) c.write_name.ensures
+
+pub complete_answer-returns-in-Boolean-clause-does : goal.complete_answer-returns-in-Boolean-clause-does
+complete_answer-returns-in-Boolean-clause-does t c = at_answer (basis c.args.setting.now) c.args.site.place c.args.name.now (below_at c.args.table.now c.args.site.slot)
+    c.write_flag.result c.args.run.now c.write_flag.new.run
+    (answer_of c.args.setting.now.context.schema.now c.args.answer) (intro.truth c.in-Boolean.truth) (plain (compact_text (json.boolean c.in-Boolean.truth))) (ap (answer_of c.args.setting.now.context.schema.now) c.in-Boolean.is) (λ site. refl) c.write_flag.ensures
+
+pub complete_answer-returns-in-EnumValue-clause-does : goal.complete_answer-returns-in-EnumValue-clause-does
+complete_answer-returns-in-EnumValue-clause-does t c = at_answer (basis c.args.setting.now) c.args.site.place c.args.name.now (below_at c.args.table.now c.args.site.slot)
+    c.write_name-in-EnumValue.result c.args.run.now c.write_name-in-EnumValue.new.run
+    (answer_of c.args.setting.now.context.schema.now c.args.answer) (intro.enum_name c.in-EnumValue.value.now) (plain (quoted c.in-EnumValue.value.now)) (ap (answer_of c.args.setting.now.context.schema.now) c.in-EnumValue.is) (λ site. refl) c.write_name-in-EnumValue.ensures
+
+pub complete_answer-returns-in-Literal-clause-does : goal.complete_answer-returns-in-Literal-clause-does
+complete_answer-returns-in-Literal-clause-does t c = at_answer (basis c.args.setting.now) c.args.site.place c.args.name.now (below_at c.args.table.now c.args.site.slot)
+    c.write_literal.result c.args.run.now c.write_literal.new.run
+    (answer_of c.args.setting.now.context.schema.now c.args.answer) (intro.text (literal_text c.in-Literal.literal.now)) (plain (quoted (literal_text c.in-Literal.literal.now))) (ap (answer_of c.args.setting.now.context.schema.now) c.in-Literal.is) (λ site. refl) c.write_literal.ensures
+
+pub complete_answer-returns-in-Locations-clause-does : goal.complete_answer-returns-in-Locations-clause-does
+complete_answer-returns-in-Locations-clause-does t c = at_answer (basis c.args.setting.now) c.args.site.place c.args.name.now (below_at c.args.table.now c.args.site.slot)
+    c.write_locations.result c.args.run.now c.write_locations.new.run
+    (answer_of c.args.setting.now.context.schema.now c.args.answer) (intro.enum_names (map location_name c.in-Locations.locations.now)) (name_list_part (map location_name c.in-Locations.locations.now)) (ap (answer_of c.args.setting.now.context.schema.now) c.in-Locations.is) (λ site. answer_names site c.args.name.now (path_of c.args.run.now) (map location_name c.in-Locations.locations.now)) c.write_locations.ensures
+
+pub complete_answer-returns-in-Node-clause-does : goal.complete_answer-returns-in-Node-clause-does
+complete_answer-returns-in-Node-clause-does t c = at_node (basis c.args.setting.now) c.args.site.place c.args.name.now (below_at c.args.table.now c.args.site.slot)
+    c.execute_below.result c.args.run.now c.execute_below.new.run
+    (answer_of c.args.setting.now.context.schema.now c.args.answer) (node_of c.in-Node.node) (ap (answer_of c.args.setting.now.context.schema.now) c.in-Node.is) c.execute_below.ensures.does
+
+pub complete_answer-returns-in-Nodes-clause-does : goal.complete_answer-returns-in-Nodes-clause-does
+complete_answer-returns-in-Nodes-clause-does t c = at_nodes (basis c.args.setting.now) c.args.site.place c.args.name.now (below_at c.args.table.now c.args.site.slot)
+    c.complete_nodes.result c.args.run.now c.complete_nodes.new.run
+    (answer_of c.args.setting.now.context.schema.now c.args.answer) (nodes_in c.args.setting.now.context.schema.now c.in-Nodes.nodes) (ap (answer_of c.args.setting.now.context.schema.now) c.in-Nodes.is) c.complete_nodes.ensures.does
+
+pub complete_nodes-returns-clause-does : goal.complete_nodes-returns-clause-does
+complete_nodes-returns-clause-does t c = λ x i.
+    let site = site_of (types_of (basis c.args.setting.now)) c.args.site.place x in
+    within-done (codes "[") (codes "]") (λ p. nodes_part c.args.name.now site (nodes_in c.args.setting.now.context.schema.now c.args.nodes) p)
+    c.args.run.now c.write.new.run c.list_nodes.new.run c.in_ok-write.ensures.follows c.in_ok-ended.ended c.write-2.new.run (c.in_ok-ended.ensures.does x i) c.in_ok-write-2.ensures.follows
+
+pub list_node-returns-clause-does : goal.list_node-returns-clause-does
+list_node-returns-clause-does t c = λ x i.
+    let site = site_of (types_of (basis c.args.setting.now)) c.args.site.place x in
+    counted-executes c.args.i (λ p. content_of_node c.args.name.now site c.args.i (node_of c.args.node) p)
+    c.node_content.result c.args.run.now c.write_comma.new.run c.count.new.run c.node_content.new.run c.in_ok-write_comma.ensures.follows c.in_ok-count.ensures.follows (c.node_content.ensures.does x i)
+
+pub call_node-returns-clause-does : goal.call_node-returns-clause-does
+call_node-returns-clause-does t c = λ q h.
+    let g = basis c.args.setting.now in
+    as_part (answer_part (types_of g) (view c.args.arguments.now) (node_of c.args.node) q (path_of c.args.run.now))
+    (value_part (on_answer (site_of (types_of g) c.args.field.now.place q.1) c.as_str.result.now (path_of c.args.run.now) (answer_of c.args.setting.now.context.schema.now c.introspect-answer.result)))
+    c.complete_answer.result c.args.run.now c.complete_answer.new.run
+    (answer_at (types_of g) (view c.args.arguments.now) (node_of c.args.node) q (path_of c.args.run.now) c.args.field.now h.planned
+    ∙ ap (λ n. value_part (on_answer (site_of (types_of g) c.args.field.now.place q.1) n (path_of c.args.run.now) (introspect_in g (node_of c.args.node) c.args.field.now.name.now (view c.args.arguments.now)))) (sym (c.as_str.ensures ∙ c.name_in-name.ensures))
+    ∙ ap (λ a. value_part (on_answer (site_of (types_of g) c.args.field.now.place q.1) c.as_str.result.now (path_of c.args.run.now) a)) (sym c.introspect-answer.ensures))
+    (c.complete_answer.ensures.does q.1
+    (subst (λ n. IsPlan g n (below_at c.args.table.now c.args.slot) q.1) (ap (λ (e : PlannedField). name_in e.of_type) h.planned ∙ sym (c.as_str.ensures ∙ c.name_in-name.ensures))
+    (subst (λ xs. IsPlan g (name_in q.0.of_type) xs q.1) (sym c.requires.at.below) h.below)))
+
+pub list_nodes-list_node-requires : goal.list_nodes-list_node-requires
+list_nodes-list_node-requires t c = let inv = c.loop-i.invariant in
+    (omega (arith, inv.keeps.left, c.decreases), (inv.keeps.right, in_still c.args.table.now c.loop-i.table c.args.site.slot inv.keeps.grows c.requires.within))
+
+pub list_nodes-returns-in_err-node_ended-clause-does : goal.list_nodes-returns-in_err-node_ended-clause-does
+list_nodes-returns-in_err-node_ended-clause-does t c = λ x i.
+    let inv = c.loop-i.invariant in
+    let g = basis c.args.setting.now in
+    let site = site_of (types_of g) c.args.site.place x in
+    let s = c.args.setting.now.context.schema.now in
+    let left = next_picked (elements s c.args.nodes) c.loop-i.i c.loop-i.listed (node_of c.in-Some.node) inv.rest (omega (arith, inv.count, c.loop-i-test.true)) (sym c.get.ensures ∙ ap (option_map node_of) c.in-Some.is) in
+    stopped (nodes_part c.args.name.now site (nodes_in s c.args.nodes) (path_of c.args.run.now)) c.from_residual.result c.in_err-node_ended.field-0.0
+    c.args.run.now c.list_node.new.run c.from_residual.ensures.1
+    (loop-stops (node_part c.args.name.now site) (nodes_in s c.args.nodes) c.loop-i.listed (node_of c.in-Some.node) c.args.run.now c.loop-i.run c.list_node.new.run
+    (within_rest (nodes_in s c.args.nodes) c.loop-i.listed (node_of c.in-Some.node) _ left) (here_rest (nodes_in s c.args.nodes) c.loop-i.listed (node_of c.in-Some.node) _ left)
+    c.loop-i.ended c.in_err-node_ended.field-0.0 (inv.done x i)
+    (c.in_err-node_ended.ensures.does x (subst (λ xs. IsPlan g c.args.name.now xs x)
+    (sym (below_still c.args.table.now c.loop-i.table c.args.site.slot inv.keeps.grows c.requires.within)) i)))
+
+pub list_nodes-loop-i-preserved : goal.list_nodes-loop-i-preserved
+list_nodes-loop-i-preserved t c =
+    let inv = c.loop-i.invariant in
+    let g = basis c.args.setting.now in
+    let s = c.args.setting.now.context.schema.now in
+    let node = node_of c.in-Some.node in
+    let left = next_picked (elements s c.args.nodes) c.loop-i.i c.loop-i.listed node inv.rest (omega (arith, inv.count, c.loop-i-test.true)) (sym c.get.ensures ∙ ap (option_map node_of) c.in-Some.is) in
+    record {
+      keeps = keeps_twice g c.args.table.now c.loop-i.table c.list_node.new.table c.args.run.now c.loop-i.run c.list_node.new.run inv.keeps c.in_ok-node_ended.ensures.keeps;
+      count = inv.count;
+      no_more = omega (arith, inv.no_more);
+      rest = after_picked (nodes_in s c.args.nodes) c.loop-i.listed node _ left;
+      done = λ x i.
+          let site = site_of (types_of g) c.args.site.place x in
+          rw c.and-ended.ensures (loop-more (node_part c.args.name.now site) (nodes_in s c.args.nodes) c.loop-i.listed node c.args.run.now c.loop-i.run c.list_node.new.run
+          (within_rest (nodes_in s c.args.nodes) c.loop-i.listed node _ left) (here_rest (nodes_in s c.args.nodes) c.loop-i.listed node _ left)
+          c.loop-i.ended c.in_ok-node_ended.node_ended (inv.done x i)
+          (c.in_ok-node_ended.ensures.does x (subst (λ xs. IsPlan g c.args.name.now xs x)
+          (sym (below_still c.args.table.now c.loop-i.table c.args.site.slot inv.keeps.grows c.requires.within)) i)));
+    }
+
+pub list_nodes-returns-clause-does : goal.list_nodes-returns-clause-does
+list_nodes-returns-clause-does t c = λ x i.
+    let inv = c.loop-i.invariant in
+    let s = c.args.setting.now.context.schema.now in
+    let end = all_picked (elements s c.args.nodes) c.loop-i.i c.loop-i.listed inv.rest (omega (arith, inv.count, c.loop-i-test.false)) in
+    subst (λ ns. Done (all (numbered (node_part c.args.name.now (site_of (types_of (basis c.args.setting.now)) c.args.site.place x) (path_of c.args.run.now)) 0 ns)) c.loop-i.ended c.args.run.now c.loop-i.run)
+    end (inv.done x i)
+
+pub complete_nodes-returns-in_err-ended-clause-does : goal.complete_nodes-returns-in_err-ended-clause-does
+complete_nodes-returns-in_err-ended-clause-does t c = λ x i.
+    let site = site_of (types_of (basis c.args.setting.now)) c.args.site.place x in
+    let ns = nodes_in c.args.setting.now.context.schema.now c.args.nodes in
+    stopped (node_list_part c.args.name.now site ns (path_of c.args.run.now)) c.from_residual-in_err-ended.result c.in_err-ended.field-0.0
+    c.args.run.now c.list_nodes.new.run c.from_residual-in_err-ended.ensures.1
+    (λ heavy. within-heavy (codes "[") (codes "]") (λ p. nodes_part c.args.name.now site ns p)
+    c.args.run.now c.write.new.run c.list_nodes.new.run c.in_ok-write.ensures.follows (c.in_err-ended.ensures.does x i heavy))
