@@ -1,5 +1,6 @@
 //! What introspection answers for the fields of its nodes (GraphQL specification, 4.2).
-ghost use Rattle.std.specs.Prelude.{◌≡◌, map, option_and_then};
+ghost use Rattle.std.specs.Prelude.{◌≡◌, ◌<◌, length, map, option_and_then};
+ghost use Rattle.std.proofs.Common.{get_or};
 ghost use Rattle.std.specs.Option.{option_copied};
 ghost use Rattle.json.specs.Print.{quoted};
 ghost use Rattle.gql_ast.specs.LiteralTexts.{literal_text};
@@ -103,6 +104,14 @@ pub fn write_literal(
     Ok(Ended::Written)
 }
 
+/// The location at a place of a list.
+fn location_at(locations: &[DirectiveLocation], i: usize) -> DirectiveLocation
+    requires { i < length locations.now }
+    ensures { result ≡ get_or locations.now i result }
+{
+    locations[i]
+}
+
 /// Writes the name of a location, with its comma.
 fn write_location(
     run: &mut Run<'_>,
@@ -125,7 +134,8 @@ fn list_locations(
 {
     let mut ended = Ended::Written;
     for i in 0..locations.len() {
-        ended = ended.and(write_location(run, i, locations[i])?);
+        let location = location_at(locations, i);
+        ended = ended.and(write_location(run, i, location)?);
     }
     Ok(ended)
 }

@@ -31,7 +31,7 @@ use Rattle.gql_exec.proofs.Entries.{at_slot, below_still, fields_still, in_still
 use Rattle.gql_exec.proofs.Executing.{answer_at, as_part, called_described, called_stored, as_many, at_array, at_items, at_list, at_named, keeps_same, keeps_twice, name_of_items, on_entry, placed_nullable, stand_at}
 use Rattle.gql_exec.proofs.Introspecting.{at_answer, at_node, at_nodes}
 use Rattle.gql_exec.proofs.Listing.{kept_items}
-use Rattle.gql_exec.proofs.Picked.{after_picked, all_picked, here_rest, next_picked, within_rest}
+use Rattle.gql_exec.proofs.Picked.{after_picked, all_picked, here_rest, next_picked, picked_none, within_rest}
 use Rattle.gql_exec.proofs.Resolving.{is_array}
 use Rattle.gql_exec.proofs.executor.+execute.Goals as goal
 
@@ -309,7 +309,7 @@ call_node-returns-clause-does t c = λ q h.
 
 pub list_nodes-list_node-requires : goal.list_nodes-list_node-requires
 list_nodes-list_node-requires t c = let inv = c.loop-i.invariant in
-    (omega (arith, inv.keeps.left, c.decreases), (inv.keeps.right, in_still c.args.table.now c.loop-i.table c.args.site.slot inv.keeps.grows c.requires.within))
+    (omega (arith, inv.keeps.left, c.requires.1.0), (inv.keeps.right, in_still c.args.table.now c.loop-i.table c.args.site.slot inv.keeps.grows c.requires.1.1.1))
 
 pub list_nodes-returns-in_err-node_ended-clause-does : goal.list_nodes-returns-in_err-node_ended-clause-does
 list_nodes-returns-in_err-node_ended-clause-does t c = λ x i.
@@ -324,7 +324,7 @@ list_nodes-returns-in_err-node_ended-clause-does t c = λ x i.
     (within_rest (nodes_in s c.args.nodes) c.loop-i.listed (node_of c.in-Some.node) _ left) (here_rest (nodes_in s c.args.nodes) c.loop-i.listed (node_of c.in-Some.node) _ left)
     c.loop-i.ended c.in_err-node_ended.field-0.0 (inv.done x i)
     (c.in_err-node_ended.ensures.does x (subst (λ xs. IsPlan g c.args.name.now xs x)
-    (sym (below_still c.args.table.now c.loop-i.table c.args.site.slot inv.keeps.grows c.requires.within)) i)))
+    (sym (below_still c.args.table.now c.loop-i.table c.args.site.slot inv.keeps.grows c.requires.1.1.1)) i)))
 
 pub list_nodes-loop-i-preserved : goal.list_nodes-loop-i-preserved
 list_nodes-loop-i-preserved t c =
@@ -344,7 +344,19 @@ list_nodes-loop-i-preserved t c =
           (within_rest (nodes_in s c.args.nodes) c.loop-i.listed node _ left) (here_rest (nodes_in s c.args.nodes) c.loop-i.listed node _ left)
           c.loop-i.ended c.in_ok-node_ended.node_ended (inv.done x i)
           (c.in_ok-node_ended.ensures.does x (subst (λ xs. IsPlan g c.args.name.now xs x)
-          (sym (below_still c.args.table.now c.loop-i.table c.args.site.slot inv.keeps.grows c.requires.within)) i)));
+          (sym (below_still c.args.table.now c.loop-i.table c.args.site.slot inv.keeps.grows c.requires.1.1.1)) i)));
+    }
+
+pub list_nodes-loop-i-preserved-in_default : goal.list_nodes-loop-i-preserved-in_default
+list_nodes-loop-i-preserved-in_default t c =
+    let inv = c.loop-i.invariant in
+    let es = elements c.args.setting.now.context.schema.now c.args.nodes in
+    record {
+      keeps = inv.keeps;
+      count = inv.count;
+      no_more = omega (arith, inv.no_more);
+      rest = inv.rest ∙ picked_none es c.loop-i.i (omega (arith, inv.count, c.loop-i-test.true)) (sym c.get.ensures ∙ ap (option_map node_of) c.in_default.is);
+      done = inv.done;
     }
 
 pub list_nodes-returns-clause-does : goal.list_nodes-returns-clause-does

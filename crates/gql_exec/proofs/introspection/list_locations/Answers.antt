@@ -14,8 +14,8 @@ returns-in_err-write_location c =
     let names = map location_name c.args.locations.now in
     let n = length-map c.args.locations.now location_name in
     stopped (names_part names) c.from_residual.result c.in_err-write_location.field-0.0 c.args.run.now c.write_location.new.run c.from_residual.ensures.1
-    (loop-stops (λ p. name_part) names c.loop-i.i (location_name c.index.result) c.args.run.now c.loop-i.run c.write_location.new.run
-    (omega (arith, inv.count, n, c.loop-i-test.true)) (at_map location_name c.args.locations.now c.loop-i.i c.index.result (omega (arith, inv.count, c.loop-i-test.true)) c.index.ensures)
+    (loop-stops (λ p. name_part) names c.loop-i.i (location_name c.location_at-location.result) c.args.run.now c.loop-i.run c.write_location.new.run
+    (omega (arith, inv.count, n, c.loop-i-test.true)) (at_map location_name c.args.locations.now c.loop-i.i c.location_at-location.result (omega (arith, inv.count, c.loop-i-test.true)) c.location_at-location.ensures)
     c.loop-i.ended c.in_err-write_location.field-0.0 inv.done c.in_err-write_location.ensures)
 
 pub loop-i-preserved : goal.loop-i-preserved
@@ -25,8 +25,8 @@ loop-i-preserved c =
     let n = length-map c.args.locations.now location_name in
     record {
       count = inv.count;
-      done = rw c.and-ended.ensures (loop-more (λ p. name_part) names c.loop-i.i (location_name c.index.result) c.args.run.now c.loop-i.run c.write_location.new.run
-          (omega (arith, inv.count, n, c.loop-i-test.true)) (at_map location_name c.args.locations.now c.loop-i.i c.index.result (omega (arith, inv.count, c.loop-i-test.true)) c.index.ensures)
+      done = rw c.and-ended.ensures (loop-more (λ p. name_part) names c.loop-i.i (location_name c.location_at-location.result) c.args.run.now c.loop-i.run c.write_location.new.run
+          (omega (arith, inv.count, n, c.loop-i-test.true)) (at_map location_name c.args.locations.now c.loop-i.i c.location_at-location.result (omega (arith, inv.count, c.loop-i-test.true)) c.location_at-location.ensures)
           c.loop-i.ended c.in_ok-write_location.field-0 inv.done c.in_ok-write_location.ensures);
     }
 
