@@ -18,9 +18,9 @@ ghost use Rattle.gql_exec.specs.ValueParts as part;
 ghost use Rattle.gql_exec.specs.ValueParts.{Does, IsAt, IsOf, Keeps, items_in, resolved_in};
 
 use crate::ended::Ended;
+use crate::introspection::{introspect, write_flag, write_literal, write_locations, write_name};
 use crate::items::ListItems;
 use crate::kinds::type_name;
-use crate::introspection::{introspect, write_flag, write_literal, write_locations, write_name};
 use crate::leaves::{Leaf, complete_enum, complete_scalar};
 use crate::nulls::{complete_null, without_mark, write_null};
 use crate::object::ObjectRef;

@@ -69,7 +69,13 @@ pub fn introspect<'d>(
         (view arguments.now) }
 {
     let schema = setting.context.schema;
-    match intro_resolve(schema, setting.made, node, field, intro_arguments(arguments)) {
+    match intro_resolve(
+        schema,
+        setting.made,
+        node,
+        field,
+        intro_arguments(arguments),
+    ) {
         Some(answer) => answer,
         None => IntroAnswer::Null,
     }
@@ -126,10 +132,7 @@ fn write_location(
 }
 
 /// Writes the names of locations, one after another.
-fn list_locations(
-    run: &mut Run<'_>,
-    locations: &[DirectiveLocation],
-) -> Result<Ended, ExecRefusal>
+fn list_locations(run: &mut Run<'_>, locations: &[DirectiveLocation]) -> Result<Ended, ExecRefusal>
     ensures { Executes (names_part (map name_of_location locations.now)) result run.old run.new }
 {
     let mut ended = Ended::Written;

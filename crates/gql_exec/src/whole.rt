@@ -289,5 +289,7 @@ pub fn execute<'d>(
     };
     let file = &definition.file;
     let operation = operation.get();
-    execute_request(alloc, fragments, schema, made, file, operation, variables, stored)
+    execute_request(
+        alloc, fragments, schema, made, file, operation, variables, stored,
+    )
 }
