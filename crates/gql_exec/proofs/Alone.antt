@@ -1,13 +1,10 @@
 -- A request has one response.
-use Rattle.std.proofs.Common.{◌≡◌, ℕ, ◌+◌, List, [], ◌∷◌, ◌++◌, Bool, true, bytes_eq, codes, Option, Some, None, refl, sym, ap, ◌∙◌, subst, if◌then◌else◌, inl, inr}
-use Rattle.gql_ast.specs.declared.executable.VariableDefinition.{VariableDefinition}
+use Rattle.std.proofs.Common.{◌≡◌, ℕ, ◌+◌, List, [], ◌∷◌, ◌++◌, true, codes, Option, Some, None, refl, sym, ap, ◌∙◌, subst, if◌then◌else◌, inl, inr}
 use Rattle.gql_coerce.specs.Comes as comes
 use Rattle.gql_coerce.specs.Comes.{Outcome}
 use Rattle.gql_coerce.specs.Laws.{OneOfArguments, OneOfVariables}
-use Rattle.gql_coerce.specs.Requests.{ArgumentsCome, VariablesCome}
-use Rattle.gql_coerce.specs.declared.refusal.Reason.{Reason}
-use Rattle.gql_coerce.specs.declared.refusal.Segment.{Segment}
-use Rattle.gql_collect.specs.Collection.{Collects, selections_below}
+use Rattle.gql_coerce.specs.Requests.{ArgumentsCome}
+use Rattle.gql_collect.specs.Collection.{selections_below}
 use Rattle.gql_collect.specs.Groups.{Group}
 use Rattle.gql_collect.specs.Laws.{OneCollection}
 use Rattle.gql_collect.specs.Nodes.{FieldNode, FileSelection, in_file}

@@ -1,10 +1,9 @@
 -- What completing is at each form of a type and of a value, and what is written for it.
-use Rattle.std.proofs.Common.{◌≡◌, ℕ, zero, suc, ◌+◌, ◌⊎◌, inl, inr, Bool, true, false, List, [], ◌∷◌, ◌++◌, map, codes, is_some, Option, Some, None, refl, sym, ap, ◌∙◌, if◌then◌else◌}
+use Rattle.std.proofs.Common.{◌≡◌, ℕ, ◌+◌, ◌⊎◌, inl, inr, Bool, true, false, List, [], ◌∷◌, ◌++◌, map, codes, is_some, Option, Some, None, refl, ap, ◌∙◌, if◌then◌else◌}
 use Rattle.json.specs.Print.{quoted}
 use Rattle.gql_inputs.specs.InputTypes.{is_list, is_non_null, item_of}
 use Rattle.gql_intro.specs.Nodes as intro
 use Rattle.gql_intro.specs.Nodes.{Node}
-use Rattle.gql_text.specs.declared.place.Place.{Place}
 use Rattle.gql_types.specs.Written.{Written, named, listed, required}
 use Rattle.gql_types.specs.declared.kind.TypeKind.{TypeKind}
 use Rattle.gql_types.specs.declared.kind.TypeKind.TheVariants as kind
@@ -13,15 +12,15 @@ use Rattle.serde_json.specs.Data.{Data, Items}
 use Rattle.serde_json.specs.Find.{as_array, as_object, get}
 use Rattle.serde_json.specs.View.{items_of}
 use Rattle.serde_json.specs.Written.{compact_text}
-use Rattle.gql_exec.specs.Execution.{Object, Site, Types, stored, described, Plan, plan, Fields, no_fields, field, PlannedField, complete, each, execute, fault, is_null, items_from, leaf, list_reply, members_of, name_item, of_kind, on_abstract, on_answer, among, on_list, on_node, on_object, placed}
+use Rattle.gql_exec.specs.Execution.{Object, Site, Types, stored, Plan, plan, Fields, no_fields, field, PlannedField, complete, each, execute, fault, is_null, leaf, list_reply, members_of, name_item, of_kind, on_abstract, on_answer, among, on_list, on_node, on_object}
 use Rattle.gql_exec.specs.Leaves.{as_enum, scalar_value}
 use Rattle.gql_exec.specs.LeafParts.{leaf_at}
-use Rattle.gql_exec.specs.Parts.{Part, plain, raise, within, all, numbered, after_comma, comma_list, counted}
+use Rattle.gql_exec.specs.Parts.{Part, plain, raise, within, all, numbered, after_comma, counted}
 use Rattle.gql_exec.specs.Replies.{Path, index, Reply}
 use Rattle.gql_exec.specs.Replies as reply
 use Rattle.gql_exec.specs.Tables.{pairs_of}
 use Rattle.gql_exec.specs.Texts.{value_part, texted, member_text}
-use Rattle.gql_exec.specs.ValueParts.{name_list_part, name_part, node_list_part, placed_part, member_part, field_part, fields_part, object_part, item_at, item_part, items_part, list_part, content_of_item}
+use Rattle.gql_exec.specs.ValueParts.{name_list_part, name_part, node_list_part, field_part, object_part, item_at, item_part, list_part}
 use Rattle.gql_exec.proofs.Resolving.{listed as listed_items}
 use Rattle.gql_exec.proofs.Texting as texting
 use Rattle.gql_exec.proofs.Texting.{placed_is, uncounted}

@@ -1,9 +1,7 @@
 -- What an execution comes to as a whole.
 use Rattle.std.specs.Result.{IfOk, IfErr, IsErrAnd}
 use Rattle.std.proofs.lemmas.List.{map-append}
-use Rattle.std.proofs.Common.{◌≡◌, Result, Ok, Err, ℕ, ◌+◌, ◌<◌, ◌≤◌, List, [], ◌∷◌, ◌++◌, map, take, codes, false, true, Option, Some, None, refl, sym, ap, subst, ◌∙◌, arith, append_assoc}
-use Rattle.gql_ast.specs.declared.executable.Operation.{Operation}
-use Rattle.gql_ast.specs.declared.executable.VariableDefinition.{VariableDefinition}
+use Rattle.std.proofs.Common.{◌≡◌, Result, Ok, Err, ℕ, List, [], ◌∷◌, ◌++◌, map, take, codes, Option, Some, None, refl, sym, ap, subst, ◌∙◌, arith, append_assoc}
 use Rattle.gql_coerce.specs.Comes as comes
 use Rattle.gql_coerce.specs.Comes.{Outcome as Comes}
 use Rattle.gql_coerce.specs.Requests.{VariablesCome}
@@ -12,14 +10,12 @@ use Rattle.gql_coerce.specs.declared.refusal.Refusal.{Refusal}
 use Rattle.gql_coerce.specs.declared.refusal.Segment.{Segment}
 use Rattle.gql_coerce.specs.Laws.{OneOfVariables}
 use Rattle.gql_collect.specs.Nodes.{in_file}
-use Rattle.serde_json.specs.Data as json
 use Rattle.serde_json.specs.Data.{Data}
 use Rattle.serde_json.specs.Written.{compact_text}
-use Rattle.gql_exec.specs.Execution.{Answer, Plan, answered}
+use Rattle.gql_exec.specs.Execution.{answered}
 use Rattle.gql_exec.specs.Plans.{IsPlan}
 use Rattle.gql_exec.specs.Outcomes.{AnError, AnOutcome, error_of}
-use Rattle.gql_exec.specs.Parts.{Outcome, text, bubble}
-use Rattle.gql_exec.specs.Replies.{Error, Reply, kept, or_null}
+use Rattle.gql_exec.specs.Replies.{Reply, kept, or_null}
 use Rattle.gql_exec.specs.Requests.{Request, Response, Executes, IsOutcome, basis_of, IsTooHeavy, most_values, refused, executed, request_error, response_of, variable_at}
 use Rattle.gql_exec.specs.Requests as requests
 use Rattle.gql_exec.specs.Runs.{Answering, Finishes, IsFresh, IsOutcomeOf, IsRefused, came_to}

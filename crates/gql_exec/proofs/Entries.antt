@@ -1,9 +1,9 @@
 -- Tables that grow.
-use Rattle.std.proofs.Common.{◌≡◌, add-one, ℕ, zero, suc, ◌+◌, ◌<◌, ◌≤◌, List, [], ◌∷◌, ◌++◌, take, length, get_or, Option, Some, None, Vec, Global, refl, sym, ap, ◌∙◌, arith, subst}
+use Rattle.std.proofs.Common.{◌≡◌, ℕ, zero, suc, ◌<◌, ◌≤◌, List, [], ◌∷◌, ◌++◌, take, length, get_or, Option, Some, None, Vec, Global, refl, sym, ap, ◌∙◌, arith, subst}
 use Rattle.std.specs.List.{All}
 use Rattle.std.proofs.Math.Seq.{take-length, take-append_seam}
 use Rattle.std.proofs.lemmas.List.{length-take, take-take}
-use Rattle.std.proofs.lemmas.List.Elements.{All-append, All-get_or}
+use Rattle.std.proofs.lemmas.List.Elements.{All-append}
 use Rattle.gql_collect.specs.Borrowed.{all_selections}
 use Rattle.gql_collect.specs.Nodes.{FileSelection}
 use Rattle.gql_exec.specs.Plans.{Basis}
@@ -11,7 +11,7 @@ use Rattle.gql_exec.specs.declared.planning.FieldPlan.{FieldPlan}
 use Rattle.gql_exec.specs.declared.table.Entry.{Entry}
 use Rattle.gql_exec.specs.declared.table.Slot.{Slot}
 use Rattle.gql_exec.specs.declared.table.Table.{Table}
-use Rattle.gql_exec.specs.Tables.{Hold, HoldsBelow, IsRightIn, IsRight, Grows, Has, InTable, IsBelow, FoundAt, fields_at, sets_at, selections_at, below_at}
+use Rattle.gql_exec.specs.Tables.{Hold, HoldsBelow, IsRightIn, IsRight, Grows, Has, InTable, FoundAt, fields_at, sets_at, below_at}
 use Rattle.gql_exec.specs.ValueParts.{IsAt}
 
 -- ---- the fields of an entry

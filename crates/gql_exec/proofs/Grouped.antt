@@ -3,7 +3,7 @@ use Rattle.std.proofs.Common.{◌≡◌, ℕ, List, [], ◌∷◌, ◌++◌, cod
 use Rattle.std.proofs.lemmas.List.Elements.{filter-append}
 use Rattle.json.specs.Print.{quoted}
 use Rattle.gql_coerce.specs.Requests.{ArgumentsCome}
-use Rattle.gql_collect.specs.Collection.{AreGroups, Collects, selections_below}
+use Rattle.gql_collect.specs.Collection.{AreGroups, selections_below}
 use Rattle.gql_collect.specs.Groups.{Group}
 use Rattle.gql_collect.specs.Nodes.{FieldNode, FileSelection}
 use Rattle.gql_inputs.specs.InputTypes.{name_in}

@@ -1,5 +1,5 @@
 -- How the calls that complete what introspection answers come together.
-use Rattle.std.proofs.Common.{◌≡◌, ℕ, List, Option, true, Some, None, Result, option_map, unwrap_or, refl, sym, ap, subst, ◌∙◌}
+use Rattle.std.proofs.Common.{◌≡◌, ℕ, List, Option, true, Some, None, Result, option_map, unwrap_or, sym, ap, ◌∙◌}
 use Rattle.gql_collect.specs.Nodes.{FileSelection}
 use Rattle.gql_intro.specs.Borrowed.{answer_of}
 use Rattle.gql_intro.specs.Nodes as intro
@@ -10,7 +10,6 @@ use Rattle.gql_types.specs.declared.schema.Schema.{Schema}
 use Rattle.gql_exec.specs.Execution.{Plan, Site, described, execute, on_answer}
 use Rattle.gql_exec.specs.Parts.{Part}
 use Rattle.gql_exec.specs.Plans.{Basis, IsPlan, is_met, types_of}
-use Rattle.gql_exec.specs.Replies.{Path}
 use Rattle.gql_exec.specs.States.{Executes, path_of}
 use Rattle.gql_exec.specs.Texts.{value_part}
 use Rattle.gql_exec.specs.ValueParts.{Does, node_list_part, site_of}

@@ -1,11 +1,9 @@
 -- The items of lists.
-use Rattle.std.proofs.Common.{◌≡◌, ℕ, zero, suc, ◌<◌, List, [], ◌∷◌, map, length, get_or, Bor, refl, sym, ap, ◌∙◌, arith}
-use Rattle.std.proofs.lemmas.List.{length-map}
+use Rattle.std.proofs.Common.{◌≡◌, ℕ, zero, suc, ◌<◌, List, [], ◌∷◌, map, length, get_or, Bor, refl, ap, arith}
 use Rattle.serde_json.specs.Data.{Data}
 use Rattle.serde_json.specs.View.{view}
 use Rattle.serde_json.specs.declared.value.Value.{Value}
-use Rattle.gql_exec.specs.ValueParts.{items_from, items_in}
-use Rattle.gql_exec.specs.declared.items.ListItems.{ListItems}
+use Rattle.gql_exec.specs.ValueParts.{items_from}
 
 pub none_kept : (ds : List Data) (vs : List (Bor Value)) → length vs ≡ 0 → items_from ds vs ≡ ds
 none_kept ds [] e = refl

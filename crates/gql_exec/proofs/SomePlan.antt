@@ -1,5 +1,5 @@
 -- Selections that nest at some depth have a plan.
-use Rattle.std.proofs.Common.{◌≡◌, ℕ, zero, suc, List, [], ◌∷◌, Bool, true, false, if◌then◌else◌, filter, is_some, map, Option, Some, None, Contains, refl, sym, ap, ◌∙◌, subst, inl, inr}
+use Rattle.std.proofs.Common.{◌≡◌, ℕ, zero, suc, List, [], ◌∷◌, Option, Some, None, Contains, refl, sym, ap, ◌∙◌, subst}
 use Rattle.gql_ast.specs.declared.executable.Selection.{Selection}
 use Rattle.gql_ast.specs.declared.literal.Argument.{Argument}
 use Rattle.gql_ast.specs.declared.type_system.InputValueDefinition.{InputValueDefinition}
@@ -10,12 +10,11 @@ use Rattle.gql_collect.specs.Groups.{Group}
 use Rattle.gql_collect.specs.Nesting.{AllNest, Nests, NestedGroups, selections_of}
 use Rattle.gql_collect.specs.Nodes.{FileSelection, FieldNode}
 use Rattle.gql_collect.specs.Unfolding.{nothing}
-use Rattle.gql_facts.specs.ListMembers.{Contains-nil, Contains-here, Contains-there, Contains-cases}
+use Rattle.gql_facts.specs.ListMembers.{Contains-here, Contains-there}
 use Rattle.gql_inputs.specs.InputTypes.{name_in}
-use Rattle.gql_types.specs.Written.{written}
 use Rattle.serde_json.specs.Data.{Data}
 use Rattle.gql_exec.specs.Execution.{Plan, plan, Fields, no_fields, field, PlannedField}
-use Rattle.gql_exec.specs.Plans.{Basis, FieldOf, IsPlan, ArePlanned, IsPlanned, planned, defined, field_of, field_of_nodes, is_met}
+use Rattle.gql_exec.specs.Plans.{Basis, FieldOf, IsPlan, ArePlanned, IsPlanned, planned, defined, field_of, field_of_nodes}
 
 module _ (g : Basis)
     (arguments : (definitions : List InputValueDefinition) (given : List Argument) → (o : Outcome Data) × ArgumentsCome g.given.schema definitions given g.given.values o)

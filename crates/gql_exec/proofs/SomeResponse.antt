@@ -1,5 +1,5 @@
 -- A request has a response.
-use Rattle.std.proofs.Common.{◌≡◌, ◌⊎◌, ℕ, List, [], ◌∷◌, Bool, true, false, if◌then◌else◌, find, bytes_eq, Option, Some, None, Contains, refl, sym, ap, ◌∙◌, subst, inl, inr}
+use Rattle.std.proofs.Common.{◌≡◌, ℕ, List, [], ◌∷◌, Bool, true, false, find, bytes_eq, Some, Contains, refl, sym, ap, ◌∙◌, subst, inl, inr}
 use Rattle.std.proofs.lemmas.Slice.Eq.{bytes_eq-Decides}
 use Rattle.gql_ast.specs.declared.executable.Selection.{Selection}
 use Rattle.gql_ast.specs.declared.executable.VariableDefinition.{VariableDefinition}
@@ -18,11 +18,11 @@ use Rattle.gql_types.specs.Schemas.{kind_named, root_of}
 use Rattle.gql_types.specs.declared.kind.TypeKind.TheVariants as kind
 use Rattle.gql_types.specs.declared.roots.Root.{Root}
 use Rattle.serde_json.specs.Data.{Data}
-use Rattle.gql_exec.specs.Execution.{Plan, answer}
+use Rattle.gql_exec.specs.Execution.{Plan}
 use Rattle.gql_exec.specs.Laws.{SomeResponse}
-use Rattle.gql_exec.specs.Plans.{IsPlan, types_of}
+use Rattle.gql_exec.specs.Plans.{IsPlan}
 use Rattle.gql_exec.proofs.SomePlan.{some_plan}
-use Rattle.gql_exec.specs.Requests.{Request, Response, basis_of, Executes, executed, refused, request_error, response_of, variable_at, initial_value}
+use Rattle.gql_exec.specs.Requests.{Request, Response, basis_of, Executes, executed, refused, request_error, variable_at}
 
 -- the first variable of a name
 found : (ds : List VariableDefinition) (v : VariableDefinition) → Contains ds v → (w : VariableDefinition) × (find (λ (x : VariableDefinition). bytes_eq v.name.text x.name.text) ds ≡ Some w)

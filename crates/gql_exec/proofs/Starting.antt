@@ -1,5 +1,5 @@
 -- What the execution of selection sets on the initial value comes to.
-use Rattle.std.proofs.Common.{◌≡◌, ℕ, ◌<◌, List, [], map, true, Result, Ok, Err, ap, subst, arith}
+use Rattle.std.proofs.Common.{◌≡◌, ℕ, ◌<◌, List, [], map, true, Ok, Err, ap, subst, arith}
 use Rattle.gql_collect.specs.Nodes.{FileSelection}
 use Rattle.serde_json.specs.Data.{Data}
 use Rattle.gql_exec.specs.Execution.{Plan, PlannedField, answer, execute, stored}

@@ -1,6 +1,6 @@
 -- Helper definitions for private contracts: what an operation comes to, by its root type and the
 -- plan of its selections.
-use Rattle.std.specs.Prelude.{◌≡◌, ◌<◌, ◌≤◌, ℕ, List, [], map, false, Some}
+use Rattle.std.specs.Prelude.{◌≡◌, ◌≤◌, ℕ, List, [], map, false, Some}
 use Rattle.gql_ast.specs.declared.executable.Operation.{Operation}
 use Rattle.gql_ast.specs.declared.executable.VariableDefinition.{VariableDefinition}
 use Rattle.gql_coerce.specs.declared.refusal.Refusal.{Refusal}

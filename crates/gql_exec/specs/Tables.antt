@@ -14,7 +14,7 @@ use Rattle.gql_types.specs.Written.{written}
 use Rattle.serde_json.specs.Data.{Data}
 use Rattle.serde_json.specs.View.{view}
 use Rattle.gql_exec.specs.Execution.{Arguments, given, refused, PlannedField, Plan, Fields, no_fields, field}
-use Rattle.gql_exec.specs.Plans.{Basis, FieldOf, IsPlan, IsPlanned, ArePlanned, defined, planned}
+use Rattle.gql_exec.specs.Plans.{Basis, FieldOf, IsPlan, IsPlanned, defined, planned}
 use Rattle.gql_exec.specs.declared.planning.Called.{Called}
 use Rattle.gql_exec.specs.declared.planning.Called.TheVariants as called
 use Rattle.gql_exec.specs.declared.planning.FieldPlan.{FieldPlan}

@@ -1,6 +1,6 @@
 -- Helper definitions for private contracts: what is written for the fields of an object, and for
 -- values.
-use Rattle.std.specs.Prelude.{◌≡◌, ℕ, ◌≤◌, List, [], ◌∷◌, ◌++◌, codes, map, flat_map, option_to_list, length, IsTrue, if◌then◌else◌, Option, Some, Result}
+use Rattle.std.specs.Prelude.{◌≡◌, ℕ, ◌≤◌, List, [], ◌∷◌, ◌++◌, codes, map, flat_map, option_to_list, IsTrue, if◌then◌else◌, Option, Some, Result}
 use Rattle.std.proofs.Common.{◌⊎◌}
 use Rattle.std.specs.Borrow.{Bor}
 use Rattle.json.specs.Print.{quoted}
@@ -12,16 +12,15 @@ use Rattle.gql_intro.specs.Nodes.{Node}
 use Rattle.gql_intro.specs.declared.nodes.IntroNodes.{IntroNodes}
 use Rattle.gql_types.specs.declared.schema.Schema.{Schema}
 use Rattle.gql_text.specs.declared.place.Place.{Place}
-use Rattle.gql_types.specs.Written.{Written, written}
+use Rattle.gql_types.specs.Written.{Written}
 use Rattle.gql_types.specs.declared.kind.TypeKind.{TypeKind}
 use Rattle.gql_types.specs.declared.kind.TypeKind.TheVariants as kind
 use Rattle.serde_json.specs.Data as json
 use Rattle.serde_json.specs.Data.{Data}
 use Rattle.serde_json.specs.View.{items_of, view}
 use Rattle.serde_json.specs.declared.value.Value.{Value}
-use Rattle.gql_exec.specs.Ended.{both}
 use Rattle.gql_exec.specs.Execution.{Object, PlannedField, Plan, Types, Site, by_source, complete, execute, on_answer, on_node, placed, value_of}
-use Rattle.gql_exec.specs.Parts.{Part, plain, followed_by, within, all, numbered, after_comma, counted, settled, caught, comma_list}
+use Rattle.gql_exec.specs.Parts.{Part, plain, followed_by, within, all, numbered, after_comma, counted, settled, caught}
 use Rattle.gql_exec.specs.Plans.{Basis, IsPlan, types_of}
 use Rattle.gql_exec.specs.Replies.{Path, key, index, Reply}
 use Rattle.gql_exec.specs.States.{Executes}

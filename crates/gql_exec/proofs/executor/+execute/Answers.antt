@@ -1,4 +1,4 @@
-use Rattle.std.proofs.Common.{◌≡◌, ◌<◌, ◌≤◌, ◌++◌, ◌∷◌, [], List, ℕ, length, get_or, take, map, codes, false, true, true≢false, None, Some, Vec, Global, Bor, option_map, string_bytes, subst, sym, refl, ap, ◌∙◌, rules, arith}
+use Rattle.std.proofs.Common.{◌≡◌, ◌<◌, ◌++◌, ◌∷◌, [], length, get_or, take, map, codes, false, true≢false, Vec, Global, Bor, option_map, subst, sym, refl, ap, ◌∙◌, rules, arith}
 use Rattle.std.specs.Option.{option_copied}
 use Rattle.std.proofs.lemmas.List.{take_all}
 use Rattle.json.specs.Print.{quoted}
@@ -12,15 +12,15 @@ use Rattle.gql_intro.specs.Borrowed.{answer_of, elements, node_of}
 use Rattle.gql_intro.specs.Introspection.{location_name}
 use Rattle.gql_intro.specs.Nodes as intro
 use Rattle.gql_types.specs.Written.{written, written_named, written_list, written_non_null, listed, named}
-use Rattle.gql_exec.specs.Execution.{Plan, plan, PlannedField, no_fields, complete, on_answer}
+use Rattle.gql_exec.specs.Execution.{plan, PlannedField, no_fields, complete, on_answer}
 use Rattle.gql_exec.specs.Objects.{basis, object_of}
 use Rattle.gql_exec.specs.Parts.{Part, all, numbered, plain, settled}
 use Rattle.gql_exec.specs.Plans.{IsPlan, introspect_in, types_of}
 use Rattle.gql_exec.specs.Replies.{Path, key}
-use Rattle.gql_exec.specs.States.{Done, Executes, Follows, path_of}
-use Rattle.gql_exec.specs.Tables.{InTable, StandsFor, below_at, fields_at}
+use Rattle.gql_exec.specs.States.{Done, Follows, path_of}
+use Rattle.gql_exec.specs.Tables.{InTable, below_at, fields_at}
 use Rattle.gql_exec.specs.Texts.{value_part}
-use Rattle.gql_exec.specs.ValueParts.{IsOf, answer_part, content_of_node, name_list_part, node_list_part, node_part, nodes_in, nodes_part, source_part, called_part, content_of_item, content_part, field_part, fields_part, item_part, items_from, items_in, items_part, member_part, object_part, placed_part, resolved_in, site_of}
+use Rattle.gql_exec.specs.ValueParts.{IsOf, answer_part, content_of_node, name_list_part, node_list_part, node_part, nodes_in, nodes_part, source_part, called_part, content_of_item, content_part, field_part, fields_part, item_part, items_from, items_in, items_part, member_part, placed_part, resolved_in, site_of}
 use Rattle.gql_exec.specs.declared.ended.Ended.TheVariants.{Written, Bubbled}
 use Rattle.gql_exec.specs.declared.outcome.Step.TheVariants as step
 use Rattle.gql_exec.specs.declared.run.Run.{Run}

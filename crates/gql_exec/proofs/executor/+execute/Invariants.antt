@@ -1,4 +1,4 @@
-use Rattle.std.proofs.Common.{◌≡◌, ◌≤◌, drop, flat_map, option_to_list, ℕ, ◌+◌, ◌*◌, List, take, length}
+use Rattle.std.proofs.Common.{◌≡◌, ◌≤◌, drop, flat_map, option_to_list, ◌+◌, ◌*◌, List, take, length}
 use Rattle.gql_inputs.specs.InputTypes.{name_in}
 use Rattle.gql_intro.specs.Borrowed.{elements}
 use Rattle.gql_types.specs.Written.{written}

@@ -1,4 +1,4 @@
-use Rattle.std.proofs.Common.{◌≡◌, ◌<◌, length, map, take, subst, sym, ◌∙◌, arith}
+use Rattle.std.proofs.Common.{map, subst, arith}
 use Rattle.std.proofs.lemmas.List.{length-map, take_all}
 use Rattle.gql_intro.specs.Introspection.{location_name}
 use Rattle.gql_exec.specs.Parts.{all, numbered}

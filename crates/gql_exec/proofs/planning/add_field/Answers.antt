@@ -1,10 +1,10 @@
-use Rattle.std.proofs.Common.{◌≡◌, ◌++◌, ◌∷◌, [], ap, None, Some, option_map, refl, subst, sym, ◌∙◌}
+use Rattle.std.proofs.Common.{◌≡◌, ◌++◌, ◌∷◌, [], ap, option_map, refl, subst, sym, ◌∙◌}
 use Rattle.gql_collect.specs.Borrowed.{node_of}
 use Rattle.gql_collect.specs.BorrowedGroups.{nodes_in, others_of}
 use Rattle.gql_collect.specs.Groups.{Group}
 use Rattle.gql_exec.specs.Objects.{basis, field_in}
 use Rattle.gql_exec.specs.Plans.{field_of}
-use Rattle.gql_exec.specs.Tables.{Planning, PlansGroup}
+use Rattle.gql_exec.specs.Tables.{Planning}
 use Rattle.gql_exec.proofs.Grouped.{none_more, one_more}
 use Rattle.gql_exec.proofs.planning.add_field.Goals as goal
 

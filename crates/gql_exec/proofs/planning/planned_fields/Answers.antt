@@ -1,4 +1,4 @@
-use Rattle.std.proofs.Common.{◌≡◌, ◌++◌, ◌∷◌, [], ap, append_assoc, append-nil, subst, sym, ◌∙◌}
+use Rattle.std.proofs.Common.{◌++◌, ◌∷◌, [], ap, append_assoc, append-nil, subst, sym, ◌∙◌}
 use Rattle.std.proofs.lemmas.Map.Iter.{rest_all, rest_more}
 use Rattle.std.specs.Map.Iter.{deref_pair}
 use Rattle.gql_collect.specs.Borrowed.{all_selections}

@@ -7,7 +7,6 @@ use Rattle.gql_exec.specs.Outcomes.{outcome_of}
 use Rattle.gql_exec.specs.Plans.{IsPlan, is_met, types_of}
 use Rattle.gql_exec.specs.Requests.{most_values}
 use Rattle.gql_exec.specs.Runs.{Finishes, IsOutcomeOf}
-use Rattle.gql_exec.specs.declared.refusal.ExecRefusal.{ExecRefusal}
 use Rattle.gql_exec.specs.declared.refusal.ExecRefusal.TheVariants.{Memory, TooHeavy}
 use Rattle.gql_exec.specs.declared.run.Run.{Run}
 use Rattle.gql_exec.proofs.Ending.{err_is, err_then, ok_then}
