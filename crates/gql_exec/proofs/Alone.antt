@@ -1,22 +1,17 @@
 -- A request has one response.
-use Rattle.std.proofs.Common.{◌≡◌, ℕ, ◌+◌, List, [], ◌∷◌, ◌++◌, Bool, true, bytes_eq, codes, Option, Some, None, refl, sym, ap, ◌∙◌, subst, if◌then◌else◌}
-use Rattle.gql_ast.specs.declared.executable.VariableDefinition.{VariableDefinition}
-use Rattle.gql_ast.specs.declared.type_system.FieldDefinition.{FieldDefinition}
-use Rattle.gql_built_in.specs.declared.sited.Sited.{Sited}
+use Rattle.std.proofs.Common.{◌≡◌, ℕ, ◌+◌, List, [], ◌∷◌, ◌++◌, true, codes, Option, Some, None, refl, sym, ap, ◌∙◌, subst, if◌then◌else◌, inl, inr}
 use Rattle.gql_coerce.specs.Comes as comes
 use Rattle.gql_coerce.specs.Comes.{Outcome}
 use Rattle.gql_coerce.specs.Laws.{OneOfArguments, OneOfVariables}
-use Rattle.gql_coerce.specs.Requests.{ArgumentsCome, VariablesCome}
-use Rattle.gql_coerce.specs.declared.refusal.Reason.{Reason}
-use Rattle.gql_coerce.specs.declared.refusal.Segment.{Segment}
-use Rattle.gql_collect.specs.Collection.{Collects, selections_below}
+use Rattle.gql_coerce.specs.Requests.{ArgumentsCome}
+use Rattle.gql_collect.specs.Collection.{selections_below}
 use Rattle.gql_collect.specs.Groups.{Group}
 use Rattle.gql_collect.specs.Laws.{OneCollection}
 use Rattle.gql_collect.specs.Nodes.{FieldNode, FileSelection, in_file}
-use Rattle.gql_collect.specs.Unfolding.{Given}
 use Rattle.gql_inputs.specs.InputTypes.{name_in}
+use Rattle.gql_intro.specs.Nodes as intro
+use Rattle.gql_intro.specs.Nodes.{query_root}
 use Rattle.gql_text.specs.declared.place.Place.{Place}
-use Rattle.gql_types.specs.Schemas.{field_named}
 use Rattle.gql_types.specs.Written.{Written, named, listed, required}
 use Rattle.gql_types.specs.declared.kind.TypeKind.{TypeKind}
 use Rattle.gql_types.specs.declared.kind.TypeKind.TheVariants as kind
@@ -25,30 +20,35 @@ use Rattle.serde_json.specs.Data as json
 use Rattle.serde_json.specs.Data.{Data}
 use Rattle.serde_json.specs.Find.{get}
 use Rattle.serde_json.specs.View.{items_of}
-use Rattle.gql_exec.specs.Execution.{Arguments, given, refused, Below, Fields, no_fields, field, Plan, plan, PlannedField, Site, Types, among, answer, answered, complete, each, execute, executed, fault, items_from, is_null, leaf, members_of, of_kind, on_abstract, on_list, on_object, placed, value_of}
+use Rattle.gql_exec.specs.Execution.{Arguments, given, refused, Object, stored, described, by_source, list_reply, on_answer, on_node, Below, Fields, no_fields, field, Plan, plan, PlannedField, Site, Types, among, answer, answered, complete, each, execute, executed, fault, items_from, is_null, leaf, members_of, of_kind, on_abstract, on_list, on_object, placed, value_of}
+use Rattle.gql_exec.specs.declared.planning.Source.{Source}
+use Rattle.gql_exec.specs.declared.planning.Source.TheVariants as source
 use Rattle.gql_exec.specs.Leaves.{as_enum, scalar_value}
-use Rattle.gql_exec.specs.Plans.{ArePlanned, IsPlan, IsPlanned, defined, is_met, is_met_by, planned, types_of}
+use Rattle.gql_exec.specs.Plans.{Basis, FieldOf, field_of, ArePlanned, IsPlan, IsPlanned, defined, is_met, is_met_by, planned, types_of}
 use Rattle.gql_exec.specs.Replies.{Path, index, key, Reply, all, counted, mapped, returns, settled}
-use Rattle.gql_exec.specs.Requests.{Executes, Request, Response, initial_value, request_error, response_of, variable_at}
+use Rattle.gql_exec.specs.Requests.{Executes, Request, basis_of, Response, initial_value, request_error, response_of, variable_at}
 use Rattle.gql_exec.specs.Requests as requests
 use Rattle.gql_exec.specs.Resolution.{list_of, resolved}
-use Rattle.gql_exec.proofs.Executing.{among_is, met_object, bytes_same}
+use Rattle.gql_exec.proofs.Executing.{among_is, met_itself, met_possible, met_self}
 use Rattle.gql_exec.proofs.Ending.{first_same, path_same, value_same}
 use Rattle.gql_exec.proofs.Grouped.{same_first, same_some}
 
 -- ---- values, where two agree on what is below
 
-items_alike : (e f : Path → Data → Reply Data) → ((p : Path) (d : Data) → e p d ≡ f p d) → (i : ℕ) (p : Path) (ds : List Data) → items_from e i p ds ≡ items_from f i p ds
+items_alike : {A : Type 0} (e f : Path → A → Reply Data) → ((p : Path) (d : A) → e p d ≡ f p d) → (i : ℕ) (p : Path) (ds : List A) → items_from e i p ds ≡ items_from f i p ds
 items_alike e f same i p [] = refl
 items_alike e f same i p (d ∷ ds) = ap (λ r. counted r ∷ items_from e (i + 1) p ds) (same (p ++ index i ∷ []) d)
     ∙ ap (λ rs. counted (f (p ++ index i ∷ []) d) ∷ rs) (items_alike e f same (i + 1) p ds)
+
+reply_alike : {A : Type 0} (e f : Path → A → Reply Data) → ((p : Path) (x : A) → e p x ≡ f p x) → (p : Path) (xs : List A) → list_reply e p xs ≡ list_reply f p xs
+reply_alike e f same p xs = ap (λ rs. mapped (λ ds. json.array (items_of ds)) (all rs)) (items_alike e f same 0 p xs)
 
 list_alike : (s u : Site) → s.place ≡ u.place → (e f : Path → Data → Reply Data) → ((p : Path) (d : Data) → e p d ≡ f p d) → (p : Path) (d : Data) → on_list s e p d ≡ on_list u f p d
 list_alike s u at e f same p json.null = ap (λ (x : Place). let v : Site = record s { place = x } in fault v p (codes "value is not a list")) at
 list_alike s u at e f same p (json.boolean b) = ap (λ (x : Place). let v : Site = record s { place = x } in fault v p (codes "value is not a list")) at
 list_alike s u at e f same p (json.number n) = ap (λ (x : Place). let v : Site = record s { place = x } in fault v p (codes "value is not a list")) at
 list_alike s u at e f same p (json.string t) = ap (λ (x : Place). let v : Site = record s { place = x } in fault v p (codes "value is not a list")) at
-list_alike s u at e f same p (json.array ds) = ap (λ rs. mapped (λ xs. json.array (items_of xs)) (all rs)) (items_alike e f same 0 p (list_of ds))
+list_alike s u at e f same p (json.array ds) = reply_alike e f same p (list_of ds)
 list_alike s u at e f same p (json.object ms) = ap (λ (x : Place). let v : Site = record s { place = x } in fault v p (codes "value is not a list")) at
 
 -- the place of a field, and what is below for two plans
@@ -57,22 +57,22 @@ site types place a = record { types = types; place = place; below = a }
 
 -- they agree on the objects that may be met
 abbrev Alike : Types → List ℕ → Option TypeKind → Below → Below → Type 0
-Alike types n k a b = (m : List ℕ) → is_met_by types m n k ≡ true → (p : Path) (d : Data) → a m p d ≡ b m p d
+Alike types n k a b = (m : List ℕ) → is_met_by types m n k ≡ true → (p : Path) (o : Object) → a m p o ≡ b m p o
 
 module _ (types : Types) (place : Place) (a b : Below) where
   leaf_alike : (n : List ℕ) (p : Path) (o : Option Data) → leaf (site types place a) n p o ≡ leaf (site types place b) n p o
   leaf_alike n p (Some d) = refl
   leaf_alike n p None = refl
 
-  object_alike : (n : List ℕ) (p : Path) (d : Data) → ((q : Path) (e : Data) → a n q e ≡ b n q e) → on_object (site types place a) n p d ≡ on_object (site types place b) n p d
+  object_alike : (n : List ℕ) (p : Path) (d : Data) → ((q : Path) (o : Object) → a n q o ≡ b n q o) → on_object (site types place a) n p d ≡ on_object (site types place b) n p d
   object_alike n p json.null h = refl
   object_alike n p (json.boolean x) h = refl
   object_alike n p (json.number x) h = refl
   object_alike n p (json.string x) h = refl
   object_alike n p (json.array ds) h = refl
-  object_alike n p (json.object ms) h = h p (json.object ms)
+  object_alike n p (json.object ms) h = h p (stored (json.object ms))
 
-  abstract_alike : (n : List ℕ) (p : Path) (d : Data) (o : Option (List ℕ)) → ((m : List ℕ) → o ≡ Some m → a m p d ≡ b m p d)
+  abstract_alike : (n : List ℕ) (p : Path) (d : Data) (o : Option (List ℕ)) → ((m : List ℕ) → o ≡ Some m → a m p (stored d) ≡ b m p (stored d))
       → on_abstract (site types place a) n p d o ≡ on_abstract (site types place b) n p d o
   abstract_alike n p d (Some m) h = h m refl
   abstract_alike n p d None h = refl
@@ -80,11 +80,11 @@ module _ (types : Types) (place : Place) (a b : Below) where
   kind_alike : (n : List ℕ) (p : Path) (d : Data) (k : Option TypeKind) → Alike types n k a b → of_kind (site types place a) n p d k ≡ of_kind (site types place b) n p d k
   kind_alike n p d (Some kind.Scalar) h = leaf_alike n p (scalar_value n d)
   kind_alike n p d (Some kind.Enum) h = leaf_alike n p (as_enum (types.values n) d)
-  kind_alike n p d (Some kind.Object) h = object_alike n p d (h n (bytes_same n))
+  kind_alike n p d (Some kind.Object) h = object_alike n p d (h n (met_self types n (Some kind.Object)))
   kind_alike n p d (Some kind.Interface) h = abstract_alike n p d (among (types.possible n) (get (codes "__typename") d))
-      (λ m e. h m (among_is (types.possible n) (get (codes "__typename") d) m e) p d)
+      (λ m e. h m (met_possible types m n (Some kind.Interface) (inl refl) (among_is (types.possible n) (get (codes "__typename") d) m e)) p (stored d))
   kind_alike n p d (Some kind.Union) h = abstract_alike n p d (among (types.possible n) (get (codes "__typename") d))
-      (λ m e. h m (among_is (types.possible n) (get (codes "__typename") d) m e) p d)
+      (λ m e. h m (met_possible types m n (Some kind.Union) (inr refl) (among_is (types.possible n) (get (codes "__typename") d) m e)) p (stored d))
   kind_alike n p d (Some kind.InputObject) h = refl
   kind_alike n p d None h = refl
 
@@ -95,49 +95,67 @@ module _ (types : Types) (place : Place) (a b : Below) where
       (λ q x. ap (placed t) (complete_alike t h q x)) p d)
   complete_alike (required t) h p d = ap (λ r. if is_null d then fault (site types place a) p (codes "null for a Non-Null type") else r) (complete_alike t h p d)
 
-value_alike : (types : Types) (f : PlannedField) (a b : Below) (arguments : Arguments) → Alike types (name_in f.of_type) (types.kind (name_in f.of_type)) a b → (p : Path) (d : Data)
-    → value_of (site types f.place a) f arguments p d ≡ value_of (site types f.place b) f arguments p d
-value_alike types f a b (given x) h p d = complete_alike types f.place a b f.of_type h p (resolved f.name f.of_type x d)
-value_alike types f a b (refused m) h p d = refl
+  answer_alike : (n : List ℕ) (p : Path) (x : intro.Answer) → ((q : Path) (o : Object) → a n q o ≡ b n q o) → on_answer (site types place a) n p x ≡ on_answer (site types place b) n p x
+  answer_alike n p intro.null h = refl
+  answer_alike n p (intro.text t) h = refl
+  answer_alike n p (intro.truth t) h = refl
+  answer_alike n p (intro.enum_name t) h = refl
+  answer_alike n p (intro.enum_names ts) h = refl
+  answer_alike n p (intro.node m) h = h p (described m)
+  answer_alike n p (intro.nodes ms) h = reply_alike (on_node (site types place a) n) (on_node (site types place b) n) (λ q m. h q (described m)) p ms
 
-executed_alike : (types : Types) (f : PlannedField) (a b : Below) → Alike types (name_in f.of_type) (types.kind (name_in f.of_type)) a b → (p : Path) (d : Data)
+module _ (types : Types) (f : PlannedField) (a b : Below) (h : Alike types (name_in f.of_type) (types.kind (name_in f.of_type)) a b) where
+  named_alike : (p : Path) (x : intro.Answer) → on_answer (site types f.place a) (name_in f.of_type) p x ≡ on_answer (site types f.place b) (name_in f.of_type) p x
+  named_alike p x = answer_alike types f.place a b (name_in f.of_type) p x (h (name_in f.of_type) (met_self types (name_in f.of_type) (types.kind (name_in f.of_type))))
+
+  source_alike : (from : Source) (x : Data) (p : Path) (d : Data) → by_source (site types f.place a) f from x p d ≡ by_source (site types f.place b) f from x p d
+  source_alike source.Stored x p d = complete_alike types f.place a b f.of_type h p (resolved f.name f.of_type x d)
+  source_alike (source.TypeName t) x p d = refl
+  source_alike source.Root x p d = named_alike p (types.introspect query_root f.name x)
+
+  value_alike : (arguments : Arguments) (p : Path) (o : Object) → value_of (site types f.place a) f arguments p o ≡ value_of (site types f.place b) f arguments p o
+  value_alike (given x) p (stored d) = source_alike f.source x p d
+  value_alike (given x) p (described n) = named_alike p (types.introspect n f.name x)
+  value_alike (refused m) p o = refl
+
+executed_alike : (types : Types) (f : PlannedField) (a b : Below) → Alike types (name_in f.of_type) (types.kind (name_in f.of_type)) a b → (p : Path) (d : Object)
     → executed types f a p d ≡ executed types f b p d
 executed_alike types f a b h p d = ap (λ r. mapped (λ v. (f.response_name, v)) (counted (settled (placed f.of_type r))))
-    (value_alike types f a b f.arguments h (p ++ key f.response_name ∷ []) d)
+    (value_alike types f a b h f.arguments (p ++ key f.response_name ∷ []) d)
 
 -- ---- plans
 
-module _ (collection : OneCollection) (of_arguments : OneOfArguments) (g : Given) where
+module _ (collection : OneCollection) (of_arguments : OneOfArguments) (g : Basis) where
   planned_one : (t : List ℕ) (group : Group) (f e : PlannedField) → IsPlanned g t group f → IsPlanned g t group e → f ≡ e
   planned_one t group f e h k =
       let n : h.first ≡ k.first = same_first h.first k.first h.others k.others (sym h.nodes ∙ k.nodes) in
-      let d : h.definition ≡ k.definition = same_some h.definition k.definition (sym h.defined ∙ ap (λ (m : FieldNode). field_named g.schema t m.field.name.text) n ∙ k.defined) in
-      let come : ArgumentsCome g.schema k.definition.node.arguments k.first.field.arguments g.values h.arguments =
-      subst (λ (x : Sited FieldDefinition). ArgumentsCome g.schema x.node.arguments k.first.field.arguments g.values h.arguments) d
-      (subst (λ (m : FieldNode). ArgumentsCome g.schema h.definition.node.arguments m.field.arguments g.values h.arguments) n h.comes) in
-      let o : h.arguments ≡ k.arguments = of_arguments g.schema k.definition.node.arguments k.first.field.arguments g.values h.arguments k.arguments come k.comes in
-      h.is ∙ ap (λ m. planned group m h.definition.node h.arguments) n ∙ ap (λ (x : Sited FieldDefinition). planned group k.first x.node h.arguments) d
-      ∙ ap (planned group k.first k.definition.node) o ∙ sym k.is
+      let d : h.field ≡ k.field = same_some h.field k.field (sym h.defined ∙ ap (λ (m : FieldNode). field_of g t m.field.name.text) n ∙ k.defined) in
+      let come : ArgumentsCome g.given.schema k.field.definition.arguments k.first.field.arguments g.given.values h.arguments =
+      subst (λ (x : FieldOf). ArgumentsCome g.given.schema x.definition.arguments k.first.field.arguments g.given.values h.arguments) d
+      (subst (λ (m : FieldNode). ArgumentsCome g.given.schema h.field.definition.arguments m.field.arguments g.given.values h.arguments) n h.comes) in
+      let o : h.arguments ≡ k.arguments = of_arguments g.given.schema k.field.definition.arguments k.first.field.arguments g.given.values h.arguments k.arguments come k.comes in
+      h.is ∙ ap (λ m. planned group m h.field h.arguments) n ∙ ap (λ (x : FieldOf). planned group k.first x h.arguments) d
+      ∙ ap (planned group k.first k.field) o ∙ sym k.is
 
   mutual
-    plans_alike : (name : List ℕ) (xs : List FileSelection) (x y : Plan) → IsPlan g name xs x → IsPlan g name xs y → (t : List ℕ) → is_met g.schema t name ≡ true → (p : Path) (d : Data)
-        → execute (types_of g.schema) x t p d ≡ execute (types_of g.schema) y t p d
+    plans_alike : (name : List ℕ) (xs : List FileSelection) (x y : Plan) → IsPlan g name xs x → IsPlan g name xs y → (t : List ℕ) → is_met g t name ≡ true → (p : Path) (d : Object)
+        → execute (types_of g) x t p d ≡ execute (types_of g) y t p d
     plans_alike name xs (plan a) (plan b) h k t met p d =
         let u = h t met in
         let v = k t met in
-        let same : u.0 ≡ v.0 = collection g t xs u.0 v.0 u.1 v.1 in
-        ap (λ rs. mapped (λ ms. json.object (members_of ms)) (all rs)) (fields_alike t (defined g.schema t v.0) (a t) (b t)
-        (subst (λ gs. ArePlanned g t (defined g.schema t gs) (a t)) same u.2) v.2 p d)
+        let same : u.0 ≡ v.0 = collection g.given t xs u.0 v.0 u.1 v.1 in
+        ap (λ rs. mapped (λ ms. json.object (members_of ms)) (all rs)) (fields_alike t (defined g t v.0) (a t) (b t)
+        (subst (λ gs. ArePlanned g t (defined g t gs) (a t)) same u.2) v.2 p d)
 
-    fields_alike : (t : List ℕ) (groups : List Group) (fs es : Fields) → ArePlanned g t groups fs → ArePlanned g t groups es → (p : Path) (d : Data)
-        → each (types_of g.schema) fs p d ≡ each (types_of g.schema) es p d
+    fields_alike : (t : List ℕ) (groups : List Group) (fs es : Fields) → ArePlanned g t groups fs → ArePlanned g t groups es → (p : Path) (d : Object)
+        → each (types_of g) fs p d ≡ each (types_of g) es p d
     fields_alike t [] no_fields no_fields h k p d = refl
     fields_alike t [] no_fields (field e under more) h k p d = absurd k
     fields_alike t [] (field f below rest) es h k p d = absurd h
     fields_alike t (group ∷ groups) no_fields es h k p d = absurd h
     fields_alike t (group ∷ groups) (field f below rest) no_fields h k p d = absurd k
     fields_alike t (group ∷ groups) (field f below rest) (field e under more) h k p d =
-        let types = types_of g.schema in
+        let types = types_of g in
         let same : f ≡ e = planned_one t group f e h.0 k.0 in
         let alike : Alike types (name_in e.of_type) (types.kind (name_in e.of_type)) (execute types below) (execute types under) =
         plans_alike (name_in e.of_type) (selections_below group.nodes) below under (subst (λ (q : PlannedField). IsPlan g (name_in q.of_type) (selections_below group.nodes) below) same h.1) k.1 in
@@ -159,11 +177,11 @@ alone collection of_arguments of_variables r p q (requests.executed {values} {ro
 alone collection of_arguments of_variables r p q (requests.executed {values} {root} x c is object plans) (requests.executed {values = others} {root = other} y k there kind_is planned) =
     let e : comes.value values ≡ comes.value others = of_variables r.schema r.operation.variables r.variables (comes.value values) (comes.value others) c k in
     let same : root ≡ other = same_some root other (sym is ∙ there) in
-    let g : Given = record { schema = r.schema; fragments = r.fragments; values = others } in
+    let g : Basis = basis_of r others in
     let here : IsPlan g other.name.node.text (in_file r.file r.operation.selections) x =
     subst (λ (m : Root). IsPlan g m.name.node.text (in_file r.file r.operation.selections) x) same
-    (subst (λ d. IsPlan (record { schema = r.schema; fragments = r.fragments; values = d }) root.name.node.text (in_file r.file r.operation.selections) x) (value_same e) plans) in
+    (subst (λ d. IsPlan (basis_of r d) root.name.node.text (in_file r.file r.operation.selections) x) (value_same e) plans) in
     let start = initial_value r.operation.kind r.stored in
-    ap (λ (m : Root). response_of (answer (types_of r.schema) x m.name.node.text start)) same
+    ap (λ (m : Root). response_of (answer (types_of (basis_of r values)) x m.name.node.text start)) same
     ∙ ap (λ y. response_of (answered y)) (plans_alike collection of_arguments g other.name.node.text (in_file r.file r.operation.selections) x y here planned
-    other.name.node.text (met_object r.schema other.name.node.text kind_is) [] start)
+    other.name.node.text (met_itself g other.name.node.text) [] (stored start))

@@ -1,8 +1,9 @@
 -- What completing is at each form of a type and of a value, and what is written for it.
-use Rattle.std.proofs.Common.{◌≡◌, ℕ, zero, suc, ◌+◌, ◌⊎◌, inl, inr, Bool, true, false, List, [], ◌∷◌, ◌++◌, map, codes, is_some, Option, Some, None, refl, sym, ap, ◌∙◌, if◌then◌else◌}
+use Rattle.std.proofs.Common.{◌≡◌, ℕ, ◌+◌, ◌⊎◌, inl, inr, Bool, true, false, List, [], ◌∷◌, ◌++◌, map, codes, is_some, Option, Some, None, refl, ap, ◌∙◌, if◌then◌else◌}
 use Rattle.json.specs.Print.{quoted}
 use Rattle.gql_inputs.specs.InputTypes.{is_list, is_non_null, item_of}
-use Rattle.gql_text.specs.declared.place.Place.{Place}
+use Rattle.gql_intro.specs.Nodes as intro
+use Rattle.gql_intro.specs.Nodes.{Node}
 use Rattle.gql_types.specs.Written.{Written, named, listed, required}
 use Rattle.gql_types.specs.declared.kind.TypeKind.{TypeKind}
 use Rattle.gql_types.specs.declared.kind.TypeKind.TheVariants as kind
@@ -10,15 +11,16 @@ use Rattle.serde_json.specs.Data as json
 use Rattle.serde_json.specs.Data.{Data, Items}
 use Rattle.serde_json.specs.Find.{as_array, as_object, get}
 use Rattle.serde_json.specs.View.{items_of}
-use Rattle.gql_exec.specs.Execution.{Site, Types, Plan, plan, Fields, no_fields, field, PlannedField, complete, each, execute, fault, is_null, items_from, leaf, members_of, of_kind, on_abstract, among, on_list, on_object, placed}
+use Rattle.serde_json.specs.Written.{compact_text}
+use Rattle.gql_exec.specs.Execution.{Object, Site, Types, stored, Plan, plan, Fields, no_fields, field, PlannedField, complete, each, execute, fault, is_null, leaf, list_reply, members_of, name_item, of_kind, on_abstract, on_answer, among, on_list, on_node, on_object}
 use Rattle.gql_exec.specs.Leaves.{as_enum, scalar_value}
 use Rattle.gql_exec.specs.LeafParts.{leaf_at}
-use Rattle.gql_exec.specs.Parts.{Part, plain, raise, within, all, numbered, after_comma, comma_list, counted}
+use Rattle.gql_exec.specs.Parts.{Part, plain, raise, within, all, numbered, after_comma, counted}
 use Rattle.gql_exec.specs.Replies.{Path, index, Reply}
 use Rattle.gql_exec.specs.Replies as reply
 use Rattle.gql_exec.specs.Tables.{pairs_of}
 use Rattle.gql_exec.specs.Texts.{value_part, texted, member_text}
-use Rattle.gql_exec.specs.ValueParts.{placed_part, member_part, field_part, fields_part, object_part, item_at, item_part, items_part, list_part, content_of_item}
+use Rattle.gql_exec.specs.ValueParts.{name_list_part, name_part, node_list_part, field_part, object_part, item_at, item_part, list_part}
 use Rattle.gql_exec.proofs.Resolving.{listed as listed_items}
 use Rattle.gql_exec.proofs.Texting as texting
 use Rattle.gql_exec.proofs.Texting.{placed_is, uncounted}
@@ -63,7 +65,7 @@ has_items (required t) h e = has_items t h e
 -- ---- values
 
 module _ (s : Site) (n : List ℕ) (p : Path) where
-  pub an_object : (d : Data) → is_some (as_object d) ≡ true → on_object s n p d ≡ s.below n p d
+  pub an_object : (d : Data) → is_some (as_object d) ≡ true → on_object s n p d ≡ s.below n p (stored d)
   an_object json.null e = cc
   an_object (json.boolean b) e = cc
   an_object (json.number x) e = cc
@@ -126,18 +128,18 @@ module _ {A : Type 0} where
 
 -- what is written for the items of a list
 pub list_is : (s : Site) (t : Written) (p : Path) (ds : List Data) → value_part (on_list s (item_at s t) p (json.array (items_of ds))) ≡ list_part t s ds p
-list_is s t p ds = ap (λ xs. value_part (reply.mapped (λ ys. json.array (items_of ys)) (reply.all (items_from (item_at s t) 0 p xs)))) (listed_items ds)
+list_is s t p ds = ap (λ xs. value_part (list_reply (item_at s t) p xs)) (listed_items ds)
     ∙ texting.list_part (item_at s t) p ds
     ∙ ap (λ rs. within (codes "[") (all rs) (codes "]"))
     (numbered-same (λ i x. after_comma i (counted (value_part (item_at s t (p ++ index i ∷ []) x)))) (item_part t s p)
     (λ i x. ap (λ r. after_comma i (counted r)) (placed_is t (complete s t (p ++ index i ∷ []) x))) 0 ds)
 
-each_is : (types : Types) (fs : Fields) (p : Path) (d : Data) → each types fs p d ≡ map reply.counted (map (λ (q : PlannedField × Plan). uncounted types q.0 (execute types q.1) p d) (pairs_of fs))
+each_is : (types : Types) (fs : Fields) (p : Path) (d : Object) → each types fs p d ≡ map reply.counted (map (λ (q : PlannedField × Plan). uncounted types q.0 (execute types q.1) p d) (pairs_of fs))
 each_is types no_fields p d = refl
 each_is types (field f below rest) p d = ap (λ rs. reply.counted (uncounted types f (execute types below) p d) ∷ rs) (each_is types rest p d)
 
 -- what is written for an object
-pub object_is : (types : Types) (by_type : List ℕ → Fields) (t : List ℕ) (p : Path) (d : Data)
+pub object_is : (types : Types) (by_type : List ℕ → Fields) (t : List ℕ) (p : Path) (d : Object)
     → value_part (execute types (plan by_type) t p d) ≡ object_part types d (pairs_of (by_type t)) p
 object_is types by_type t p d =
     let h : PlannedField × Plan → Reply (List ℕ × Data) = λ q. uncounted types q.0 (execute types q.1) p d in
@@ -147,3 +149,30 @@ object_is types by_type t p d =
     ∙ ap (λ rs. within (codes "{") (all rs) (codes "}")) (numbered-map f h 0 (pairs_of (by_type t))
     ∙ numbered-same (λ i q. f i (h q)) (field_part types d p)
     (λ i q. ap (λ r. after_comma i (counted r)) (texting.field_part types q.0 (execute types q.1) p d)) 0 (pairs_of (by_type t)))
+
+-- ---- introspection
+
+name_list : (ns : List (List ℕ)) (p : Path) → value_part (list_reply name_item p ns) ≡ name_list_part ns
+name_list ns p = texting.list_part name_item p ns
+    ∙ ap (λ rs. within (codes "[") (all rs) (codes "]"))
+    (numbered-same (λ i n. after_comma i (counted (value_part (name_item (p ++ index i ∷ []) n)))) name_part (λ i n. refl) 0 ns)
+
+-- what is written for each form of an answer
+module _ (s : Site) (name : List ℕ) (p : Path) where
+  pub answer_null : value_part (on_answer s name p intro.null) ≡ plain (codes "null")
+  answer_null = refl
+
+  pub answer_text : (t : List ℕ) → value_part (on_answer s name p (intro.text t)) ≡ plain (quoted t)
+  answer_text t = refl
+
+  pub answer_truth : (b : Bool) → value_part (on_answer s name p (intro.truth b)) ≡ plain (compact_text (json.boolean b))
+  answer_truth b = refl
+
+  pub answer_enum : (n : List ℕ) → value_part (on_answer s name p (intro.enum_name n)) ≡ plain (quoted n)
+  answer_enum n = refl
+
+  pub answer_names : (ns : List (List ℕ)) → value_part (on_answer s name p (intro.enum_names ns)) ≡ name_list_part ns
+  answer_names ns = name_list ns p
+
+  pub answer_nodes : (ns : List Node) → value_part (on_answer s name p (intro.nodes ns)) ≡ node_list_part name s ns p
+  answer_nodes ns = texting.list_part (on_node s name) p ns

@@ -1,9 +1,7 @@
 -- What an execution comes to as a whole.
 use Rattle.std.specs.Result.{IfOk, IfErr, IsErrAnd}
 use Rattle.std.proofs.lemmas.List.{map-append}
-use Rattle.std.proofs.Common.{◌≡◌, Result, Ok, Err, ℕ, ◌+◌, ◌<◌, ◌≤◌, List, [], ◌∷◌, ◌++◌, map, take, codes, false, true, Option, Some, None, refl, sym, ap, subst, ◌∙◌, arith, append_assoc}
-use Rattle.gql_ast.specs.declared.executable.Operation.{Operation}
-use Rattle.gql_ast.specs.declared.executable.VariableDefinition.{VariableDefinition}
+use Rattle.std.proofs.Common.{◌≡◌, Result, Ok, Err, ℕ, List, [], ◌∷◌, ◌++◌, map, take, codes, Option, Some, None, refl, sym, ap, subst, ◌∙◌, arith, append_assoc}
 use Rattle.gql_coerce.specs.Comes as comes
 use Rattle.gql_coerce.specs.Comes.{Outcome as Comes}
 use Rattle.gql_coerce.specs.Requests.{VariablesCome}
@@ -12,15 +10,13 @@ use Rattle.gql_coerce.specs.declared.refusal.Refusal.{Refusal}
 use Rattle.gql_coerce.specs.declared.refusal.Segment.{Segment}
 use Rattle.gql_coerce.specs.Laws.{OneOfVariables}
 use Rattle.gql_collect.specs.Nodes.{in_file}
-use Rattle.serde_json.specs.Data as json
 use Rattle.serde_json.specs.Data.{Data}
 use Rattle.serde_json.specs.Written.{compact_text}
-use Rattle.gql_exec.specs.Execution.{Answer, Plan, answered}
+use Rattle.gql_exec.specs.Execution.{answered}
 use Rattle.gql_exec.specs.Plans.{IsPlan}
 use Rattle.gql_exec.specs.Outcomes.{AnError, AnOutcome, error_of}
-use Rattle.gql_exec.specs.Parts.{Outcome, text, bubble}
-use Rattle.gql_exec.specs.Replies.{Error, Reply, kept, or_null}
-use Rattle.gql_exec.specs.Requests.{Request, Response, Executes, IsOutcome, IsTooHeavy, most_values, refused, executed, request_error, response_of, variable_at}
+use Rattle.gql_exec.specs.Replies.{Reply, kept, or_null}
+use Rattle.gql_exec.specs.Requests.{Request, Response, Executes, IsOutcome, basis_of, IsTooHeavy, most_values, refused, executed, request_error, response_of, variable_at}
 use Rattle.gql_exec.specs.Requests as requests
 use Rattle.gql_exec.specs.Runs.{Answering, Finishes, IsFresh, IsOutcomeOf, IsRefused, came_to}
 use Rattle.gql_exec.specs.States.{Done, Leaves, ended_of, errors_of}
@@ -83,13 +79,13 @@ value_same h = cc
 
 -- a request whose variables have values
 pub answers : (r : Request) (values : Data) (Holds : Response → Type 0) → OneOfVariables → VariablesCome r.schema r.operation.variables r.variables (comes.value values)
-    → Answering (record { schema = r.schema; fragments = r.fragments; values = values }) r.file r.operation r.stored (λ a. Holds (response_of a))
+    → Answering (basis_of r values) r.file r.operation r.stored (λ a. Holds (response_of a))
     → (p : Response) → Executes r p → Holds p
 answers r values Holds one come h p (refused {why} {path} {v} c at) =
     let e : comes.value values ≡ comes.refused why path = one r.schema r.operation.variables r.variables (comes.value values) (comes.refused why path) come c in absurd (cc e)
 answers r values Holds one come h p (executed {values = others} {root = root} x c is object plans) =
     let e : comes.value values ≡ comes.value others = one r.schema r.operation.variables r.variables (comes.value values) (comes.value others) come c in
-    h root x is object (subst (λ d. IsPlan (record { schema = r.schema; fragments = r.fragments; values = d }) root.name.node.text (in_file r.file r.operation.selections) x) (sym (value_same e)) plans)
+    h root x is object (subst (λ d. IsPlan (basis_of r d) root.name.node.text (in_file r.file r.operation.selections) x) (sym (value_same e)) plans)
 
 -- a request with a variable that is refused
 pub answers_refused : (r : Request) (f : Refusal) (o : AnOutcome) → OneOfVariables → VariablesCome r.schema r.operation.variables r.variables (comes.refused f.reason f.path)

@@ -1,17 +1,17 @@
 -- Tables that grow.
-use Rattle.std.proofs.Common.{◌≡◌, add-one, ℕ, zero, suc, ◌+◌, ◌<◌, ◌≤◌, List, [], ◌∷◌, ◌++◌, take, length, get_or, Option, Some, None, Vec, Global, refl, sym, ap, ◌∙◌, arith, subst}
+use Rattle.std.proofs.Common.{◌≡◌, ℕ, zero, suc, ◌<◌, ◌≤◌, List, [], ◌∷◌, ◌++◌, take, length, get_or, Option, Some, None, Vec, Global, refl, sym, ap, ◌∙◌, arith, subst}
 use Rattle.std.specs.List.{All}
 use Rattle.std.proofs.Math.Seq.{take-length, take-append_seam}
 use Rattle.std.proofs.lemmas.List.{length-take, take-take}
-use Rattle.std.proofs.lemmas.List.Elements.{All-append, All-get_or}
+use Rattle.std.proofs.lemmas.List.Elements.{All-append}
 use Rattle.gql_collect.specs.Borrowed.{all_selections}
 use Rattle.gql_collect.specs.Nodes.{FileSelection}
-use Rattle.gql_collect.specs.Unfolding.{Given}
+use Rattle.gql_exec.specs.Plans.{Basis}
 use Rattle.gql_exec.specs.declared.planning.FieldPlan.{FieldPlan}
 use Rattle.gql_exec.specs.declared.table.Entry.{Entry}
 use Rattle.gql_exec.specs.declared.table.Slot.{Slot}
 use Rattle.gql_exec.specs.declared.table.Table.{Table}
-use Rattle.gql_exec.specs.Tables.{Hold, HoldsBelow, IsRightIn, IsRight, Grows, Has, InTable, IsBelow, FoundAt, fields_at, sets_at, selections_at, below_at}
+use Rattle.gql_exec.specs.Tables.{Hold, HoldsBelow, IsRightIn, IsRight, Grows, Has, InTable, FoundAt, fields_at, sets_at, below_at}
 use Rattle.gql_exec.specs.ValueParts.{IsAt}
 
 -- ---- the fields of an entry
@@ -75,7 +75,7 @@ at_still a b s f h w = record { within = in_still a b s h w.within; below = belo
 pub grown : (a b : Table) (e : Entry) → b.entries.items ≡ a.entries.items ++ e ∷ [] → Grows a b
 grown a b e is = ap (take (length a.entries.items)) is ∙ take-append_seam a.entries.items (e ∷ [])
 
-holds_later : (g : Given) (es : List Entry) (x e : Entry) (o : Option Slot) → HoldsBelow g es o e → HoldsBelow g (es ++ x ∷ []) o e
+holds_later : (g : Basis) (es : List Entry) (x e : Entry) (o : Option Slot) → HoldsBelow g es o e → HoldsBelow g (es ++ x ∷ []) o e
 holds_later g es x e None h = tt
 holds_later g es x e (Some s) h =
     let more : take (length es) (es ++ x ∷ []) ≡ es = take-append_seam es (x ∷ []) in
@@ -86,10 +86,10 @@ only : {A : Type 0} (P : A → Type 0) (x : A) → P x → All P (x ∷ [])
 only P x h zero d w = h
 only P x h (suc k) d w = absurd (omega (arith, w))
 
-all_later : (g : Given) (es : List Entry) (x : Entry) (xs : List Entry) → All (IsRightIn g es) xs → All (IsRightIn g (es ++ x ∷ [])) xs
+all_later : (g : Basis) (es : List Entry) (x : Entry) (xs : List Entry) → All (IsRightIn g es) xs → All (IsRightIn g (es ++ x ∷ [])) xs
 all_later g es x xs h k d w = holds_later g es x (get_or xs k d) (get_or xs k d).above (h k d w)
 
-pub right_more : (g : Given) (a b : Table) (e : Entry) → IsRight g a → b.entries.items ≡ a.entries.items ++ e ∷ [] → IsRightIn g a.entries.items e → IsRight g b
+pub right_more : (g : Basis) (a b : Table) (e : Entry) → IsRight g a → b.entries.items ≡ a.entries.items ++ e ∷ [] → IsRightIn g a.entries.items e → IsRight g b
 right_more g a b e right is new = subst (λ es. All (IsRightIn g es) es) (sym is)
     (All-append (IsRightIn g (a.entries.items ++ e ∷ [])) a.entries.items (e ∷ []) (all_later g a.entries.items e a.entries.items right)
     (only (IsRightIn g (a.entries.items ++ e ∷ [])) e (holds_later g a.entries.items e e e.above new)))
@@ -102,17 +102,17 @@ last_within : (es : List Entry) (e : Entry) → length es < length (es ++ e ∷ 
 last_within [] e = omega arith
 last_within (x ∷ es) e = omega (arith, last_within es e)
 
-pub has_last : (g : Given) (a b : Table) (e : Entry) (k : ℕ) (xs : List FileSelection) → b.entries.items ≡ a.entries.items ++ e ∷ [] → k ≡ length a.entries.items
+pub has_last : (g : Basis) (a b : Table) (e : Entry) (k : ℕ) (xs : List FileSelection) → b.entries.items ≡ a.entries.items ++ e ∷ [] → k ≡ length a.entries.items
     → Hold g e.of_type xs e.fields.items → Has g b k e.of_type xs
 has_last g a b e k xs is at h = record {
   within = subst (λ n. n < length b.entries.items) (sym at) (subst (λ es. length a.entries.items < length es) (sym is) (last_within a.entries.items e));
   holds = subst (λ fs. Hold g e.of_type xs fs) (sym (ap (λ es. fields_at es k) is ∙ ap (fields_at (a.entries.items ++ e ∷ [])) at ∙ last_fields a.entries.items e)) h;
 }
 
-holds_some : (g : Given) (es : List Entry) (e : Entry) (s : Slot) → e.above ≡ Some s → HoldsBelow g es e.above e → HoldsBelow g es (Some s) e
+holds_some : (g : Basis) (es : List Entry) (e : Entry) (s : Slot) → e.above ≡ Some s → HoldsBelow g es e.above e → HoldsBelow g es (Some s) e
 holds_some g es e s is h = subst (λ o. HoldsBelow g es o e) is h
 
-pub found_has : (g : Given) (t : Table) (k : ℕ) (s : Slot) (name : List ℕ) → IsRight g t → FoundAt t.entries.items k s name → Has g t k name (below_at t s)
+pub found_has : (g : Basis) (t : Table) (k : ℕ) (s : Slot) (name : List ℕ) → IsRight g t → FoundAt t.entries.items k s name → Has g t k name (below_at t s)
 found_has g t k s name right f =
     let right_here : IsRightIn g t.entries.items f.entry = subst (IsRightIn g t.entries.items) (sym f.here) (right k f.entry f.within) in
     let below = holds_some g t.entries.items f.entry s f.is.above right_here in
@@ -123,10 +123,10 @@ found_has g t k s name right f =
     }
 
 -- a table with the same entries
-pub same_right : (g : Given) (a b : Table) → b.entries ≡ a.entries → IsRight g a → IsRight g b
+pub same_right : (g : Basis) (a b : Table) → b.entries ≡ a.entries → IsRight g a → IsRight g b
 same_right g a b e h = subst (λ (v : Vec Entry Global). All (IsRightIn g v.items) v.items) (sym e) h
 
-pub same_has : (g : Given) (a b : Table) (k : ℕ) (t : List ℕ) (xs : List FileSelection) → b.entries ≡ a.entries → Has g a k t xs → Has g b k t xs
+pub same_has : (g : Basis) (a b : Table) (k : ℕ) (t : List ℕ) (xs : List FileSelection) → b.entries ≡ a.entries → Has g a k t xs → Has g b k t xs
 same_has g a b k t xs e h = record {
   within = subst (λ (v : Vec Entry Global). k < length v.items) (sym e) h.within;
   holds = subst (λ (v : Vec Entry Global). Hold g t xs (fields_at v.items k)) (sym e) h.holds;
@@ -136,5 +136,5 @@ pub same_grows : (a b c : Table) → c.entries ≡ b.entries → Grows a b → G
 same_grows a b c e h = subst (λ (v : Vec Entry Global). take (length a.entries.items) v.items ≡ a.entries.items) (sym e) h
 
 -- a table without entries is right
-pub right_none : (g : Given) (t : Table) → t.entries.items ≡ [] → IsRight g t
+pub right_none : (g : Basis) (t : Table) → t.entries.items ≡ [] → IsRight g t
 right_none g t e = subst (λ es. All (IsRightIn g es) es) (sym e) (λ k d w. absurd (omega (arith, w)))

@@ -1,34 +1,35 @@
 -- How calls of an execution come together.
-use Rattle.std.proofs.Common.{◌≡◌, ℕ, zero, suc, ◌+◌, ◌<◌, ◌≤◌, ◌⊎◌, inl, inr, List, [], ◌∷◌, ◌++◌, Bool, true, false, map, length, take, get_or, codes, String, Global, string_bytes, Option, Some, None, Result, Ok, Err, bytes_eq, is_some, refl, sym, ap, subst, ◌∙◌, arith, if◌then◌else◌}
+use Rattle.std.proofs.Common.{◌≡◌, ◌||◌, ℕ, zero, suc, ◌<◌, ◌≤◌, inl, inr, List, [], ◌∷◌, Bool, true, false, length, get_or, String, Global, string_bytes, Option, Some, None, Result, Ok, Err, bytes_eq, is_some, refl, sym, ap, subst, ◌∙◌, arith, if◌then◌else◌}
 use Rattle.std.specs.List.{list_any}
 use Rattle.std.specs.Result.{OnOk}
 use Rattle.std.proofs.lemmas.Slice.Eq.{bytes_eq-Decides}
 use Rattle.gql_inputs.specs.InputTypes.{is_non_null, item_of, name_in}
+use Rattle.gql_intro.specs.Nodes.{Node, query_root}
+use Rattle.json.specs.Print.{quoted}
 use Rattle.gql_text.specs.declared.place.Place.{Place}
 use Rattle.gql_collect.specs.Nodes.{FileSelection}
-use Rattle.gql_collect.specs.Unfolding.{Given}
 use Rattle.gql_types.specs.Schemas.{kind_named}
 use Rattle.gql_types.specs.Written.{Written, named, listed, required, written}
 use Rattle.gql_types.specs.declared.kind.TypeKind.{TypeKind}
-use Rattle.gql_types.specs.declared.kind.TypeKind.TheVariants as kind
-use Rattle.gql_types.specs.declared.schema.Schema.{Schema}
 use Rattle.serde_json.specs.Data as json
 use Rattle.serde_json.specs.Data.{Data}
 use Rattle.serde_json.specs.Find.{as_null}
 use Rattle.serde_json.specs.View.{items_of, view}
 use Rattle.serde_json.specs.declared.value.Value.{Value}
-use Rattle.gql_exec.specs.Execution.{Fields, Plan, plan, PlannedField, Site, Types, among, complete, execute, is_null, of_kind, on_list, value_of}
+use Rattle.gql_exec.specs.Execution.{Fields, Object, Plan, plan, PlannedField, Site, Types, among, by_source, complete, described, execute, is_null, of_kind, on_answer, on_list, stored, value_of}
+use Rattle.gql_exec.specs.Execution as execution
 use Rattle.gql_exec.specs.Parts.{Part, caught, plain, raise}
-use Rattle.gql_exec.specs.Plans.{IsPlan, defined, is_met, is_met_by, possible_in, types_of}
+use Rattle.gql_exec.specs.Plans.{Basis, IsPlan, defined, is_met, is_met_by, is_possible_by, possible_in, types_of}
 use Rattle.gql_exec.specs.Replies.{Path}
 use Rattle.gql_exec.specs.Resolution.{resolved}
-use Rattle.gql_exec.specs.States.{Done, Executes, Follows, path_of}
-use Rattle.gql_exec.specs.Tables.{Has, Hold, IsRight, StandFor, StandsFor, called_of, fields_at, pairs_of, planned_of}
+use Rattle.gql_exec.specs.States.{Executes, Follows, path_of}
+use Rattle.gql_exec.specs.Tables.{Has, IsRight, StandFor, StandsFor, called_of, fields_at, pairs_of, planned_of}
 use Rattle.gql_exec.specs.Texts.{value_part}
-use Rattle.gql_exec.specs.ValueParts.{Does, IsAbstract, Keeps, called_part, item_at, list_part, object_part, placed_part, site_of}
+use Rattle.gql_exec.specs.ValueParts.{Does, IsAbstract, Keeps, answer_part, called_part, source_part, item_at, list_part, object_part, placed_part, site_of}
 use Rattle.gql_exec.specs.declared.ended.Ended.{Ended}
 use Rattle.gql_exec.specs.declared.planning.Called.TheVariants as called
 use Rattle.gql_exec.specs.declared.planning.FieldPlan.{FieldPlan}
+use Rattle.gql_exec.specs.declared.planning.Source.TheVariants as source
 use Rattle.gql_exec.specs.declared.refusal.ExecRefusal.{ExecRefusal}
 use Rattle.gql_exec.specs.declared.run.Run.{Run}
 use Rattle.gql_exec.specs.declared.table.Table.{Table}
@@ -38,23 +39,23 @@ use Rattle.gql_exec.proofs.Grouped.{paired}
 
 -- ---- what is kept
 
-pub keeps_same : (g : Given) (t : Table) (r : Part) (result : Result Ended ExecRefusal) (s u : Run) → IsRight g t → Executes r result s u → OnOk result (Keeps g t t s u)
+pub keeps_same : (g : Basis) (t : Table) (r : Part) (result : Result Ended ExecRefusal) (s u : Run) → IsRight g t → Executes r result s u → OnOk result (Keeps g t t s u)
 keeps_same g t r (Ok e) s u right done = record { right = right; grows = grows_same t; left = omega (arith, done.follows.left) }
 keeps_same g t r (Err e) s u right done = tt
 
-pub keeps_twice : (g : Given) (a b c : Table) (s t u : Run) → Keeps g a b s t → Keeps g b c t u → Keeps g a c s u
+pub keeps_twice : (g : Basis) (a b c : Table) (s t u : Run) → Keeps g a b s t → Keeps g b c t u → Keeps g a c s u
 keeps_twice g a b c s t u h k = record { right = k.right; grows = grows_twice a b c h.grows k.grows; left = omega (arith, h.left, k.left) }
 
 -- with as many values left
-pub keeps_left : (g : Given) (a b : Table) (s t u v : Run) → Keeps g a b t u → t.left ≤ s.left → v.left ≤ u.left → Keeps g a b s v
+pub keeps_left : (g : Basis) (a b : Table) (s t u v : Run) → Keeps g a b t u → t.left ≤ s.left → v.left ≤ u.left → Keeps g a b s v
 keeps_left g a b s t u v k h l = record { right = k.right; grows = k.grows; left = omega (arith, k.left, h, l) }
 
 -- a part between brackets
-pub keeps_within : (g : Given) (a b : Table) (before after : List ℕ) (s t u v : Run) → Follows (plain before) s t → Keeps g a b t u → Follows (plain after) u v → Keeps g a b s v
+pub keeps_within : (g : Basis) (a b : Table) (before after : List ℕ) (s t u v : Run) → Follows (plain before) s t → Keeps g a b t u → Follows (plain after) u v → Keeps g a b s v
 keeps_within g a b before after s t u v opens k closes = record { right = k.right; grows = k.grows; left = omega (arith, k.left, opens.left, closes.left) }
 
 -- what is kept from an earlier state on
-pub keeps_later : (g : Given) (a b : Table) (result : Result Ended ExecRefusal) (s t u : Run) → t.left ≤ s.left → OnOk result (Keeps g a b t u) → OnOk result (Keeps g a b s u)
+pub keeps_later : (g : Basis) (a b : Table) (result : Result Ended ExecRefusal) (s t u : Run) → t.left ≤ s.left → OnOk result (Keeps g a b t u) → OnOk result (Keeps g a b s u)
 keeps_later g a b (Ok e) s t u h k = record { right = k.right; grows = k.grows; left = omega (arith, k.left, h) }
 keeps_later g a b (Err e) s t u h k = tt
 
@@ -64,13 +65,13 @@ as_part a b result s t e h = subst (λ r. Executes r result s t) (sym e) h
 -- ---- fields
 
 -- the field of the plan at a number
-pub record At (g : Given) (f : FieldPlan) (k : ℕ) (qs : List (PlannedField × Plan)) : Type 0 where
+pub record At (g : Basis) (f : FieldPlan) (k : ℕ) (qs : List (PlannedField × Plan)) : Type 0 where
   pub pair : PlannedField × Plan
   pub within : k < length qs
   pub here : pair ≡ get_or qs k pair
   pub stands : StandsFor g f pair
 
-pub stand_at : (g : Given) (fs : List FieldPlan) (qs : List (PlannedField × Plan)) (k : ℕ) (f : FieldPlan) → StandFor g fs qs → k < length fs → f ≡ get_or fs k f → At g f k qs
+pub stand_at : (g : Basis) (fs : List FieldPlan) (qs : List (PlannedField × Plan)) (k : ℕ) (f : FieldPlan) → StandFor g fs qs → k < length fs → f ≡ get_or fs k f → At g f k qs
 stand_at g [] [] k f h w is = absurd (omega (arith, w))
 stand_at g [] (q ∷ qs) k f h w is = absurd h
 stand_at g (x ∷ fs) [] k f h w is = absurd h
@@ -78,26 +79,49 @@ stand_at g (x ∷ fs) (q ∷ qs) zero f h w is = record { pair = q; within = ome
 stand_at g (x ∷ fs) (q ∷ qs) (suc k) f h w is = let r = stand_at g fs qs k f h.1 (omega (arith, w)) is in
     record { pair = r.pair; within = omega (arith, r.within); here = r.here; stands = r.stands }
 
-pub as_many : (g : Given) (fs : List FieldPlan) (qs : List (PlannedField × Plan)) → StandFor g fs qs → length fs ≡ length qs
+pub as_many : (g : Basis) (fs : List FieldPlan) (qs : List (PlannedField × Plan)) → StandFor g fs qs → length fs ≡ length qs
 as_many g [] [] h = refl
 as_many g [] (q ∷ qs) h = absurd h
 as_many g (x ∷ fs) [] h = absurd h
 as_many g (x ∷ fs) (q ∷ qs) h = ap suc (as_many g fs qs h.1)
 
 -- a field that is refused its arguments
-pub called_refused : (types : Types) (d : Data) (q : PlannedField × Plan) (p : Path) (f : FieldPlan) (m : String Global) → q.0 ≡ planned_of f → f.arguments ≡ called.Refused m
+pub called_refused : (types : Types) (d : Object) (q : PlannedField × Plan) (p : Path) (f : FieldPlan) (m : String Global) → q.0 ≡ planned_of f → f.arguments ≡ called.Refused m
     → called_part types d q p ≡ raise (record { message = string_bytes m; place = f.place; path = p })
 called_refused types d q p f m is refused =
     ap (λ (e : PlannedField). value_part (value_of (site_of types e.place q.1) e e.arguments p d)) is
     ∙ ap (λ a. value_part (value_of (site_of types f.place q.1) (planned_of f) (called_of a) p d)) refused
 
--- one that is called with arguments
-pub called_given : (types : Types) (d : Data) (q : PlannedField × Plan) (p : Path) (f : FieldPlan) (v : Value) → q.0 ≡ planned_of f → f.arguments ≡ called.Given v
-    → called_part types d q p
-    ≡ value_part (complete (site_of types f.place q.1) (written f.of_type.now) p (resolved f.name.now (written f.of_type.now) (view v) d))
-called_given types d q p f v is given =
-    ap (λ (e : PlannedField). value_part (value_of (site_of types e.place q.1) e e.arguments p d)) is
-    ∙ ap (λ a. value_part (value_of (site_of types f.place q.1) (planned_of f) (called_of a) p d)) given
+-- one that is called with arguments, of an object of the data and of a node
+module _ (types : Types) (q : PlannedField × Plan) (p : Path) (f : FieldPlan) (v : Value) (is : q.0 ≡ planned_of f) (given : f.arguments ≡ called.Given v) where
+  arguments_are : q.0.arguments ≡ execution.given (view v)
+  arguments_are = ap (λ (e : PlannedField). e.arguments) is ∙ ap called_of given
+
+  pub called_stored : (d : Data) → called_part types (stored d) q p ≡ source_part types (view v) d q p
+  called_stored d = ap (λ a. value_part (value_of (site_of types q.0.place q.1) q.0 a p (stored d))) arguments_are
+
+  pub called_described : (n : Node) → called_part types (described n) q p ≡ answer_part types (view v) n q p
+  called_described n = ap (λ a. value_part (value_of (site_of types q.0.place q.1) q.0 a p (described n))) arguments_are
+
+-- by where objects of the data have the value of a field
+module _ (types : Types) (a d : Data) (q : PlannedField × Plan) (p : Path) (f : FieldPlan) (is : q.0 ≡ planned_of f) where
+  source_is : source_part types a d q p ≡ value_part (by_source (site_of types f.place q.1) (planned_of f) f.source a p d)
+  source_is = ap (λ (e : PlannedField). value_part (by_source (site_of types e.place q.1) e e.source a p d)) is
+
+  pub source_stored : f.source ≡ source.Stored
+      → source_part types a d q p ≡ value_part (complete (site_of types f.place q.1) (written f.of_type.now) p (resolved f.name.now (written f.of_type.now) a d))
+  source_stored e = source_is ∙ ap (λ x. value_part (by_source (site_of types f.place q.1) (planned_of f) x a p d)) e
+
+  pub source_name : (t : List ℕ) → f.source ≡ source.TypeName t → source_part types a d q p ≡ plain (quoted t)
+  source_name t e = source_is ∙ ap (λ x. value_part (by_source (site_of types f.place q.1) (planned_of f) x a p d)) e
+
+  pub source_root : f.source ≡ source.Root → source_part types a d q p ≡ answer_part types a query_root q p
+  source_root e = source_is ∙ ap (λ x. value_part (by_source (site_of types f.place q.1) (planned_of f) x a p d)) e
+      ∙ ap (λ (e : PlannedField). value_part (on_answer (site_of types e.place q.1) (name_in e.of_type) p (types.introspect query_root e.name a))) (sym is)
+
+pub answer_at : (types : Types) (a : Data) (n : Node) (q : PlannedField × Plan) (p : Path) (f : FieldPlan) → q.0 ≡ planned_of f
+    → answer_part types a n q p ≡ value_part (on_answer (site_of types f.place q.1) (name_in (written f.of_type.now)) p (types.introspect n f.name.now a))
+answer_at types a n q p f is = ap (λ (e : PlannedField). value_part (on_answer (site_of types e.place q.1) (name_in e.of_type) p (types.introspect n e.name a))) is
 
 -- ---- places
 
@@ -110,27 +134,38 @@ placed_nullable t r e = ap (λ b. if b then r else caught r) e
 -- ---- objects
 
 -- the fields of an entry stand for those of each plan
-pub entry_stands : (g : Given) (table : Table) (k : ℕ) (t name : List ℕ) (xs : List FileSelection) (by_type : List ℕ → Fields) → Has g table k t xs → is_met g.schema t name ≡ true
+pub entry_stands : (g : Basis) (table : Table) (k : ℕ) (t name : List ℕ) (xs : List FileSelection) (by_type : List ℕ → Fields) → Has g table k t xs → is_met g t name ≡ true
     → IsPlan g name xs (plan by_type) → StandFor g (fields_at table.entries.items k) (pairs_of (by_type t))
-entry_stands g table k t name xs by_type has met is = let p = is t met in has.holds p.0 p.1 (pairs_of (by_type t)) (paired g t (defined g.schema t p.0) (by_type t) p.2)
+entry_stands g table k t name xs by_type has met is = let p = is t met in has.holds p.0 p.1 (pairs_of (by_type t)) (paired g t (defined g t p.0) (by_type t) p.2)
 
-pub on_entry : (g : Given) (table : Table) (k : ℕ) (t name : List ℕ) (xs : List FileSelection) (x : Plan) (d : Data) (result : Result Ended ExecRefusal) (s u : Run)
-    → Has g table k t xs → is_met g.schema t name ≡ true → IsPlan g name xs x
-    → ((qs : List (PlannedField × Plan)) → StandFor g (fields_at table.entries.items k) qs → Executes (object_part (types_of g.schema) d qs (path_of s)) result s u)
-    → Executes (value_part (execute (types_of g.schema) x t (path_of s) d)) result s u
+pub on_entry : (g : Basis) (table : Table) (k : ℕ) (t name : List ℕ) (xs : List FileSelection) (x : Plan) (d : Object) (result : Result Ended ExecRefusal) (s u : Run)
+    → Has g table k t xs → is_met g t name ≡ true → IsPlan g name xs x
+    → ((qs : List (PlannedField × Plan)) → StandFor g (fields_at table.entries.items k) qs → Executes (object_part (types_of g) d qs (path_of s)) result s u)
+    → Executes (value_part (execute (types_of g) x t (path_of s) d)) result s u
 on_entry g table k t name xs (plan by_type) d result s u has met is does =
-    subst (λ r. Executes r result s u) (sym (object_is (types_of g.schema) by_type t (path_of s) d))
+    subst (λ r. Executes r result s u) (sym (object_is (types_of g) by_type t (path_of s) d))
     (does (pairs_of (by_type t)) (entry_stands g table k t name xs by_type has met is))
 
 pub bytes_same : (n : List ℕ) → bytes_eq n n ≡ true
 bytes_same n = (bytes_eq-Decides n n).1 refl
 
-pub met_object : (s : Schema) (n : List ℕ) → kind_named s n ≡ Some kind.Object → is_met s n n ≡ true
-met_object s n e = ap (is_met_by (types_of s) n n) e ∙ bytes_same n
+-- an object of the type itself is met
+pub met_self : (types : Types) (n : List ℕ) (k : Option TypeKind) → is_met_by types n n k ≡ true
+met_self types n k = ap (λ b. b || is_possible_by types n n k) (bytes_same n)
 
-pub met_abstract : (s : Schema) (t n : List ℕ) → IsAbstract (kind_named s n) → list_any (bytes_eq t) (possible_in s n) ≡ true → is_met s t n ≡ true
-met_abstract s t n (inl e) h = ap (is_met_by (types_of s) t n) e ∙ h
-met_abstract s t n (inr e) h = ap (is_met_by (types_of s) t n) e ∙ h
+pub met_itself : (g : Basis) (n : List ℕ) → is_met g n n ≡ true
+met_itself g n = met_self (types_of g) n (kind_named g.given.schema n)
+
+or_true : (b c : Bool) → c ≡ true → b || c ≡ true
+or_true true c e = refl
+or_true false c e = e
+
+pub met_possible : (types : Types) (t n : List ℕ) (k : Option TypeKind) → IsAbstract k → list_any (bytes_eq t) (types.possible n) ≡ true → is_met_by types t n k ≡ true
+met_possible types t n k (inl e) h = or_true (bytes_eq t n) (is_possible_by types t n k) (ap (is_possible_by types t n) e ∙ h)
+met_possible types t n k (inr e) h = or_true (bytes_eq t n) (is_possible_by types t n k) (ap (is_possible_by types t n) e ∙ h)
+
+pub met_abstract : (g : Basis) (t n : List ℕ) → IsAbstract (kind_named g.given.schema n) → list_any (bytes_eq t) (possible_in g.given.schema n) ≡ true → is_met g t n ≡ true
+met_abstract g t n e h = met_possible (types_of g) t n (kind_named g.given.schema n) e h
 
 chosen : (b : Bool) (n t : List ℕ) → (if b then Some n else None) ≡ Some t → (b ≡ true) × (n ≡ t)
 chosen true n t e = (refl, same n t e) where
@@ -166,61 +201,61 @@ not_null (json.string s) e = refl
 not_null (json.array ds) e = refl
 not_null (json.object ms) e = refl
 
-module _ (g : Given) (place : Place) (xs : List FileSelection) (result : Result Ended ExecRefusal) (s u : Run) where
+module _ (g : Basis) (place : Place) (xs : List FileSelection) (result : Result Ended ExecRefusal) (s u : Run) where
   pub at_null : (t : Written) (d : Data) → is_some (as_null d) ≡ true
       → ((site : Site) → site.place ≡ place → Executes (value_part (complete site t (path_of s) json.null)) result s u)
       → Does g place (name_in t) xs (λ site. value_part (complete site t (path_of s) d)) result s u
-  at_null t d e h = λ x i. subst (λ y. Executes (value_part (complete (site_of (types_of g.schema) place x) t (path_of s) y)) result s u) (sym (null_is d e))
-      (h (site_of (types_of g.schema) place x) refl)
+  at_null t d e h = λ x i. subst (λ y. Executes (value_part (complete (site_of (types_of g) place x) t (path_of s) y)) result s u) (sym (null_is d e))
+      (h (site_of (types_of g) place x) refl)
 
   -- resolved to nothing
   pub at_nothing : (t : Written) (d : Data) → d ≡ json.null
       → ((site : Site) → site.place ≡ place → Executes (value_part (complete site t (path_of s) json.null)) result s u)
       → Does g place (name_in t) xs (λ site. value_part (complete site t (path_of s) d)) result s u
-  at_nothing t d e h = λ x i. subst (λ y. Executes (value_part (complete (site_of (types_of g.schema) place x) t (path_of s) y)) result s u) (sym e)
-      (h (site_of (types_of g.schema) place x) refl)
+  at_nothing t d e h = λ x i. subst (λ y. Executes (value_part (complete (site_of (types_of g) place x) t (path_of s) y)) result s u) (sym e)
+      (h (site_of (types_of g) place x) refl)
 
   pub at_unmarked : (t v : Written) (d : Data) → ((site : Site) (p : Path) (y : Data) → is_null y ≡ false → complete site t p y ≡ complete site v p y)
       → name_in t ≡ name_in v → is_null d ≡ false
       → Does g place (name_in v) xs (λ site. value_part (complete site v (path_of s) d)) result s u
       → Does g place (name_in t) xs (λ site. value_part (complete site t (path_of s) d)) result s u
-  at_unmarked t v d same name e h = λ x i. as_part (value_part (complete (site_of (types_of g.schema) place x) t (path_of s) d))
-      (value_part (complete (site_of (types_of g.schema) place x) v (path_of s) d)) result s u
-      (ap value_part (same (site_of (types_of g.schema) place x) (path_of s) d e)) (h x (subst (λ n. IsPlan g n xs x) name i))
+  at_unmarked t v d same name e h = λ x i. as_part (value_part (complete (site_of (types_of g) place x) t (path_of s) d))
+      (value_part (complete (site_of (types_of g) place x) v (path_of s) d)) result s u
+      (ap value_part (same (site_of (types_of g) place x) (path_of s) d e)) (h x (subst (λ n. IsPlan g n xs x) name i))
 
   pub at_named : (t : Written) (n : List ℕ) (d : Data) → t ≡ named n → is_null d ≡ false
-      → Does g place n xs (λ site. value_part (of_kind site n (path_of s) d (kind_named g.schema n))) result s u
+      → Does g place n xs (λ site. value_part (of_kind site n (path_of s) d (kind_named g.given.schema n))) result s u
       → Does g place (name_in t) xs (λ site. value_part (complete site t (path_of s) d)) result s u
   at_named t n d e null h = subst (λ w. Does g place (name_in w) xs (λ site. value_part (complete site w (path_of s) d)) result s u) (sym e)
-      (λ x i. as_part (value_part (complete (site_of (types_of g.schema) place x) (named n) (path_of s) d))
-      (value_part (of_kind (site_of (types_of g.schema) place x) n (path_of s) d (kind_named g.schema n))) result s u
-      (ap value_part (present_named (site_of (types_of g.schema) place x) (path_of s) n d null)) (h x i))
+      (λ x i. as_part (value_part (complete (site_of (types_of g) place x) (named n) (path_of s) d))
+      (value_part (of_kind (site_of (types_of g) place x) n (path_of s) d (kind_named g.given.schema n))) result s u
+      (ap value_part (present_named (site_of (types_of g) place x) (path_of s) n d null)) (h x i))
 
   pub at_list : (t v : Written) (d : Data) → t ≡ listed v → is_null d ≡ false
       → Does g place (name_in v) xs (λ site. value_part (on_list site (item_at site v) (path_of s) d)) result s u
       → Does g place (name_in t) xs (λ site. value_part (complete site t (path_of s) d)) result s u
   at_list t v d e null h = subst (λ w. Does g place (name_in w) xs (λ site. value_part (complete site w (path_of s) d)) result s u) (sym e)
-      (λ x i. as_part (value_part (complete (site_of (types_of g.schema) place x) (listed v) (path_of s) d))
-      (value_part (on_list (site_of (types_of g.schema) place x) (item_at (site_of (types_of g.schema) place x) v) (path_of s) d)) result s u
-      (ap value_part (present_list (site_of (types_of g.schema) place x) (path_of s) v d null)) (h x i))
+      (λ x i. as_part (value_part (complete (site_of (types_of g) place x) (listed v) (path_of s) d))
+      (value_part (on_list (site_of (types_of g) place x) (item_at (site_of (types_of g) place x) v) (path_of s) d)) result s u
+      (ap value_part (present_list (site_of (types_of g) place x) (path_of s) v d null)) (h x i))
 
   -- a list whose items are these
   pub at_array : (v : Written) (d : Data) (ds : List Data) → d ≡ json.array (items_of ds)
       → Does g place (name_in v) xs (λ site. list_part v site ds (path_of s)) result s u
       → Does g place (name_in v) xs (λ site. value_part (on_list site (item_at site v) (path_of s) d)) result s u
-  at_array v d ds e h = λ x i. as_part (value_part (on_list (site_of (types_of g.schema) place x) (item_at (site_of (types_of g.schema) place x) v) (path_of s) d))
-      (list_part v (site_of (types_of g.schema) place x) ds (path_of s)) result s u
-      (ap (λ y. value_part (on_list (site_of (types_of g.schema) place x) (item_at (site_of (types_of g.schema) place x) v) (path_of s) y)) e
-      ∙ list_is (site_of (types_of g.schema) place x) v (path_of s) ds) (h x i)
+  at_array v d ds e h = λ x i. as_part (value_part (on_list (site_of (types_of g) place x) (item_at (site_of (types_of g) place x) v) (path_of s) d))
+      (list_part v (site_of (types_of g) place x) ds (path_of s)) result s u
+      (ap (λ y. value_part (on_list (site_of (types_of g) place x) (item_at (site_of (types_of g) place x) v) (path_of s) y)) e
+      ∙ list_is (site_of (types_of g) place x) v (path_of s) ds) (h x i)
 
   -- items that arguments keep
   pub at_items : (t v : Written) (d : Data) (ds : List Data) → item_of t ≡ Some v → name_in v ≡ name_in t → d ≡ json.array (items_of ds)
       → Does g place (name_in v) xs (λ site. list_part v site ds (path_of s)) result s u
       → Does g place (name_in t) xs (λ site. value_part (complete site t (path_of s) d)) result s u
-  at_items t v d ds e name is h = λ x i. as_part (value_part (complete (site_of (types_of g.schema) place x) t (path_of s) d))
-      (list_part v (site_of (types_of g.schema) place x) ds (path_of s)) result s u
-      (ap (λ y. value_part (complete (site_of (types_of g.schema) place x) t (path_of s) y)) is
-      ∙ ap value_part (items_at (site_of (types_of g.schema) place x) (path_of s) t v (items_of ds) e) ∙ list_is (site_of (types_of g.schema) place x) v (path_of s) ds)
+  at_items t v d ds e name is h = λ x i. as_part (value_part (complete (site_of (types_of g) place x) t (path_of s) d))
+      (list_part v (site_of (types_of g) place x) ds (path_of s)) result s u
+      (ap (λ y. value_part (complete (site_of (types_of g) place x) t (path_of s) y)) is
+      ∙ ap value_part (items_at (site_of (types_of g) place x) (path_of s) t v (items_of ds) e) ∙ list_is (site_of (types_of g) place x) v (path_of s) ds)
       (h x (subst (λ n. IsPlan g n xs x) (sym name) i))
 
 -- the name within the type of the items

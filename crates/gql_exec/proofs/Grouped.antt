@@ -2,28 +2,24 @@
 use Rattle.std.proofs.Common.{◌≡◌, ℕ, List, [], ◌∷◌, ◌++◌, codes, append-nil, cond, is_some, Option, Some, None, refl, sym, ap, ◌∙◌, subst}
 use Rattle.std.proofs.lemmas.List.Elements.{filter-append}
 use Rattle.json.specs.Print.{quoted}
-use Rattle.gql_ast.specs.declared.type_system.FieldDefinition.{FieldDefinition}
-use Rattle.gql_built_in.specs.declared.sited.Sited.{Sited}
 use Rattle.gql_coerce.specs.Requests.{ArgumentsCome}
-use Rattle.gql_collect.specs.Collection.{AreGroups, Collects, selections_below}
+use Rattle.gql_collect.specs.Collection.{AreGroups, selections_below}
 use Rattle.gql_collect.specs.Groups.{Group}
 use Rattle.gql_collect.specs.Nodes.{FieldNode, FileSelection}
-use Rattle.gql_collect.specs.Unfolding.{Given}
 use Rattle.gql_inputs.specs.InputTypes.{name_in}
-use Rattle.gql_types.specs.Schemas.{field_named}
 use Rattle.gql_exec.specs.Execution.{PlannedField, Plan, Fields, no_fields, field}
-use Rattle.gql_exec.specs.Plans.{IsPlan, IsPlanned, ArePlanned, defined, definition_of, planned}
+use Rattle.gql_exec.specs.Plans.{Basis, FieldOf, IsPlan, IsPlanned, ArePlanned, defined, field_of, field_of_nodes, planned}
 use Rattle.gql_exec.specs.Tables.{PlansGroup, ArePairs, StandsFor, StandFor, Planning, Hold, pairs_of, planned_of}
 use Rattle.gql_exec.specs.declared.planning.FieldPlan.{FieldPlan}
 
-pub paired : (g : Given) (t : List ℕ) (groups : List Group) (fs : Fields) → ArePlanned g t groups fs → ArePairs g t groups (pairs_of fs)
+pub paired : (g : Basis) (t : List ℕ) (groups : List Group) (fs : Fields) → ArePlanned g t groups fs → ArePairs g t groups (pairs_of fs)
 paired g t [] no_fields h = tt
 paired g t [] (field f below rest) h = absurd h
 paired g t (group ∷ groups) no_fields h = absurd h
 paired g t (group ∷ groups) (field f below rest) h = (h.0, h.1, paired g t groups rest h.2)
 
 -- the last of the groups
-record Split (g : Given) (t : List ℕ) (groups : List Group) (group : Group) (qs : List (PlannedField × Plan)) : Type 0 where
+record Split (g : Basis) (t : List ℕ) (groups : List Group) (group : Group) (qs : List (PlannedField × Plan)) : Type 0 where
   before : List (PlannedField × Plan)
   last : PlannedField × Plan
   is : qs ≡ before ++ last ∷ []
@@ -31,7 +27,7 @@ record Split (g : Given) (t : List ℕ) (groups : List Group) (group : Group) (q
   first : IsPlanned g t group last.0
   below : IsPlan g (name_in last.0.of_type) (selections_below group.nodes) last.1
 
-split : (g : Given) (t : List ℕ) (groups : List Group) (group : Group) (qs : List (PlannedField × Plan)) → ArePairs g t (groups ++ group ∷ []) qs → Split g t groups group qs
+split : (g : Basis) (t : List ℕ) (groups : List Group) (group : Group) (qs : List (PlannedField × Plan)) → ArePairs g t (groups ++ group ∷ []) qs → Split g t groups group qs
 split g t [] group [] h = absurd h
 split g t [] group (q ∷ []) h = record { before = []; last = q; is = refl; are = tt; first = h.0; below = h.1 }
 split g t [] group (q ∷ (r ∷ qs)) h = absurd h.2
@@ -39,7 +35,7 @@ split g t (x ∷ groups) group [] h = absurd h
 split g t (x ∷ groups) group (q ∷ qs) h = let s = split g t groups group qs h.2 in
     record { before = q ∷ s.before; last = s.last; is = ap (λ rs. q ∷ rs) s.is; are = (h.0, h.1, s.are); first = s.first; below = s.below }
 
-stand_more : (g : Given) (fs : List FieldPlan) (qs : List (PlannedField × Plan)) (f : FieldPlan) (q : PlannedField × Plan) → StandFor g fs qs → StandsFor g f q → StandFor g (fs ++ f ∷ []) (qs ++ q ∷ [])
+stand_more : (g : Basis) (fs : List FieldPlan) (qs : List (PlannedField × Plan)) (f : FieldPlan) (q : PlannedField × Plan) → StandFor g fs qs → StandsFor g f q → StandFor g (fs ++ f ∷ []) (qs ++ q ∷ [])
 stand_more g [] [] f q h k = (k, tt)
 stand_more g [] (r ∷ qs) f q h k = absurd h
 stand_more g (e ∷ fs) [] f q h k = absurd h
@@ -52,29 +48,29 @@ pub same_some : {A : Type 0} (x y : A) → Some x ≡ Some y → x ≡ y
 same_some x y e = cc
 
 -- the groups of fields that the type has, with one more
-with_one : (g : Given) (t : List ℕ) (groups : List Group) (group : Group) (n : FieldNode) (rest : List FieldNode) (d : Sited FieldDefinition)
-    → group.nodes ≡ n ∷ rest → field_named g.schema t n.field.name.text ≡ Some d → defined g.schema t (groups ++ group ∷ []) ≡ defined g.schema t groups ++ group ∷ []
-with_one g t groups group n rest d nodes is = filter-append (λ (x : Group). is_some (definition_of g.schema t x.nodes)) groups (group ∷ [])
-    ∙ ap (λ (o : Option (Sited FieldDefinition)). defined g.schema t groups ++ cond (is_some o) (group ∷ []) []) (ap (definition_of g.schema t) nodes ∙ is)
+with_one : (g : Basis) (t : List ℕ) (groups : List Group) (group : Group) (n : FieldNode) (rest : List FieldNode) (d : FieldOf)
+    → group.nodes ≡ n ∷ rest → field_of g t n.field.name.text ≡ Some d → defined g t (groups ++ group ∷ []) ≡ defined g t groups ++ group ∷ []
+with_one g t groups group n rest d nodes is = filter-append (λ (x : Group). is_some (field_of_nodes g t x.nodes)) groups (group ∷ [])
+    ∙ ap (λ (o : Option (FieldOf)). defined g t groups ++ cond (is_some o) (group ∷ []) []) (ap (field_of_nodes g t) nodes ∙ is)
 
 -- without one whose field it does not have
-without_one : (g : Given) (t : List ℕ) (groups : List Group) (group : Group) (n : FieldNode) (rest : List FieldNode)
-    → group.nodes ≡ n ∷ rest → field_named g.schema t n.field.name.text ≡ None → defined g.schema t (groups ++ group ∷ []) ≡ defined g.schema t groups
-without_one g t groups group n rest nodes is = filter-append (λ (x : Group). is_some (definition_of g.schema t x.nodes)) groups (group ∷ [])
-    ∙ ap (λ (o : Option (Sited FieldDefinition)). defined g.schema t groups ++ cond (is_some o) (group ∷ []) []) (ap (definition_of g.schema t) nodes ∙ is)
-    ∙ append-nil (defined g.schema t groups)
+without_one : (g : Basis) (t : List ℕ) (groups : List Group) (group : Group) (n : FieldNode) (rest : List FieldNode)
+    → group.nodes ≡ n ∷ rest → field_of g t n.field.name.text ≡ None → defined g t (groups ++ group ∷ []) ≡ defined g t groups
+without_one g t groups group n rest nodes is = filter-append (λ (x : Group). is_some (field_of_nodes g t x.nodes)) groups (group ∷ [])
+    ∙ ap (λ (o : Option (FieldOf)). defined g t groups ++ cond (is_some o) (group ∷ []) []) (ap (field_of_nodes g t) nodes ∙ is)
+    ∙ append-nil (defined g t groups)
 
 -- the field of one more group, whose first node is n and has the definition d
-pub one_more : (g : Given) (t : List ℕ) (groups : List Group) (fs : List FieldPlan) (group : Group) (n : FieldNode) (rest : List FieldNode) (d : Sited FieldDefinition) (f : FieldPlan)
-    → Planning g t groups fs → group.nodes ≡ n ∷ rest → field_named g.schema t n.field.name.text ≡ Some d → PlansGroup g d.node group f
+pub one_more : (g : Basis) (t : List ℕ) (groups : List Group) (fs : List FieldPlan) (group : Group) (n : FieldNode) (rest : List FieldNode) (d : FieldOf) (f : FieldPlan)
+    → Planning g t groups fs → group.nodes ≡ n ∷ rest → field_of g t n.field.name.text ≡ Some d → PlansGroup g d group f
     → Planning g t (groups ++ group ∷ []) (fs ++ f ∷ [])
 one_more g t groups fs group n rest d f planning nodes has plans qs h =
-    let s = split g t (defined g.schema t groups) group qs (subst (λ gs. ArePairs g t gs qs) (with_one g t groups group n rest d nodes has) h) in
+    let s = split g t (defined g t groups) group qs (subst (λ gs. ArePairs g t gs qs) (with_one g t groups group n rest d nodes has) h) in
     let p = s.first in
     let first_is : p.first ≡ n = same_first p.first n p.others rest (sym p.nodes ∙ nodes) in
-    let d_is : p.definition ≡ d = same_some p.definition d (sym p.defined ∙ ap (λ (m : FieldNode). field_named g.schema t m.field.name.text) first_is ∙ has) in
-    let is : planned_of f ≡ planned group p.first p.definition.node p.arguments = subst (λ (e : Sited FieldDefinition). planned_of f ≡ planned group p.first e.node p.arguments) (sym d_is)
-    (plans.is p.first p.others p.arguments p.nodes (subst (λ (e : Sited FieldDefinition). ArgumentsCome g.schema e.node.arguments p.first.field.arguments g.values p.arguments) d_is p.comes)) in
+    let d_is : p.field ≡ d = same_some p.field d (sym p.defined ∙ ap (λ (m : FieldNode). field_of g t m.field.name.text) first_is ∙ has) in
+    let is : planned_of f ≡ planned group p.first p.field p.arguments = subst (λ (e : FieldOf). planned_of f ≡ planned group p.first e p.arguments) (sym d_is)
+    (plans.is p.first p.others p.arguments p.nodes (subst (λ (e : FieldOf). ArgumentsCome g.given.schema e.definition.arguments p.first.field.arguments g.given.values p.arguments) d_is p.comes)) in
     subst (StandFor g (fs ++ f ∷ [])) (sym s.is) (stand_more g fs s.before f s.last (planning s.before s.are) (record {
       planned = p.is ∙ sym is;
       label = plans.label ∙ ap (λ (r : PlannedField). quoted r.response_name ++ codes ":") (sym p.is);
@@ -82,14 +78,14 @@ one_more g t groups fs group n rest d f planning nodes has plans qs h =
     }))
 
 -- a field that the type does not have is in no plan
-pub none_more : (g : Given) (t : List ℕ) (groups : List Group) (fs : List FieldPlan) (group : Group) (n : FieldNode) (rest : List FieldNode)
-    → Planning g t groups fs → group.nodes ≡ n ∷ rest → field_named g.schema t n.field.name.text ≡ None → Planning g t (groups ++ group ∷ []) fs
+pub none_more : (g : Basis) (t : List ℕ) (groups : List Group) (fs : List FieldPlan) (group : Group) (n : FieldNode) (rest : List FieldNode)
+    → Planning g t groups fs → group.nodes ≡ n ∷ rest → field_of g t n.field.name.text ≡ None → Planning g t (groups ++ group ∷ []) fs
 none_more g t groups fs group n rest planning nodes missing qs h =
     planning qs (subst (λ gs. ArePairs g t gs qs) (without_one g t groups group n rest nodes missing) h)
 
-pub none_yet : (g : Given) (t : List ℕ) → Planning g t [] []
+pub none_yet : (g : Basis) (t : List ℕ) → Planning g t [] []
 none_yet g t [] h = tt
 none_yet g t (q ∷ qs) h = absurd h
 
-pub all_held : (g : Given) (t : List ℕ) (xs : List FileSelection) (groups : List Group) (fs : List FieldPlan) → AreGroups g t xs groups → Planning g t groups fs → Hold g t xs fs
+pub all_held : (g : Basis) (t : List ℕ) (xs : List FileSelection) (groups : List Group) (fs : List FieldPlan) → AreGroups g.given t xs groups → Planning g t groups fs → Hold g t xs fs
 all_held g t xs groups fs are planning others h = subst (λ gs. Planning g t gs fs) (are others h) planning

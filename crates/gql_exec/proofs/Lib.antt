@@ -8,9 +8,11 @@ pub mod Enums
 pub mod Escapes
 pub mod Executing
 pub mod Grouped
+pub mod Introspecting
 pub mod Leaving
 pub mod Listing
 pub mod Parts
+pub mod Picked
 pub mod Resolving
 pub mod SomePlan
 pub mod SomeResponse

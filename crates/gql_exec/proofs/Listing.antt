@@ -1,11 +1,9 @@
 -- The items of lists.
-use Rattle.std.proofs.Common.{◌≡◌, ℕ, zero, suc, ◌<◌, List, [], ◌∷◌, map, length, get_or, Bor, refl, sym, ap, ◌∙◌, arith}
-use Rattle.std.proofs.lemmas.List.{length-map}
+use Rattle.std.proofs.Common.{◌≡◌, ℕ, zero, suc, ◌<◌, List, [], ◌∷◌, map, length, get_or, Bor, refl, ap, arith}
 use Rattle.serde_json.specs.Data.{Data}
 use Rattle.serde_json.specs.View.{view}
 use Rattle.serde_json.specs.declared.value.Value.{Value}
-use Rattle.gql_exec.specs.ValueParts.{items_from, items_in}
-use Rattle.gql_exec.specs.declared.items.ListItems.{ListItems}
+use Rattle.gql_exec.specs.ValueParts.{items_from}
 
 pub none_kept : (ds : List Data) (vs : List (Bor Value)) → length vs ≡ 0 → items_from ds vs ≡ ds
 none_kept ds [] e = refl
@@ -15,7 +13,7 @@ pub some_kept : (ds : List Data) (vs : List (Bor Value)) → 0 < length vs → i
 some_kept ds [] h = absurd (omega (arith, h))
 some_kept ds (v ∷ vs) h = refl
 
-pub at_map : {A : Type 0} (f : A → Data) (xs : List A) (i : ℕ) (x : A) → i < length xs → x ≡ get_or xs i x → f x ≡ get_or (map f xs) i (f x)
+pub at_map : {A B : Type 0} (f : A → B) (xs : List A) (i : ℕ) (x : A) → i < length xs → x ≡ get_or xs i x → f x ≡ get_or (map f xs) i (f x)
 at_map f [] i x h e = absurd (omega (arith, h))
 at_map f (y ∷ xs) zero x h e = ap f e
 at_map f (y ∷ xs) (suc i) x h e = at_map f xs i x (omega (arith, h)) e

@@ -1,12 +1,12 @@
 -- What a field takes of a member by its arguments.
-use Rattle.std.proofs.Common.{◌≡◌, ℕ, ◌<◌, List, [], ◌∷◌, map, filter, length, String, Global, Option, None, Some, refl, sym, ap, ◌∙◌, arith, unwrap_or}
+use Rattle.std.proofs.Common.{◌≡◌, ℕ, ◌<◌, List, [], ◌∷◌, map, filter, length, String, Global, None, Some, refl, ap, ◌∙◌, arith, unwrap_or}
 use Rattle.gql_types.specs.Written.{Written}
 use Rattle.serde_json.specs.Data as json
 use Rattle.serde_json.specs.Data.{Data, Items, Members}
 use Rattle.serde_json.specs.Find.{as_array, as_object, get}
 use Rattle.serde_json.specs.View.{items_of, items_view, members_view, view}
 use Rattle.serde_json.specs.declared.value.Value.{Value}
-use Rattle.gql_exec.specs.Resolution.{filtered, list_of, meets, member_or_null, members_in, resolved, taken}
+use Rattle.gql_exec.specs.Resolution.{filtered, list_of, meets, members_in, resolved, taken}
 
 pub listed : (ds : List Data) → list_of (items_of ds) ≡ ds
 listed [] = refl

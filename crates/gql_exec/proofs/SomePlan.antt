@@ -1,28 +1,24 @@
 -- Selections that nest at some depth have a plan.
-use Rattle.std.proofs.Common.{◌≡◌, ℕ, zero, suc, List, [], ◌∷◌, Bool, true, false, if◌then◌else◌, filter, is_some, map, Option, Some, None, Contains, refl, sym, ap, ◌∙◌, subst, inl, inr}
+use Rattle.std.proofs.Common.{◌≡◌, ℕ, zero, suc, List, [], ◌∷◌, Option, Some, None, Contains, refl, sym, ap, ◌∙◌, subst}
 use Rattle.gql_ast.specs.declared.executable.Selection.{Selection}
 use Rattle.gql_ast.specs.declared.literal.Argument.{Argument}
-use Rattle.gql_ast.specs.declared.type_system.FieldDefinition.{FieldDefinition}
 use Rattle.gql_ast.specs.declared.type_system.InputValueDefinition.{InputValueDefinition}
-use Rattle.gql_built_in.specs.declared.sited.Sited.{Sited}
 use Rattle.gql_coerce.specs.Comes.{Outcome}
 use Rattle.gql_coerce.specs.Requests.{ArgumentsCome}
 use Rattle.gql_collect.specs.Collection.{Collects, selections_below}
 use Rattle.gql_collect.specs.Groups.{Group}
 use Rattle.gql_collect.specs.Nesting.{AllNest, Nests, NestedGroups, selections_of}
 use Rattle.gql_collect.specs.Nodes.{FileSelection, FieldNode}
-use Rattle.gql_collect.specs.Unfolding.{Given, nothing}
-use Rattle.gql_facts.specs.ListMembers.{Contains-nil, Contains-here, Contains-there, Contains-cases}
+use Rattle.gql_collect.specs.Unfolding.{nothing}
+use Rattle.gql_facts.specs.ListMembers.{Contains-here, Contains-there}
 use Rattle.gql_inputs.specs.InputTypes.{name_in}
-use Rattle.gql_types.specs.Schemas.{field_named}
-use Rattle.gql_types.specs.Written.{written}
 use Rattle.serde_json.specs.Data.{Data}
 use Rattle.gql_exec.specs.Execution.{Plan, plan, Fields, no_fields, field, PlannedField}
-use Rattle.gql_exec.specs.Plans.{IsPlan, ArePlanned, IsPlanned, planned, defined, definition_of, is_met}
+use Rattle.gql_exec.specs.Plans.{Basis, FieldOf, IsPlan, ArePlanned, IsPlanned, planned, defined, field_of, field_of_nodes}
 
-module _ (g : Given)
-    (arguments : (definitions : List InputValueDefinition) (given : List Argument) → (o : Outcome Data) × ArgumentsCome g.schema definitions given g.values o)
-    (nested : (t : List ℕ) (k : ℕ) (xs : List FileSelection) → AllNest g (suc k) (selections_of xs) → NestedGroups g t k xs) where
+module _ (g : Basis)
+    (arguments : (definitions : List InputValueDefinition) (given : List Argument) → (o : Outcome Data) × ArgumentsCome g.given.schema definitions given g.given.values o)
+    (nested : (t : List ℕ) (k : ℕ) (xs : List FileSelection) → AllNest g.given (suc k) (selections_of xs) → NestedGroups g.given t k xs) where
   pub record SomePlan (name : List ℕ) (xs : List FileSelection) : Type 0 where
     pub x : Plan
     pub is : IsPlan g name xs x
@@ -32,16 +28,16 @@ module _ (g : Given)
     are : ArePlanned g t groups fields
 
   -- the field of a group
-  planned_field : (t : List ℕ) (key : List ℕ) (first : FieldNode) (others : List FieldNode) (d : Sited FieldDefinition) → field_named g.schema t first.field.name.text ≡ Some d
+  planned_field : (t : List ℕ) (key : List ℕ) (first : FieldNode) (others : List FieldNode) (d : FieldOf) → field_of g t first.field.name.text ≡ Some d
       → (f : PlannedField) × IsPlanned g t (record { key = key; nodes = first ∷ others }) f
   planned_field t key first others d is =
-      let a = arguments d.node.arguments first.field.arguments in (
-        planned (record { key = key; nodes = first ∷ others }) first d.node a.0,
+      let a = arguments d.definition.arguments first.field.arguments in (
+        planned (record { key = key; nodes = first ∷ others }) first d a.0,
         record {
           first = first;
           others = others;
           nodes = refl;
-          definition = d;
+          field = d;
           defined = is;
           arguments = a.0;
           comes = a.1;
@@ -53,33 +49,33 @@ module _ (g : Given)
   abbrev Below : List Group → Type 0
   Below groups = (name : List ℕ) (group : Group) → Contains groups group → SomePlan name (selections_below group.nodes)
 
-  some_fields : (t : List ℕ) (groups : List Group) → Below groups → SomeFields t (defined g.schema t groups)
+  some_fields : (t : List ℕ) (groups : List Group) → Below groups → SomeFields t (defined g t groups)
   some_fields t [] below = record { fields = no_fields; are = tt }
   some_fields t (gr ∷ groups) below =
       let rest = some_fields t groups (λ name group c. below name group (Contains-there group gr groups c)) in
-      by gr.nodes refl (definition_of g.schema t gr.nodes) refl rest
+      by gr.nodes refl (field_of_nodes g t gr.nodes) refl rest
     where
-      made : (first : FieldNode) (others : List FieldNode) → gr.nodes ≡ first ∷ others → (d : Sited FieldDefinition) → field_named g.schema t first.field.name.text ≡ Some d
-          → SomeFields t (defined g.schema t groups) → SomeFields t (gr ∷ defined g.schema t groups)
+      made : (first : FieldNode) (others : List FieldNode) → gr.nodes ≡ first ∷ others → (d : FieldOf) → field_of g t first.field.name.text ≡ Some d
+          → SomeFields t (defined g t groups) → SomeFields t (gr ∷ defined g t groups)
       made first others nodes d is rest =
           let p = planned_field t gr.key first others d is in
           let f : IsPlanned g t gr p.0 = subst (λ ns. IsPlanned g t (record { key = gr.key; nodes = ns }) p.0) (sym nodes) p.1 in
           let b = below (name_in p.0.of_type) gr (Contains-here gr groups) in
           record { fields = field p.0 b.x rest.fields; are = (f, b.is, rest.are) }
 
-      by : (ns : List FieldNode) → gr.nodes ≡ ns → (o : Option (Sited FieldDefinition)) → definition_of g.schema t gr.nodes ≡ o
-          → SomeFields t (defined g.schema t groups) → SomeFields t (defined g.schema t (gr ∷ groups))
+      by : (ns : List FieldNode) → gr.nodes ≡ ns → (o : Option (FieldOf)) → field_of_nodes g t gr.nodes ≡ o
+          → SomeFields t (defined g t groups) → SomeFields t (defined g t (gr ∷ groups))
       by [] nodes o is rest = rw nodes rest
       by (first ∷ others) nodes None is rest = rw is rest
       by (first ∷ others) nodes (Some d) is rest =
-          rw is (made first others nodes d (sym (ap (definition_of g.schema t) nodes) ∙ is) rest)
+          rw is (made first others nodes d (sym (ap (field_of_nodes g t) nodes) ∙ is) rest)
 
   -- for each type, by the groups
   record Planned (t name : List ℕ) (xs : List FileSelection) : Type 0 where
     groups : List Group
-    collects : Collects g t xs groups
+    collects : Collects g.given t xs groups
     fields : Fields
-    are : ArePlanned g t (defined g.schema t groups) fields
+    are : ArePlanned g t (defined g t groups) fields
 
   of_types : (name : List ℕ) (xs : List FileSelection) → ((t : List ℕ) → Planned t name xs) → SomePlan name xs
   of_types name xs all = record {
@@ -88,7 +84,7 @@ module _ (g : Given)
   }
 
   -- nothing nests at depth 0: there are no selections then
-  empty_plan : (name : List ℕ) (xs : List FileSelection) → AllNest g 0 (selections_of xs) → SomePlan name xs
+  empty_plan : (name : List ℕ) (xs : List FileSelection) → AllNest g.given 0 (selections_of xs) → SomePlan name xs
   empty_plan name [] all = of_types name [] (λ t. record {
     groups = [];
     collects = record { nodes = []; unfolds = nothing; are = refl };
@@ -97,10 +93,10 @@ module _ (g : Given)
   })
   empty_plan name (x ∷ xs) all = absurd (no (all x.selection (Contains-here x.selection (selections_of xs))))
     where
-      no : {y : Selection} → Nests g 0 y → ⊥
+      no : {y : Selection} → Nests g.given 0 y → ⊥
       no n = elim n [ ]
 
-  pub some_plan : (k : ℕ) (name : List ℕ) (xs : List FileSelection) → AllNest g k (selections_of xs) → SomePlan name xs
+  pub some_plan : (k : ℕ) (name : List ℕ) (xs : List FileSelection) → AllNest g.given k (selections_of xs) → SomePlan name xs
   some_plan zero name xs all = empty_plan name xs all
   some_plan (suc k) name xs all = of_types name xs (λ t.
       let n = nested t k xs all in

@@ -1,5 +1,5 @@
 -- A request has a response.
-use Rattle.std.proofs.Common.{◌≡◌, ◌⊎◌, ℕ, List, [], ◌∷◌, Bool, true, false, if◌then◌else◌, find, bytes_eq, Option, Some, None, Contains, refl, sym, ap, ◌∙◌, subst, inl, inr}
+use Rattle.std.proofs.Common.{◌≡◌, ℕ, List, [], ◌∷◌, Bool, true, false, find, bytes_eq, Some, Contains, refl, sym, ap, ◌∙◌, subst, inl, inr}
 use Rattle.std.proofs.lemmas.Slice.Eq.{bytes_eq-Decides}
 use Rattle.gql_ast.specs.declared.executable.Selection.{Selection}
 use Rattle.gql_ast.specs.declared.executable.VariableDefinition.{VariableDefinition}
@@ -13,21 +13,16 @@ use Rattle.gql_coerce.specs.declared.refusal.Segment.TheVariants as segment
 use Rattle.gql_collect.specs.Laws.{SomeDepth, SomeGroups}
 use Rattle.gql_collect.specs.Nesting.{AllNest, selections_of}
 use Rattle.gql_collect.specs.Nodes.{in_file}
-use Rattle.gql_collect.specs.Unfolding.{Given}
 use Rattle.gql_facts.specs.ListMembers.{Contains-nil, Contains-cases}
 use Rattle.gql_types.specs.Schemas.{kind_named, root_of}
 use Rattle.gql_types.specs.declared.kind.TypeKind.TheVariants as kind
 use Rattle.gql_types.specs.declared.roots.Root.{Root}
 use Rattle.serde_json.specs.Data.{Data}
-use Rattle.gql_exec.specs.Execution.{Plan, answer}
+use Rattle.gql_exec.specs.Execution.{Plan}
 use Rattle.gql_exec.specs.Laws.{SomeResponse}
-use Rattle.gql_exec.specs.Plans.{IsPlan, types_of}
+use Rattle.gql_exec.specs.Plans.{IsPlan}
 use Rattle.gql_exec.proofs.SomePlan.{some_plan}
-use Rattle.gql_exec.specs.Requests.{Request, Response, Executes, executed, refused, request_error, response_of, variable_at, initial_value}
-
--- what a request is executed with, where its variables have these values
-abbrev given_of : Request → Data → Given
-given_of r values = record { schema = r.schema; fragments = r.fragments; values = values }
+use Rattle.gql_exec.specs.Requests.{Request, Response, basis_of, Executes, executed, refused, request_error, variable_at}
 
 -- the first variable of a name
 found : (ds : List VariableDefinition) (v : VariableDefinition) → Contains ds v → (w : VariableDefinition) × (find (λ (x : VariableDefinition). bytes_eq v.name.text x.name.text) ds ≡ Some w)
@@ -54,7 +49,7 @@ of_outcome : (r : Request)
     → (o : Outcome Data) → VariablesCome r.schema r.operation.variables r.variables o
     → ((why : Reason) (path : List Segment) → o ≡ comes.refused why path → (v : VariableDefinition) × Contains r.operation.variables v × ((rest : List Segment) × (path ≡ segment.Key v.name.text ∷ rest)))
     → (root : Root) → root_of r.schema r.operation.kind ≡ Some root → kind_named r.schema root.name.node.text ≡ Some kind.Object
-    → ((values : Data) → (x : Plan) × IsPlan (given_of r values) root.name.node.text (in_file r.file r.operation.selections) x)
+    → ((values : Data) → (x : Plan) × IsPlan (basis_of r values) root.name.node.text (in_file r.file r.operation.selections) x)
     → (p : Response) × Executes r p
 of_outcome r (comes.value values) come named root is object plans =
     let x = plans values in (_, executed x.0 come is object x.1)
@@ -77,11 +72,11 @@ some_response depth nested variables arguments named r root no_cycle is object n
     (λ why path e. named r.schema r.operation.variables r.variables why path (subst (VariablesCome r.schema r.operation.variables r.variables) e come.1))
     root is object plan_of
   where
-    plan_of : (values : Data) → (x : Plan) × IsPlan (given_of r values) root.name.node.text (in_file r.file r.operation.selections) x
+    plan_of : (values : Data) → (x : Plan) × IsPlan (basis_of r values) root.name.node.text (in_file r.file r.operation.selections) x
     plan_of values =
-        let g = given_of r values in
-        let deep = depth g r.operation.selections (none values) in
-        let p = some_plan g (λ definitions given. arguments r.schema no_cycle definitions given values) (nested g)
+        let g = basis_of r values in
+        let deep = depth g.given r.operation.selections (none values) in
+        let p = some_plan g (λ definitions given. arguments r.schema no_cycle definitions given values) (nested g.given)
         deep.0 root.name.node.text (in_file r.file r.operation.selections)
-        (subst (AllNest g deep.0) (sym (in_file_are r.file r.operation.selections)) deep.1) in
+        (subst (AllNest g.given deep.0) (sym (in_file_are r.file r.operation.selections)) deep.1) in
         (p.x, p.is)

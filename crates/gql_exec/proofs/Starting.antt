@@ -1,11 +1,10 @@
 -- What the execution of selection sets on the initial value comes to.
-use Rattle.std.proofs.Common.{◌≡◌, ℕ, ◌<◌, List, [], map, true, Result, Ok, Err, ap, subst, arith}
+use Rattle.std.proofs.Common.{◌≡◌, ℕ, ◌<◌, List, [], map, true, Ok, Err, ap, subst, arith}
 use Rattle.gql_collect.specs.Nodes.{FileSelection}
-use Rattle.gql_collect.specs.Unfolding.{Given}
 use Rattle.serde_json.specs.Data.{Data}
-use Rattle.gql_exec.specs.Execution.{Plan, PlannedField, answer, execute}
+use Rattle.gql_exec.specs.Execution.{Plan, PlannedField, answer, execute, stored}
 use Rattle.gql_exec.specs.Outcomes.{segment_of}
-use Rattle.gql_exec.specs.Plans.{IsPlan, is_met, types_of}
+use Rattle.gql_exec.specs.Plans.{Basis, IsPlan, is_met, types_of}
 use Rattle.gql_exec.specs.Requests.{most_values}
 use Rattle.gql_exec.specs.States.{Done, Executes, path_of}
 use Rattle.gql_exec.specs.Tables.{Has, StandFor, fields_at}
@@ -20,17 +19,17 @@ use Rattle.gql_exec.proofs.Executing.{on_entry}
 
 -- ---- selection sets on the initial value
 
-module _ (g : Given) (table : Table) (k : ℕ) (root : List ℕ) (xs : List FileSelection) (x : Plan) (d : Data) (s u : Run)
-    (has : Has g table k root xs) (met : is_met g.schema root root ≡ true) (is : IsPlan g root xs x) (start : s.path.items ≡ []) where
-  pub sets_done : (e : Ended) → ((qs : List (PlannedField × Plan)) → StandFor g (fields_at table.entries.items k) qs → Executes (object_part (types_of g.schema) d qs (path_of s)) (Ok e) s u)
-      → Done (value_part (execute (types_of g.schema) x root [] d)) e s u
-  sets_done e does = subst (λ p. Done (value_part (execute (types_of g.schema) x root p d)) e s u) (ap (map segment_of) start)
-      (on_entry g table k root root xs x d (Ok e) s u has met is does)
+module _ (g : Basis) (table : Table) (k : ℕ) (root : List ℕ) (xs : List FileSelection) (x : Plan) (d : Data) (s u : Run)
+    (has : Has g table k root xs) (met : is_met g root root ≡ true) (is : IsPlan g root xs x) (start : s.path.items ≡ []) where
+  pub sets_done : (e : Ended) → ((qs : List (PlannedField × Plan)) → StandFor g (fields_at table.entries.items k) qs → Executes (object_part (types_of g) (stored d) qs (path_of s)) (Ok e) s u)
+      → Done (value_part (execute (types_of g) x root [] (stored d))) e s u
+  sets_done e does = subst (λ p. Done (value_part (execute (types_of g) x root p (stored d))) e s u) (ap (map segment_of) start)
+      (on_entry g table k root root xs x (stored d) (Ok e) s u has met is does)
 
-  pub sets_heavy : (stop : ExecRefusal) → ((qs : List (PlannedField × Plan)) → StandFor g (fields_at table.entries.items k) qs → Executes (object_part (types_of g.schema) d qs (path_of s)) (Err stop) s u)
-      → s.left ≡ most_values → stop ≡ TooHeavy → most_values < (answer (types_of g.schema) x root d).weight
+  pub sets_heavy : (stop : ExecRefusal) → ((qs : List (PlannedField × Plan)) → StandFor g (fields_at table.entries.items k) qs → Executes (object_part (types_of g) (stored d) qs (path_of s)) (Err stop) s u)
+      → s.left ≡ most_values → stop ≡ TooHeavy → most_values < (answer (types_of g) x root d).weight
   sets_heavy stop does left heavy =
-      let over : s.left < (value_part (execute (types_of g.schema) x root [] d)).weight =
-      subst (λ p. s.left < (value_part (execute (types_of g.schema) x root p d)).weight) (ap (map segment_of) start)
-      (on_entry g table k root root xs x d (Err stop) s u has met is does heavy) in
+      let over : s.left < (value_part (execute (types_of g) x root [] (stored d))).weight =
+      subst (λ p. s.left < (value_part (execute (types_of g) x root p (stored d))).weight) (ap (map segment_of) start)
+      (on_entry g table k root root xs x (stored d) (Err stop) s u has met is does heavy) in
       omega (arith, over, left)

@@ -8,7 +8,7 @@ use Rattle.serde_json.specs.Data as json
 use Rattle.serde_json.specs.Data.{Data}
 use Rattle.serde_json.specs.View.{items_of}
 use Rattle.serde_json.specs.Written.{compact_text, items_text, members_text}
-use Rattle.gql_exec.specs.Execution.{PlannedField, Types, Site, Below, members_of, executed, items_from, placed, value_of}
+use Rattle.gql_exec.specs.Execution.{Object, PlannedField, Types, Site, Below, members_of, executed, items_from, list_reply, placed, value_of}
 use Rattle.gql_exec.specs.Parts.{Outcome, text, bubble, Part, joined, followed_by, plain, one, comma, after_comma, comma_list, all, numbered, within}
 use Rattle.gql_exec.specs.Parts as part
 use Rattle.gql_exec.specs.Replies.{Segment, key, index, Path, Note, Reply}
@@ -143,7 +143,7 @@ members_first (m ∷ ms) = one_member m.0 m.1 (members_text true (members_of ms)
 
 -- ---- lists
 
-items_part : (each : Path → Data → Reply Data) (i : ℕ) (p : Path) (ds : List Data)
+items_part : {A : Type 0} (each : Path → A → Reply Data) (i : ℕ) (p : Path) (ds : List A)
     → texted (listed_text compact_text i) (reply.all (items_from each i p ds))
     ≡ all (numbered (λ j x. after_comma j (part.counted (value_part (each (p ++ index j ∷ []) x)))) i ds)
 items_part each i p [] = refl
@@ -154,8 +154,8 @@ items_part each i p (d ∷ ds) =
     (numbered (λ j x. after_comma j (part.counted (value_part (each (p ++ index j ∷ []) x)))) (i + 1) ds))
 
 -- what is written for a list
-pub list_part : (each : Path → Data → Reply Data) (p : Path) (ds : List Data)
-    → value_part (reply.mapped (λ xs. json.array (items_of xs)) (reply.all (items_from each 0 p ds)))
+pub list_part : {A : Type 0} (each : Path → A → Reply Data) (p : Path) (ds : List A)
+    → value_part (list_reply each p ds)
     ≡ within (codes "[") (comma_list (λ i x. part.counted (value_part (each (p ++ index i ∷ []) x))) ds) (codes "]")
 list_part each p ds =
     wrapped (codes "[") (codes "]") (listed_text compact_text 0) (λ xs. json.array (items_of xs))
@@ -193,18 +193,18 @@ labelled k r = same_part _ _ (held r.value) refl (omega arith) where
   held None = refl
 
 -- a field of an answer, but for its count
-abbrev pub uncounted : Types → PlannedField → Below → Path → Data → Reply (List ℕ × Data)
+abbrev pub uncounted : Types → PlannedField → Below → Path → Object → Reply (List ℕ × Data)
 uncounted types f below p d =
     let s : Site = record { types = types; place = f.place; below = below } in
     reply.mapped (λ v. (f.response_name, v)) (reply.settled
     (placed f.of_type (value_of s f f.arguments (p ++ key f.response_name ∷ []) d)))
 
-pub executed_is : (types : Types) (f : PlannedField) (below : Below) (p : Path) (d : Data)
+pub executed_is : (types : Types) (f : PlannedField) (below : Below) (p : Path) (d : Object)
     → executed types f below p d ≡ reply.counted (uncounted types f below p d)
 executed_is types f below p d = refl
 
 -- what is written for it
-pub field_part : (types : Types) (f : PlannedField) (below : Below) (p : Path) (d : Data)
+pub field_part : (types : Types) (f : PlannedField) (below : Below) (p : Path) (d : Object)
     → texted member_text (uncounted types f below p d)
     ≡ followed_by (plain (quoted f.response_name ++ codes ":")) (part.settled (placed_part f.of_type
     (value_part (value_of (record { types = types; place = f.place; below = below }) f f.arguments

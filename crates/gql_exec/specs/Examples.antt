@@ -1,6 +1,7 @@
 -- Worked examples of the definitions.
 use Rattle.std.specs.Fmt.{signed_decimal}
-use Rattle.std.specs.Prelude.{◌≡◌, ℕ, ◌-◌, pos, List, [], ◌∷◌, codes, refl, Option, Some, None, bytes_eq, if◌then◌else◌}
+use Rattle.std.specs.Prelude.{◌≡◌, ℕ, ◌-◌, pos, List, [], ◌∷◌, codes, refl, Option, Some, None, bytes_eq, false, true, if◌then◌else◌}
+use Rattle.gql_ast.specs.declared.executable.OperationKind.TheVariants as operation
 use Rattle.gql_ast.specs.declared.text.Name.{Name}
 use Rattle.gql_ast.specs.declared.type_ref.TypeRef.TheVariants as type_ref
 use Rattle.gql_ast.specs.declared.type_system.FieldDefinition.{FieldDefinition}
@@ -8,6 +9,9 @@ use Rattle.gql_ast.specs.declared.type_system.TypeParts.TheVariants as parts
 use Rattle.gql_collect.specs.Collection.{groups_from}
 use Rattle.gql_collect.specs.Nodes.{FieldNode}
 use Rattle.gql_text.specs.declared.place.Place.{Place}
+use Rattle.gql_intro.specs.MetaFields.{meta_fields}
+use Rattle.gql_intro.specs.Nodes.{null}
+use Rattle.gql_types.specs.Kinds.{same_operation}
 use Rattle.gql_types.specs.Written.{Written, named, listed, required}
 use Rattle.gql_types.specs.declared.kind.TypeKind.{TypeKind}
 use Rattle.gql_types.specs.declared.kind.TypeKind.TheVariants as kind
@@ -15,7 +19,9 @@ use Rattle.gql_types.specs.declared.schema.Schema.{Schema}
 use Rattle.serde_json.specs.Data as json
 use Rattle.serde_json.specs.Data.{Data, item, no_items, member, no_members}
 use Rattle.gql_exec.specs.Execution.{Arguments, given, refused, PlannedField, Plan, plan, Fields, no_fields, field, Types, answer}
-use Rattle.gql_exec.specs.Plans.{defined}
+use Rattle.gql_exec.specs.Plans.{Basis, defined, types_of}
+use Rattle.gql_exec.specs.declared.planning.Source.{Source}
+use Rattle.gql_exec.specs.declared.planning.Source.TheVariants as source
 use Rattle.gql_exec.specs.Replies.{Error, Path, key, index}
 
 -- ---- terms for the examples
@@ -29,6 +35,7 @@ called name column arguments t = record {
   response_name = name;
   place = at column;
   name = name;
+  source = source.Stored;
   arguments = arguments;
   of_type = t;
 }
@@ -52,6 +59,7 @@ types = record {
   kind = kind_of;
   possible = λ n. codes "Dog" ∷ codes "Cat" ∷ [];
   values = λ n. [];
+  introspect = λ n name arguments. null;
 }
 
 -- the plan of fields on an object of any type
@@ -262,19 +270,103 @@ schema = record {
     input_fields = [];
   } ∷ [];
   directives = [];
-  roots = [];
+  roots = record {
+    kind = operation.Query;
+    entry = None;
+    name = record { file = None; node = word 6 (codes "Query") };
+  } ∷ [];
   possible = [];
 }
 
+abbrev basis : Basis
+basis = record {
+  given = record { schema = schema; fragments = []; values = json.object no_members };
+  made = record {
+    types = codes "Query" ∷ [];
+    has_int = false;
+    has_id = true;
+    description = None;
+    meta = meta_fields;
+  };
+}
+
 -- `{ age id age id }`: the group of `age` is left out, that of `id` has both of its fields
-left_out : defined schema (codes "Query") (groups_from (node 3 (codes "age")
+left_out : defined basis (codes "Query") (groups_from (node 3 (codes "age")
     ∷ node 7 (codes "id") ∷ node 10 (codes "age") ∷ node 14 (codes "id") ∷ []))
     ≡ record {
       key = codes "id";
       nodes = node 7 (codes "id") ∷ node 14 (codes "id") ∷ [];
     } ∷ []
+unfolding same_operation
 left_out = refl
 
 -- a type that is not in the schema has no fields
-no_type : defined schema (codes "Pet") (groups_from (node 3 (codes "id") ∷ [])) ≡ []
+no_type : defined basis (codes "Pet") (groups_from (node 3 (codes "id") ∷ [])) ≡ []
+unfolding same_operation
 no_type = refl
+
+-- `{ __schema }` and `{ __typename }`: of these a type that is not the query root has the second
+abbrev meta_nodes : List FieldNode
+meta_nodes = node 3 (codes "__schema") ∷ node 12 (codes "__typename") ∷ []
+
+of_query : defined basis (codes "Query") (groups_from meta_nodes) ≡ groups_from meta_nodes
+unfolding same_operation
+of_query = refl
+
+of_another : defined basis (codes "Pet") (groups_from meta_nodes)
+    ≡ groups_from (node 12 (codes "__typename") ∷ [])
+unfolding same_operation
+of_another = refl
+
+-- ---- introspection
+
+-- a field whose value is not in the data
+abbrev meta : Source → List ℕ → ℕ → Written → PlannedField
+meta place name column t = record {
+  response_name = name;
+  place = at column;
+  name = name;
+  source = place;
+  arguments = given (json.object no_members);
+  of_type = t;
+}
+
+-- `{ __typename }`
+type_name : answer types
+    (leaf (meta (source.TypeName (codes "Query")) (codes "__typename") 3
+    (required (named (codes "String")))))
+    (codes "Query") (one_member (codes "__typename") (json.string (codes "Other")))
+    ≡ record {
+      value = one_member (codes "__typename") (json.string (codes "Query"));
+      errors = [];
+      weight = 1;
+    }
+type_name = refl
+
+-- `{ __schema { queryType { name } } }`
+abbrev query_type : Plan
+query_type = on_any (field (meta source.Root (codes "__schema") 3 (required (named (codes "__Schema"))))
+    (on_any (field (simple (codes "queryType") 14 (required (named (codes "__Type"))))
+    (leaf (simple (codes "name") 26 (named (codes "String")))) no_fields))
+    no_fields)
+
+name_of_query : answer (types_of basis) query_type (codes "Query") (json.object no_members)
+    ≡ record {
+      value = one_member (codes "__schema") (one_member (codes "queryType")
+          (one_member (codes "name") (json.string (codes "Query"))));
+      errors = [];
+      weight = 3;
+    }
+unfolding same_operation
+name_of_query = refl
+
+-- `{ mine { name } }`, where the type of `mine` is `__Type`: the data is read
+mine : answer types (on_any (field (simple (codes "mine") 3 (named (codes "__Type")))
+    (leaf (simple (codes "name") 10 (named (codes "String")))) no_fields))
+    (codes "Query") (one_member (codes "mine") (one_member (codes "name") (json.string (codes "x"))))
+    ≡ record {
+      value = one_member (codes "mine") (one_member (codes "name") (json.string (codes "x")));
+      errors = [];
+      weight = 2;
+    }
+mine = refl

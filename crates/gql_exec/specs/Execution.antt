@@ -1,8 +1,10 @@
--- The execution of a plan on the data (GraphQL 6.3, 6.4.3 and 6.4.4). A plan is what the documents
--- ask of an object, for each type that it may have.
+-- The execution of a plan on the data and on the nodes of introspection (GraphQL 4, 6.3, 6.4.3 and
+-- 6.4.4). A plan is what the documents ask of an object, for each type that it may have.
 use Rattle.std.specs.Prelude.{ℕ, ◌+◌, List, [], ◌∷◌, ◌++◌, Bool, true, false, bytes_eq, codes, Option, Some, None, if◌then◌else◌}
 use Rattle.std.specs.List.{list_any}
-use Rattle.gql_inputs.specs.InputTypes.{is_non_null}
+use Rattle.gql_inputs.specs.InputTypes.{is_non_null, name_in}
+use Rattle.gql_intro.specs.Nodes as intro
+use Rattle.gql_intro.specs.Nodes.{Node, query_root}
 use Rattle.gql_text.specs.declared.place.Place.{Place}
 use Rattle.gql_types.specs.Written.{Written, named, listed, required}
 use Rattle.gql_types.specs.declared.kind.TypeKind.{TypeKind}
@@ -11,6 +13,8 @@ use Rattle.serde_json.specs.Data as json
 use Rattle.serde_json.specs.Data.{Data, Members, no_members, member}
 use Rattle.serde_json.specs.Find.{get}
 use Rattle.serde_json.specs.View.{items_of}
+use Rattle.gql_exec.specs.declared.planning.Source.{Source}
+use Rattle.gql_exec.specs.declared.planning.Source.TheVariants as source
 use Rattle.gql_exec.specs.Leaves.{as_enum, scalar_value}
 use Rattle.gql_exec.specs.Replies.{Path, key, index, Error, Reply, returns, raise, all, mapped, counted, caught, settled, kept, or_null}
 use Rattle.gql_exec.specs.Resolution.{list_of, resolved}
@@ -22,12 +26,13 @@ pub data Arguments : Type 0 where
   given : Data → Arguments
   refused : List ℕ → Arguments
 
--- a field of an answer: its response name, where its first node starts, its name, its arguments and
--- its type
+-- a field of an answer: its response name, where its first node starts, its name, where objects have
+-- its value, its arguments and its type
 pub record PlannedField : Type 0 where
   pub response_name : List ℕ
   pub place : Place
   pub name : List ℕ
+  pub source : Source
   pub arguments : Arguments
   pub of_type : Written
 
@@ -43,18 +48,24 @@ mutual
 
 -- ---- types
 
--- what execution asks of a schema: the kind of a type, the possible types of a composite one, and
--- the values of an enum
+-- what execution asks of a schema: the kind of a type, the possible types of a composite one, the
+-- values of an enum, and what the field of a name of a node of introspection resolves to
 pub record Types : Type 0 where
   pub kind : List ℕ → Option TypeKind
   pub possible : List ℕ → List (List ℕ)
   pub values : List ℕ → List (List ℕ)
+  pub introspect : Node → List ℕ → Data → intro.Answer
 
 -- ---- values (CompleteValue)
 
+-- an object: one of the data, or a node of introspection
+pub data Object : Type 0 where
+  stored : Data → Object
+  described : Node → Object
+
 -- what a field selects, executed on an object of this type, at this path
 abbrev pub Below : Type 0
-Below = List ℕ → Path → Data → Reply Data
+Below = List ℕ → Path → Object → Reply Data
 
 -- where a value is completed
 pub record Site : Type 0 where
@@ -79,7 +90,7 @@ leaf s name p None = not_of_type s name p
 
 -- an object
 abbrev pub on_object : Site → List ℕ → Path → Data → Reply Data
-on_object s name p (json.object ms) = s.below name p (json.object ms)
+on_object s name p (json.object ms) = s.below name p (stored (json.object ms))
 on_object s name p d = fault s p (codes "value is not an object")
 
 -- the type that an object names, if it is among these
@@ -89,7 +100,7 @@ among names _ = None
 
 -- an object of a type that an abstract type stands for (ResolveAbstractType), by its `__typename`
 abbrev pub on_abstract : Site → List ℕ → Path → Data → Option (List ℕ) → Reply Data
-on_abstract s name p d (Some n) = s.below n p d
+on_abstract s name p d (Some n) = s.below n p (stored d)
 on_abstract s name p d None = fault s p (codes "value names no possible type of " ++ name)
 
 abbrev pub of_kind : Site → List ℕ → Path → Data → Option TypeKind → Reply Data
@@ -107,13 +118,18 @@ abbrev pub placed : Written → Reply Data → Reply Data
 placed t r = if is_non_null t then r else caught r
 
 -- the items of a list, from this index on
-abbrev pub items_from : (Path → Data → Reply Data) → ℕ → Path → List Data → List (Reply Data)
+abbrev pub items_from : {A : Type 0}
+    → (Path → A → Reply Data) → ℕ → Path → List A → List (Reply Data)
 items_from each i p [] = []
-items_from each i p (d ∷ ds) = counted (each (p ++ index i ∷ []) d) ∷ items_from each (i + 1) p ds
+items_from each i p (x ∷ xs) = counted (each (p ++ index i ∷ []) x) ∷ items_from each (i + 1) p xs
+
+-- a list with these items
+abbrev pub list_reply : {A : Type 0} → (Path → A → Reply Data) → Path → List A → Reply Data
+list_reply each p xs =
+    mapped (λ ds. json.array (items_of ds)) (all (items_from each 0 p xs))
 
 abbrev pub on_list : Site → (Path → Data → Reply Data) → Path → Data → Reply Data
-on_list s each p (json.array ds) =
-    mapped (λ xs. json.array (items_of xs)) (all (items_from each 0 p (list_of ds)))
+on_list s each p (json.array ds) = list_reply each p (list_of ds)
 on_list s each p d = fault s p (codes "value is not a list")
 
 -- a value at a type
@@ -125,19 +141,50 @@ complete s (listed t) p d = if is_null d then returns json.null
 complete s (required t) p d =
     if is_null d then fault s p (codes "null for a Non-Null type") else complete s t p d
 
+-- ---- introspection
+
+-- a name, as an item of a list
+abbrev pub name_item : Path → List ℕ → Reply Data
+name_item p n = returns (json.string n)
+
+-- a node, as an object of this type
+abbrev pub on_node : Site → List ℕ → Path → Node → Reply Data
+on_node s name p n = s.below name p (described n)
+
+-- What introspection answers, where the type of its nodes has this name. It is completed as it is:
+-- what `resolve` gives for a field of a node is of the field's type, so no error arises here.
+abbrev pub on_answer : Site → List ℕ → Path → intro.Answer → Reply Data
+on_answer s name p intro.null = returns json.null
+on_answer s name p (intro.text t) = returns (json.string t)
+on_answer s name p (intro.truth b) = returns (json.boolean b)
+on_answer s name p (intro.enum_name n) = returns (json.string n)
+on_answer s name p (intro.enum_names ns) = list_reply name_item p ns
+on_answer s name p (intro.node n) = on_node s name p n
+on_answer s name p (intro.nodes ns) = list_reply (on_node s name) p ns
+
 -- ---- fields (ExecuteField)
 
--- the value of a field in an object, at this path
-abbrev pub value_of : Site → PlannedField → Arguments → Path → Data → Reply Data
-value_of s f (given arguments) p d = complete s f.of_type p (resolved f.name f.of_type arguments d)
-value_of s f (refused message) p d = fault s p message
+-- the value of a field of an object of the data, by where it is
+abbrev pub by_source : Site → PlannedField → Source → Data → Path → Data → Reply Data
+by_source s f source.Stored arguments p d =
+    complete s f.of_type p (resolved f.name f.of_type arguments d)
+by_source s f (source.TypeName t) arguments p d = on_answer s (name_in f.of_type) p (intro.text t)
+by_source s f source.Root arguments p d =
+    on_answer s (name_in f.of_type) p (s.types.introspect query_root f.name arguments)
+
+-- the value of a field of an object, at this path
+abbrev pub value_of : Site → PlannedField → Arguments → Path → Object → Reply Data
+value_of s f (given arguments) p (stored d) = by_source s f f.source arguments p d
+value_of s f (given arguments) p (described n) =
+    on_answer s (name_in f.of_type) p (s.types.introspect n f.name arguments)
+value_of s f (refused message) p o = fault s p message
 
 -- a field under its response name
-abbrev pub executed : Types → PlannedField → Below → Path → Data → Reply (List ℕ × Data)
-executed types f below p d =
+abbrev pub executed : Types → PlannedField → Below → Path → Object → Reply (List ℕ × Data)
+executed types f below p o =
     let s : Site = record { types = types; place = f.place; below = below } in
     mapped (λ v. (f.response_name, v)) (counted (settled
-    (placed f.of_type (value_of s f f.arguments (p ++ key f.response_name ∷ []) d))))
+    (placed f.of_type (value_of s f f.arguments (p ++ key f.response_name ∷ []) o))))
 
 -- the members of an object, in this order
 abbrev pub members_of : List (List ℕ × Data) → Members
@@ -147,13 +194,13 @@ members_of (m ∷ ms) = member m.0 m.1 (members_of ms)
 abbrev mutual
   -- what is asked of an object of this type (ExecuteSelectionSet)
   pub execute : Types → Plan → Below
-  execute types (plan fields) t p d =
-      mapped (λ ms. json.object (members_of ms)) (all (each types (fields t) p d))
+  execute types (plan fields) t p o =
+      mapped (λ ms. json.object (members_of ms)) (all (each types (fields t) p o))
 
-  pub each : Types → Fields → Path → Data → List (Reply (List ℕ × Data))
-  each types no_fields p d = []
-  each types (field f below rest) p d =
-      executed types f (execute types below) p d ∷ each types rest p d
+  pub each : Types → Fields → Path → Object → List (Reply (List ℕ × Data))
+  each types no_fields p o = []
+  each types (field f below rest) p o =
+      executed types f (execute types below) p o ∷ each types rest p o
 
 -- ---- answers (ExecuteQuery, ExecuteMutation)
 
@@ -169,4 +216,4 @@ answered r = record { value = or_null r.value; errors = kept false r.notes; weig
 
 -- a plan for an object of the root type, executed on the initial value
 abbrev pub answer : Types → Plan → List ℕ → Data → Answer
-answer types x root initial = answered (execute types x root [] initial)
+answer types x root initial = answered (execute types x root [] (stored initial))

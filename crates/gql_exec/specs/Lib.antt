@@ -4,6 +4,7 @@ pub mod Execution
 pub mod Laws
 pub mod LeafParts
 pub mod Leaves
+pub mod Objects
 pub mod Outcomes
 pub mod Parts
 pub mod Plans

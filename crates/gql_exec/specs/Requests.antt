@@ -11,6 +11,7 @@ use Rattle.gql_coerce.specs.declared.refusal.Segment.{Segment}
 use Rattle.gql_coerce.specs.declared.refusal.Segment.TheVariants as segment
 use Rattle.gql_collect.specs.Nodes.{in_file}
 use Rattle.gql_facts.specs.declared.fact.FragmentFact.{FragmentFact}
+use Rattle.gql_intro.specs.declared.made.IntroSchema.{IntroSchema}
 use Rattle.gql_types.specs.Schemas.{kind_named, root_of}
 use Rattle.gql_types.specs.declared.kind.TypeKind.TheVariants as kind
 use Rattle.gql_types.specs.declared.roots.Root.{Root}
@@ -21,13 +22,14 @@ use Rattle.serde_json.specs.Find.{get}
 use Rattle.serde_json.specs.Written.{compact_text}
 use Rattle.gql_exec.specs.Execution.{Answer, Plan, answer}
 use Rattle.gql_exec.specs.Outcomes.{AnError, AnOutcome}
-use Rattle.gql_exec.specs.Plans.{IsPlan, refusal_text, types_of}
+use Rattle.gql_exec.specs.Plans.{Basis, IsPlan, refusal_text, types_of}
 use Rattle.gql_exec.specs.Replies.{Error}
 
--- what is executed: an operation of a file, with the schema and the fragments of the documents, the
--- values that the request gives its variables, and the data
+-- what is executed: an operation of a file, with the schema, what introspection says of it, the
+-- fragments of the documents, the values that the request gives its variables, and the data
 pub record Request : Type 0 where
   pub schema : Schema
+  pub made : IntroSchema
   pub fragments : List FragmentFact
   pub file : List ℕ
   pub operation : Operation
@@ -84,6 +86,13 @@ response_of a = record {
 
 -- ---- requests
 
+-- what the fields of a request are executed with, where its variables have these values
+abbrev pub basis_of : Request → Data → Basis
+basis_of r values = record {
+  given = record { schema = r.schema; fragments = r.fragments; values = values };
+  made = r.made;
+}
+
 -- The variables are coerced first (CoerceVariableValues). The first that is refused is a request
 -- error. Else the selections are executed on the initial value, for the root type, which is an object
 -- type.
@@ -95,9 +104,8 @@ pub data Executes (r : Request) : Response → Type 0 where
       → VariablesCome r.schema r.operation.variables r.variables (comes.value values)
       → root_of r.schema r.operation.kind ≡ Some root
       → kind_named r.schema root.name.node.text ≡ Some kind.Object
-      → IsPlan (record { schema = r.schema; fragments = r.fragments; values = values })
-      root.name.node.text (in_file r.file r.operation.selections) x
-      → Executes r (response_of (answer (types_of r.schema) x root.name.node.text
+      → IsPlan (basis_of r values) root.name.node.text (in_file r.file r.operation.selections) x
+      → Executes r (response_of (answer (types_of (basis_of r values)) x root.name.node.text
       (initial_value r.operation.kind r.stored)))
 
 -- ---- calls

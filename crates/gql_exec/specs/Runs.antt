@@ -1,11 +1,11 @@
 -- Helper definitions for private contracts: what an operation comes to, by its root type and the
 -- plan of its selections.
-use Rattle.std.specs.Prelude.{◌≡◌, ◌<◌, ◌≤◌, ℕ, List, [], map, false, Some}
+use Rattle.std.specs.Prelude.{◌≡◌, ◌≤◌, ℕ, List, [], map, false, Some}
 use Rattle.gql_ast.specs.declared.executable.Operation.{Operation}
 use Rattle.gql_ast.specs.declared.executable.VariableDefinition.{VariableDefinition}
 use Rattle.gql_coerce.specs.declared.refusal.Refusal.{Refusal}
 use Rattle.gql_collect.specs.Nodes.{in_file}
-use Rattle.gql_collect.specs.Unfolding.{Given}
+use Rattle.gql_intro.specs.declared.made.IntroSchema.{IntroSchema}
 use Rattle.gql_facts.specs.declared.fact.FragmentFact.{FragmentFact}
 use Rattle.gql_types.specs.Schemas.{kind_named, root_of}
 use Rattle.gql_types.specs.declared.kind.TypeKind.TheVariants as kind
@@ -14,7 +14,7 @@ use Rattle.gql_types.specs.declared.schema.Schema.{Schema}
 use Rattle.serde_json.specs.Data.{Data}
 use Rattle.gql_exec.specs.Execution.{Answer, Plan, answer, answered}
 use Rattle.gql_exec.specs.Outcomes.{AnOutcome}
-use Rattle.gql_exec.specs.Plans.{IsPlan, types_of}
+use Rattle.gql_exec.specs.Plans.{Basis, IsPlan, types_of}
 use Rattle.gql_exec.specs.Replies.{Reply}
 use Rattle.gql_exec.specs.Requests as requests
 use Rattle.gql_exec.specs.Requests.{Request, initial_value, most_values, request_error, response_of, variable_at}
@@ -25,9 +25,11 @@ use Rattle.gql_exec.specs.declared.ended.Ended.{Ended}
 use Rattle.gql_exec.specs.declared.run.FieldError.{FieldError}
 use Rattle.gql_exec.specs.declared.run.Run.{Run}
 
-abbrev pub request : Schema → List FragmentFact → List ℕ → Operation → Data → Data → Request
-request schema fragments file operation variables stored = record {
+abbrev pub request : Schema → IntroSchema → List FragmentFact → List ℕ → Operation → Data → Data
+    → Request
+request schema made fragments file operation variables stored = record {
   schema = schema;
+  made = made;
   fragments = fragments;
   file = file;
   operation = operation;
@@ -36,12 +38,12 @@ request schema fragments file operation variables stored = record {
 }
 
 -- what holds of the answer of an operation, whichever plan it has
-abbrev pub Answering : Given → List ℕ → Operation → Data → (Answer → Type 0) → Type 0
+abbrev pub Answering : Basis → List ℕ → Operation → Data → (Answer → Type 0) → Type 0
 Answering g file operation stored Holds = (root : Root) → (x : Plan)
-    → root_of g.schema operation.kind ≡ Some root
-    → kind_named g.schema root.name.node.text ≡ Some kind.Object
+    → root_of g.given.schema operation.kind ≡ Some root
+    → kind_named g.given.schema root.name.node.text ≡ Some kind.Object
     → IsPlan g root.name.node.text (in_file file operation.selections) x
-    → Holds (answer (types_of g.schema) x root.name.node.text
+    → Holds (answer (types_of g) x root.name.node.text
     (initial_value operation.kind stored))
 
 abbrev pub IsOutcomeOf : AnOutcome → Answer → Type 0

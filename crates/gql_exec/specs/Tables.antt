@@ -3,20 +3,18 @@ use Rattle.std.specs.Prelude.{◌≡◌, ℕ, zero, suc, ◌<◌, List, [], ◌�
 use Rattle.std.proofs.Common.{get_or}
 use Rattle.std.specs.List.{All}
 use Rattle.json.specs.Print.{quoted}
-use Rattle.gql_ast.specs.declared.type_system.FieldDefinition.{FieldDefinition}
 use Rattle.gql_coerce.specs.Comes.{Outcome}
 use Rattle.gql_coerce.specs.Requests.{ArgumentsCome}
 use Rattle.gql_collect.specs.Borrowed.{all_selections}
 use Rattle.gql_collect.specs.Collection.{Collects, selections_below}
 use Rattle.gql_collect.specs.Groups.{Group}
 use Rattle.gql_collect.specs.Nodes.{FieldNode, FileSelection}
-use Rattle.gql_collect.specs.Unfolding.{Given}
 use Rattle.gql_inputs.specs.InputTypes.{name_in}
 use Rattle.gql_types.specs.Written.{written}
 use Rattle.serde_json.specs.Data.{Data}
 use Rattle.serde_json.specs.View.{view}
 use Rattle.gql_exec.specs.Execution.{Arguments, given, refused, PlannedField, Plan, Fields, no_fields, field}
-use Rattle.gql_exec.specs.Plans.{IsPlan, IsPlanned, ArePlanned, defined, planned}
+use Rattle.gql_exec.specs.Plans.{Basis, FieldOf, IsPlan, IsPlanned, defined, planned}
 use Rattle.gql_exec.specs.declared.planning.Called.{Called}
 use Rattle.gql_exec.specs.declared.planning.Called.TheVariants as called
 use Rattle.gql_exec.specs.declared.planning.FieldPlan.{FieldPlan}
@@ -35,16 +33,17 @@ planned_of f = record {
   response_name = f.response_name.now;
   place = f.place;
   name = f.name.now;
+  source = f.source;
   arguments = called_of f.arguments;
   of_type = written f.of_type.now;
 }
 
--- f is what the code makes of a group whose first node has the definition d
-pub record PlansGroup (g : Given) (d : FieldDefinition) (group : Group) (f : FieldPlan) : Type 0 where
+-- f is what the code makes of a group whose first node has the field d
+pub record PlansGroup (g : Basis) (d : FieldOf) (group : Group) (f : FieldPlan) : Type 0 where
   pub label : f.label.items ≡ quoted group.key ++ codes ":"
   pub is : (first : FieldNode) (others : List FieldNode) (o : Outcome Data)
       → group.nodes ≡ first ∷ others
-      → ArgumentsCome g.schema d.arguments first.field.arguments g.values o
+      → ArgumentsCome g.given.schema d.definition.arguments first.field.arguments g.given.values o
       → planned_of f ≡ planned group first d o
   pub sets : all_selections f.sets.items ≡ selections_below group.nodes
 
@@ -57,7 +56,7 @@ pairs_of no_fields = []
 pairs_of (field f below rest) = (f, below) ∷ pairs_of rest
 
 -- the fields of groups, one by one
-abbrev pub ArePairs : Given → List ℕ → List Group → List (PlannedField × Plan) → Type 0
+abbrev pub ArePairs : Basis → List ℕ → List Group → List (PlannedField × Plan) → Type 0
 ArePairs g t [] [] = Unit {0}
 ArePairs g t (group ∷ groups) (q ∷ qs) = IsPlanned g t group q.0
     × IsPlan g (name_in q.0.of_type) (selections_below group.nodes) q.1
@@ -65,24 +64,24 @@ ArePairs g t (group ∷ groups) (q ∷ qs) = IsPlanned g t group q.0
 ArePairs g t _ _ = ⊥
 
 -- f stands for a field of a plan
-pub record StandsFor (g : Given) (f : FieldPlan) (q : PlannedField × Plan) : Type 0 where
+pub record StandsFor (g : Basis) (f : FieldPlan) (q : PlannedField × Plan) : Type 0 where
   pub planned : q.0 ≡ planned_of f
   pub label : f.label.items ≡ quoted q.0.response_name ++ codes ":"
   pub below : IsPlan g (name_in q.0.of_type) (all_selections f.sets.items) q.1
 
-abbrev pub StandFor : Given → List FieldPlan → List (PlannedField × Plan) → Type 0
+abbrev pub StandFor : Basis → List FieldPlan → List (PlannedField × Plan) → Type 0
 StandFor g [] [] = Unit {0}
 StandFor g (f ∷ fs) (q ∷ qs) = StandsFor g f q × StandFor g fs qs
 StandFor g _ _ = ⊥
 
 -- these stand for the fields of the groups of fields that the type has, whichever plan has them
-abbrev pub Planning : Given → List ℕ → List Group → List FieldPlan → Type 0
+abbrev pub Planning : Basis → List ℕ → List Group → List FieldPlan → Type 0
 Planning g t groups fs = (qs : List (PlannedField × Plan))
-    → ArePairs g t (defined g.schema t groups) qs → StandFor g fs qs
+    → ArePairs g t (defined g t groups) qs → StandFor g fs qs
 
 -- these stand for what selections ask of objects of the type t
-abbrev pub Hold : Given → List ℕ → List FileSelection → List FieldPlan → Type 0
-Hold g t xs fs = (groups : List Group) → Collects g t xs groups → Planning g t groups fs
+abbrev pub Hold : Basis → List ℕ → List FileSelection → List FieldPlan → Type 0
+Hold g t xs fs = (groups : List Group) → Collects g.given t xs groups → Planning g t groups fs
 
 -- ---- entries
 
@@ -108,15 +107,15 @@ pub record InTable (t : Table) (s : Slot) : Type 0 where
   pub field : s.field < length (fields_at t.entries.items s.entry)
 
 -- an entry holds what the selections below its field ask of the objects of its type
-abbrev pub HoldsBelow : Given → List Entry → Option Slot → Entry → Type 0
+abbrev pub HoldsBelow : Basis → List Entry → Option Slot → Entry → Type 0
 HoldsBelow g es None e = Unit {0}
 HoldsBelow g es (Some s) e =
     (s.entry < length es) × Hold g e.of_type (selections_at es s) e.fields.items
 
-abbrev pub IsRightIn : Given → List Entry → Entry → Type 0
+abbrev pub IsRightIn : Basis → List Entry → Entry → Type 0
 IsRightIn g es e = HoldsBelow g es e.above e
 
-abbrev pub IsRight : Given → Table → Type 0
+abbrev pub IsRight : Basis → Table → Type 0
 IsRight g t = All (IsRightIn g t.entries.items) t.entries.items
 
 -- old entries stay where they are
@@ -124,7 +123,7 @@ abbrev pub Grows : Table → Table → Type 0
 Grows old new = take (length old.entries.items) new.entries.items ≡ old.entries.items
 
 -- the entry k is that of these selections, for objects of the type t
-pub record Has (g : Given) (table : Table) (k : ℕ) (t : List ℕ) (xs : List FileSelection)
+pub record Has (g : Basis) (table : Table) (k : ℕ) (t : List ℕ) (xs : List FileSelection)
     : Type 0 where
   pub within : k < length table.entries.items
   pub holds : Hold g t xs (fields_at table.entries.items k)

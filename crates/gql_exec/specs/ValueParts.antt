@@ -1,25 +1,27 @@
 -- Helper definitions for private contracts: what is written for the fields of an object, and for
 -- values.
-use Rattle.std.specs.Prelude.{◌≡◌, ℕ, ◌≤◌, List, [], ◌∷◌, ◌++◌, codes, map, length, IsTrue, if◌then◌else◌, Option, Some, Result}
+use Rattle.std.specs.Prelude.{◌≡◌, ℕ, ◌≤◌, List, [], ◌∷◌, ◌++◌, codes, map, flat_map, option_to_list, IsTrue, if◌then◌else◌, Option, Some, Result}
 use Rattle.std.proofs.Common.{◌⊎◌}
 use Rattle.std.specs.Borrow.{Bor}
 use Rattle.json.specs.Print.{quoted}
 use Rattle.gql_collect.specs.Borrowed.{all_selections}
 use Rattle.gql_collect.specs.Nodes.{FileSelection}
-use Rattle.gql_collect.specs.Unfolding.{Given}
-use Rattle.gql_inputs.specs.InputTypes.{is_list, is_non_null}
+use Rattle.gql_inputs.specs.InputTypes.{is_list, is_non_null, name_in}
+use Rattle.gql_intro.specs.Borrowed.{elements}
+use Rattle.gql_intro.specs.Nodes.{Node}
+use Rattle.gql_intro.specs.declared.nodes.IntroNodes.{IntroNodes}
+use Rattle.gql_types.specs.declared.schema.Schema.{Schema}
 use Rattle.gql_text.specs.declared.place.Place.{Place}
-use Rattle.gql_types.specs.Written.{Written, written}
+use Rattle.gql_types.specs.Written.{Written}
 use Rattle.gql_types.specs.declared.kind.TypeKind.{TypeKind}
 use Rattle.gql_types.specs.declared.kind.TypeKind.TheVariants as kind
 use Rattle.serde_json.specs.Data as json
 use Rattle.serde_json.specs.Data.{Data}
 use Rattle.serde_json.specs.View.{items_of, view}
 use Rattle.serde_json.specs.declared.value.Value.{Value}
-use Rattle.gql_exec.specs.Ended.{both}
-use Rattle.gql_exec.specs.Execution.{PlannedField, Plan, Types, Site, complete, execute, placed, value_of}
-use Rattle.gql_exec.specs.Parts.{Part, plain, followed_by, within, all, numbered, after_comma, counted, settled, caught, comma_list}
-use Rattle.gql_exec.specs.Plans.{IsPlan, types_of}
+use Rattle.gql_exec.specs.Execution.{Object, PlannedField, Plan, Types, Site, by_source, complete, execute, on_answer, on_node, placed, value_of}
+use Rattle.gql_exec.specs.Parts.{Part, plain, followed_by, within, all, numbered, after_comma, counted, settled, caught}
+use Rattle.gql_exec.specs.Plans.{Basis, IsPlan, types_of}
 use Rattle.gql_exec.specs.Replies.{Path, key, index, Reply}
 use Rattle.gql_exec.specs.States.{Executes}
 use Rattle.gql_exec.specs.Tables.{IsRight, Grows, InTable, below_at}
@@ -45,28 +47,38 @@ placed_part t r = if is_non_null t then r else caught r
 -- ---- fields
 
 -- the value of a field, at this path
-abbrev pub called_part : Types → Data → PlannedField × Plan → Path → Part
-called_part types d q p = value_part (value_of (site_of types q.0.place q.1) q.0 q.0.arguments p d)
+abbrev pub called_part : Types → Object → PlannedField × Plan → Path → Part
+called_part types o q p = value_part (value_of (site_of types q.0.place q.1) q.0 q.0.arguments p o)
 
--- the same for the object at this path, with the errors of the field
-abbrev pub content_part : Types → Data → PlannedField × Plan → Path → Part
-content_part types d q p = settled (placed_part q.0.of_type
-    (called_part types d q (p ++ key q.0.response_name ∷ [])))
+-- the value of a field that is called with these arguments, of an object of the data
+abbrev pub source_part : Types → Data → Data → PlannedField × Plan → Path → Part
+source_part types arguments d q p =
+    value_part (by_source (site_of types q.0.place q.1) q.0 q.0.source arguments p d)
+
+-- the same, of a node of introspection
+abbrev pub answer_part : Types → Data → Node → PlannedField × Plan → Path → Part
+answer_part types arguments n q p = value_part (on_answer (site_of types q.0.place q.1)
+    (name_in q.0.of_type) p (types.introspect n q.0.name arguments))
+
+-- the value of a field of the object at this path, with its own errors
+abbrev pub content_part : Types → Object → PlannedField × Plan → Path → Part
+content_part types o q p = settled (placed_part q.0.of_type
+    (called_part types o q (p ++ key q.0.response_name ∷ [])))
 
 -- with the name of the field
-abbrev pub member_part : Types → Data → PlannedField × Plan → Path → Part
-member_part types d q p =
-    followed_by (plain (quoted q.0.response_name ++ codes ":")) (content_part types d q p)
+abbrev pub member_part : Types → Object → PlannedField × Plan → Path → Part
+member_part types o q p =
+    followed_by (plain (quoted q.0.response_name ++ codes ":")) (content_part types o q p)
 
 -- as it stands at this number
-abbrev pub field_part : Types → Data → Path → ℕ → PlannedField × Plan → Part
-field_part types d p i q = after_comma i (counted (member_part types d q p))
+abbrev pub field_part : Types → Object → Path → ℕ → PlannedField × Plan → Part
+field_part types o p i q = after_comma i (counted (member_part types o q p))
 
-abbrev pub fields_part : Types → Data → List (PlannedField × Plan) → Path → Part
-fields_part types d qs p = all (numbered (field_part types d p) 0 qs)
+abbrev pub fields_part : Types → Object → List (PlannedField × Plan) → Path → Part
+fields_part types o qs p = all (numbered (field_part types o p) 0 qs)
 
-abbrev pub object_part : Types → Data → List (PlannedField × Plan) → Path → Part
-object_part types d qs p = within (codes "{") (fields_part types d qs p) (codes "}")
+abbrev pub object_part : Types → Object → List (PlannedField × Plan) → Path → Part
+object_part types o qs p = within (codes "{") (fields_part types o qs p) (codes "}")
 
 -- ---- values
 
@@ -108,6 +120,37 @@ items_part t s ds p = all (numbered (item_part t s p) 0 ds)
 abbrev pub list_part : Written → Site → List Data → Path → Part
 list_part t s ds p = within (codes "[") (items_part t s ds p) (codes "]")
 
+-- ---- introspection
+
+-- a node as an item of a list, at its path
+abbrev pub content_of_node : List ℕ → Site → ℕ → Node → Path → Part
+content_of_node name s i n p = value_part (on_node s name (p ++ index i ∷ []) n)
+
+abbrev pub node_part : List ℕ → Site → Path → ℕ → Node → Part
+node_part name s p i n = after_comma i (counted (content_of_node name s i n p))
+
+abbrev pub nodes_part : List ℕ → Site → List Node → Path → Part
+nodes_part name s ns p = all (numbered (node_part name s p) 0 ns)
+
+abbrev pub node_list_part : List ℕ → Site → List Node → Path → Part
+node_list_part name s ns p = within (codes "[") (nodes_part name s ns p) (codes "]")
+
+-- the nodes that a list has
+abbrev pub nodes_in : Schema → IntroNodes → List Node
+nodes_in s list = flat_map option_to_list (elements s list)
+
+-- names, in a list
+abbrev pub name_part : ℕ → List ℕ → Part
+name_part i n = after_comma i (counted (plain (quoted n)))
+
+abbrev pub names_part : List (List ℕ) → Part
+names_part ns = all (numbered name_part 0 ns)
+
+abbrev pub name_list_part : List (List ℕ) → Part
+name_list_part ns = within (codes "[") (names_part ns) (codes "]")
+
+-- ---- kinds
+
 -- an interface or a union
 abbrev pub IsAbstract : Option TypeKind → Type 0
 IsAbstract o = (o ≡ Some kind.Interface) ⊎ (o ≡ Some kind.Union)
@@ -115,14 +158,14 @@ IsAbstract o = (o ≡ Some kind.Interface) ⊎ (o ≡ Some kind.Union)
 -- ---- calls
 
 -- what a call does for selections that have a plan, whichever it is
-abbrev pub Does : Given → Place → List ℕ → List FileSelection → (Site → Part)
+abbrev pub Does : Basis → Place → List ℕ → List FileSelection → (Site → Part)
     → Result Ended ExecRefusal → Run → Run → Type 0
 Does g place name xs part result old new = (x : Plan) → IsPlan g name xs x
-    → Executes (part (site_of (types_of g.schema) place x)) result old new
+    → Executes (part (site_of (types_of g) place x)) result old new
 
 -- what holds after each call: the table is right and has its old entries, and no fewer values were
 -- completed than before
-pub record Keeps (g : Given) (a b : Table) (old new : Run) : Type 0 where
+pub record Keeps (g : Basis) (a b : Table) (old new : Run) : Type 0 where
   pub right : IsRight g b
   pub grows : Grows a b
   pub left : new.left ≤ old.left

@@ -1,15 +1,15 @@
 //! The execution of fields on objects, and the completion of their values (GraphQL specification,
-//! 6.3, 6.4.3 and 6.4.4).
+//! 4, 6.3, 6.4.3 and 6.4.4).
 ghost use Rattle.std.specs.Prelude.{◌≡◌, ◌<◌, List, ℕ, length, codes, false, true, Some, OnOk};
 ghost use Rattle.serde_json.specs.Find.{get};
 ghost use Rattle.serde_json.specs.View.{view};
-ghost use Rattle.gql_collect.specs.Contexts.{given};
-ghost use Rattle.gql_inputs.specs.InputTypes.{is_non_null, name_in};
+ghost use Rattle.gql_inputs.specs.InputTypes.{is_non_null, name_in as name_of_type};
+ghost use Rattle.gql_intro.specs.Borrowed.{answer_of, node_of};
 ghost use Rattle.gql_types.specs.Schemas.{kind_named};
 ghost use Rattle.gql_types.specs.Written.{written};
-ghost use Rattle.gql_types.specs.declared.kind.TypeKind.TheVariants as kind;
 ghost use Rattle.gql_exec.specs.Execution as spec;
 ghost use Rattle.gql_exec.specs.Execution.{Plan};
+ghost use Rattle.gql_exec.specs.Objects.{basis, object_of};
 ghost use Rattle.gql_exec.specs.Plans.{IsPlan, is_met, possible_in, types_of};
 ghost use Rattle.gql_exec.specs.States.{Executes, path_of};
 ghost use Rattle.gql_exec.specs.Tables.{InTable, IsRight, Pair, StandFor, StandsFor, below_at, fields_at};
@@ -18,21 +18,24 @@ ghost use Rattle.gql_exec.specs.ValueParts as part;
 ghost use Rattle.gql_exec.specs.ValueParts.{Does, IsAt, IsOf, Keeps, items_in, resolved_in};
 
 use crate::ended::Ended;
+use crate::introspection::{introspect, write_flag, write_literal, write_locations, write_name};
 use crate::items::ListItems;
 use crate::kinds::type_name;
 use crate::leaves::{Leaf, complete_enum, complete_scalar};
-use crate::nulls::{complete_null, without_mark};
+use crate::nulls::{complete_null, without_mark, write_null};
+use crate::object::ObjectRef;
 use crate::outcome::Step;
-use crate::planning::{Called, FieldPlan};
+use crate::planning::{Called, FieldPlan, Source};
 use crate::refusal::ExecRefusal;
 use crate::resolve::{Resolved, resolve};
 use crate::run::{Reason, Run};
+use crate::setting::Setting;
 use crate::site::Site;
 use crate::steps::{count, cut_to_null, raise, write, write_comma};
 use crate::table::{Slot, Table};
 use gql_ast::TypeRef;
-use gql_collect::Context;
-use gql_inputs::{is_non_null, item_of};
+use gql_inputs::{is_non_null, item_of, name_in};
+use gql_intro::{IntroAnswer, IntroNode, IntroNodes};
 use gql_types::TypeKind;
 use serde_json::Value;
 use std::alloc::Global;
@@ -41,22 +44,22 @@ use std::alloc::Global;
 #[cycle(execute)]
 pub fn execute_object<'d>(
     alloc: Global,
-    context: &Context<'d, '_>,
+    setting: &Setting<'d, '_>,
     table: &mut Table<'d>,
     entry: usize,
-    value: &Value,
+    object: ObjectRef<'d, '_>,
     run: &mut Run<'d>,
 ) -> Result<Ended, ExecRefusal>
-    requires right { IsRight (given context.now) table.old }
+    requires right { IsRight (basis setting.now) table.old }
     requires within { entry < length table.old.entries.items }
-    ensures keeps { OnOk result (Keeps (given context.now) table.old table.new run.old run.new) }
+    ensures keeps { OnOk result (Keeps (basis setting.now) table.old table.new run.old run.new) }
     ensures does { (qs : List Pair)
-        → StandFor (given context.now) (fields_at table.old.entries.items entry) qs
-        → Executes (part.object_part (types_of context.now.schema.now) (view value.now) qs
+        → StandFor (basis setting.now) (fields_at table.old.entries.items entry) qs
+        → Executes (part.object_part (types_of (basis setting.now)) (object_of object.entry) qs
         (path_of run.old)) result run.old run.new }
 {
     write(run, b"{")?;
-    let ended = execute_fields(alloc, context, table, entry, value, run)?;
+    let ended = execute_fields(alloc, setting, table, entry, object, run)?;
     write(run, b"}")?;
     Ok(ended)
 }
@@ -65,25 +68,25 @@ pub fn execute_object<'d>(
 #[cycle(execute)]
 fn execute_fields<'d>(
     alloc: Global,
-    context: &Context<'d, '_>,
+    setting: &Setting<'d, '_>,
     table: &mut Table<'d>,
     entry: usize,
-    value: &Value,
+    object: ObjectRef<'d, '_>,
     run: &mut Run<'d>,
 ) -> Result<Ended, ExecRefusal>
-    requires right { IsRight (given context.now) table.old }
+    requires right { IsRight (basis setting.now) table.old }
     requires within { entry < length table.old.entries.items }
-    ensures keeps { OnOk result (Keeps (given context.now) table.old table.new run.old run.new) }
+    ensures keeps { OnOk result (Keeps (basis setting.now) table.old table.new run.old run.new) }
     ensures does { (qs : List Pair)
-        → StandFor (given context.now) (fields_at table.old.entries.items entry) qs
-        → Executes (part.fields_part (types_of context.now.schema.now) (view value.now) qs
+        → StandFor (basis setting.now) (fields_at table.old.entries.items entry) qs
+        → Executes (part.fields_part (types_of (basis setting.now)) (object_of object.entry) qs
         (path_of run.old)) result run.old run.new }
 {
     let mut ended = Ended::Written;
     for i in 0..table.count(entry) {
         let slot = Slot { entry, field: i };
         let field = table.field(slot)?;
-        let field_ended = execute_field(alloc, context, table, slot, field.get(), value, run)?;
+        let field_ended = execute_field(alloc, setting, table, slot, field.get(), object, run)?;
         ended = ended.and(field_ended);
     }
     Ok(ended)
@@ -93,49 +96,49 @@ fn execute_fields<'d>(
 #[cycle(execute)]
 fn execute_field<'d>(
     alloc: Global,
-    context: &Context<'d, '_>,
+    setting: &Setting<'d, '_>,
     table: &mut Table<'d>,
     slot: Slot,
     field: &FieldPlan<'d>,
-    value: &Value,
+    object: ObjectRef<'d, '_>,
     run: &mut Run<'d>,
 ) -> Result<Ended, ExecRefusal>
-    requires right { IsRight (given context.now) table.old }
+    requires right { IsRight (basis setting.now) table.old }
     requires at { IsAt table.old slot field.now }
-    ensures keeps { OnOk result (Keeps (given context.now) table.old table.new run.old run.new) }
-    ensures does { (q : Pair) → StandsFor (given context.now) field.now q
-        → Executes (part.field_part (types_of context.now.schema.now) (view value.now)
+    ensures keeps { OnOk result (Keeps (basis setting.now) table.old table.new run.old run.new) }
+    ensures does { (q : Pair) → StandsFor (basis setting.now) field.now q
+        → Executes (part.field_part (types_of (basis setting.now)) (object_of object.entry)
         (path_of run.old) slot.field q) result run.old run.new }
 {
     write_comma(run, slot.field)?;
     count(run)?;
     write(run, field.label.as_slice())?;
-    execute_content(alloc, context, table, slot, field, value, run)
+    execute_content(alloc, setting, table, slot, field, object, run)
 }
 
 /// The value of a field, at its path. It has its own errors.
 #[cycle(execute)]
 fn execute_content<'d>(
     alloc: Global,
-    context: &Context<'d, '_>,
+    setting: &Setting<'d, '_>,
     table: &mut Table<'d>,
     slot: Slot,
     field: &FieldPlan<'d>,
-    value: &Value,
+    object: ObjectRef<'d, '_>,
     run: &mut Run<'d>,
 ) -> Result<Ended, ExecRefusal>
-    requires right { IsRight (given context.now) table.old }
+    requires right { IsRight (basis setting.now) table.old }
     requires at { IsAt table.old slot field.now }
-    ensures keeps { OnOk result (Keeps (given context.now) table.old table.new run.old run.new) }
-    ensures does { (q : Pair) → StandsFor (given context.now) field.now q
-        → Executes (part.content_part (types_of context.now.schema.now) (view value.now) q
+    ensures keeps { OnOk result (Keeps (basis setting.now) table.old table.new run.old run.new) }
+    ensures does { (q : Pair) → StandsFor (basis setting.now) field.now q
+        → Executes (part.content_part (types_of (basis setting.now)) (object_of object.entry) q
         (path_of run.old)) result run.old run.new }
 {
     let outer = run.raised;
     let depth = run.path.len();
     run.raised = false;
     run.path.push(Step::Key(field.response_name))?;
-    let ended = place_field(alloc, context, table, slot, field, value, run)?;
+    let ended = place_field(alloc, setting, table, slot, field, object, run)?;
     run.path.truncate(depth);
     run.raised = outer;
     Ok(ended)
@@ -146,26 +149,26 @@ fn execute_content<'d>(
 #[cycle(execute)]
 fn place_field<'d>(
     alloc: Global,
-    context: &Context<'d, '_>,
+    setting: &Setting<'d, '_>,
     table: &mut Table<'d>,
     slot: Slot,
     field: &FieldPlan<'d>,
-    value: &Value,
+    object: ObjectRef<'d, '_>,
     run: &mut Run<'d>,
 ) -> Result<Ended, ExecRefusal>
-    requires right { IsRight (given context.now) table.old }
+    requires right { IsRight (basis setting.now) table.old }
     requires at { IsAt table.old slot field.now }
-    ensures keeps { OnOk result (Keeps (given context.now) table.old table.new run.old run.new) }
-    ensures does { (q : Pair) → StandsFor (given context.now) field.now q
+    ensures keeps { OnOk result (Keeps (basis setting.now) table.old table.new run.old run.new) }
+    ensures does { (q : Pair) → StandsFor (basis setting.now) field.now q
         → Executes (part.placed_part q.0.of_type (part.called_part
-        (types_of context.now.schema.now) (view value.now) q (path_of run.old)))
+        (types_of (basis setting.now)) (object_of object.entry) q (path_of run.old)))
         result run.old run.new }
 {
     if is_non_null(field.of_type) {
-        return call_field(alloc, context, table, slot, field, value, run);
+        return call_field(alloc, setting, table, slot, field, object, run);
     }
     let mark = run.out.len();
-    match call_field(alloc, context, table, slot, field, value, run)? {
+    match call_field(alloc, setting, table, slot, field, object, run)? {
         Ended::Written => Ok(Ended::Written),
         Ended::Bubbled => {
             cut_to_null(run, mark)?;
@@ -178,66 +181,273 @@ fn place_field<'d>(
 #[cycle(execute)]
 fn call_field<'d>(
     alloc: Global,
-    context: &Context<'d, '_>,
+    setting: &Setting<'d, '_>,
     table: &mut Table<'d>,
     slot: Slot,
     field: &FieldPlan<'d>,
-    value: &Value,
+    object: ObjectRef<'d, '_>,
     run: &mut Run<'d>,
 ) -> Result<Ended, ExecRefusal>
-    requires right { IsRight (given context.now) table.old }
+    requires right { IsRight (basis setting.now) table.old }
     requires at { IsAt table.old slot field.now }
-    ensures keeps { OnOk result (Keeps (given context.now) table.old table.new run.old run.new) }
-    ensures does { (q : Pair) → StandsFor (given context.now) field.now q
-        → Executes (part.called_part (types_of context.now.schema.now) (view value.now) q
+    ensures keeps { OnOk result (Keeps (basis setting.now) table.old table.new run.old run.new) }
+    ensures does { (q : Pair) → StandsFor (basis setting.now) field.now q
+        → Executes (part.called_part (types_of (basis setting.now)) (object_of object.entry) q
         (path_of run.old)) result run.old run.new }
 {
     match &field.arguments {
         Called::Refused(message) => {
             raise(alloc, run, field.place, Reason::Refused(message.as_str()))
         }
-        Called::Given(arguments) => {
+        Called::Given(arguments) => match object {
+            ObjectRef::Stored(value) => {
+                call_stored(alloc, setting, table, slot, field, arguments, value, run)
+            }
+            ObjectRef::Described(node) => {
+                call_node(alloc, setting, table, slot, field, arguments, node, run)
+            }
+        },
+    }
+}
+
+/// The value of a field of an object of the data, called with these arguments.
+#[cycle(execute)]
+fn call_stored<'d>(
+    alloc: Global,
+    setting: &Setting<'d, '_>,
+    table: &mut Table<'d>,
+    slot: Slot,
+    field: &FieldPlan<'d>,
+    arguments: &Value,
+    value: &Value,
+    run: &mut Run<'d>,
+) -> Result<Ended, ExecRefusal>
+    requires right { IsRight (basis setting.now) table.old }
+    requires at { IsAt table.old slot field.now }
+    ensures keeps { OnOk result (Keeps (basis setting.now) table.old table.new run.old run.new) }
+    ensures does { (q : Pair) → StandsFor (basis setting.now) field.now q
+        → Executes (part.source_part (types_of (basis setting.now)) (view arguments.now)
+        (view value.now) q (path_of run.old)) result run.old run.new }
+{
+    match &field.source {
+        Source::Stored => {
             let of_type = field.of_type;
             let resolved = resolve(alloc, field.name, of_type, arguments, value)?;
             let site = Site {
                 slot,
                 place: field.place,
             };
-            complete_resolved(alloc, context, table, site, of_type, &resolved, run)
+            complete_resolved(alloc, setting, table, site, of_type, &resolved, run)
+        }
+        Source::TypeName(name) => write_name(run, name.as_str()),
+        Source::Root => {
+            let root = IntroNode::QueryRoot;
+            call_node(alloc, setting, table, slot, field, arguments, root, run)
         }
     }
+}
+
+/// The value of a field of a node of introspection, called with these arguments.
+#[cycle(execute)]
+fn call_node<'d>(
+    alloc: Global,
+    setting: &Setting<'d, '_>,
+    table: &mut Table<'d>,
+    slot: Slot,
+    field: &FieldPlan<'d>,
+    arguments: &Value,
+    node: IntroNode<'d>,
+    run: &mut Run<'d>,
+) -> Result<Ended, ExecRefusal>
+    requires right { IsRight (basis setting.now) table.old }
+    requires at { IsAt table.old slot field.now }
+    ensures keeps { OnOk result (Keeps (basis setting.now) table.old table.new run.old run.new) }
+    ensures does { (q : Pair) → StandsFor (basis setting.now) field.now q
+        → Executes (part.answer_part (types_of (basis setting.now)) (view arguments.now)
+        (node_of node.entry) q (path_of run.old)) result run.old run.new }
+{
+    let answer = introspect(setting, node, field.name, arguments);
+    let name = name_in(field.of_type);
+    let site = Site {
+        slot,
+        place: field.place,
+    };
+    complete_answer(alloc, setting, table, site, name.as_str(), answer, run)
+}
+
+/// Completes what introspection answers, where its nodes are of the type of this name.
+#[cycle(execute)]
+fn complete_answer<'d>(
+    alloc: Global,
+    setting: &Setting<'d, '_>,
+    table: &mut Table<'d>,
+    site: Site,
+    name: &str,
+    answer: IntroAnswer<'d>,
+    run: &mut Run<'d>,
+) -> Result<Ended, ExecRefusal>
+    requires right { IsRight (basis setting.now) table.old }
+    requires within { InTable table.old site.slot }
+    ensures keeps { OnOk result (Keeps (basis setting.now) table.old table.new run.old run.new) }
+    ensures does { Does (basis setting.now) site.place name.now (below_at table.old site.slot)
+        (λ s. value_part (spec.on_answer s name.now (path_of run.old)
+        (answer_of setting.now.context.schema.now answer.entry))) result run.old run.new }
+{
+    match answer {
+        IntroAnswer::Null => write_null(run),
+        IntroAnswer::Text(text) => write_name(run, text),
+        IntroAnswer::Boolean(truth) => write_flag(run, truth),
+        IntroAnswer::EnumValue(value) => write_name(run, value),
+        IntroAnswer::Literal(literal) => write_literal(alloc, literal, run),
+        IntroAnswer::Node(node) => {
+            let object = ObjectRef::Described(node);
+            execute_below(alloc, setting, table, site.slot, name, object, run)
+        }
+        IntroAnswer::Nodes(nodes) => {
+            complete_nodes(alloc, setting, table, site, name, nodes, run)
+        }
+        IntroAnswer::Locations(locations) => write_locations(run, locations),
+    }
+}
+
+/// Completes the nodes of a list.
+#[cycle(execute)]
+fn complete_nodes<'d>(
+    alloc: Global,
+    setting: &Setting<'d, '_>,
+    table: &mut Table<'d>,
+    site: Site,
+    name: &str,
+    nodes: IntroNodes<'d>,
+    run: &mut Run<'d>,
+) -> Result<Ended, ExecRefusal>
+    requires right { IsRight (basis setting.now) table.old }
+    requires within { InTable table.old site.slot }
+    ensures keeps { OnOk result (Keeps (basis setting.now) table.old table.new run.old run.new) }
+    ensures does { Does (basis setting.now) site.place name.now (below_at table.old site.slot)
+        (λ s. part.node_list_part name.now s
+        (part.nodes_in setting.now.context.schema.now nodes.entry) (path_of run.old))
+        result run.old run.new }
+{
+    write(run, b"[")?;
+    let ended = list_nodes(alloc, setting, table, site, name, nodes, run)?;
+    write(run, b"]")?;
+    Ok(ended)
+}
+
+/// Completes the nodes of a list, one after another.
+#[cycle(execute)]
+fn list_nodes<'d>(
+    alloc: Global,
+    setting: &Setting<'d, '_>,
+    table: &mut Table<'d>,
+    site: Site,
+    name: &str,
+    nodes: IntroNodes<'d>,
+    run: &mut Run<'d>,
+) -> Result<Ended, ExecRefusal>
+    requires right { IsRight (basis setting.now) table.old }
+    requires within { InTable table.old site.slot }
+    ensures keeps { OnOk result (Keeps (basis setting.now) table.old table.new run.old run.new) }
+    ensures does { Does (basis setting.now) site.place name.now (below_at table.old site.slot)
+        (λ s. part.nodes_part name.now s
+        (part.nodes_in setting.now.context.schema.now nodes.entry) (path_of run.old))
+        result run.old run.new }
+{
+    let mut ended = Ended::Written;
+    let mut listed: usize = 0;
+    for i in 0..nodes.len() {
+        let Some(node) = nodes.get(setting.context.schema, i) else {
+            continue;
+        };
+        let node_ended = list_node(alloc, setting, table, site, name, listed, node, run)?;
+        ended = ended.and(node_ended);
+        listed += 1;
+    }
+    Ok(ended)
+}
+
+/// Completes a node of a list, with its comma.
+#[cycle(execute)]
+fn list_node<'d>(
+    alloc: Global,
+    setting: &Setting<'d, '_>,
+    table: &mut Table<'d>,
+    site: Site,
+    name: &str,
+    i: usize,
+    node: IntroNode<'d>,
+    run: &mut Run<'d>,
+) -> Result<Ended, ExecRefusal>
+    requires right { IsRight (basis setting.now) table.old }
+    requires within { InTable table.old site.slot }
+    ensures keeps { OnOk result (Keeps (basis setting.now) table.old table.new run.old run.new) }
+    ensures does { Does (basis setting.now) site.place name.now (below_at table.old site.slot)
+        (λ s. part.node_part name.now s (path_of run.old) i (node_of node.entry))
+        result run.old run.new }
+{
+    write_comma(run, i)?;
+    count(run)?;
+    node_content(alloc, setting, table, site, name, i, node, run)
+}
+
+/// A node of a list, at its path.
+#[cycle(execute)]
+fn node_content<'d>(
+    alloc: Global,
+    setting: &Setting<'d, '_>,
+    table: &mut Table<'d>,
+    site: Site,
+    name: &str,
+    i: usize,
+    node: IntroNode<'d>,
+    run: &mut Run<'d>,
+) -> Result<Ended, ExecRefusal>
+    requires right { IsRight (basis setting.now) table.old }
+    requires within { InTable table.old site.slot }
+    ensures keeps { OnOk result (Keeps (basis setting.now) table.old table.new run.old run.new) }
+    ensures does { Does (basis setting.now) site.place name.now (below_at table.old site.slot)
+        (λ s. part.content_of_node name.now s i (node_of node.entry) (path_of run.old))
+        result run.old run.new }
+{
+    let depth = run.path.len();
+    run.path.push(Step::Index(i))?;
+    let object = ObjectRef::Described(node);
+    let ended = execute_below(alloc, setting, table, site.slot, name, object, run)?;
+    run.path.truncate(depth);
+    Ok(ended)
 }
 
 /// Completes what a field was resolved to.
 #[cycle(execute)]
 fn complete_resolved<'d>(
     alloc: Global,
-    context: &Context<'d, '_>,
+    setting: &Setting<'d, '_>,
     table: &mut Table<'d>,
     site: Site,
     of_type: &TypeRef,
     resolved: &Resolved<'_>,
     run: &mut Run<'d>,
 ) -> Result<Ended, ExecRefusal>
-    requires right { IsRight (given context.now) table.old }
+    requires right { IsRight (basis setting.now) table.old }
     requires within { InTable table.old site.slot }
     requires of { IsOf (written of_type.now) resolved.now }
-    ensures keeps { OnOk result (Keeps (given context.now) table.old table.new run.old run.new) }
-    ensures does { Does (given context.now) site.place (name_in (written of_type.now))
+    ensures keeps { OnOk result (Keeps (basis setting.now) table.old table.new run.old run.new) }
+    ensures does { Does (basis setting.now) site.place (name_of_type (written of_type.now))
         (below_at table.old site.slot)
         (λ s. value_part (spec.complete s (written of_type.now) (path_of run.old)
         (resolved_in resolved.now))) result run.old run.new }
 {
     match resolved {
         Resolved::Null => complete_null(alloc, site.place, of_type, run),
-        Resolved::Value(value) => complete(alloc, context, table, site, of_type, *value, run),
+        Resolved::Value(value) => complete(alloc, setting, table, site, of_type, *value, run),
         Resolved::Items(found) => match item_of(of_type) {
             Some(item) => {
                 let items = ListItems {
                     all: &[],
                     kept: found.as_slice(),
                 };
-                complete_items(alloc, context, table, site, item, items, run)
+                complete_items(alloc, setting, table, site, item, items, run)
             }
             None => raise(alloc, run, site.place, Reason::NotAList),
         },
@@ -248,17 +458,17 @@ fn complete_resolved<'d>(
 #[cycle(execute)]
 fn complete<'d>(
     alloc: Global,
-    context: &Context<'d, '_>,
+    setting: &Setting<'d, '_>,
     table: &mut Table<'d>,
     site: Site,
     of_type: &TypeRef,
     value: &Value,
     run: &mut Run<'d>,
 ) -> Result<Ended, ExecRefusal>
-    requires right { IsRight (given context.now) table.old }
+    requires right { IsRight (basis setting.now) table.old }
     requires within { InTable table.old site.slot }
-    ensures keeps { OnOk result (Keeps (given context.now) table.old table.new run.old run.new) }
-    ensures does { Does (given context.now) site.place (name_in (written of_type.now))
+    ensures keeps { OnOk result (Keeps (basis setting.now) table.old table.new run.old run.new) }
+    ensures does { Does (basis setting.now) site.place (name_of_type (written of_type.now))
         (below_at table.old site.slot)
         (λ s. value_part (spec.complete s (written of_type.now) (path_of run.old)
         (view value.now))) result run.old run.new }
@@ -267,36 +477,36 @@ fn complete<'d>(
         return complete_null(alloc, site.place, of_type, run);
     }
     let nullable = without_mark(of_type);
-    complete_present(alloc, context, table, site, nullable, value, run)
+    complete_present(alloc, setting, table, site, nullable, value, run)
 }
 
 /// Completes a value that is not null, at a type without a Non-Null mark.
 #[cycle(execute)]
 fn complete_present<'d>(
     alloc: Global,
-    context: &Context<'d, '_>,
+    setting: &Setting<'d, '_>,
     table: &mut Table<'d>,
     site: Site,
     of_type: &TypeRef,
     value: &Value,
     run: &mut Run<'d>,
 ) -> Result<Ended, ExecRefusal>
-    requires right { IsRight (given context.now) table.old }
+    requires right { IsRight (basis setting.now) table.old }
     requires within { InTable table.old site.slot }
     requires nullable { is_non_null (written of_type.now) ≡ false }
     requires present { spec.is_null (view value.now) ≡ false }
-    ensures keeps { OnOk result (Keeps (given context.now) table.old table.new run.old run.new) }
-    ensures does { Does (given context.now) site.place (name_in (written of_type.now))
+    ensures keeps { OnOk result (Keeps (basis setting.now) table.old table.new run.old run.new) }
+    ensures does { Does (basis setting.now) site.place (name_of_type (written of_type.now))
         (below_at table.old site.slot)
         (λ s. value_part (spec.complete s (written of_type.now) (path_of run.old)
         (view value.now))) result run.old run.new }
 {
     match of_type {
         TypeRef::Named(name) => {
-            complete_named(alloc, context, table, site, name.as_str(), value, run)
+            complete_named(alloc, setting, table, site, name.as_str(), value, run)
         }
         TypeRef::List { item, .. } => {
-            complete_list(alloc, context, table, site, item.get(), value, run)
+            complete_list(alloc, setting, table, site, item.get(), value, run)
         }
         TypeRef::NonNull(_) => raise(alloc, run, site.place, Reason::NullForNonNull),
     }
@@ -306,32 +516,32 @@ fn complete_present<'d>(
 #[cycle(execute)]
 fn complete_named<'d>(
     alloc: Global,
-    context: &Context<'d, '_>,
+    setting: &Setting<'d, '_>,
     table: &mut Table<'d>,
     site: Site,
     name: &str,
     value: &Value,
     run: &mut Run<'d>,
 ) -> Result<Ended, ExecRefusal>
-    requires right { IsRight (given context.now) table.old }
+    requires right { IsRight (basis setting.now) table.old }
     requires within { InTable table.old site.slot }
-    ensures keeps { OnOk result (Keeps (given context.now) table.old table.new run.old run.new) }
-    ensures does { Does (given context.now) site.place name.now (below_at table.old site.slot)
+    ensures keeps { OnOk result (Keeps (basis setting.now) table.old table.new run.old run.new) }
+    ensures does { Does (basis setting.now) site.place name.now (below_at table.old site.slot)
         (λ s. value_part (spec.of_kind s name.now (path_of run.old) (view value.now)
-        (kind_named context.now.schema.now name.now))) result run.old run.new }
+        (kind_named setting.now.context.schema.now name.now))) result run.old run.new }
 {
     let leaf = Leaf {
         name,
         place: site.place,
     };
-    match context.schema.kind(name) {
+    match setting.context.schema.kind(name) {
         Some(TypeKind::Scalar) => complete_scalar(alloc, leaf, value, run),
-        Some(TypeKind::Enum) => complete_enum(alloc, context.schema, leaf, value, run),
-        Some(TypeKind::Object) => complete_object(alloc, context, table, site, name, value, run),
+        Some(TypeKind::Enum) => complete_enum(alloc, setting.context.schema, leaf, value, run),
+        Some(TypeKind::Object) => complete_object(alloc, setting, table, site, name, value, run),
         Some(TypeKind::Interface) => {
-            complete_abstract(alloc, context, table, site, name, value, run)
+            complete_abstract(alloc, setting, table, site, name, value, run)
         }
-        Some(TypeKind::Union) => complete_abstract(alloc, context, table, site, name, value, run),
+        Some(TypeKind::Union) => complete_abstract(alloc, setting, table, site, name, value, run),
         Some(TypeKind::InputObject) => raise(alloc, run, site.place, Reason::NotOfType(name)),
         None => raise(alloc, run, site.place, Reason::NotOfType(name)),
     }
@@ -341,23 +551,23 @@ fn complete_named<'d>(
 #[cycle(execute)]
 fn complete_object<'d>(
     alloc: Global,
-    context: &Context<'d, '_>,
+    setting: &Setting<'d, '_>,
     table: &mut Table<'d>,
     site: Site,
     name: &str,
     value: &Value,
     run: &mut Run<'d>,
 ) -> Result<Ended, ExecRefusal>
-    requires right { IsRight (given context.now) table.old }
+    requires right { IsRight (basis setting.now) table.old }
     requires within { InTable table.old site.slot }
-    requires object { kind_named context.now.schema.now name.now ≡ Some kind.Object }
-    ensures keeps { OnOk result (Keeps (given context.now) table.old table.new run.old run.new) }
-    ensures does { Does (given context.now) site.place name.now (below_at table.old site.slot)
+    ensures keeps { OnOk result (Keeps (basis setting.now) table.old table.new run.old run.new) }
+    ensures does { Does (basis setting.now) site.place name.now (below_at table.old site.slot)
         (λ s. value_part (spec.on_object s name.now (path_of run.old) (view value.now)))
         result run.old run.new }
 {
     if value.is_object() {
-        execute_below(alloc, context, table, site.slot, name, value, run)
+        let object = ObjectRef::Stored(value);
+        execute_below(alloc, setting, table, site.slot, name, object, run)
     } else {
         raise(alloc, run, site.place, Reason::NotAnObject)
     }
@@ -367,24 +577,27 @@ fn complete_object<'d>(
 #[cycle(execute)]
 fn complete_abstract<'d>(
     alloc: Global,
-    context: &Context<'d, '_>,
+    setting: &Setting<'d, '_>,
     table: &mut Table<'d>,
     site: Site,
     name: &str,
     value: &Value,
     run: &mut Run<'d>,
 ) -> Result<Ended, ExecRefusal>
-    requires right { IsRight (given context.now) table.old }
+    requires right { IsRight (basis setting.now) table.old }
     requires within { InTable table.old site.slot }
-    requires composite { part.IsAbstract (kind_named context.now.schema.now name.now) }
-    ensures keeps { OnOk result (Keeps (given context.now) table.old table.new run.old run.new) }
-    ensures does { Does (given context.now) site.place name.now (below_at table.old site.slot)
+    requires composite { part.IsAbstract (kind_named setting.now.context.schema.now name.now) }
+    ensures keeps { OnOk result (Keeps (basis setting.now) table.old table.new run.old run.new) }
+    ensures does { Does (basis setting.now) site.place name.now (below_at table.old site.slot)
         (λ s. value_part (spec.on_abstract s name.now (path_of run.old) (view value.now)
-        (spec.among (possible_in context.now.schema.now name.now)
+        (spec.among (possible_in setting.now.context.schema.now name.now)
         (get (codes "__typename") (view value.now))))) result run.old run.new }
 {
-    match type_name(context.schema, name, value) {
-        Some(of_type) => execute_below(alloc, context, table, site.slot, of_type, value, run),
+    match type_name(setting.context.schema, name, value) {
+        Some(of_type) => {
+            let object = ObjectRef::Stored(value);
+            execute_below(alloc, setting, table, site.slot, of_type, object, run)
+        }
         None => raise(alloc, run, site.place, Reason::NoPossibleType(name)),
     }
 }
@@ -393,40 +606,40 @@ fn complete_abstract<'d>(
 #[cycle(execute)]
 fn execute_below<'d>(
     alloc: Global,
-    context: &Context<'d, '_>,
+    setting: &Setting<'d, '_>,
     table: &mut Table<'d>,
     slot: Slot,
     of_type: &str,
-    value: &Value,
+    object: ObjectRef<'d, '_>,
     run: &mut Run<'d>,
 ) -> Result<Ended, ExecRefusal>
-    requires right { IsRight (given context.now) table.old }
+    requires right { IsRight (basis setting.now) table.old }
     requires within { InTable table.old slot }
-    ensures keeps { OnOk result (Keeps (given context.now) table.old table.new run.old run.new) }
-    ensures does { (name : List ℕ) → is_met context.now.schema.now of_type.now name ≡ true
-        → (x : Plan) → IsPlan (given context.now) name (below_at table.old slot) x
-        → Executes (value_part (spec.execute (types_of context.now.schema.now) x of_type.now
-        (path_of run.old) (view value.now))) result run.old run.new }
+    ensures keeps { OnOk result (Keeps (basis setting.now) table.old table.new run.old run.new) }
+    ensures does { (name : List ℕ) → is_met (basis setting.now) of_type.now name ≡ true
+        → (x : Plan) → IsPlan (basis setting.now) name (below_at table.old slot) x
+        → Executes (value_part (spec.execute (types_of (basis setting.now)) x of_type.now
+        (path_of run.old) (object_of object.entry))) result run.old run.new }
 {
-    let entry = table.at(alloc, context, slot, of_type)?;
-    execute_object(alloc, context, table, entry, value, run)
+    let entry = table.at(alloc, setting, slot, of_type)?;
+    execute_object(alloc, setting, table, entry, object, run)
 }
 
 /// Completes a value at a list type.
 #[cycle(execute)]
 fn complete_list<'d>(
     alloc: Global,
-    context: &Context<'d, '_>,
+    setting: &Setting<'d, '_>,
     table: &mut Table<'d>,
     site: Site,
     item: &TypeRef,
     value: &Value,
     run: &mut Run<'d>,
 ) -> Result<Ended, ExecRefusal>
-    requires right { IsRight (given context.now) table.old }
+    requires right { IsRight (basis setting.now) table.old }
     requires within { InTable table.old site.slot }
-    ensures keeps { OnOk result (Keeps (given context.now) table.old table.new run.old run.new) }
-    ensures does { Does (given context.now) site.place (name_in (written item.now))
+    ensures keeps { OnOk result (Keeps (basis setting.now) table.old table.new run.old run.new) }
+    ensures does { Does (basis setting.now) site.place (name_of_type (written item.now))
         (below_at table.old site.slot)
         (λ s. value_part (spec.on_list s (part.item_at s (written item.now)) (path_of run.old)
         (view value.now))) result run.old run.new }
@@ -437,7 +650,7 @@ fn complete_list<'d>(
                 all: values.as_slice(),
                 kept: &[],
             };
-            complete_items(alloc, context, table, site, item, items, run)
+            complete_items(alloc, setting, table, site, item, items, run)
         }
         None => raise(alloc, run, site.place, Reason::NotAList),
     }
@@ -447,23 +660,23 @@ fn complete_list<'d>(
 #[cycle(execute)]
 fn complete_items<'d>(
     alloc: Global,
-    context: &Context<'d, '_>,
+    setting: &Setting<'d, '_>,
     table: &mut Table<'d>,
     site: Site,
     item: &TypeRef,
     items: ListItems<'_>,
     run: &mut Run<'d>,
 ) -> Result<Ended, ExecRefusal>
-    requires right { IsRight (given context.now) table.old }
+    requires right { IsRight (basis setting.now) table.old }
     requires within { InTable table.old site.slot }
-    ensures keeps { OnOk result (Keeps (given context.now) table.old table.new run.old run.new) }
-    ensures does { Does (given context.now) site.place (name_in (written item.now))
+    ensures keeps { OnOk result (Keeps (basis setting.now) table.old table.new run.old run.new) }
+    ensures does { Does (basis setting.now) site.place (name_of_type (written item.now))
         (below_at table.old site.slot)
         (λ s. part.list_part (written item.now) s (items_in items.entry) (path_of run.old))
         result run.old run.new }
 {
     write(run, b"[")?;
-    let ended = list_items(alloc, context, table, site, item, items, run)?;
+    let ended = list_items(alloc, setting, table, site, item, items, run)?;
     write(run, b"]")?;
     Ok(ended)
 }
@@ -472,17 +685,17 @@ fn complete_items<'d>(
 #[cycle(execute)]
 fn list_items<'d>(
     alloc: Global,
-    context: &Context<'d, '_>,
+    setting: &Setting<'d, '_>,
     table: &mut Table<'d>,
     site: Site,
     item: &TypeRef,
     items: ListItems<'_>,
     run: &mut Run<'d>,
 ) -> Result<Ended, ExecRefusal>
-    requires right { IsRight (given context.now) table.old }
+    requires right { IsRight (basis setting.now) table.old }
     requires within { InTable table.old site.slot }
-    ensures keeps { OnOk result (Keeps (given context.now) table.old table.new run.old run.new) }
-    ensures does { Does (given context.now) site.place (name_in (written item.now))
+    ensures keeps { OnOk result (Keeps (basis setting.now) table.old table.new run.old run.new) }
+    ensures does { Does (basis setting.now) site.place (name_of_type (written item.now))
         (below_at table.old site.slot)
         (λ s. part.items_part (written item.now) s (items_in items.entry) (path_of run.old))
         result run.old run.new }
@@ -490,7 +703,7 @@ fn list_items<'d>(
     let mut ended = Ended::Written;
     for i in 0..items.count() {
         let value = items.item(i);
-        ended = ended.and(list_item(alloc, context, table, site, item, i, value, run)?);
+        ended = ended.and(list_item(alloc, setting, table, site, item, i, value, run)?);
     }
     Ok(ended)
 }
@@ -499,7 +712,7 @@ fn list_items<'d>(
 #[cycle(execute)]
 fn list_item<'d>(
     alloc: Global,
-    context: &Context<'d, '_>,
+    setting: &Setting<'d, '_>,
     table: &mut Table<'d>,
     site: Site,
     item: &TypeRef,
@@ -507,24 +720,24 @@ fn list_item<'d>(
     value: &Value,
     run: &mut Run<'d>,
 ) -> Result<Ended, ExecRefusal>
-    requires right { IsRight (given context.now) table.old }
+    requires right { IsRight (basis setting.now) table.old }
     requires within { InTable table.old site.slot }
-    ensures keeps { OnOk result (Keeps (given context.now) table.old table.new run.old run.new) }
-    ensures does { Does (given context.now) site.place (name_in (written item.now))
+    ensures keeps { OnOk result (Keeps (basis setting.now) table.old table.new run.old run.new) }
+    ensures does { Does (basis setting.now) site.place (name_of_type (written item.now))
         (below_at table.old site.slot)
         (λ s. part.item_part (written item.now) s (path_of run.old) i (view value.now))
         result run.old run.new }
 {
     write_comma(run, i)?;
     count(run)?;
-    item_content(alloc, context, table, site, item, i, value, run)
+    item_content(alloc, setting, table, site, item, i, value, run)
 }
 
 /// The value of an item, at its path.
 #[cycle(execute)]
 fn item_content<'d>(
     alloc: Global,
-    context: &Context<'d, '_>,
+    setting: &Setting<'d, '_>,
     table: &mut Table<'d>,
     site: Site,
     item: &TypeRef,
@@ -532,17 +745,17 @@ fn item_content<'d>(
     value: &Value,
     run: &mut Run<'d>,
 ) -> Result<Ended, ExecRefusal>
-    requires right { IsRight (given context.now) table.old }
+    requires right { IsRight (basis setting.now) table.old }
     requires within { InTable table.old site.slot }
-    ensures keeps { OnOk result (Keeps (given context.now) table.old table.new run.old run.new) }
-    ensures does { Does (given context.now) site.place (name_in (written item.now))
+    ensures keeps { OnOk result (Keeps (basis setting.now) table.old table.new run.old run.new) }
+    ensures does { Does (basis setting.now) site.place (name_of_type (written item.now))
         (below_at table.old site.slot)
         (λ s. part.content_of_item (written item.now) s i (view value.now) (path_of run.old))
         result run.old run.new }
 {
     let depth = run.path.len();
     run.path.push(Step::Index(i))?;
-    let ended = place_item(alloc, context, table, site, item, value, run)?;
+    let ended = place_item(alloc, setting, table, site, item, value, run)?;
     run.path.truncate(depth);
     Ok(ended)
 }
@@ -552,26 +765,26 @@ fn item_content<'d>(
 #[cycle(execute)]
 fn place_item<'d>(
     alloc: Global,
-    context: &Context<'d, '_>,
+    setting: &Setting<'d, '_>,
     table: &mut Table<'d>,
     site: Site,
     item: &TypeRef,
     value: &Value,
     run: &mut Run<'d>,
 ) -> Result<Ended, ExecRefusal>
-    requires right { IsRight (given context.now) table.old }
+    requires right { IsRight (basis setting.now) table.old }
     requires within { InTable table.old site.slot }
-    ensures keeps { OnOk result (Keeps (given context.now) table.old table.new run.old run.new) }
-    ensures does { Does (given context.now) site.place (name_in (written item.now))
+    ensures keeps { OnOk result (Keeps (basis setting.now) table.old table.new run.old run.new) }
+    ensures does { Does (basis setting.now) site.place (name_of_type (written item.now))
         (below_at table.old site.slot)
         (λ s. part.placed_part (written item.now) (value_part (spec.complete s (written item.now)
         (path_of run.old) (view value.now)))) result run.old run.new }
 {
     if is_non_null(item) {
-        return complete(alloc, context, table, site, item, value, run);
+        return complete(alloc, setting, table, site, item, value, run);
     }
     let start = run.out.len();
-    match complete(alloc, context, table, site, item, value, run)? {
+    match complete(alloc, setting, table, site, item, value, run)? {
         Ended::Written => Ok(Ended::Written),
         Ended::Bubbled => {
             cut_to_null(run, start)?;

@@ -118,7 +118,7 @@ fn complete_string(
 }
 
 /// Writes `true` or `false`.
-fn write_truth(run: &mut Run<'_>, truth: bool) -> Result<(), ExecRefusal>
+pub fn write_truth(run: &mut Run<'_>, truth: bool) -> Result<(), ExecRefusal>
     ensures follows { OnOk result (Follows (plain (compact_text (boolean truth))) run.old run.new) }
     ensures err { IfErr result (λ e. e ≡ ExecRefusal.Memory) }
 {

@@ -1,5 +1,6 @@
 //! What a selection set asks of the objects of a type.
-ghost use Rattle.std.specs.Prelude.{◌≡◌, ◌++◌, ◌∷◌, [], codes, List, string_bytes, IfOk, OnOk};
+ghost use Rattle.std.specs.Prelude.{◌≡◌, ◌++◌, ◌∷◌, [], bytes_eq, codes, false, List, option_map, string_bytes, IfOk, OnOk};
+ghost use Rattle.std.specs.Option.{option_map_or};
 ghost use Rattle.json.specs.Print.{quoted};
 ghost use Rattle.serde_json.specs.Data.{Data};
 ghost use Rattle.serde_json.specs.View.{view};
@@ -7,16 +8,19 @@ ghost use Rattle.gql_coerce.specs.Comes.{Outcome as AnOutcome};
 ghost use Rattle.gql_coerce.specs.Requests.{ArgumentsCome};
 ghost use Rattle.gql_collect.specs.Borrowed.{all_selections};
 ghost use Rattle.gql_collect.specs.BorrowedGroups.{nodes_in};
-ghost use Rattle.gql_collect.specs.Contexts.{given};
 ghost use Rattle.gql_collect.specs.Groups.{Group as AGroup};
+ghost use Rattle.gql_intro.specs.Introspection.{root_name};
+ghost use Rattle.gql_exec.specs.Objects.{basis, field_in};
 ghost use Rattle.gql_exec.specs.Plans as plans;
 ghost use Rattle.gql_exec.specs.Tables.{Hold, Planning, StandFor, called_of, PlansGroup};
 
+use crate::setting::Setting;
 use crate::strings::write_string;
-use gql_ast::{Field, FieldDefinition, Shared, TypeRef};
+use gql_ast::{Field, FieldDefinition, OperationKind, Shared, Text, TypeRef};
 use gql_coerce::{CoerceFault, Refusal, coerce_arguments, laws, path_text};
 use gql_collect::{Context, Group, SelectionSet, collect};
 use gql_text::Place;
+use gql_types::Schema;
 use serde_json::Value;
 use std::alloc::{AllocError, Global};
 
@@ -25,6 +29,24 @@ use std::alloc::{AllocError, Global};
 pub enum Called {
     Given(Value),
     Refused(String),
+}
+
+/// Where objects of a type have the value of a field (GraphQL specification, 4.1, 4.2).
+#[derive(Drop)]
+pub enum Source {
+    /// In the data.
+    Stored,
+    /// It is the name of their type.
+    TypeName(Text),
+    /// Introspection answers it, from the query root.
+    Root,
+}
+
+/// The definition of a field that objects of a type have, and where they have its value.
+#[derive(Drop)]
+pub struct DefinedField<'d> {
+    pub definition: &'d FieldDefinition,
+    pub source: Source,
 }
 
 /// A field of an answer, for the objects of some type (GraphQL specification, 6.3).
@@ -36,6 +58,7 @@ pub struct FieldPlan<'d> {
     /// Where its first node starts.
     pub place: Place,
     pub name: &'d str,
+    pub source: Source,
     pub arguments: Called,
     pub of_type: &'d TypeRef,
     /// The selection sets of its nodes, which are collected as one.
@@ -88,19 +111,87 @@ fn label(alloc: Global, name: &str) -> Result<Vec<u8>, AllocError>
     Ok(label)
 }
 
-/// The field of a group, whose first node has this definition.
+/// Whether this is the type of the query root.
+fn is_query_root(schema: &Schema, of_type: &str) -> bool
+    ensures { result ≡ option_map_or (bytes_eq of_type.now) (root_name schema.now) false }
+{
+    match schema.root(OperationKind::Query) {
+        Some(root) => of_type == root.name.node.as_str(),
+        None => false,
+    }
+}
+
+/// Where objects of a type have the value of a field that no type lists.
+fn meta_source(
+    alloc: Global,
+    schema: &Schema,
+    of_type: &str,
+    name: &str,
+) -> Result<Option<Source>, AllocError>
+    ensures { IfOk result (λ o. o ≡ plans.meta_source schema.now of_type.now name.now) }
+{
+    if name == "__typename" {
+        return Ok(Some(Source::TypeName(Text::from_str(alloc, of_type)?)));
+    }
+    if is_query_root(schema, of_type) {
+        Ok(Some(Source::Root))
+    } else {
+        Ok(None)
+    }
+}
+
+/// The field of that name that no type lists, if objects of a type have it.
+fn meta_field<'d>(
+    alloc: Global,
+    setting: &Setting<'d, '_>,
+    of_type: &str,
+    name: &str,
+) -> Result<Option<DefinedField<'d>>, AllocError>
+    ensures { IfOk result (λ o. option_map field_in o
+        ≡ plans.meta_field_of (basis setting.now) of_type.now name.now) }
+{
+    let Some(source) = meta_source(alloc, setting.context.schema, of_type, name)? else {
+        return Ok(None);
+    };
+    match setting.made.meta_field(name) {
+        Some(definition) => Ok(Some(DefinedField { definition, source })),
+        None => Ok(None),
+    }
+}
+
+/// The field of that name that objects of a type have.
+fn field_of<'d>(
+    alloc: Global,
+    setting: &Setting<'d, '_>,
+    of_type: &str,
+    name: &str,
+) -> Result<Option<DefinedField<'d>>, AllocError>
+    ensures { IfOk result (λ o. option_map field_in o
+        ≡ plans.field_of (basis setting.now) of_type.now name.now) }
+{
+    match setting.context.schema.field(of_type, name) {
+        Some(found) => Ok(Some(DefinedField {
+            definition: found.node.get(),
+            source: Source::Stored,
+        })),
+        None => meta_field(alloc, setting, of_type, name),
+    }
+}
+
+/// The field of a group, whose first node has this field.
 fn field_plan<'d>(
     alloc: Global,
-    context: &Context<'d, '_>,
-    definition: &'d FieldDefinition,
+    setting: &Setting<'d, '_>,
+    field: DefinedField<'d>,
     name: &'d str,
     group: &Group<'d>,
 ) -> Result<FieldPlan<'d>, AllocError>
-    ensures { IfOk result (λ field. PlansGroup (given context.now) definition.now
-        (record { key = name.now; nodes = nodes_in group.now }) field) }
+    ensures { IfOk result (λ f. PlansGroup (basis setting.now) (field_in field.entry)
+        (record { key = name.now; nodes = nodes_in group.now }) f) }
 {
+    let DefinedField { definition, source } = field;
     let node = group.first;
-    let arguments = called_with(alloc, context, definition, node.field)?;
+    let arguments = called_with(alloc, &setting.context, definition, node.field)?;
     let label = label(alloc, name)?;
     let sets = group.selection_sets(alloc)?;
     Ok(FieldPlan {
@@ -108,33 +199,32 @@ fn field_plan<'d>(
         response_name: name,
         place: node.place(),
         name: node.field.name.as_str(),
+        source,
         arguments,
         of_type: &definition.of_type,
         sets,
     })
 }
 
-/// Adds the field of a group, if the type has it.
+/// Adds the field of a group, if objects of the type have it.
 fn add_field<'d>(
     alloc: Global,
-    context: &Context<'d, '_>,
+    setting: &Setting<'d, '_>,
     of_type: &str,
     name: &'d str,
     group: &Group<'d>,
     fields: &mut Vec<Shared<FieldPlan<'d>>>,
 ) -> Result<(), AllocError>
     ensures { OnOk result ((groups : List AGroup)
-        → Planning (given context.now) of_type.now groups fields.old.items
-        → Planning (given context.now) of_type.now
+        → Planning (basis setting.now) of_type.now groups fields.old.items
+        → Planning (basis setting.now) of_type.now
         (groups ++ record { key = name.now; nodes = nodes_in group.now } ∷ []) fields.new.items) }
 {
-    let Some(found) = context
-        .schema
-        .field(of_type, group.first.field.name.as_str())
-    else {
+    let first = group.first.field.name.as_str();
+    let Some(found) = field_of(alloc, setting, of_type, first)? else {
         return Ok(());
     };
-    let field = field_plan(alloc, context, found.node.get(), name, group)?;
+    let field = field_plan(alloc, setting, found, name, group)?;
     fields.push(Shared::new(alloc, field)?)?;
     Ok(())
 }
@@ -142,17 +232,17 @@ fn add_field<'d>(
 /// What these selection sets, taken as one, ask of the objects of a type.
 pub fn planned_fields<'d>(
     alloc: Global,
-    context: &Context<'d, '_>,
+    setting: &Setting<'d, '_>,
     of_type: &str,
     sets: &[SelectionSet<'d>],
 ) -> Result<Vec<Shared<FieldPlan<'d>>>, AllocError>
-    ensures { IfOk result (λ fields. Hold (given context.now) of_type.now
+    ensures { IfOk result (λ fields. Hold (basis setting.now) of_type.now
         (all_selections sets.now) fields.items) }
 {
-    let groups = collect(alloc, context, of_type, sets)?;
+    let groups = collect(alloc, &setting.context, of_type, sets)?;
     let mut fields = Vec::new(alloc);
     for (name, group) in groups.iter() {
-        add_field(alloc, context, of_type, *name, group, &mut fields)?;
+        add_field(alloc, setting, of_type, *name, group, &mut fields)?;
     }
     Ok(fields)
 }

@@ -11,7 +11,7 @@ ghost use Rattle.gql_exec.specs.States.{Executes, Follows, message_of, path_of};
 use crate::ended::Ended;
 use crate::refusal::ExecRefusal;
 use crate::run::{FieldError, Reason, Run};
-use crate::strings::write_string;
+use crate::strings::{write_quoted, write_string};
 use crate::values::write_value;
 use gql_text::Place;
 use serde_json::Value;
@@ -41,6 +41,15 @@ pub fn write_text(run: &mut Run<'_>, text: &str) -> Result<(), ExecRefusal>
     ensures err { IfErr result (λ e. e ≡ ExecRefusal.Memory) }
 {
     write_string(text, &mut run.out)?;
+    Ok(())
+}
+
+/// Writes a string of these bytes.
+pub fn write_text_bytes(run: &mut Run<'_>, text: &[u8]) -> Result<(), ExecRefusal>
+    ensures follows { OnOk result (Follows (plain (quoted text.now)) run.old run.new) }
+    ensures err { IfErr result (λ e. e ≡ ExecRefusal.Memory) }
+{
+    write_quoted(text, &mut run.out)?;
     Ok(())
 }
 

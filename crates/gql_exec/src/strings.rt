@@ -74,13 +74,20 @@ fn write_inner(out: &mut Vec<u8>, bytes: &[u8]) -> Result<(), AllocError>
     }
 }
 
-/// Writes a string in quotes, with its escapes.
+/// Writes bytes in quotes, with their escapes.
 #[tactic(auto, using(crate::proofs::Escapes::quotes))]
+pub fn write_quoted(bytes: &[u8], out: &mut Vec<u8>) -> Result<(), AllocError>
+    ensures { OnOk result (out.new.items ≡ out.old.items ++ quoted bytes.now) }
+{
+    out.push(b'"')?;
+    write_inner(out, bytes)?;
+    out.push(b'"')?;
+    Ok(())
+}
+
+/// Writes a string in quotes, with its escapes.
 pub fn write_string(text: &str, out: &mut Vec<u8>) -> Result<(), AllocError>
     ensures { OnOk result (out.new.items ≡ out.old.items ++ quoted text.now) }
 {
-    out.push(b'"')?;
-    write_inner(out, text.as_bytes())?;
-    out.push(b'"')?;
-    Ok(())
+    write_quoted(text.as_bytes(), out)
 }

@@ -2,12 +2,13 @@
 ghost use Rattle.std.specs.Prelude.{◌≡◌, ◌<◌, ◌++◌, ◌∷◌, [], length, IfOk, IfSome, IsTrue, OnOk};
 ghost use Rattle.std.proofs.Common.{get_or};
 ghost use Rattle.gql_collect.specs.Borrowed.{all_selections};
-ghost use Rattle.gql_collect.specs.Contexts.{given};
+ghost use Rattle.gql_exec.specs.Objects.{basis};
 ghost use Rattle.gql_exec.specs.Tables.{FoundAt, Grows, Has, InTable, IsBelow, IsRight, below_at, fields_at};
 
 use crate::planning::{FieldPlan, planned_fields};
+use crate::setting::Setting;
 use gql_ast::{Shared, Text};
-use gql_collect::{Context, SelectionSet};
+use gql_collect::SelectionSet;
 use std::alloc::{AllocError, Global};
 
 /// A field of the table: the number of its entry, and its number there.
@@ -155,16 +156,16 @@ impl<'d> Table<'d> {
     pub fn add_sets(
         &mut self,
         alloc: Global,
-        context: &Context<'d, '_>,
+        setting: &Setting<'d, '_>,
         of_type: &str,
         sets: &[SelectionSet<'d>],
     ) -> Result<usize, AllocError>
-        requires { IsRight (given context.now) self.old }
-        ensures right { OnOk result (IsRight (given context.now) self.new) }
-        ensures has { IfOk result (λ k. Has (given context.now) self.new k of_type.now
+        requires { IsRight (basis setting.now) self.old }
+        ensures right { OnOk result (IsRight (basis setting.now) self.new) }
+        ensures has { IfOk result (λ k. Has (basis setting.now) self.new k of_type.now
             (all_selections sets.now)) }
     {
-        let fields = planned_fields(alloc, context, of_type, sets)?;
+        let fields = planned_fields(alloc, setting, of_type, sets)?;
         let entry = Entry {
             above: None,
             of_type: Text::from_str(alloc, of_type)?,
@@ -180,20 +181,20 @@ impl<'d> Table<'d> {
     fn add_below(
         &mut self,
         alloc: Global,
-        context: &Context<'d, '_>,
+        setting: &Setting<'d, '_>,
         slot: Slot,
         of_type: &str,
     ) -> Result<usize, AllocError>
-        requires right { IsRight (given context.now) self.old }
+        requires right { IsRight (basis setting.now) self.old }
         requires within { InTable self.old slot }
-        ensures right { OnOk result (IsRight (given context.now) self.new) }
+        ensures right { OnOk result (IsRight (basis setting.now) self.new) }
         ensures grows { OnOk result (Grows self.old self.new) }
-        ensures has { IfOk result (λ k. Has (given context.now) self.new k of_type.now
+        ensures has { IfOk result (λ k. Has (basis setting.now) self.new k of_type.now
             (below_at self.old slot)) }
     {
         let before = self.last_below(slot);
         let field = self.field(slot)?;
-        let fields = planned_fields(alloc, context, of_type, field.get().sets.as_slice())?;
+        let fields = planned_fields(alloc, setting, of_type, field.get().sets.as_slice())?;
         let entry = Entry {
             above: Some(slot),
             of_type: Text::from_str(alloc, of_type)?,
@@ -211,20 +212,20 @@ impl<'d> Table<'d> {
     pub fn at(
         &mut self,
         alloc: Global,
-        context: &Context<'d, '_>,
+        setting: &Setting<'d, '_>,
         slot: Slot,
         of_type: &str,
     ) -> Result<usize, AllocError>
-        requires right { IsRight (given context.now) self.old }
+        requires right { IsRight (basis setting.now) self.old }
         requires within { InTable self.old slot }
-        ensures right { OnOk result (IsRight (given context.now) self.new) }
+        ensures right { OnOk result (IsRight (basis setting.now) self.new) }
         ensures grows { OnOk result (Grows self.old self.new) }
-        ensures has { IfOk result (λ k. Has (given context.now) self.new k of_type.now
+        ensures has { IfOk result (λ k. Has (basis setting.now) self.new k of_type.now
             (below_at self.old slot)) }
     {
         match self.find(slot, of_type) {
             Some(number) => Ok(number),
-            None => self.add_below(alloc, context, slot, of_type),
+            None => self.add_below(alloc, setting, slot, of_type),
         }
     }
 }

@@ -4,9 +4,9 @@ ghost use Rattle.gql_ast.specs.declared.definition.Tree.TheVariants as tree;
 ghost use Rattle.gql_ast.specs.declared.executable.Operation.{Operation as AnOperation};
 ghost use Rattle.gql_ast.specs.declared.executable.VariableDefinition.{VariableDefinition as AVariable};
 ghost use Rattle.gql_collect.specs.Borrowed.{all_selections};
-ghost use Rattle.gql_collect.specs.Contexts.{given};
 ghost use Rattle.serde_json.specs.View.{view};
 ghost use Rattle.gql_exec.specs.Execution.{Plan, answer};
+ghost use Rattle.gql_exec.specs.Objects.{basis};
 ghost use Rattle.gql_exec.specs.Outcomes.{error_of, outcome_of};
 ghost use Rattle.gql_exec.specs.Plans.{IsPlan, is_met, types_of};
 ghost use Rattle.gql_exec.specs.Requests as spec;
@@ -16,16 +16,19 @@ ghost use Rattle.gql_exec.specs.States as states;
 
 use crate::ended::Ended;
 use crate::executor::execute_object;
+use crate::object::ObjectRef;
 use crate::outcome::{Outcome, ResponseError};
 use crate::planning::refusal_text;
 use crate::refusal::ExecRefusal;
 use crate::run::{FieldError, Run};
+use crate::setting::Setting;
 use crate::steps::cut_to_null;
 use crate::table::Table;
 use gql_ast::{Definition, FileName, Operation, OperationKind, Tree, VariableDefinition};
 use gql_coerce::{CoerceFault, Refusal, Segment, coerce_variables, laws};
 use gql_collect::{Context, SelectionSet};
 use gql_facts::Fragments;
+use gql_intro::IntroSchema;
 use gql_text::Place;
 use gql_types::Schema;
 use serde_json::{Map, Value};
@@ -95,23 +98,23 @@ fn finish<'d>(alloc: Global, ended: Ended, run: Run<'d>) -> Result<Outcome<'d>, 
 /// Executes selection sets, taken as one, on the initial value.
 fn execute_sets<'d>(
     alloc: Global,
-    context: &Context<'d, '_>,
+    setting: &Setting<'d, '_>,
     root: &str,
     sets: &[SelectionSet<'d>],
     initial: &Value,
 ) -> Result<Outcome<'d>, ExecRefusal>
-    ensures outcome { IfOk result (λ o. is_met context.now.schema.now root.now root.now ≡ true
-        → (x : Plan) → IsPlan (given context.now) root.now (all_selections sets.now) x
+    ensures outcome { IfOk result (λ o. is_met (basis setting.now) root.now root.now ≡ true
+        → (x : Plan) → IsPlan (basis setting.now) root.now (all_selections sets.now) x
         → IsOutcomeOf (outcome_of o)
-        (answer (types_of context.now.schema.now) x root.now (view initial.now))) }
+        (answer (types_of (basis setting.now)) x root.now (view initial.now))) }
     ensures heavy { IfErr result (λ e. e ≡ ExecRefusal.TooHeavy
-        → is_met context.now.schema.now root.now root.now ≡ true
-        → (x : Plan) → IsPlan (given context.now) root.now (all_selections sets.now) x
+        → is_met (basis setting.now) root.now root.now ≡ true
+        → (x : Plan) → IsPlan (basis setting.now) root.now (all_selections sets.now) x
         → most_values
-        < (answer (types_of context.now.schema.now) x root.now (view initial.now)).weight) }
+        < (answer (types_of (basis setting.now)) x root.now (view initial.now)).weight) }
 {
     let mut table = Table::new(alloc);
-    let entry = table.add_sets(alloc, context, root, sets)?;
+    let entry = table.add_sets(alloc, setting, root, sets)?;
     let mut run = Run {
         out: Vec::new(alloc),
         errors: Vec::new(alloc),
@@ -119,7 +122,8 @@ fn execute_sets<'d>(
         left: MOST_VALUES,
         raised: false,
     };
-    let ended = execute_object(alloc, context, &mut table, entry, initial, &mut run)?;
+    let object = ObjectRef::Stored(initial);
+    let ended = execute_object(alloc, setting, &mut table, entry, object, &mut run)?;
     finish(alloc, ended, run)
 }
 
@@ -145,18 +149,18 @@ fn nothing<'d>(alloc: Global) -> Outcome<'d> {
 /// Executes an operation with the values of its variables.
 fn execute_operation<'d>(
     alloc: Global,
-    context: &Context<'d, '_>,
+    setting: &Setting<'d, '_>,
     file: &'d FileName,
     operation: &'d Operation,
     stored: &Value,
 ) -> Result<Outcome<'d>, ExecRefusal>
-    ensures outcome { IfOk result (λ o. Answering (given context.now) file.now operation.now
+    ensures outcome { IfOk result (λ o. Answering (basis setting.now) file.now operation.now
         (view stored.now) (λ a. IsOutcomeOf (outcome_of o) a)) }
     ensures heavy { IfErr result (λ e. e ≡ ExecRefusal.TooHeavy
-        → Answering (given context.now) file.now operation.now (view stored.now)
+        → Answering (basis setting.now) file.now operation.now (view stored.now)
         (λ a. most_values < a.weight)) }
 {
-    let Some(root) = context.schema.root(operation.kind) else {
+    let Some(root) = setting.context.schema.root(operation.kind) else {
         return Ok(nothing(alloc));
     };
     let root = root.name.node.as_str();
@@ -165,10 +169,10 @@ fn execute_operation<'d>(
         selections: operation.selections.as_slice(),
     }];
     match stored.get(root_member(operation.kind)) {
-        Some(initial) => execute_sets(alloc, context, root, &sets, initial),
+        Some(initial) => execute_sets(alloc, setting, root, &sets, initial),
         None => {
             let initial = Value::from(Map::new(alloc));
-            execute_sets(alloc, context, root, &sets, &initial)
+            execute_sets(alloc, setting, root, &sets, &initial)
         }
     }
 }
@@ -224,15 +228,16 @@ fn execute_request<'d>(
     alloc: Global,
     fragments: &'d Fragments,
     schema: &'d Schema,
+    made: &'d IntroSchema,
     file: &'d FileName,
     operation: &'d Operation,
     variables: &Value,
     stored: &Value,
 ) -> Result<Outcome<'d>, ExecRefusal>
-    ensures outcome { IfOk result (λ o. IsOutcome (request schema.now fragments.now.all file.now
-        operation.now (view variables.now) (view stored.now)) (outcome_of o)) }
+    ensures outcome { IfOk result (λ o. IsOutcome (request schema.now made.now fragments.now.all
+        file.now operation.now (view variables.now) (view stored.now)) (outcome_of o)) }
     ensures heavy { IfErr result (λ e. e ≡ ExecRefusal.TooHeavy → IsTooHeavy (request schema.now
-        fragments.now.all file.now operation.now (view variables.now) (view stored.now))) }
+        made.now fragments.now.all file.now operation.now (view variables.now) (view stored.now))) }
 {
     laws::one_of_variables();
     let definitions = operation.variables.as_slice();
@@ -243,7 +248,8 @@ fn execute_request<'d>(
                 fragments,
                 values: &values,
             };
-            execute_operation(alloc, &context, file, operation, stored)
+            let setting = Setting { context, made };
+            execute_operation(alloc, &setting, file, operation, stored)
         }
         Err(CoerceFault::Refused(refusal)) => Ok(request_error(alloc, definitions, &refusal)?),
         Err(CoerceFault::Memory) => Err(ExecRefusal::Memory),
@@ -264,17 +270,18 @@ pub fn execute<'d>(
     alloc: Global,
     fragments: &'d Fragments,
     schema: &'d Schema,
+    made: &'d IntroSchema,
     definition: &'d Definition,
     variables: &Value,
     stored: &Value,
 ) -> Result<Outcome<'d>, ExecRefusal>
     ensures outcome { IfOk result (λ o. (operation : AnOperation)
         → definition.now.tree ≡ tree.Operation operation
-        → IsOutcome (request schema.now fragments.now.all definition.now.file operation
+        → IsOutcome (request schema.now made.now fragments.now.all definition.now.file operation
         (view variables.now) (view stored.now)) (outcome_of o)) }
     ensures heavy { IfErr result (λ e. e ≡ ExecRefusal.TooHeavy → (operation : AnOperation)
         → definition.now.tree ≡ tree.Operation operation
-        → IsTooHeavy (request schema.now fragments.now.all definition.now.file operation
+        → IsTooHeavy (request schema.now made.now fragments.now.all definition.now.file operation
         (view variables.now) (view stored.now))) }
 {
     let Tree::Operation(operation) = &definition.tree else {
@@ -282,5 +289,7 @@ pub fn execute<'d>(
     };
     let file = &definition.file;
     let operation = operation.get();
-    execute_request(alloc, fragments, schema, file, operation, variables, stored)
+    execute_request(
+        alloc, fragments, schema, made, file, operation, variables, stored,
+    )
 }

@@ -1,4 +1,4 @@
-use Rattle.std.proofs.Common.{◌∙◌, ap, codes, string_bytes, subst}
+use Rattle.std.proofs.Common.{◌∙◌, ap, subst}
 use Rattle.gql_coerce.specs.Comes as comes
 use Rattle.gql_coerce.specs.Requests.{ArgumentsCome}
 use Rattle.serde_json.specs.View.{view}

@@ -1,11 +1,11 @@
-use Rattle.std.proofs.Common.{◌≡◌, ◌++◌, ◌∷◌, [], ap, append_assoc, append-nil, subst, sym, ◌∙◌}
+use Rattle.std.proofs.Common.{◌++◌, ◌∷◌, [], ap, append_assoc, append-nil, subst, sym, ◌∙◌}
 use Rattle.std.proofs.lemmas.Map.Iter.{rest_all, rest_more}
 use Rattle.std.specs.Map.Iter.{deref_pair}
 use Rattle.gql_collect.specs.Borrowed.{all_selections}
 use Rattle.gql_collect.specs.BorrowedGroups.{groups_in, nodes_in}
 use Rattle.gql_collect.specs.Collection.{AreGroups}
-use Rattle.gql_collect.specs.Contexts.{given}
 use Rattle.gql_collect.specs.Groups.{Group}
+use Rattle.gql_exec.specs.Objects.{basis}
 use Rattle.gql_exec.proofs.Grouped.{all_held}
 use Rattle.gql_exec.proofs.planning.planned_fields.Goals as goal
 
@@ -22,8 +22,8 @@ loop-name-preserved c =
 pub returns : goal.returns
 returns c =
     let inv = c.loop-name.invariant in
-    all_held (given c.args.context.now) c.args.of_type.now (all_selections c.args.sets.now) inv.0 c.loop-name.fields.items
-    (subst (AreGroups (given c.args.context.now) c.args.of_type.now (all_selections c.args.sets.now))
+    all_held (basis c.args.setting.now) c.args.of_type.now (all_selections c.args.sets.now) inv.0 c.loop-name.fields.items
+    (subst (AreGroups (basis c.args.setting.now).given c.args.of_type.now (all_selections c.args.sets.now))
     (ap groups_in (sym (c.into_iter-name-iterator.ensures.into_iter_gives ∙ c.iter-name-items.ensures.rest)) ∙ inv.1
     ∙ ap (λ es. inv.0 ++ groups_in es) (rest_all deref_pair c.loop-name.name-iterator c.next.new.self c.next.result c.in-None.is c.next.ensures.steps)
     ∙ append-nil inv.0) c.in_ok-groups.ensures) inv.2

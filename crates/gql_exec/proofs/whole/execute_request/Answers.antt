@@ -1,10 +1,10 @@
 use Rattle.std.proofs.Common.{◌≡◌, ◌<◌, ◌≤◌, subst}
 use Rattle.gql_coerce.specs.Comes as comes
 use Rattle.gql_coerce.specs.Requests.{VariablesCome}
-use Rattle.gql_collect.specs.Unfolding.{Given}
 use Rattle.serde_json.specs.View.{view}
+use Rattle.gql_exec.specs.Plans.{Basis}
 use Rattle.gql_exec.specs.Outcomes.{outcome_of}
-use Rattle.gql_exec.specs.Requests.{IsOutcome, IsTooHeavy, Request, most_values}
+use Rattle.gql_exec.specs.Requests.{basis_of, IsOutcome, IsTooHeavy, Request, most_values}
 use Rattle.gql_exec.specs.Runs.{Answering, IsOutcomeOf, IsRefused, request}
 use Rattle.gql_exec.specs.declared.refusal.ExecRefusal.TheVariants.{TooHeavy}
 use Rattle.gql_exec.proofs.Ending.{answers, answers_refused, err_then, ok_then}
@@ -12,8 +12,8 @@ use Rattle.gql_exec.proofs.whole.execute_request.Goals as goal
 
 pub returns-in-Ok-clause-outcome : goal.returns-in-Ok-clause-outcome
 returns-in-Ok-clause-outcome c =
-    let r : Request = request c.args.schema.now c.args.fragments.now.all c.args.file.now c.args.operation.now (view c.args.variables.now) (view c.args.stored.now) in
-    let g : Given = record { schema = c.args.schema.now; fragments = c.args.fragments.now.all; values = view c.in-Ok.values } in
+    let r : Request = request c.args.schema.now c.args.made.now c.args.fragments.now.all c.args.file.now c.args.operation.now (view c.args.variables.now) (view c.args.stored.now) in
+    let g : Basis = basis_of r (view c.in-Ok.values) in
     let come : VariablesCome r.schema r.operation.variables r.variables (comes.value (view c.in-Ok.values)) =
     subst (λ ds. VariablesCome r.schema ds r.variables (comes.value (view c.in-Ok.values))) c.as_slice-definitions.ensures c.in-Ok.ensures.ok in
     ok_then c.execute_operation.result (λ o. Answering g c.args.file.now c.args.operation.now (view c.args.stored.now) (λ a. IsOutcomeOf (outcome_of o) a)) (λ o. IsOutcome r (outcome_of o))
@@ -21,8 +21,8 @@ returns-in-Ok-clause-outcome c =
 
 pub returns-in-Ok-clause-heavy : goal.returns-in-Ok-clause-heavy
 returns-in-Ok-clause-heavy c =
-    let r : Request = request c.args.schema.now c.args.fragments.now.all c.args.file.now c.args.operation.now (view c.args.variables.now) (view c.args.stored.now) in
-    let g : Given = record { schema = c.args.schema.now; fragments = c.args.fragments.now.all; values = view c.in-Ok.values } in
+    let r : Request = request c.args.schema.now c.args.made.now c.args.fragments.now.all c.args.file.now c.args.operation.now (view c.args.variables.now) (view c.args.stored.now) in
+    let g : Basis = basis_of r (view c.in-Ok.values) in
     let come : VariablesCome r.schema r.operation.variables r.variables (comes.value (view c.in-Ok.values)) =
     subst (λ ds. VariablesCome r.schema ds r.variables (comes.value (view c.in-Ok.values))) c.as_slice-definitions.ensures c.in-Ok.ensures.ok in
     err_then c.execute_operation.result (λ e. e ≡ TooHeavy → Answering g c.args.file.now c.args.operation.now (view c.args.stored.now) (λ a. most_values < a.weight)) (λ e. e ≡ TooHeavy → IsTooHeavy r)
@@ -30,7 +30,7 @@ returns-in-Ok-clause-heavy c =
 
 pub returns-in_ok-request_error-in-Err-Refused-clause-outcome : goal.returns-in_ok-request_error-in-Err-Refused-clause-outcome
 returns-in_ok-request_error-in-Err-Refused-clause-outcome c =
-    let r : Request = request c.args.schema.now c.args.fragments.now.all c.args.file.now c.args.operation.now (view c.args.variables.now) (view c.args.stored.now) in
+    let r : Request = request c.args.schema.now c.args.made.now c.args.fragments.now.all c.args.file.now c.args.operation.now (view c.args.variables.now) (view c.args.stored.now) in
     let f = c.in-Err-Refused.refusal in
     let o = outcome_of c.in_ok-request_error-in-Err-Refused.field-0 in
     let told = rw c.in-Err-Refused.field-0-is at c.in-Err-Refused.ensures.err in

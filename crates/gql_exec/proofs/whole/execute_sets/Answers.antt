@@ -1,13 +1,12 @@
 use Rattle.std.proofs.Common.{◌≡◌, ◌<◌, [], ◌∙◌, false, true, refl, sym}
 use Rattle.gql_collect.specs.Borrowed.{all_selections}
-use Rattle.gql_collect.specs.Contexts.{given}
 use Rattle.serde_json.specs.View.{view}
-use Rattle.gql_exec.specs.Execution.{Plan, answer, execute}
+use Rattle.gql_exec.specs.Execution.{Plan, answer, execute, stored}
+use Rattle.gql_exec.specs.Objects.{basis}
 use Rattle.gql_exec.specs.Outcomes.{outcome_of}
 use Rattle.gql_exec.specs.Plans.{IsPlan, is_met, types_of}
 use Rattle.gql_exec.specs.Requests.{most_values}
 use Rattle.gql_exec.specs.Runs.{Finishes, IsOutcomeOf}
-use Rattle.gql_exec.specs.declared.refusal.ExecRefusal.{ExecRefusal}
 use Rattle.gql_exec.specs.declared.refusal.ExecRefusal.TheVariants.{Memory, TooHeavy}
 use Rattle.gql_exec.specs.declared.run.Run.{Run}
 use Rattle.gql_exec.proofs.Ending.{err_is, err_then, ok_then}
@@ -19,37 +18,37 @@ other : Memory ≡ TooHeavy → ⊥
 other e = absurd (cc e)
 
 pub add_sets-requires : goal.add_sets-requires
-add_sets-requires c = right_none (given c.args.context.now) c.new-table.result c.new-table.ensures
+add_sets-requires c = right_none (basis c.args.setting.now) c.new-table.result c.new-table.ensures
 
 pub returns-clause-outcome : goal.returns-clause-outcome
 returns-clause-outcome c =
-    let g = given c.args.context.now in
+    let g = basis c.args.setting.now in
     let root = c.args.root.now in
-    let types = types_of c.args.context.now.schema.now in
+    let types = types_of (basis c.args.setting.now) in
     let d = view c.args.initial.now in
     let s : Run = record { out = c.new.result; errors = c.new-2.result; path = c.new-3.result; left = 100000; raised = false } in
     ok_then c.finish.result (λ o. Finishes c.in_ok-ended.ended c.execute_object.new.run (outcome_of o))
-    (λ o. is_met g.schema root root ≡ true → (x : Plan) → IsPlan g root (all_selections c.args.sets.now) x → IsOutcomeOf (outcome_of o) (answer types x root d))
-    (λ o h met x i. h (execute types x root [] d) s (record { out = c.new.ensures.items; errors = c.new-2.ensures.items; raised = refl; left = refl })
+    (λ o. is_met g root root ≡ true → (x : Plan) → IsPlan g root (all_selections c.args.sets.now) x → IsOutcomeOf (outcome_of o) (answer types x root d))
+    (λ o h met x i. h (execute types x root [] (stored d)) s (record { out = c.new.ensures.items; errors = c.new-2.ensures.items; raised = refl; left = refl })
     (sets_done g c.add_sets.new.self c.in_ok-entry.entry root (all_selections c.args.sets.now) x d s c.execute_object.new.run c.in_ok-entry.ensures.has met i c.new-3.ensures.items
     c.in_ok-ended.ended c.in_ok-ended.ensures.does)) c.finish.ensures.outcome
 
 pub returns-clause-heavy : goal.returns-clause-heavy
 returns-clause-heavy c =
-    let g = given c.args.context.now in
+    let g = basis c.args.setting.now in
     let root = c.args.root.now in
     err_then c.finish.result (λ e. e ≡ Memory)
-    (λ e. e ≡ TooHeavy → is_met g.schema root root ≡ true → (x : Plan) → IsPlan g root (all_selections c.args.sets.now) x
-    → most_values < (answer (types_of c.args.context.now.schema.now) x root (view c.args.initial.now)).weight)
+    (λ e. e ≡ TooHeavy → is_met g root root ≡ true → (x : Plan) → IsPlan g root (all_selections c.args.sets.now) x
+    → most_values < (answer (types_of (basis c.args.setting.now)) x root (view c.args.initial.now)).weight)
     (λ e m h met x i. absurd (other (sym m ∙ h))) c.finish.ensures.err
 
 pub returns-in_err-ended-clause-heavy : goal.returns-in_err-ended-clause-heavy
 returns-in_err-ended-clause-heavy c =
-    let g = given c.args.context.now in
+    let g = basis c.args.setting.now in
     let root = c.args.root.now in
     let s : Run = record { out = c.new.result; errors = c.new-2.result; path = c.new-3.result; left = 100000; raised = false } in
     err_is c.from_residual-in_err-ended.result c.in_err-ended.field-0.0 c.from_residual-in_err-ended.ensures.1
-    (λ e. e ≡ TooHeavy → is_met g.schema root root ≡ true → (x : Plan) → IsPlan g root (all_selections c.args.sets.now) x
-    → most_values < (answer (types_of c.args.context.now.schema.now) x root (view c.args.initial.now)).weight)
+    (λ e. e ≡ TooHeavy → is_met g root root ≡ true → (x : Plan) → IsPlan g root (all_selections c.args.sets.now) x
+    → most_values < (answer (types_of (basis c.args.setting.now)) x root (view c.args.initial.now)).weight)
     (λ heavy met x i. sets_heavy g c.add_sets.new.self c.in_ok-entry.entry root (all_selections c.args.sets.now) x (view c.args.initial.now) s c.execute_object.new.run
     c.in_ok-entry.ensures.has met i c.new-3.ensures.items c.in_err-ended.field-0.0 c.in_err-ended.ensures.does refl heavy)

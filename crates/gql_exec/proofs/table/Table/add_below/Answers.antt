@@ -1,6 +1,6 @@
 use Rattle.std.proofs.Common.{◌≡◌, ap, subst, sym, ◌∙◌}
 use Rattle.gql_collect.specs.Borrowed.{all_selections}
-use Rattle.gql_collect.specs.Contexts.{given}
+use Rattle.gql_exec.specs.Objects.{basis}
 use Rattle.gql_exec.specs.Tables.{Has, Hold, below_at, fields_at}
 use Rattle.gql_exec.specs.declared.planning.FieldPlan.{FieldPlan}
 use Rattle.gql_exec.proofs.Entries.{grown, has_last, in_still, right_more, same_grows, same_has, same_right, sets_here}
@@ -8,7 +8,7 @@ use Rattle.gql_exec.proofs.table.Table.add_below.Goals as goal
 
 pub returns-clause-right : goal.returns-clause-right
 returns-clause-right c =
-    let g = given c.args.context.now in
+    let g = basis c.args.setting.now in
     let xs : all_selections c.as_slice.result.now ≡ below_at c.args.self.now c.args.slot =
     ap all_selections (c.as_slice.ensures.value ∙ ap (λ (f : FieldPlan). f.sets.items) c.get.ensures)
     ∙ sym (sets_here (fields_at c.args.self.now.entries.items c.args.slot.entry) c.args.slot.field c.in_ok-field.field c.requires.within.field c.in_ok-field.ensures) in
@@ -23,7 +23,7 @@ returns-clause-grows c = same_grows c.args.self.now c.add.new.self c.note_last.n
 
 pub returns-clause-has : goal.returns-clause-has
 returns-clause-has c =
-    let g = given c.args.context.now in
+    let g = basis c.args.setting.now in
     let xs : all_selections c.as_slice.result.now ≡ below_at c.args.self.now c.args.slot =
     ap all_selections (c.as_slice.ensures.value ∙ ap (λ (f : FieldPlan). f.sets.items) c.get.ensures)
     ∙ sym (sets_here (fields_at c.args.self.now.entries.items c.args.slot.entry) c.args.slot.field c.in_ok-field.field c.requires.within.field c.in_ok-field.ensures) in

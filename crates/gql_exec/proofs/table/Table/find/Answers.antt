@@ -1,4 +1,4 @@
-use Rattle.std.proofs.Common.{arith, rules}
+use Rattle.std.proofs.Common.{arith}
 use Rattle.gql_exec.proofs.table.Table.find.Goals as goal
 
 pub returns-then-is_below : goal.returns-then-is_below

@@ -1,0 +1,12 @@
+//! What fields are executed with.
+
+use gql_collect::Context;
+use gql_intro::IntroSchema;
+
+/// What fields are executed with.
+#[derive(Clone, Copy)]
+pub struct Setting<'d, 'v> {
+    pub context: Context<'d, 'v>,
+    /// What introspection says of the schema as a whole.
+    pub made: &'d IntroSchema,
+}
