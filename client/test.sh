@@ -262,6 +262,19 @@ fi
 has 'a page' 1 '^page.html: 1 fault in 2 files' "$client" page changed -o page.html
 has 'its mark' 0 '<mark>name</mark>' cat page.html
 has 'its rule' 0 '<tr id="V04">' cat page.html
+has 'its line in the list' 0 '<a href="#documents/profile-5">changed/documents/profile.graphql:5:26</a>' cat page.html
+has 'its fragment' 0 'of this name. (in fragment Shown)' cat page.html
+has 'a page of two places' 1 'page.html: 1 fault' "$client" page pair -o page.html
+has 'both are marked' 0 '{ <mark>a</mark>: x <mark>a</mark>: y }' cat page.html
+has 'a page of a schema with faults' 1 'page.html: 1 fault' "$client" page hiding -o page.html
+has 'it says what is not checked' 0 'The documents are not checked until' cat page.html
+has 'a page without faults' 0 'page.html: 0 faults in 2 files' "$client" page team -o page.html
+has 'it says so' 0 'No faults in 2 files' cat page.html
+has 'a page that cannot be written' 2 'cannot be written' "$client" page team -o nowhere/page.html
+printf '{ user(id: "<&") { id } }\n' > changed/documents/html.graphql
+has 'a page of strange text' 1 'page.html: 1 fault' "$client" page changed -o page.html
+has 'it is written as text' 0 '(id: &quot;&lt;&amp;&quot;)' cat page.html
+rm changed/documents/html.graphql
 
 # ---- a server
 
