@@ -272,7 +272,7 @@ has 'a page without faults' 0 'page.html: 0 faults in 2 files' "$client" page te
 has 'it says so' 0 'No faults in 2 files' cat page.html
 has 'a page that cannot be written' 2 'cannot be written' "$client" page team -o nowhere/page.html
 printf '{ user(id: "<&") { id } }\n' > changed/documents/html.graphql
-has 'a page of strange text' 1 'page.html: 1 fault' "$client" page changed -o page.html
+has 'a page of strange text' 1 'page.html: 2 faults' "$client" page changed -o page.html
 has 'it is written as text' 0 '(id: &quot;&lt;&amp;&quot;)' cat page.html
 rm changed/documents/html.graphql
 
