@@ -292,13 +292,6 @@ start() {
     done
 }
 
-# restart: the same, in place of the one that runs
-restart() {
-    kill "$server_pid"
-    wait "$server_pid" 2> /dev/null
-    start
-}
-
 has 'no server' 2 'no answer from' "$client" status
 has 'push to no server' 2 'no answer from' "$client" push team
 start
@@ -383,8 +376,12 @@ try 'push again then' 0 "$client" push team <<'TEXT'
 the registry is at revision 12, and the last push left 11: all files are put anew
 3 files put or removed: revision 15, 0 faults
 TEXT
-restart
-try 'push after a restart' 0 "$client" push team <<'TEXT'
+kill "$server_pid"
+wait "$server_pid" 2> /dev/null
+has 'a bad wait' 2 'needs a number of seconds' "$client" push team --wait
+{ sleep 2; exec "$GQLREG" serve --port "$port" --connections 10000; } > "$place/served" 2>&1 &
+server_pid=$!
+try 'push after a restart' 0 "$client" push team --wait 10 <<'TEXT'
 the registry is at revision 0, and the last push left 15: all files are put anew
 3 files put or removed: revision 3, 0 faults
 TEXT
