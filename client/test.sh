@@ -48,6 +48,7 @@ has() {
     shift 3
     "$@" > "$place/printed" 2>&1
     got=$?
+    cp "$place/printed" "$place/printed-before"
     if [ "$got" = "$wanted" ] && grep -q -- "$pattern" "$place/printed"; then
         passed=$((passed + 1))
     else
@@ -156,8 +157,8 @@ changed/documents/profile.graphql:5:26: V04 `name`: Field Selections: the parent
   fragment Shown on User { name }
                            ^
 1 fault brought, 0 faults mended
-operations and fragments with new faults:
-  changed/documents/profile.graphql: fragment Shown
+operations that this breaks:
+  changed/documents/profile.graphql: query Profile (by fragment Shown)
 TEXT
 try 'what a change mends' 0 "$client" check team --base changed <<'TEXT'
 0 faults brought, 1 fault mended
@@ -165,6 +166,28 @@ mended:
   changed/documents/profile.graphql:5:26: V04 `name`: Field Selections: the parent type has no field of this name. (in fragment Shown)
     fragment Shown on User { name }
                              ^
+TEXT
+mkdir -p names/schema names/documents
+printf 'type Query { a(s: String): Int b: Int query: Query }\n' > names/schema/s.graphql
+cat > names/documents/d.graphql <<'TEXT'
+# query Comment { a }
+query Block($s: String = """ { query No { "" \""" } """) @include(if: true) { a(s: $s) query { ...query } }
+query,First{b}
+query Second($query: String = "}#") { a(s: $query) ... on Query { ...Rest } }
+fragment query on Query { query { b } }
+fragment Rest on Query { a(s: "{") query { ...query } }
+query
+  Third
+{ a }
+TEXT
+cp -r names renamed
+printf 'type Query { a(s: String): Int query: Query }\n' > renamed/schema/s.graphql
+has 'operations that reach it' 1 '^2 faults brought' "$client" check renamed --base names
+try 'their names' 0 tail -n 4 printed-before <<'TEXT'
+operations that this breaks:
+  renamed/documents/d.graphql: query Block (by fragment query)
+  renamed/documents/d.graphql: query First
+  renamed/documents/d.graphql: query Second (by fragment query)
 TEXT
 cp -r changed moved
 { printf '# one line more\n'; cat changed/documents/profile.graphql; } > moved/documents/profile.graphql
