@@ -378,8 +378,21 @@ try 'push after an edit of somebody else' 0 "$client" push team <<'TEXT'
 the registry is at revision 8, and the last push left 7: all files are put anew
 1 file put or removed: revision 9, 0 faults
 TEXT
-try 'push of all files' 0 "$client" push team --all <<'TEXT'
+try 'push with a state elsewhere' 0 "$client" push team --state pushed <<'TEXT'
 1 file put or removed: revision 10, 0 faults
+TEXT
+try 'push again with it' 0 "$client" push team --state pushed <<TEXT
+nothing to push: $GQLREG_SERVER is at revision 10
+TEXT
+has 'a state that cannot be written' 2 'nowhere/pushed cannot be written' "$client" push team --state nowhere/pushed
+# what was put elsewhere is not removed here
+printf 'server http://elsewhere\nrevision 10\nsum schema other\n' > elsewhere
+try 'push with the state of another server' 0 "$client" push team --state elsewhere <<'TEXT'
+1 file put or removed: revision 11, 0 faults
+TEXT
+try 'push of all files' 0 "$client" push team --all <<'TEXT'
+the registry is at revision 11, and the last push left 9: all files are put anew
+1 file put or removed: revision 12, 0 faults
 TEXT
 
 # a curl that edits the registry before the second edit that it is asked for
@@ -387,17 +400,17 @@ mkdir between
 cat > between/curl <<TEXT
 #!/bin/sh
 case "\$*" in
-*revision=11*) $(command -v curl) -s -X PUT --data-binary 'type Other { b: Int }' $GQLREG_SERVER/schema/other > /dev/null ;;
+*revision=13*) $(command -v curl) -s -X PUT --data-binary 'type Other { b: Int }' $GQLREG_SERVER/schema/other > /dev/null ;;
 esac
 exec $(command -v curl) "\$@"
 TEXT
 chmod +x between/curl
 printf 'type More { a: Int }\n' > team/schema/more.graphql
 printf '{ user(id: 1) { id } }\n' > team/documents/one.graphql
-has 'push while somebody else edits' 2 'is at revision 12, not at 11: someone else edits it. 1 of 2 files' env PATH="$place/between:$PATH" "$client" push team
+has 'push while somebody else edits' 2 'is at revision 14, not at 13: someone else edits it. 1 of 2 files' env PATH="$place/between:$PATH" "$client" push team
 try 'push again then' 0 "$client" push team <<'TEXT'
-the registry is at revision 12, and the last push left 11: all files are put anew
-3 files put or removed: revision 15, 0 faults
+the registry is at revision 14, and the last push left 13: all files are put anew
+3 files put or removed: revision 17, 0 faults
 TEXT
 kill "$server_pid"
 wait "$server_pid" 2> /dev/null
@@ -405,7 +418,7 @@ has 'a bad wait' 2 'needs a number of seconds' "$client" push team --wait
 { sleep 2; exec "$GQLREG" serve --port "$port" --connections 10000; } > "$place/served" 2>&1 &
 server_pid=$!
 try 'push after a restart' 0 "$client" push team --wait 10 <<'TEXT'
-the registry is at revision 0, and the last push left 15: all files are put anew
+the registry is at revision 0, and the last push left 17: all files are put anew
 3 files put or removed: revision 3, 0 faults
 TEXT
 mkdir -p long/documents
