@@ -1,9 +1,9 @@
 """Mixed traffic against `gqlreg serve`; bench/traffic.sh says what it is for and starts it.
 
-The registry has a file `root` and up to FEATURES schema files, each with a type, and up to DOCUMENTS
-document files, each with an operation on one of the types. A schema file has all fields, or lacks
-the field `b`, or has a fault. So what a report says, and what a run answers, follows from which files
-are there: the class Model knows it without any parser.
+The registry has a file `root` and up to FEATURES schema files, each with a type, and up to
+DOCUMENTS document files, each with an operation on one of the types. A schema file has all fields,
+or lacks the field `b`, or has a fault. So what a report says, and what a run answers, follows from
+which files are there: the class Model knows it without any parser.
 """
 
 import json
@@ -60,7 +60,8 @@ class Model:
             return ROOT
         n = name[1:]
         last = {"full": " b: String", "short": "", "bad": " b: Strin"}[form]
-        return "extend type Query { f%s(id: ID): F%s }\n# %s\ntype F%s { id: ID! a: Int%s }\n" % (n, n, form, n, last)
+        root = "extend type Query { f%s(id: ID): F%s }\n# %s\n" % (n, n, form)
+        return root + "type F%s { id: ID! a: Int%s }\n" % (n, last)
 
     @staticmethod
     def document_text(name, form):
@@ -157,7 +158,8 @@ class Model:
 
 def head(method, target, body=b"", more="", version="1.1"):
     length = "Content-Length: %d\r\n" % len(body) if body or method in ("PUT", "POST") else ""
-    return ("%s %s HTTP/%s\r\nHost: t\r\n%s%s\r\n" % (method, target, version, length, more)).encode() + body
+    top = "%s %s HTTP/%s\r\nHost: t\r\n%s%s\r\n" % (method, target, version, length, more)
+    return top.encode() + body
 
 
 class Traffic:
@@ -226,98 +228,113 @@ class Traffic:
         choice = self.random.random()
         if choice < 0.5:
             return None
-        return self.model.revision if choice < 0.9 else self.model.revision + self.random.choice((-1, 1, 7))
+        stale = 0 if choice < 0.9 else self.random.choice((-1, 1, 7))
+        return max(0, self.model.revision + stale)
 
     def request(self, version="1.1", more=""):
         choice = self.random.random()
         model = self.model
         if choice < 0.18:
-            return self.edit_request(model.schema, "schema", "f%d" % self.random.randrange(FEATURES),
-                                     ("full", "full", "full", "full", "short", "short", "bad", None), version, more)
+            name = "f%d" % self.random.randrange(FEATURES)
+            forms = ("full", "full", "full", "full", "short", "short", "bad", None)
+            return self.edit_request(model.schema, "schema", name, forms, version, more)
         if choice < 0.40:
-            return self.edit_request(model.documents, "documents", "d%d" % self.random.randrange(DOCUMENTS),
-                                     ("plain", "plain", "parted", "parted", None), version, more)
+            name = "d%d" % self.random.randrange(DOCUMENTS)
+            forms = ("plain", "plain", "parted", "parted", None)
+            return self.edit_request(model.documents, "documents", name, forms, version, more)
         if choice < 0.45:
-            rows, data = {}, {}
-            for f in range(FEATURES):
-                data["f%d" % f] = []
-                for n in range(self.random.randrange(ROWS)):
-                    row = {"id": str(n), "a": self.random.randrange(-10 ** 9, 10 ** 9), "b": "é%d\u4e16" % self.random.randrange(1000)}
-                    rows["f%d" % f, str(n)] = row
-                    data["f%d" % f].append(row)
-            revision = self.expected_revision()
-            if revision is not None and revision < 0:
-                revision = None
-            body = json.dumps({"query": data}, ensure_ascii=self.random.random() < 0.5).encode()
-            self.edits += 1
-            return (head("PUT", "/data" + ("" if revision is None else "?revision=%d" % revision), body, more, version),
-                    model.put_data(rows, revision), "PUT /data")
+            return self.data_request(version, more)
         if choice < 0.62:
             return head("GET", "/report", b"", more, version), model.report(), "GET /report"
         if choice < 0.92:
             n, row = self.random.randrange(DOCUMENTS + 1), self.random.randrange(ROWS + 2)
             body = text_of({"operationName": "Op%d" % n, "variables": {"id": str(row)}}).encode()
             self.runs += 1
-            return head("POST", "/run", body, more, version), model.run(n, row), "POST /run Op%d" % n
+            call = head("POST", "/run", body, more, version)
+            return call, model.run(n, row), "POST /run Op%d" % n
         self.bad += 1
         return self.refused_request(version, more)
+
+    def data_request(self, version, more):
+        rows, data = {}, {}
+        for f in range(FEATURES):
+            data["f%d" % f] = []
+            for n in range(self.random.randrange(ROWS)):
+                number, text = self.random.randrange(-10 ** 9, 10 ** 9), self.random.randrange(1000)
+                row = {"id": str(n), "a": number, "b": "é%d\u4e16" % text}
+                rows["f%d" % f, str(n)] = row
+                data["f%d" % f].append(row)
+        revision = self.expected_revision()
+        target = "/data" + ("" if revision is None else "?revision=%d" % revision)
+        body = json.dumps({"query": data}, ensure_ascii=self.random.random() < 0.5).encode()
+        self.edits += 1
+        answer = self.model.put_data(rows, revision)
+        return head("PUT", target, body, more, version), answer, "PUT " + target
 
     def edit_request(self, side, word, name, forms, version, more):
         form = self.random.choice(forms)
         revision = self.expected_revision()
-        if revision is not None and revision < 0:
-            revision = None
         target = "/%s/%s" % (word, name) + ("" if revision is None else "?revision=%d" % revision)
         self.edits += 1
         answer = self.model.edit(side, name, form, revision)
         if form is None:
             return head("DELETE", target, b"", more, version), answer, "DELETE " + target
         text = self.model.schema_text if word == "schema" else self.model.document_text
-        return head("PUT", target, text(name, form).encode(), more, version), answer, "PUT " + target
+        body = text(name, form).encode()
+        return head("PUT", target, body, more, version), answer, "PUT " + target
 
     def refused_request(self, version="1.1", more=""):
         """Bad input after which the connection stays open."""
         syntax = lambda line, column, why: Answer(400, refusal(
             201, "syntax: " + why[0], locations=[{"line": line, "column": column}], syntax=why[1]))
-        token, character, deep = ("unexpected token", 111), ("bad character", 101), ("too deep", 112)
+        token, character = ("unexpected token", 111), ("bad character", 101)
+        not_data = Answer(400, refusal(207, "data is not accepted"))
+        no_method = refusal(306, "method is not allowed")
+        bad_query = Answer(400, refusal(308, "bad query"))
+        bad_run = Answer(400, refusal(310, "bad run body"))
         method, target, body, answer = self.random.choice((
             ("PUT", "/schema/x", b"type {", syntax(1, 6, token)),
             ("PUT", "/documents/x", b"query Q {\n  a(b: )\n}", syntax(2, 8, token)),
             ("PUT", "/documents/x", b"{ a ? }", syntax(1, 5, character)),
-            ("PUT", "/documents/x", b"{a" * 101, None),
+            ("PUT", "/documents/x", b"{a" * 101, syntax(1, 201, ("too deep", 112))),
             ("PUT", "/schema/x", b"# \xff\xfe", Answer(400, refusal(202, "body is not UTF-8"))),
             ("PUT", "/schema/x", b"#" * 65537, Answer(413, refusal(203, "file is too long"))),
             ("DELETE", "/schema/never", b"", Answer(404, refusal(204, "no such file"))),
-            ("PUT", "/data", b'{"query":{"a":1.5}}', Answer(400, refusal(207, "data is not accepted"))),
-            ("PUT", "/data", b'[' * 9000, Answer(400, refusal(207, "data is not accepted"))),
+            ("PUT", "/data", b'{"query":{"a":1.5}}', not_data),
+            ("PUT", "/data", b'[' * 9000, not_data),
             ("GET", "/nowhere", b"", Answer(404, refusal(305, "no such route"))),
             ("PUT", "/schema/a%20b", b"", Answer(404, refusal(305, "no such route"))),
-            ("POST", "/report", b"", Answer(405, refusal(306, "method is not allowed"), allow="GET")),
-            ("GET", "/schema/root", b"", Answer(405, refusal(306, "method is not allowed"), allow="PUT, DELETE")),
-            ("PUT", "/schema/x?revision=-1", b"", Answer(400, refusal(308, "bad query"))),
-            ("PUT", "/schema/x?revision=1234567890123456789", b"", Answer(400, refusal(308, "bad query"))),
-            ("POST", "/run", b"{", Answer(400, refusal(310, "bad run body"))),
-            ("POST", "/run", b'{"operationName":7}', Answer(400, refusal(310, "bad run body"))),
-            ("POST", "/run", b'{"query":"{ ping }"}', Answer(400, refusal(311, "stored operations only"))),
+            ("POST", "/report", b"", Answer(405, no_method, allow="GET")),
+            ("GET", "/schema/root", b"", Answer(405, no_method, allow="PUT, DELETE")),
+            ("PUT", "/schema/x?revision=-1", b"", bad_query),
+            ("PUT", "/schema/x?revision=1234567890123456789", b"", bad_query),
+            ("POST", "/run", b"{", bad_run),
+            ("POST", "/run", b'{"operationName":7}', bad_run),
+            ("POST", "/run", b'{"query":"{ ping }"}',
+             Answer(400, refusal(311, "stored operations only"))),
         ))
-        if answer is None:
-            answer = syntax(1, 201, deep)
-        return head(method, target, body, more, version), answer, "bad input: %s %s" % (method, target)
+        call = head(method, target, body, more, version)
+        return call, answer, "bad input: %s %s" % (method, target)
 
     def closing_bad_input(self):
         """Bad input that closes the connection."""
         close = lambda status, code, message: Answer(status, refusal(code, message), close=True)
+        bad_head = close(400, 301, "bad head")
+        bad_length = close(400, 307, "bad content length")
+        put = b"PUT /schema/x HTTP/1.1\r\n"
+        many = "".join("X%d: 1\r\n" % n for n in range(33))
         return self.random.choice((
-            (b"GET\r\n\r\n", close(400, 301, "bad head"), "bad head"),
-            (b"\x16\x03\x01\x02\x00\x01\x00\x01\xfc\x03\x03" + b"\r\n\r\n", close(400, 301, "bad head"), "a TLS hello"),
-            (head("GET", "/report", b"", "".join("X%d: 1\r\n" % n for n in range(33))), close(400, 301, "bad head"), "33 fields"),
-            (b"GET /report HTTP/1.1\r\nX: " + b"a" * 9000 + b"\r\n\r\n", close(431, 302, "head is too long"), "a long head"),
-            (b"PUT /schema/x HTTP/1.1\r\nContent-Length: 262145\r\n\r\n", close(413, 303, "body is too long"), "a long body"),
-            (b"PUT /schema/x HTTP/1.1\r\nTransfer-Encoding: chunked\r\n\r\n0\r\n\r\n",
+            (b"GET\r\n\r\n", bad_head, "bad head"),
+            (b"\x16\x03\x01\x02\x00\x01\x00\x01\xfc\x03\x03\r\n\r\n", bad_head, "a TLS hello"),
+            (head("GET", "/report", b"", many), bad_head, "33 fields"),
+            (b"GET /report HTTP/1.1\r\nX: " + b"a" * 9000 + b"\r\n\r\n",
+             close(431, 302, "head is too long"), "a long head"),
+            (put + b"Content-Length: 262145\r\n\r\n",
+             close(413, 303, "body is too long"), "a long body"),
+            (put + b"Transfer-Encoding: chunked\r\n\r\n0\r\n\r\n",
              close(501, 304, "transfer coding is not served"), "a transfer coding"),
-            (b"PUT /schema/x HTTP/1.1\r\nContent-Length: two\r\n\r\n", close(400, 307, "bad content length"), "a bad length"),
-            (b"PUT /schema/x HTTP/1.1\r\nContent-Length: 1\r\nContent-Length: 2\r\n\r\nab",
-             close(400, 307, "bad content length"), "two lengths"),
+            (put + b"Content-Length: two\r\n\r\n", bad_length, "a bad length"),
+            (put + b"Content-Length: 1\r\nContent-Length: 2\r\n\r\nab", bad_length, "two lengths"),
         ))
 
     # ---- what a connection does
@@ -349,7 +366,8 @@ class Traffic:
 
     def one_that_closes(self):
         old = self.random.random() < 0.3
-        data, answer, what = self.request("1.0", "") if old else self.request("1.1", "Connection: close\r\n")
+        words = ("1.0", "") if old else ("1.1", "Connection: close\r\n")
+        data, answer, what = self.request(*words)
         answer.close = True
         self.sent += 1
         with self.connect() as link:
@@ -405,7 +423,8 @@ class Traffic:
         elif choice == 4:
             name = "d%d" % self.random.randrange(DOCUMENTS)
             edit = (name, self.random.choice(("plain", "parted")))
-            link.sendall(head("PUT", "/documents/" + name, self.model.document_text(*edit).encode()))
+            body = self.model.document_text(*edit).encode()
+            link.sendall(head("PUT", "/documents/" + name, body))
             self.edits += 1
         link.close()
         if edit:
@@ -456,11 +475,13 @@ class Traffic:
         for n in range(FEATURES):
             name = "f%d" % n
             answer = model.edit(model.schema, name, "full", None)
-            self.call(head("PUT", "/schema/" + name, model.schema_text(name, "full").encode()), answer, "PUT " + name)
+            body = model.schema_text(name, "full").encode()
+            self.call(head("PUT", "/schema/" + name, body), answer, "PUT " + name)
         for n in range(DOCUMENTS):
             name = "d%d" % n
             answer = model.edit(model.documents, name, "parted", None)
-            self.call(head("PUT", "/documents/" + name, model.document_text(name, "parted").encode()), answer, "PUT " + name)
+            body = model.document_text(name, "parted").encode()
+            self.call(head("PUT", "/documents/" + name, body), answer, "PUT " + name)
         self.call(head("PUT", "/data", b"{}"), model.put_data({}, None), "PUT /data")
         self.call(head("GET", "/report"), model.report(), "GET /report")
 
@@ -477,7 +498,8 @@ def descriptors_of(pid):
 
 
 def main():
-    program, requests, seconds, seed = sys.argv[1], int(sys.argv[2]), float(sys.argv[3]), int(sys.argv[4])
+    program = sys.argv[1]
+    requests, seconds, seed = int(sys.argv[2]), float(sys.argv[3]), int(sys.argv[4])
     with socket.socket() as probe:
         probe.bind(("127.0.0.1", 0))
         port = probe.getsockname()[1]
@@ -536,8 +558,8 @@ def drive(server, traffic, requests, seconds):
              memory_of(server.pid)[1] if server.poll() is None else 0))
     print("%d requests, %d connections, %d answers compared, %d wrong; memory %d KB then %d KB, "
           "descriptors %d then %d; %.0f s%s"
-          % (traffic.sent, traffic.connections, traffic.answers, len(traffic.wrong), first[0], last[0],
-             first[1], last[1], spent, stopped))
+          % (traffic.sent, traffic.connections, traffic.answers, len(traffic.wrong),
+             first[0], last[0], first[1], last[1], spent, stopped))
     return 1 if traffic.wrong or grown or "server" in stopped else 0
 
 

@@ -1,6 +1,6 @@
 #!/bin/sh
-# Runs the commands of docs/GUIDE.md, in a folder for it alone, and compares what they print with the
-# guide: examples/guide.sh [--write] [PORT]. Each block ```sh is run, one after the other in one
+# Runs the commands of docs/GUIDE.md, in a folder of their own, and compares what they print with
+# the guide: examples/guide.sh [--write] [PORT]. Each block ```sh is run, one after the other in one
 # shell; the block ```text after it is what it has to print, or nothing if there is none. The server
 # listens at PORT, by default 8080. With --write what was printed is written to the guide. The last
 # line is `N passed, M failed`.
