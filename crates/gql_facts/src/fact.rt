@@ -1,8 +1,10 @@
 //! The answers to what rules ask.
 ghost use Rattle.std.specs.Prelude.{◌≡◌, ◌↔◌, IsTrue, IfOk};
+ghost use Rattle.gql_types.specs.RequiredInputs as required;
+ghost use Rattle.gql_types.specs.WrittenTypes.{typed_of};
 
 use gql_ast::{DirectiveLocation, FileName, Fragment, Items, Same, Shared, Text, same_items};
-use gql_types::{HasName, Named, TypeKind, WrittenType};
+use gql_types::{DefinedInput, DefinedInputs, HasName, Named, TypeKind, WrittenType};
 use std::alloc::AllocError;
 
 /// An argument or an input field (GraphQL specification, 3.6.1, 3.10).
@@ -21,11 +23,19 @@ impl HasName for InputFact {
     }
 }
 
+impl DefinedInput for InputFact {
+    ghost is_required = { λ input. required.is_required (typed_of input.of_type) input.has_default };
+
+    fn is_required(&self) -> bool {
+        self.of_type.is_non_null() && !self.has_default
+    }
+}
+
 /// A field of an object or an interface (3.6, 3.7).
 #[derive(Drop)]
 pub struct FieldFact {
     pub of_type: WrittenType,
-    pub arguments: Named<InputFact>,
+    pub arguments: DefinedInputs<InputFact>,
 }
 
 /// A directive (3.13).
@@ -33,7 +43,7 @@ pub struct FieldFact {
 pub struct DirectiveFact {
     pub locations: Items<DirectiveLocation>,
     pub is_repeatable: bool,
-    pub arguments: Named<InputFact>,
+    pub arguments: DefinedInputs<InputFact>,
 }
 
 /// A fragment, as it is written in its file (2.8).
@@ -53,7 +63,7 @@ pub enum Fact {
     /// The names of the objects, each once, in the order of their bytes.
     Possible(Shared<Named<Text>>),
     /// The fields of an input object, in their order.
-    Input(Shared<Named<InputFact>>),
+    Input(Shared<DefinedInputs<InputFact>>),
     /// The names of the values of an enum, in their order.
     Enum(Shared<Named<Text>>),
     Directive(Shared<DirectiveFact>),

@@ -12,7 +12,7 @@ use gql_ast::{
     DirectiveDefinition, DirectiveLocation, EnumValueDefinition, FieldDefinition,
     InputValueDefinition, Items, OperationKind, Shared, Text,
 };
-use gql_types::{HasName, Named, Root, Schema, SchemaType, Sited, TypeKind, WrittenType};
+use gql_types::{DefinedInputs, HasName, Named, Root, Schema, SchemaType, Sited, TypeKind, WrittenType};
 use std::alloc::{AllocError, Global};
 
 /// A field of a type, with its fact.
@@ -29,7 +29,7 @@ pub struct TypeEntry {
     pub kind: TypeKind,
     pub fields: Named<FieldEntry>,
     pub possible: Option<Shared<Named<Text>>>,
-    pub inputs: Option<Shared<Named<InputFact>>>,
+    pub inputs: Option<Shared<DefinedInputs<InputFact>>>,
     pub values: Option<Shared<Named<Text>>>,
 }
 
@@ -93,27 +93,27 @@ fn input_fact(alloc: Global, definition: &InputValueDefinition) -> Result<InputF
 fn argument_facts(
     alloc: Global,
     arguments: &[Shared<InputValueDefinition>],
-) -> Result<Named<InputFact>, AllocError>
+) -> Result<DefinedInputs<InputFact>, AllocError>
     ensures { IfOk result (λ facts. facts ≡ map spec.input_fact arguments.now) }
 {
     let mut facts = Vec::new(alloc);
     for argument in arguments {
         facts.push(input_fact(alloc, argument.get())?)?;
     }
-    Named::new(alloc, facts)
+    DefinedInputs::new(alloc, facts)
 }
 
 fn input_facts(
     alloc: Global,
     fields: &[Sited<Shared<InputValueDefinition>>],
-) -> Result<Named<InputFact>, AllocError>
+) -> Result<DefinedInputs<InputFact>, AllocError>
     ensures { IfOk result (λ facts. facts ≡ spec.input_facts fields.now) }
 {
     let mut facts = Vec::new(alloc);
     for field in fields {
         facts.push(input_fact(alloc, field.node.get())?)?;
     }
-    Named::new(alloc, facts)
+    DefinedInputs::new(alloc, facts)
 }
 
 fn value_names(
@@ -198,7 +198,7 @@ fn shared_possible(
 fn shared_inputs(
     alloc: Global,
     of_type: &SchemaType,
-) -> Result<Option<Shared<Named<InputFact>>>, AllocError>
+) -> Result<Option<Shared<DefinedInputs<InputFact>>>, AllocError>
     ensures { IfOk result (λ o. o
         ≡ option_map spec.input_facts (inputs_by of_type.now.kind of_type.now)) }
 {

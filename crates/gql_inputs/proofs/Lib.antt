@@ -8,3 +8,4 @@ pub mod Finding
 pub mod MissingFields
 pub mod Wholes
 pub mod Agreement
+pub mod RequiredFields

@@ -1,6 +1,6 @@
 -- What a name is as an input type (GraphQL specification, 3.4.2, 3.5, 3.9 and 3.10): the question
 -- that is asked of a schema, or of anything else that knows input types.
-use Rattle.std.specs.Prelude.{◌&&◌, ℕ, List, [], Bool, not, map, find, bytes_eq, is_some, Option, Some, None, option_and_then}
+use Rattle.std.specs.Prelude.{◌&&◌, ℕ, List, [], Bool, not, map, filter, find, bytes_eq, is_some, Option, Some, None, option_and_then}
 use Rattle.gql_ast.specs.declared.type_system.EnumValueDefinition.{EnumValueDefinition}
 use Rattle.gql_ast.specs.declared.type_system.InputValueDefinition.{InputValueDefinition}
 use Rattle.gql_built_in.specs.declared.sited.Sited.{Sited}
@@ -60,6 +60,10 @@ field_named fields name = find (λ (f : FieldForm). bytes_eq name f.name) fields
 -- a field is required where its type is Non-Null and it has no default
 abbrev pub is_required : FieldForm → Bool
 is_required f = is_non_null f.of_type && not f.has_default
+
+-- the fields of an input object that are required
+abbrev pub required_in : InputForm → List FieldForm
+required_in i = filter is_required (fields_in i)
 
 -- a field, as an answer lends it
 abbrev pub field_form : InputField → FieldForm

@@ -1,7 +1,7 @@
 //! What rules ask of input types, whoever knows them (GraphQL specification, 3.4.2).
 ghost use Rattle.std.specs.Prelude.{◌≡◌, ◌<◌, ℕ, List, Option, Some, IfOk, bytes_eq, length, option_map, slice_get};
 ghost use Rattle.std.specs.List.{list_any};
-ghost use Rattle.gql_inputs.specs.Lookups.{InputForm, InputLookup, field_form, field_named, fields_in, kind_of, values_in};
+ghost use Rattle.gql_inputs.specs.Lookups.{InputForm, InputLookup, field_form, field_named, fields_in, kind_of, required_in, values_in};
 
 use crate::expected_type::ExpectedType;
 use crate::scalar::Scalar;
@@ -47,14 +47,15 @@ pub trait InputType {
     fn field(&self, name: &str) -> Option<InputField<'_>>
         ensures { option_map field_form result ≡ field_named (fields_in (form self.now)) name.now };
 
-    /// The number of its fields; 0 if it is not an input object.
-    fn field_count(&self) -> usize
-        ensures { result ≡ length (fields_in (form self.now)) };
+    /// The number of its fields that are required; 0 if it is not an input object.
+    fn required_count(&self) -> usize
+        ensures { result ≡ length (required_in (form self.now)) };
 
-    /// The field at an index, in the order in which the type defines them.
-    fn field_at(&self, index: usize) -> InputField<'_>
-        requires { index < length (fields_in (form self.now)) }
-        ensures { slice_get (fields_in (form self.now)) index ≡ Some (field_form result) };
+    /// The field at an index of those that are required, in the order in which the type defines
+    /// them.
+    fn required_at(&self, index: usize) -> InputField<'_>
+        requires { index < length (required_in (form self.now)) }
+        ensures { slice_get (required_in (form self.now)) index ≡ Some (field_form result) };
 }
 
 /// What can be asked which input type a name stands for.

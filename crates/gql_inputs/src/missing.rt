@@ -1,6 +1,6 @@
 //! V21: required fields that an object does not give, or gives as `null` (GraphQL specification,
 //! 5.6.4).
-ghost use Rattle.std.specs.Prelude.{◌≡◌, ◌++◌, ◌&&◌, ◌||◌, ℕ, List, map, flat_map, bytes_eq, is_some, IfOk, OnOk};
+ghost use Rattle.std.specs.Prelude.{◌≡◌, ◌++◌, ◌&&◌, ◌||◌, ℕ, List, true, map, flat_map, bytes_eq, is_some, IfOk, OnOk};
 ghost use Rattle.std.specs.HashMap as hash;
 ghost use Rattle.gql_inputs.specs.BadValues as spec;
 ghost use Rattle.gql_inputs.specs.Lookups.{field_form, fields_in, is_required as is_required_field};
@@ -74,17 +74,19 @@ impl Given<'_> {
     }
 }
 
+// Adds a required field, if it is missing or `null`.
 fn add_if_missing(
     given: &Given<'_>,
     place: Place,
     field: &InputField<'_>,
     found: &mut Vec<BadValue>,
 ) -> Result<(), AllocError>
+    requires { is_required_field (field_form field.now) ≡ true }
     ensures { OnOk result (found.new.items ≡ found.old.items ++ spec.missing_if
         (spec.lacks (is_some (hash.get_by (λ k. bytes_eq field.now.name.now k.now) given.now.names))
         (is_some (hash.get_by (λ k. bytes_eq field.now.name.now k.now) given.now.nulls))) place (field_form field.now)) }
 {
-    if is_required(field) && given.lacks(field.name.as_str()) {
+    if given.lacks(field.name.as_str()) {
         add_bad(Rule::V21, place, field.name.copy()?, found)?;
     }
     Ok(())
@@ -104,8 +106,8 @@ pub fn add_missing<T: InputType>(
     let names = names(alloc, fields)?;
     let nulls = nulls(alloc, fields)?;
     let given = Given { names, nulls };
-    for index in 0..of_type.field_count() {
-        let field = of_type.field_at(index);
+    for index in 0..of_type.required_count() {
+        let field = of_type.required_at(index);
         add_if_missing(&given, place, &field, found)?;
     }
     Ok(())

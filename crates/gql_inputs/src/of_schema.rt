@@ -1,5 +1,5 @@
 //! The input types of a schema, borrowed from it.
-ghost use Rattle.std.specs.Prelude.{◌≡◌, List, map, bytes_eq, find, option_map};
+ghost use Rattle.std.specs.Prelude.{◌≡◌, ◌<◌, List, Some, map, filter, length, bytes_eq, find, option_map, slice_get};
 ghost use Rattle.std.specs.List.{list_any};
 ghost use Rattle.std.specs.Option.{option_copied};
 ghost use Rattle.gql_ast.specs.declared.type_system.EnumValueDefinition.{EnumValueDefinition as EnumValue};
@@ -11,7 +11,7 @@ use crate::expected_type::ExpectedType;
 use crate::input_types::{InputField, InputKind, InputType, InputTypes};
 use crate::scalar::{Scalar, scalar_named};
 use gql_ast::{EnumValueDefinition, InputValueDefinition, Shared, Text};
-use gql_types::{HasName, Named, Schema, SchemaType, Sited, TypeKind};
+use gql_types::{DefinedInputs, HasName, Named, Schema, SchemaType, Sited, TypeKind};
 use std::alloc::{AllocError, Global};
 
 /// An input type of a schema.
@@ -19,7 +19,7 @@ use std::alloc::{AllocError, Global};
 pub enum SchemaInputType<'s> {
     Scalar(Scalar),
     Enum(&'s Named<Sited<Shared<EnumValueDefinition>>>),
-    InputObject(&'s Named<Sited<Shared<InputValueDefinition>>>),
+    InputObject(&'s DefinedInputs<Sited<Shared<InputValueDefinition>>>),
 }
 
 fn has_value(values: &Named<Sited<Shared<EnumValueDefinition>>>, name: &str) -> bool
@@ -40,7 +40,7 @@ fn input_field(definition: &Sited<Shared<InputValueDefinition>>) -> InputField<'
 }
 
 fn field_named<'s>(
-    fields: &'s Named<Sited<Shared<InputValueDefinition>>>,
+    fields: &'s DefinedInputs<Sited<Shared<InputValueDefinition>>>,
     name: &str,
 ) -> Option<InputField<'s>>
     ensures { option_map spec.field_form result ≡ spec.field_named (map spec.field_of fields.now) name.now }
@@ -49,6 +49,23 @@ fn field_named<'s>(
         Some(definition) => Some(input_field(definition)),
         None => None,
     }
+}
+
+fn required_count(fields: &DefinedInputs<Sited<Shared<InputValueDefinition>>>) -> usize
+    ensures { result ≡ length (filter spec.is_required (map spec.field_of fields.now)) }
+{
+    fields.required_count()
+}
+
+fn required_at(
+    fields: &DefinedInputs<Sited<Shared<InputValueDefinition>>>,
+    index: usize,
+) -> InputField<'_>
+    requires { index < length (filter spec.is_required (map spec.field_of fields.now)) }
+    ensures { slice_get (filter spec.is_required (map spec.field_of fields.now)) index
+        ≡ Some (spec.field_form result) }
+{
+    input_field(fields.required_at(index))
 }
 
 impl<'s> InputType for SchemaInputType<'s> {
@@ -76,16 +93,16 @@ impl<'s> InputType for SchemaInputType<'s> {
         }
     }
 
-    fn field_count(&self) -> usize {
+    fn required_count(&self) -> usize {
         match self {
-            SchemaInputType::InputObject(fields) => fields.as_slice().len(),
+            SchemaInputType::InputObject(fields) => required_count(fields),
             SchemaInputType::Scalar(_) | SchemaInputType::Enum(_) => 0,
         }
     }
 
-    fn field_at(&self, index: usize) -> InputField<'_> {
+    fn required_at(&self, index: usize) -> InputField<'_> {
         match self {
-            SchemaInputType::InputObject(fields) => input_field(&fields.as_slice()[index]),
+            SchemaInputType::InputObject(fields) => required_at(fields, index),
             SchemaInputType::Scalar(_) | SchemaInputType::Enum(_) => unreachable!(),
         }
     }

@@ -4,6 +4,7 @@ pub mod NullLiterals
 pub mod OfFiles
 pub mod OperationParts
 pub mod Parents
+pub mod Requiring
 pub mod Steps
 pub mod View
 pub mod Visiting

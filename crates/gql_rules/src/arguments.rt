@@ -7,7 +7,7 @@ use crate::{v08_argument_names, v09_argument_uniqueness, v10_required_arguments}
 use gql_ast::{Argument, Fault, FilePlace};
 use gql_facts::InputFact;
 use gql_text::Place;
-use gql_types::Named;
+use gql_types::DefinedInputs;
 use std::alloc::{AllocError, Global};
 
 /// Adds the faults of the arguments that are given to a field or a directive at this place that
@@ -16,7 +16,7 @@ pub fn check(
     alloc: Global,
     owner: &FilePlace,
     at: Place,
-    known: Option<&Named<InputFact>>,
+    known: Option<&DefinedInputs<InputFact>>,
     given: &[Argument],
     faults: &mut Vec<Fault>,
 ) -> Result<(), AllocError>

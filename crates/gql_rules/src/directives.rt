@@ -14,11 +14,11 @@ use crate::{
 };
 use gql_ast::{Directive, DirectiveLocation, Fault, FilePlace};
 use gql_facts::{DirectiveFact, InputFact, World};
-use gql_types::Named;
+use gql_types::DefinedInputs;
 use std::alloc::{AllocError, Global};
 
 /// The arguments that a directive defines, if it is known.
-fn arguments_of(known: Option<&DirectiveFact>) -> Option<&Named<InputFact>>
+fn arguments_of(known: Option<&DirectiveFact>) -> Option<&DefinedInputs<InputFact>>
     ensures { option_copied result ≡ spec.of_directive (option_copied known.entry) }
 {
     match known {

@@ -13,11 +13,11 @@ use crate::{
 };
 use gql_ast::{DirectiveLocation, Fault, Field, FilePlace, Text};
 use gql_facts::{FieldFact, InputFact, World};
-use gql_types::{Named, TypeKind};
+use gql_types::{DefinedInputs, TypeKind};
 use std::alloc::{AllocError, Global};
 
 /// The arguments that a field defines, if it is known.
-fn arguments_of(known: Option<&FieldFact>) -> Option<&Named<InputFact>>
+fn arguments_of(known: Option<&FieldFact>) -> Option<&DefinedInputs<InputFact>>
     ensures { option_copied result ≡ spec.of_field (option_copied known.entry) }
 {
     match known {

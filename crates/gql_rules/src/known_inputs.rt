@@ -1,5 +1,5 @@
 //! The input types that a world knows.
-ghost use Rattle.std.specs.Prelude.{◌≡◌, ℕ, List, IfOk, option_map, bytes_eq, map};
+ghost use Rattle.std.specs.Prelude.{◌≡◌, ◌<◌, ℕ, List, Some, IfOk, option_map, bytes_eq, map, filter, length, slice_get};
 ghost use Rattle.std.specs.List.{list_any};
 ghost use Rattle.gql_facts.specs.Worlds.{Facts};
 ghost use Rattle.gql_inputs.specs.Lookups as lookups;
@@ -11,7 +11,7 @@ use gql_facts::{Fact, InputFact, Key, World};
 use gql_inputs::{
     ExpectedType, InputField, InputKind, InputType, InputTypes, Scalar, scalar_named,
 };
-use gql_types::{Named, TypeKind};
+use gql_types::{DefinedInputs, Named, TypeKind};
 use std::alloc::{AllocError, Global};
 
 /// An input type, by the answers for its name. It shares what they hold.
@@ -21,7 +21,7 @@ pub enum KnownInputType {
     /// The names of the values of an enum.
     Enum(Shared<Named<Text>>),
     /// The fields of an input object.
-    InputObject(Shared<Named<InputFact>>),
+    InputObject(Shared<DefinedInputs<InputFact>>),
 }
 
 fn has_value(values: &Named<Text>, name: &str) -> bool
@@ -40,7 +40,7 @@ fn input_field(input: &InputFact) -> InputField<'_>
     }
 }
 
-fn field_named<'f>(fields: &'f Named<InputFact>, name: &str) -> Option<InputField<'f>>
+fn field_named<'f>(fields: &'f DefinedInputs<InputFact>, name: &str) -> Option<InputField<'f>>
     ensures { option_map lookups.field_form result
         ≡ lookups.field_named (map spec.field_of fields.now) name.now }
 {
@@ -48,6 +48,20 @@ fn field_named<'f>(fields: &'f Named<InputFact>, name: &str) -> Option<InputFiel
         Some(input) => Some(input_field(input)),
         None => None,
     }
+}
+
+fn required_count(fields: &DefinedInputs<InputFact>) -> usize
+    ensures { result ≡ length (filter lookups.is_required (map spec.field_of fields.now)) }
+{
+    fields.required_count()
+}
+
+fn required_at(fields: &DefinedInputs<InputFact>, index: usize) -> InputField<'_>
+    requires { index < length (filter lookups.is_required (map spec.field_of fields.now)) }
+    ensures { slice_get (filter lookups.is_required (map spec.field_of fields.now)) index
+        ≡ Some (lookups.field_form result) }
+{
+    input_field(fields.required_at(index))
 }
 
 impl InputType for KnownInputType {
@@ -75,16 +89,16 @@ impl InputType for KnownInputType {
         }
     }
 
-    fn field_count(&self) -> usize {
+    fn required_count(&self) -> usize {
         match self {
-            KnownInputType::InputObject(fields) => fields.get().as_slice().len(),
+            KnownInputType::InputObject(fields) => required_count(fields.get()),
             KnownInputType::Scalar(_) | KnownInputType::Enum(_) => 0,
         }
     }
 
-    fn field_at(&self, index: usize) -> InputField<'_> {
+    fn required_at(&self, index: usize) -> InputField<'_> {
         match self {
-            KnownInputType::InputObject(fields) => input_field(&fields.get().as_slice()[index]),
+            KnownInputType::InputObject(fields) => required_at(fields.get(), index),
             KnownInputType::Scalar(_) | KnownInputType::Enum(_) => unreachable!(),
         }
     }

@@ -6,13 +6,13 @@ ghost use Rattle.gql_rules.specs.V08ArgumentNames as spec;
 use crate::faults::add_fault_of;
 use gql_ast::{Argument, Fault, FilePlace, Rule};
 use gql_facts::InputFact;
-use gql_types::Named;
+use gql_types::DefinedInputs;
 use std::alloc::{AllocError, Global};
 
 fn check_argument(
     alloc: Global,
     owner: &FilePlace,
-    defined: &Named<InputFact>,
+    defined: &DefinedInputs<InputFact>,
     argument: &Argument,
     faults: &mut Vec<Fault>,
 ) -> Result<(), AllocError>
@@ -28,7 +28,7 @@ fn check_argument(
 fn check_all(
     alloc: Global,
     owner: &FilePlace,
-    defined: &Named<InputFact>,
+    defined: &DefinedInputs<InputFact>,
     given: &[Argument],
     faults: &mut Vec<Fault>,
 ) -> Result<(), AllocError>
@@ -45,7 +45,7 @@ fn check_all(
 pub fn check(
     alloc: Global,
     owner: &FilePlace,
-    known: Option<&Named<InputFact>>,
+    known: Option<&DefinedInputs<InputFact>>,
     given: &[Argument],
     faults: &mut Vec<Fault>,
 ) -> Result<(), AllocError>

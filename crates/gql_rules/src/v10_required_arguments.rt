@@ -7,13 +7,12 @@ ghost use Rattle.gql_rules.specs.Answers.{is_required as required};
 ghost use Rattle.gql_rules.specs.Faults.{fault_at};
 ghost use Rattle.gql_rules.specs.V10RequiredArguments as spec;
 
-use crate::answers::is_required;
 use crate::faults::add_fault;
 use crate::literals::is_null;
 use gql_ast::{Argument, Fault, FilePlace, Rule};
 use gql_facts::InputFact;
 use gql_text::Place;
-use gql_types::Named;
+use gql_types::DefinedInputs;
 use std::alloc::{AllocError, Global};
 use std::collections::HashMap;
 
@@ -31,6 +30,7 @@ fn nulls<'t>(alloc: Global, given: &'t [Argument]) -> Result<HashMap<&'t str, bo
     Ok(nulls)
 }
 
+/// Adds the fault about an argument that is required, if it is missing or null.
 fn check_input(
     alloc: Global,
     owner: &FilePlace,
@@ -39,30 +39,33 @@ fn check_input(
     input: &InputFact,
     faults: &mut Vec<Fault>,
 ) -> Result<(), AllocError>
+    requires { required input.now ≡ true }
     ensures { OnOk result (faults.new.items ≡ faults.old.items
         ++ (if required input.now
         && unwrap_or (hash.get_by (λ k. bytes_eq input.now.name k.now) nulls.now) true
         then fault_at owner.now rule.V10 input.now.name at ∷ [] else [])) }
 {
-    if is_required(input) && nulls.get(input.name.as_str()).copied().unwrap_or(true) {
+    if nulls.get(input.name.as_str()).copied().unwrap_or(true) {
         add_fault(alloc, owner, Rule::V10, &input.name, at, faults)?;
     }
     Ok(())
 }
 
+/// Checks the arguments that are required. The others have no faults.
 fn check_all(
     alloc: Global,
     owner: &FilePlace,
     at: Place,
-    inputs: &[InputFact],
+    defined: &DefinedInputs<InputFact>,
     given: &[Argument],
     faults: &mut Vec<Fault>,
 ) -> Result<(), AllocError>
     ensures { OnOk result (faults.new.items ≡ faults.old.items
-        ++ flat_map (spec.fault_about owner.now at given.now) inputs.now) }
+        ++ flat_map (spec.fault_about owner.now at given.now) defined.now) }
 {
     let nulls = nulls(alloc, given)?;
-    for input in inputs {
+    for index in 0..defined.required_count() {
+        let input = defined.required_at(index);
         check_input(alloc, owner, at, &nulls, input, faults)?;
     }
     Ok(())
@@ -74,7 +77,7 @@ pub fn check(
     alloc: Global,
     owner: &FilePlace,
     at: Place,
-    known: Option<&Named<InputFact>>,
+    known: Option<&DefinedInputs<InputFact>>,
     given: &[Argument],
     faults: &mut Vec<Fault>,
 ) -> Result<(), AllocError>
@@ -82,7 +85,7 @@ pub fn check(
         ++ spec.faults owner.now at (option_copied known.entry) given.now) }
 {
     match known {
-        Some(defined) => check_all(alloc, owner, at, defined.as_slice(), given, faults),
+        Some(defined) => check_all(alloc, owner, at, defined, given, faults),
         None => Ok(()),
     }
 }

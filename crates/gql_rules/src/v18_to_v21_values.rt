@@ -13,7 +13,7 @@ use crate::literals::is_null;
 use gql_ast::{Argument, Fault, FilePlace, Literal, VariableDefinition};
 use gql_facts::{InputFact, World};
 use gql_inputs::{BadValue, ExpectedType, add_bad_values, add_repeats};
-use gql_types::Named;
+use gql_types::DefinedInputs;
 use std::alloc::{AllocError, Global};
 
 /// Adds the faults of bad values.
@@ -72,7 +72,7 @@ fn check_repeats(
 }
 
 /// The definition of an argument among these, if they are known.
-fn definition_of<'i>(known: Option<&'i Named<InputFact>>, name: &str) -> Option<&'i InputFact>
+fn definition_of<'i>(known: Option<&'i DefinedInputs<InputFact>>, name: &str) -> Option<&'i InputFact>
     ensures { option_copied result ≡ spec.definition_of (option_copied known.entry) name.now }
 {
     match known {
@@ -85,7 +85,7 @@ fn check_argument<W: World>(
     alloc: Global,
     world: &mut W,
     owner: &FilePlace,
-    known: Option<&Named<InputFact>>,
+    known: Option<&DefinedInputs<InputFact>>,
     argument: &Argument,
     faults: &mut Vec<Fault>,
 ) -> Result<(), AllocError>
@@ -113,7 +113,7 @@ pub fn check<W: World>(
     alloc: Global,
     world: &mut W,
     owner: &FilePlace,
-    known: Option<&Named<InputFact>>,
+    known: Option<&DefinedInputs<InputFact>>,
     given: &[Argument],
     faults: &mut Vec<Fault>,
 ) -> Result<(), AllocError>

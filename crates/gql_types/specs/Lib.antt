@@ -5,6 +5,7 @@ pub mod Held
 pub mod Kinds
 pub mod Parts
 pub mod Possible
+pub mod RequiredInputs
 pub mod Roots
 pub mod Schemas
 pub mod Types

@@ -3,6 +3,7 @@
 
 mod by_name;
 mod covariance;
+mod defined_inputs;
 mod definitions;
 mod first_definitions;
 mod kind;
@@ -14,6 +15,7 @@ mod schema;
 mod schema_type;
 mod written_type;
 
+pub use defined_inputs::{DefinedInput, DefinedInputs};
 pub use gql_built_in::Sited;
 pub use kind::TypeKind;
 pub use named::{HasName, Named};

@@ -3,6 +3,7 @@ ghost use Rattle.std.specs.Prelude.{◌≡◌, IfOk};
 ghost use Rattle.std.specs.Option.{option_copied};
 ghost use Rattle.gql_types.specs.Schemas as spec;
 
+use crate::defined_inputs::DefinedInputs;
 use crate::definitions::{
     definitions, directive_definitions, schema_definitions, schema_extensions, type_definitions,
     type_extensions,
@@ -138,7 +139,7 @@ impl Schema {
     }
 
     /// The fields of an input object (3.10).
-    pub fn input(&self, name: &str) -> Option<&Named<Sited<Shared<InputValueDefinition>>>>
+    pub fn input(&self, name: &str) -> Option<&DefinedInputs<Sited<Shared<InputValueDefinition>>>>
         ensures { option_copied result ≡ spec.input_named self.now name.now }
     {
         match self.get(name) {
@@ -178,7 +179,7 @@ impl Schema {
 }
 
 impl SchemaType {
-    fn inputs(&self) -> Option<&Named<Sited<Shared<InputValueDefinition>>>>
+    fn inputs(&self) -> Option<&DefinedInputs<Sited<Shared<InputValueDefinition>>>>
         ensures { option_copied result ≡ spec.inputs_by self.now.kind self.now }
     {
         match self.kind {

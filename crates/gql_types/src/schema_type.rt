@@ -4,14 +4,17 @@ ghost use Rattle.std.specs.Option.{option_map_or};
 ghost use Rattle.std.specs.HashMap as hash;
 ghost use Rattle.gql_types.specs.Kinds.{same_kind};
 ghost use Rattle.gql_types.specs.Parts.{kind_of};
+ghost use Rattle.gql_types.specs.RequiredInputs.{is_required_input};
 ghost use Rattle.gql_types.specs.Types as spec;
 
 use crate::by_name::{ByName, by_name};
+use crate::defined_inputs::{DefinedInput, DefinedInputs};
 use crate::definitions::copied;
 use crate::first_definitions::first_definitions;
 use crate::kind::TypeKind;
 use crate::named::{HasName, Named};
 use crate::parts::{all_held, interfaces, members, parts_in};
+use crate::written_type::is_non_null;
 use gql_ast::{
     EnumValueDefinition, FieldDefinition, InputValueDefinition, Items, Name, Shared,
     TypeDefinition, TypeExtension,
@@ -35,7 +38,7 @@ pub struct SchemaType {
     /// The values of an enum (3.9).
     pub values: Named<Sited<Shared<EnumValueDefinition>>>,
     /// The fields of an input object (3.10).
-    pub input_fields: Named<Sited<Shared<InputValueDefinition>>>,
+    pub input_fields: DefinedInputs<Sited<Shared<InputValueDefinition>>>,
 }
 
 impl HasName for Sited<Shared<TypeExtension>> {
@@ -67,6 +70,15 @@ impl HasName for Sited<Shared<InputValueDefinition>> {
 
     fn name(&self) -> &str {
         self.node.get().name.as_str()
+    }
+}
+
+impl DefinedInput for Sited<Shared<InputValueDefinition>> {
+    ghost is_required = { λ f. is_required_input f.node };
+
+    fn is_required(&self) -> bool {
+        let definition = self.node.get();
+        is_non_null(&definition.of_type) && definition.default.is_none()
     }
 }
 
@@ -130,7 +142,7 @@ fn assembled(
     let fields = Named::new(alloc, all_held(alloc, parts.as_slice())?)?;
     let members = members(alloc, parts.as_slice())?;
     let values = Named::new(alloc, all_held(alloc, parts.as_slice())?)?;
-    let input_fields = Named::new(alloc, all_held(alloc, parts.as_slice())?)?;
+    let input_fields = DefinedInputs::new(alloc, all_held(alloc, parts.as_slice())?)?;
     drop(parts);
     Ok(SchemaType {
         definition: Sited {

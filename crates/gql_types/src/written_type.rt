@@ -1,7 +1,8 @@
 //! Types as they are written, without places (GraphQL specification, 2.11).
 ghost use Rattle.std.specs.Prelude.{◌≡◌, ◌++◌, ◌↔◌, IsTrue, IfOk};
 ghost use Rattle.gql_types.specs.Written.{written, written_named, written_list, written_non_null};
-ghost use Rattle.gql_types.specs.WrittenTypes.{type_of, wrapped};
+ghost use Rattle.gql_types.specs.RequiredInputs as required;
+ghost use Rattle.gql_types.specs.WrittenTypes.{type_of, typed_of, wrapped};
 
 use gql_ast::{Items, Same, Text, TypeRef, same_items};
 use std::alloc::{AllocError, Global};
@@ -56,7 +57,28 @@ fn unwrapped(of_type: &TypeRef, wrappers: &mut Items<Wrapper>) -> Result<Text, A
     }
 }
 
+/// Whether a type is Non-Null (GraphQL specification, 3.12).
+#[tactic(auto, using(crate::specs::Written::written_named, crate::specs::Written::written_list, crate::specs::Written::written_non_null))]
+pub fn is_non_null(of_type: &TypeRef) -> bool
+    ensures { result ≡ required.is_non_null (written of_type.now) }
+{
+    match of_type {
+        TypeRef::NonNull(_) => true,
+        TypeRef::Named(_) | TypeRef::List { .. } => false,
+    }
+}
+
 impl WrittenType {
+    /// Whether the type is Non-Null (3.12).
+    pub fn is_non_null(&self) -> bool
+        ensures { result ≡ required.is_non_null (typed_of self.now) }
+    {
+        match self.wrappers.as_slice().first() {
+            Some(Wrapper::NonNull) => true,
+            Some(Wrapper::List) | None => false,
+        }
+    }
+
     /// The type without its places.
     pub fn of(alloc: Global, of_type: &TypeRef) -> Result<WrittenType, AllocError>
         ensures { IfOk result (λ t. t ≡ type_of (written of_type.now)) }

@@ -19,12 +19,12 @@ use gql_ast::{
 };
 use gql_facts::{FieldFact, FragmentFact, InputFact, World};
 use gql_rules::{ask_field, field_in};
-use gql_types::Named;
+use gql_types::DefinedInputs;
 use std::alloc::{AllocError, Global};
 use std::collections::HashMap;
 
 /// The arguments that a field defines, if it is known.
-fn arguments_of(known: Option<&FieldFact>) -> Option<&Named<InputFact>>
+fn arguments_of(known: Option<&FieldFact>) -> Option<&DefinedInputs<InputFact>>
     ensures { option_copied result ≡ of_field (option_copied known.entry) }
 {
     match known {

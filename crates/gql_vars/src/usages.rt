@@ -18,7 +18,7 @@ use gql_facts::{DirectiveFact, InputFact, World};
 use gql_inputs::{ExpectedType, InputType, InputTypes};
 use gql_rules::{KnownInputType, OfWorld, ask_directive, directive_in};
 use gql_text::Place;
-use gql_types::Named;
+use gql_types::DefinedInputs;
 use std::alloc::{AllocError, Global};
 
 /// Whether a value may stand for a list within a list: a list, `null` or a variable.
@@ -269,7 +269,7 @@ fn check_field<W: World>(
 }
 
 /// The definition of an argument among these, if they are known.
-fn definition_of<'i>(known: Option<&'i Named<InputFact>>, name: &str) -> Option<&'i InputFact>
+fn definition_of<'i>(known: Option<&'i DefinedInputs<InputFact>>, name: &str) -> Option<&'i InputFact>
     ensures { option_copied result ≡ values.definition_of (option_copied known.entry) name.now }
 {
     match known {
@@ -283,7 +283,7 @@ fn check_argument<W: World>(
     alloc: Global,
     world: &mut W,
     check: &UsageCheck<'_, '_>,
-    known: Option<&Named<InputFact>>,
+    known: Option<&DefinedInputs<InputFact>>,
     argument: &Argument,
     faults: &mut Vec<Fault>,
 ) -> Result<(), AllocError>
@@ -313,7 +313,7 @@ pub fn check_arguments<W: World>(
     alloc: Global,
     world: &mut W,
     check: &UsageCheck<'_, '_>,
-    known: Option<&Named<InputFact>>,
+    known: Option<&DefinedInputs<InputFact>>,
     given: &[Argument],
     faults: &mut Vec<Fault>,
 ) -> Result<(), AllocError>
@@ -331,7 +331,7 @@ pub fn check_arguments<W: World>(
 }
 
 /// The arguments that a directive defines, if it is known.
-fn arguments_of(known: Option<&DirectiveFact>) -> Option<&Named<InputFact>>
+fn arguments_of(known: Option<&DirectiveFact>) -> Option<&DefinedInputs<InputFact>>
     ensures { option_copied result ≡ of_directive (option_copied known.entry) }
 {
     match known {

@@ -1,8 +1,8 @@
 use Rattle.std.proofs.Common.{◌≡◌, ◌++◌, take, map, flat_map}
 use Rattle.gql_inputs.specs.BadValues.{missing}
-use Rattle.gql_inputs.specs.Lookups.{fields_in}
+use Rattle.gql_inputs.specs.Lookups.{required_in}
 use Rattle.gql_inputs.specs.Values.{given_field}
 use Rattle.gql_inputs.proofs.missing.add_missing.Given as goal
 
 abbrev pub invariant-loop-index : goal.invariant-loop-index
-invariant-loop-index g l = l.found.items ≡ l.initial.found.items ++ flat_map (missing l.place (map given_field l.fields)) (take l.index (fields_in (g.T.InputType.form l.of_type)))
+invariant-loop-index g l = l.found.items ≡ l.initial.found.items ++ flat_map (missing l.place (map given_field l.fields)) (take l.index (required_in (g.T.InputType.form l.of_type)))

@@ -1,7 +1,8 @@
-use Rattle.std.proofs.Common.{◌≡◌, ◌++◌, flat_map, take}
+use Rattle.std.proofs.Common.{◌≡◌, ◌++◌, filter, flat_map, take}
 use Rattle.gql_rules.specs.V10RequiredArguments.{fault_about}
+use Rattle.gql_rules.proofs.Requiring.{required_fact}
 use Rattle.gql_rules.proofs.v10_required_arguments.check_all.Given as goal
 
-abbrev pub invariant-loop-input : goal.invariant-loop-input
-invariant-loop-input l = l.faults.items
-    ≡ l.initial.faults.items ++ flat_map (fault_about l.owner l.at l.given) (take l.input-index l.inputs)
+abbrev pub invariant-loop-index : goal.invariant-loop-index
+invariant-loop-index l = l.faults.items
+    ≡ l.initial.faults.items ++ flat_map (fault_about l.owner l.at l.given) (take l.index (filter required_fact l.defined))
