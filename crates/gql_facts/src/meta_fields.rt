@@ -5,7 +5,7 @@ ghost use Rattle.gql_types.specs.declared.written_type.Wrapper.TheVariants.{NonN
 
 use crate::fact::{FieldFact, InputFact};
 use gql_ast::{Items, Shared, Text};
-use gql_types::{Named, Wrapper, WrittenType};
+use gql_types::{DefinedInputs, Wrapper, WrittenType};
 use std::alloc::{AllocError, Global};
 
 /// The three fields that no type lists.
@@ -47,7 +47,7 @@ fn typename_field(alloc: Global) -> Result<FieldFact, AllocError>
 {
     Ok(FieldFact {
         of_type: required(alloc, "String")?,
-        arguments: Named::new(alloc, Vec::new(alloc))?,
+        arguments: DefinedInputs::new(alloc, Vec::new(alloc))?,
     })
 }
 
@@ -56,7 +56,7 @@ fn schema_field(alloc: Global) -> Result<FieldFact, AllocError>
 {
     Ok(FieldFact {
         of_type: required(alloc, "__Schema")?,
-        arguments: Named::new(alloc, Vec::new(alloc))?,
+        arguments: DefinedInputs::new(alloc, Vec::new(alloc))?,
     })
 }
 
@@ -71,7 +71,7 @@ fn type_field(alloc: Global) -> Result<FieldFact, AllocError>
     })?;
     Ok(FieldFact {
         of_type: named(alloc, "__Type")?,
-        arguments: Named::new(alloc, arguments)?,
+        arguments: DefinedInputs::new(alloc, arguments)?,
     })
 }
 
