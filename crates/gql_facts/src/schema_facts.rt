@@ -12,7 +12,9 @@ use gql_ast::{
     DirectiveDefinition, DirectiveLocation, EnumValueDefinition, FieldDefinition,
     InputValueDefinition, Items, OperationKind, Shared, Text,
 };
-use gql_types::{DefinedInputs, HasName, Named, Root, Schema, SchemaType, Sited, TypeKind, WrittenType};
+use gql_types::{
+    DefinedInputs, HasName, Named, Root, Schema, SchemaType, Sited, TypeKind, WrittenType,
+};
 use std::alloc::{AllocError, Global};
 
 /// A field of a type, with its fact.

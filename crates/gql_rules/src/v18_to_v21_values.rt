@@ -72,7 +72,10 @@ fn check_repeats(
 }
 
 /// The definition of an argument among these, if they are known.
-fn definition_of<'i>(known: Option<&'i DefinedInputs<InputFact>>, name: &str) -> Option<&'i InputFact>
+fn definition_of<'i>(
+    known: Option<&'i DefinedInputs<InputFact>>,
+    name: &str,
+) -> Option<&'i InputFact>
     ensures { option_copied result ≡ spec.definition_of (option_copied known.entry) name.now }
 {
     match known {

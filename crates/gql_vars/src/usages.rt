@@ -269,7 +269,10 @@ fn check_field<W: World>(
 }
 
 /// The definition of an argument among these, if they are known.
-fn definition_of<'i>(known: Option<&'i DefinedInputs<InputFact>>, name: &str) -> Option<&'i InputFact>
+fn definition_of<'i>(
+    known: Option<&'i DefinedInputs<InputFact>>,
+    name: &str,
+) -> Option<&'i InputFact>
     ensures { option_copied result ≡ values.definition_of (option_copied known.entry) name.now }
 {
     match known {
