@@ -19,3 +19,11 @@ loop-index-preserved g c = let f = field_form c.required_at-field.result in grin
   same_missing c.args.place f (c.in_ok-names.ensures f.name) (c.in_ok-nulls.ensures f.name),
   one_more (missing c.args.place (map given_field c.args.fields.now)) (required_in (g.T.InputType.form c.args.of_type.now)) c.loop-index.index f c.required_at-field.ensures,
 )
+
+pub returns : goal.returns
+returns g c = grind (
+  arith,
+  common_steps,
+  c.loop-index.invariant,
+  of_required c.args.place (map given_field c.args.fields.now) (fields_in (g.T.InputType.form c.args.of_type.now)),
+)

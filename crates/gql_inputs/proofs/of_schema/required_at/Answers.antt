@@ -1,4 +1,4 @@
-use Rattle.std.proofs.Common.{◌∙◌, ◌&&◌, Some, ap, subst, sym, not, is_some, arith}
+use Rattle.std.proofs.Common.{◌∙◌, ◌&&◌, Some, ap, sym, not, is_some}
 use Rattle.gql_ast.specs.declared.type_system.InputValueDefinition.{InputValueDefinition}
 use Rattle.gql_built_in.specs.declared.sited.Sited.{Sited}
 use Rattle.gql_types.specs.RequiredInputs.{is_required_input}
