@@ -1,4 +1,4 @@
-//! Measures the registry and the crates below it. With the argument `run` it prints a line for each
+//! Measures the crates below the registry. With the argument `run` it prints a line for each
 //! figure; with no argument it prints nothing.
 #![tactic(auto)]
 
@@ -6,14 +6,12 @@ use anyhow::Result;
 use std::env;
 
 mod documents;
-mod edits;
 mod facts;
 mod lexer;
 mod merging;
 mod rules;
 mod schemas;
 mod speed;
-mod stored;
 mod values;
 
 fn is_wanted(rt: &HostRuntime) -> Result<bool> {
@@ -34,8 +32,6 @@ fn main(rt: HostRuntime) -> Result<()> {
         facts::measure(&rt)?;
         rules::measure(&rt)?;
         merging::measure(&rt)?;
-        edits::measure(&rt)?;
-        stored::measure(&rt)?;
         values::measure(&rt)?;
     }
     Ok(())

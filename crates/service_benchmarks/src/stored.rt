@@ -1,6 +1,6 @@
 //! Times of edits where operations are stored: each has a verdict, and an edit examines only those
 //! that it can touch.
-use crate::speed::micros;
+use crate::times::micros;
 use anyhow::Result;
 use gql_ast::FileName;
 use gql_registry::Registry;

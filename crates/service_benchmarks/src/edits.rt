@@ -1,6 +1,6 @@
 //! How long an edit takes: one schema file of many is put again, and the report of all is made
 //! anew, with 12, 48 and 192 files.
-use crate::speed::micros;
+use crate::times::micros;
 use anyhow::Result;
 use gql_ast::FileName;
 use gql_registry::Registry;
