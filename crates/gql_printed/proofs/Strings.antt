@@ -11,7 +11,7 @@ use Rattle.gql_text.specs.Strings.{IsStringCharacter, IsStringCharacters, IsStri
 use Rattle.gql_ast.specs.LiteralTexts.{escaped, string_text}
 
 -- what holds below a number, one by one
-abbrev Below : (ℕ → Type 0) → ℕ → Type 0
+abbrev pub Below : (ℕ → Type 0) → ℕ → Type 0
 Below P zero = Unit {0}
 Below P (suc n) = Below P n × P n
 
@@ -19,19 +19,19 @@ below_at : (P : ℕ → Type 0) (n b : ℕ) (t : Bool) → (b == n) ≡ t → b 
 below_at P n b true e less last earlier = subst P (sym (eqb-true b n e)) last
 below_at P n b false e less last earlier = earlier (grind (arith, nat_tests, e, less))
 
-below : (P : ℕ → Type 0) (n : ℕ) → Below P n → (b : ℕ) → b < n → P b
+pub below : (P : ℕ → Type 0) (n : ℕ) → Below P n → (b : ℕ) → b < n → P b
 below P zero h b less = absurd (omega arith)
 below P (suc n) h b less = below_at P n b (b == n) refl less h.1 (λ fewer. below P n h.0 b fewer)
 
 -- the four digits of a control character write its number
-abbrev Digits : ℕ → Type 0
+abbrev pub Digits : ℕ → Type 0
 Digits b = four_digits (48 ∷ 48 ∷ digit_char (b / 16) ∷ digit_char (b % 16) ∷ []) ≡ Some b
 
 sixteen : Below Digits 16
 unfolding four_digits
 sixteen = ((((((((((((((((tt, refl), refl), refl), refl), refl), refl), refl), refl), refl), refl), refl), refl), refl), refl), refl), refl)
 
-controls : Below Digits 32
+pub controls : Below Digits 32
 unfolding four_digits
 controls = ((((((((((((((((sixteen, refl), refl), refl), refl), refl), refl), refl), refl), refl), refl), refl), refl), refl), refl), refl), refl)
 
