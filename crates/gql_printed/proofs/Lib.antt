@@ -1,3 +1,7 @@
 pub mod Strings
 pub mod Followed
 pub mod Quoted
+pub mod Unplaced
+pub mod Steps
+pub mod Tokens
+pub mod Printed
