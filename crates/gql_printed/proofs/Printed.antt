@@ -199,3 +199,116 @@ module _ {A : Type 0} (symbol : Phrase A) (bare : A → A) (text_of : A → List
         derived = (goes first.tokens first.goes_on, others.tokens, first.derived, others.derived);
         same = ap₂ (λ y ys. y ∷ ys) first.same others.same;
       }
+
+-- ---- lists
+
+list_is : (c : Bool) (p q : Place) (items : List Literal) (inner later : List Lexeme)
+    → Items (before k.RightBracket) (value c).Allows inner items (record { kind = k.RightBracket; text = codes "]"; place = q } ∷ later)
+    → Derives (value c) (record { kind = k.LeftBracket; text = codes "["; place = p } ∷ inner) (l.List p items) later
+unfolding list_of
+list_is c p q items inner later h =
+    let first : Lexeme = record { kind = k.LeftBracket; text = codes "["; place = p } in
+    let last : Lexeme = record { kind = k.RightBracket; text = codes "]"; place = q } in
+    by_rule c (first ∷ inner) later (l.List p items)
+    (inr (first, inner, token_is first inner, inr (items, last ∷ later, (items, refl, h, closed last later), inr (last, later, token_is last later, refl))))
+
+list_read : (c : Bool) (p : Place) (items : List Literal) → Each (IsRead c) items → IsRead c (l.List p items)
+unfolding Reads plain_part
+list_read c p items h = subst (λ t. Reads (value c) without_places (l.List p items) t) (sym (text_list p items)) (λ front rest later ends t.
+    let text : List ℕ = with_commas (map literal_text items) in
+    let start : List ℕ = front ++ codes "[" in
+    let close : Lexeme = lexeme_at k.RightBracket (codes "]") (start ++ text) in
+    let inner = items_read (value c) without_places literal_text (before k.RightBracket) (λ ts on. on.list) items h false start (93 ∷ rest) (close ∷ later) refl
+    (mark k.RightBracket 93 (start ++ text) rest later refl refl (apart start text (codes "]") rest later (apart front (codes "[") (text ++ codes "]") rest later t))) in
+    record {
+      tokens = lexeme_at k.LeftBracket (codes "[") front ∷ inner.tokens;
+      parsed = l.List (place_after front) inner.parsed;
+      lexed = mark k.LeftBracket 91 front ((text ++ codes "]") ++ rest) inner.tokens refl refl (joined start text (codes "]") rest inner.tokens inner.lexed);
+      derived = list_is c (place_after front) (place_after (start ++ text)) inner.parsed inner.tokens later inner.derived;
+      same = of_list (place_after front) inner.parsed ∙ ap (λ xs. l.List no_place xs) inner.same ∙ sym (of_list p items);
+      goes_on = on_bracket (codes "[") (place_after front) inner.tokens;
+    })
+
+-- ---- objects
+
+field_is : (c : Bool) (n : List ℕ) (p q : Place) (x : Literal) (inner later : List Lexeme) → Derives (value c) inner x later
+    → Derives (object_field_of (value c)) (record { kind = k.Name; text = n; place = p } ∷ record { kind = k.Colon; text = codes ":"; place = q } ∷ inner)
+    (record { name = record { place = p; text = n }; value = x }) later
+unfolding object_field_of
+field_is c n p q x inner later h =
+    let colon : Lexeme = record { kind = k.Colon; text = codes ":"; place = q } in
+    inr (record { place = p; text = n }, colon ∷ inner, name_is n p (colon ∷ inner), inr (colon, inner, token_is colon inner, inr (x, later, h, refl)))
+
+abbrev IsFieldRead : Bool → ObjectField → Type 0
+IsFieldRead c f = Reads (object_field_of (value c)) field_without_places f (object_field_text f)
+
+field_read : (c : Bool) (f : ObjectField) → IsName f.name.text → IsRead c f.value → IsFieldRead c f
+unfolding Reads plain_part
+field_read c f is h front rest later ends t =
+    let n : List ℕ = f.name.text in
+    let v : List ℕ = literal_text f.value in
+    let start : List ℕ = front ++ n in
+    let inner = h (start ++ codes ": ") rest later ends (apart start (codes ": ") v rest later (apart front n (codes ": " ++ v) rest later t)) in
+    let colon : Lexeme = lexeme_at k.Colon (codes ":") start in
+    let spaced : Tokens (start ++ codes ":") (32 ∷ (v ++ rest)) inner.tokens = space (start ++ codes ":") (v ++ rest) inner.tokens (apart start (codes ":") (codes " ") (v ++ rest) inner.tokens inner.lexed) in
+    record {
+      tokens = lexeme_at k.Name n front ∷ colon ∷ inner.tokens;
+      parsed = record { name = record { place = place_after front; text = n }; value = inner.parsed };
+      lexed = joined front n (codes ": " ++ v) rest _ (next k.Name n front ((codes ": " ++ v) ++ rest) (colon ∷ inner.tokens) (name_followed n ((codes ": " ++ v) ++ rest) is refl)
+      (mark k.Colon 58 start (32 ∷ (v ++ rest)) inner.tokens refl refl spaced));
+      derived = field_is c n (place_after front) (place_after start) inner.parsed inner.tokens later inner.derived;
+      same = ap (λ x. record { name = record { place = no_place; text = n }; value = x }) inner.same;
+      goes_on = on_name n (place_after front) (colon ∷ inner.tokens);
+    }
+
+object_is : (c : Bool) (p q : Place) (fields : List ObjectField) (inner later : List Lexeme)
+    → Items (before k.RightBrace) (object_field_of (value c)).Allows inner fields (record { kind = k.RightBrace; text = codes "}"; place = q } ∷ later)
+    → Derives (value c) (record { kind = k.LeftBrace; text = codes "{"; place = p } ∷ inner) (l.Object p fields) later
+unfolding object_of
+object_is c p q fields inner later h =
+    let first : Lexeme = record { kind = k.LeftBrace; text = codes "{"; place = p } in
+    let last : Lexeme = record { kind = k.RightBrace; text = codes "}"; place = q } in
+    by_rule c (first ∷ inner) later (l.Object p fields)
+    (inr (first, inner, token_is first inner, inr (fields, last ∷ later, (fields, refl, h, closed last later), inr (last, later, token_is last later, refl))))
+
+object_read : (c : Bool) (p : Place) (fields : List ObjectField) → Each (IsFieldRead c) fields → IsRead c (l.Object p fields)
+unfolding Reads plain_part
+object_read c p fields h = subst (λ t. Reads (value c) without_places (l.Object p fields) t) (sym (text_object p fields)) (λ front rest later ends t.
+    let text : List ℕ = with_commas (map object_field_text fields) in
+    let start : List ℕ = front ++ codes "{" in
+    let close : Lexeme = lexeme_at k.RightBrace (codes "}") (start ++ text) in
+    let inner = items_read (object_field_of (value c)) field_without_places object_field_text (before k.RightBrace) (λ ts on. on.object) fields h false start (125 ∷ rest) (close ∷ later) refl
+    (mark k.RightBrace 125 (start ++ text) rest later refl refl (apart start text (codes "}") rest later (apart front (codes "{") (text ++ codes "}") rest later t))) in
+    record {
+      tokens = lexeme_at k.LeftBrace (codes "{") front ∷ inner.tokens;
+      parsed = l.Object (place_after front) inner.parsed;
+      lexed = mark k.LeftBrace 123 front ((text ++ codes "}") ++ rest) inner.tokens refl refl (joined start text (codes "}") rest inner.tokens inner.lexed);
+      derived = object_is c (place_after front) (place_after (start ++ text)) inner.parsed inner.tokens later inner.derived;
+      same = of_object (place_after front) inner.parsed ∙ ap (λ xs. l.Object no_place xs) inner.same ∙ sym (of_object p fields);
+      goes_on = on_brace (codes "{") (place_after front) inner.tokens;
+    })
+
+-- ---- all literals
+
+variable_unless_constant : (c : Bool) (p : Place) (n : List ℕ) → c ≡ false → IsName n → IsRead c (l.Variable p n)
+variable_unless_constant c p n is h = subst (λ b. IsRead b (l.Variable p n)) (sym is) (variable_read p n h)
+
+mutual
+  read : {c : Bool} {x : Literal} → IsWritten c x → IsRead c x
+  read {c} (variable p n is free h) = subst (IsRead c) (sym is) (variable_unless_constant c p n free h)
+  read {c} (int p t is h) = subst (IsRead c) (sym is) (int_read c p t h)
+  read {c} (float p t is h) = subst (IsRead c) (sym is) (float_read c p t h)
+  read {c} (string p t is) = subst (IsRead c) (sym is) (string_read c p t)
+  read {c} (boolean p b is) = subst (IsRead c) (sym is) (boolean_read c p b)
+  read {c} (null p is) = subst (IsRead c) (sym is) (null_read c p)
+  read {c} (enum p n is h) = subst (IsRead c) (sym is) (enum_read c p n h)
+  read {c} (list p xs is h) = subst (IsRead c) (sym is) (list_read c p xs (read_items h))
+  read {c} (object p fs is h) = subst (IsRead c) (sym is) (object_read c p fs (read_fields h))
+
+  read_items : {c : Bool} {xs : List Literal} → AreWritten c xs → Each (IsRead c) xs
+  read_items no_items = tt
+  read_items (item h hs) = (read h, read_items hs)
+
+  read_fields : {c : Bool} {fs : List ObjectField} → AreWrittenFields c fs → Each (IsFieldRead c) fs
+  read_fields no_fields = tt
+  read_fields {c} (field {f = f} n h hs) = (field_read c f n (read h), read_fields hs)
