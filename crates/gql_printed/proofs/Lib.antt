@@ -5,3 +5,4 @@ pub mod Unplaced
 pub mod Steps
 pub mod Tokens
 pub mod Printed
+pub mod Found

@@ -23,6 +23,7 @@ use Rattle.gql_grammar.specs.Symbol.{Phrase, Derives, before, sees}
 use Rattle.gql_grammar.specs.Repetition.{Items}
 use Rattle.gql_parse.specs.Names.{name}
 use Rattle.gql_parse.specs.Values.{value, list_of, object_of, object_field_of, word_value}
+use Rattle.gql_printed.specs.Laws.{WrittenIsParsed}
 use Rattle.gql_printed.specs.Same.{no_place, without_places}
 use Rattle.gql_printed.specs.Written.{IsEnumName, IsWritten, variable, int, float, string, boolean, null, enum, list, object, AreWritten, no_items, item, AreWrittenFields, no_fields, field}
 use Rattle.gql_printed.proofs.Strings.{string_is as is_string}
@@ -312,3 +313,15 @@ mutual
   read_fields : {c : Bool} {fs : List ObjectField} → AreWrittenFields c fs → Each (IsFieldRead c) fs
   read_fields no_fields = tt
   read_fields {c} (field {f = f} n h hs) = (field_read c f n (read h), read_fields hs)
+
+pub written_parsed : WrittenIsParsed
+unfolding Reads
+written_parsed c x h short =
+    let r = read h [] [] [] refl at_end in
+    record {
+      tokens = r.tokens;
+      parsed = r.parsed;
+      lexed = record { short = short; tokens_of = subst (λ text. Tokens [] text r.tokens) (append-nil (literal_text x)) r.lexed };
+      derived = r.derived;
+      same_value = r.same;
+    }
