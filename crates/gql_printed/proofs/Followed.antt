@@ -1,14 +1,14 @@
 -- A token stays the same with more text after it that does not continue it.
-use Rattle.std.proofs.Common.{◌≡◌, ◌≢◌, ℕ, ◌+◌, ◌-◌, ◌≤◌, List, [], ◌∷◌, ◌++◌, length, take, drop, length-drop, refl, sym, ap, subst, ◌∙◌, arith, Bool, true, false, cond, Some, None, Option, inl, inr}
+use Rattle.std.proofs.Common.{◌≡◌, ◌≢◌, ℕ, ◌+◌, ◌≤◌, List, [], ◌∷◌, ◌++◌, length, drop, length-drop, refl, sym, ◌∙◌, arith, Bool, true, false, cond, inl, inr}
 use Rattle.std.specs.List.{prefix_len}
 use Rattle.std.specs.Char.{is_ascii_digit}
-use Rattle.std.specs.Prelude.{◌==◌, ◌&&◌, ◌||◌, not}
+use Rattle.std.specs.Prelude.{◌==◌, ◌||◌, not}
 use Rattle.std.proofs.lemmas.List.{drop-append-le}
 use Rattle.std.proofs.lemmas.List.Sums.{prefix_len-le-length}
 use Rattle.std.proofs.lemmas.Bool.Decides.{nat_tests}
 use Rattle.gql_text.specs.Chars.{is_name_start, is_name_byte, is_break, is_blank, is_source_byte, begins}
 use Rattle.gql_text.specs.Number.{number_end, exponent_digits, exponent_part, fraction_digits, fraction_part, number_part, spoils_number, is_exponent_mark, sign_len}
-use Rattle.gql_text.specs.Marks.{mark_kind, mark_part, dots_part, order_part, comment_part, plain_part}
+use Rattle.gql_text.specs.Marks.{dots_part, comment_part, plain_part}
 use Rattle.gql_text.specs.Lexis.{Stands, block_string, string, plain}
 use Rattle.gql_text.specs.Laws.{IsToken}
 use Rattle.gql_text.specs.declared.token.Kind.{Kind}

@@ -1,8 +1,8 @@
 -- A literal that the tokens of a text derive is one that a document can write.
-use Rattle.std.proofs.Common.{◌≡◌, ◌≢◌, ℕ, zero, suc, List, [], ◌∷◌, ◌++◌, length, refl, sym, ap, subst, ◌∙◌, Bool, true, false, true≢false, cond, Ok, Err, inl, inr, ◌⊎◌}
+use Rattle.std.proofs.Common.{◌≡◌, ℕ, zero, suc, List, [], ◌∷◌, ◌++◌, length, refl, sym, ap, subst, ◌∙◌, Bool, true, false, true≢false, cond, Ok, Err, inl, inr}
 use Rattle.std.specs.Prelude.{codes, bytes_eq}
 use Rattle.std.proofs.lemmas.Slice.Eq.{bytes_eq-Decides}
-use Rattle.gql_text.specs.Grammar.{IsName, IsInteger, IsFloat}
+use Rattle.gql_text.specs.Grammar.{IsName}
 use Rattle.gql_text.specs.Kinds.{same_kind_true}
 use Rattle.gql_text.specs.Laws.{IsToken}
 use Rattle.gql_text.specs.Lexeme.{Lexeme}
@@ -21,8 +21,8 @@ use Rattle.gql_grammar.specs.Repetition.{Items, any_while}
 use Rattle.gql_grammar.specs.Recursion.{nested, recursive}
 use Rattle.gql_parse.specs.Names.{name, name_of}
 use Rattle.gql_parse.specs.Values.{value, value_of, value_by, variable_unless, variable as variable_phrase, int as int_phrase, float as float_phrase, string as string_phrase, block_string, word_literal, word_value, list_of, object_of, object_field_of}
-use Rattle.gql_printed.specs.Laws.{IsFound, FoundIsWritten}
-use Rattle.gql_printed.specs.Written.{IsEnumName, IsWritten, variable, int, float, string, boolean, null, enum, list, object, AreWritten, no_items, item, AreWrittenFields, no_fields, field}
+use Rattle.gql_printed.specs.Laws.{FoundIsWritten}
+use Rattle.gql_printed.specs.Written.{IsWritten, variable, int, float, string, boolean, null, enum, list, object, AreWritten, no_items, item, AreWrittenFields, no_fields, field}
 
 abbrev Each : {A : Type 0} → (A → Type 0) → List A → Type 0
 Each P [] = Unit {0}
@@ -121,9 +121,10 @@ module _ (c : Bool) where
     by : Derives (name >>= (λ (n : Name). pure (l.Variable h.0.place n.text))) h.1 x rest → IsWritten c x × Each IsOwn rest
     by (inl g) = absurd (let e = g.2 in cc)
     by (inr g) =
-        let found = finds_name h.1 g.1 g.0 g.2 first.1 in
-        (variable h.0.place g.0.text (sym (same_value (l.Variable h.0.place g.0.text) x g.1 rest g.3)) is found.0,
-        subst (λ ws. Each IsOwn ws) (same_rest (l.Variable h.0.place g.0.text) x g.1 rest g.3) found.1)
+        let found = finds_name h.1 g.1 g.0 g.2 first.1 in (
+          variable h.0.place g.0.text (sym (same_value (l.Variable h.0.place g.0.text) x g.1 rest g.3)) is found.0,
+          subst (λ ws. Each IsOwn ws) (same_rest (l.Variable h.0.place g.0.text) x g.1 rest g.3) found.1,
+        )
 
   are_written : (xs : List Literal) → Each (IsWritten c) xs → AreWritten c xs
   are_written [] h = no_items

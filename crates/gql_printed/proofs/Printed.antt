@@ -1,9 +1,8 @@
 -- The text of a literal, before other text, has tokens that derive a literal of the same value.
-use Rattle.std.proofs.Common.{◌≡◌, ◌≢◌, ℕ, List, [], ◌∷◌, ◌++◌, length, map, append_assoc, append-nil, refl, sym, ap, ap₂, subst, ◌∙◌, Bool, true, false, Ok, inr}
+use Rattle.std.proofs.Common.{◌≡◌, ◌≢◌, ℕ, List, [], ◌∷◌, ◌++◌, length, map, append-nil, refl, sym, ap, ap₂, subst, ◌∙◌, Bool, true, false, inr}
 use Rattle.std.specs.Prelude.{codes, bytes_eq}
 use Rattle.std.proofs.lemmas.Slice.Eq.{bytes_eq-Decides}
-use Rattle.gql_text.specs.Grammar.{IsName, IsInteger, IsFloat, mark_text}
-use Rattle.gql_text.specs.Laws.{IsToken}
+use Rattle.gql_text.specs.Grammar.{IsName, IsInteger, IsFloat}
 use Rattle.gql_text.specs.Lexeme.{Lexeme}
 use Rattle.gql_text.specs.Lexis.{Stands, Tokens, at_end}
 use Rattle.gql_text.specs.Marks.{plain_part}
@@ -15,13 +14,12 @@ use Rattle.gql_text.specs.declared.token.Kind.TheVariants as k
 use Rattle.gql_text.specs.declared.front.Part.TheVariants.{Taken}
 use Rattle.gql_text.proofs.Grammars.{name_token, integer_token, float_token}
 use Rattle.gql_text.proofs.StringRules.{string_text as value_of_string}
-use Rattle.gql_ast.specs.LiteralTexts.{Text, literal_text, boolean_text, string_text, comma_if, comma_list, with_commas, object_field_text, text_variable, text_int, text_float, text_string, text_boolean, text_null, text_enum, text_list, text_object}
+use Rattle.gql_ast.specs.LiteralTexts.{literal_text, string_text, comma_if, comma_list, with_commas, object_field_text, text_variable, text_int, text_float, text_string, text_boolean, text_null, text_enum, text_list, text_object}
 use Rattle.gql_ast.specs.declared.literal.Literal.{Literal}
 use Rattle.gql_ast.specs.declared.literal.Literal.TheVariants as l
 use Rattle.gql_ast.specs.declared.literal.ObjectField.{ObjectField}
 use Rattle.gql_grammar.specs.Symbol.{Phrase, Derives, before, sees}
 use Rattle.gql_grammar.specs.Repetition.{Items}
-use Rattle.gql_parse.specs.Names.{name}
 use Rattle.gql_parse.specs.Values.{value, list_of, object_of, object_field_of, word_value}
 use Rattle.gql_printed.specs.Laws.{WrittenIsParsed}
 use Rattle.gql_printed.specs.Same.{no_place, without_places}
@@ -158,7 +156,7 @@ variable_read p n is = subst (λ t. Reads (value false) without_places (l.Variab
   tokens = lexeme_at k.Dollar (codes "$") front ∷ lexeme_at k.Name n (front ++ codes "$") ∷ later;
   parsed = l.Variable (place_after front) n;
   lexed = mark k.Dollar 36 front (n ++ rest) (lexeme_at k.Name n (front ++ codes "$") ∷ later) refl refl
-  (next k.Name n (front ++ codes "$") rest later (name_followed n rest is ends) (apart front (codes "$") n rest later t));
+      (next k.Name n (front ++ codes "$") rest later (name_followed n rest is ends) (apart front (codes "$") n rest later t));
   derived = variable_is n (place_after front) (place_after (front ++ codes "$")) later;
   same = of_variable (place_after front) n ∙ sym (of_variable p n);
   goes_on = on_dollar (codes "$") (place_after front) (lexeme_at k.Name n (front ++ codes "$") ∷ later);
@@ -256,7 +254,7 @@ field_read c f is h front rest later ends t =
       tokens = lexeme_at k.Name n front ∷ colon ∷ inner.tokens;
       parsed = record { name = record { place = place_after front; text = n }; value = inner.parsed };
       lexed = joined front n (codes ": " ++ v) rest _ (next k.Name n front ((codes ": " ++ v) ++ rest) (colon ∷ inner.tokens) (name_followed n ((codes ": " ++ v) ++ rest) is refl)
-      (mark k.Colon 58 start (32 ∷ (v ++ rest)) inner.tokens refl refl spaced));
+          (mark k.Colon 58 start (32 ∷ (v ++ rest)) inner.tokens refl refl spaced));
       derived = field_is c n (place_after front) (place_after start) inner.parsed inner.tokens later inner.derived;
       same = ap (λ x. record { name = record { place = no_place; text = n }; value = x }) inner.same;
       goes_on = on_name n (place_after front) (colon ∷ inner.tokens);

@@ -1,10 +1,10 @@
 -- The text of a string is read as that token, whatever follows that is no quote.
-use Rattle.std.proofs.Common.{◌≡◌, ℕ, zero, suc, ◌+◌, ◌<◌, List, [], ◌∷◌, ◌++◌, length, drop, length-append, append_assoc, refl, sym, ap, subst, ◌∙◌, arith, Bool, true, false, cond, Some}
-use Rattle.std.specs.Prelude.{codes, ◌==◌, ◌/◌, ◌%◌, ◌&&◌, not, nat_lt, flat_map}
+use Rattle.std.proofs.Common.{◌≡◌, ℕ, ◌+◌, ◌<◌, List, [], ◌∷◌, ◌++◌, length, length-append, append_assoc, refl, sym, ap, subst, ◌∙◌, arith, Bool, true, false, cond}
+use Rattle.std.specs.Prelude.{codes, ◌==◌, ◌/◌, ◌%◌, nat_lt, flat_map}
 use Rattle.std.specs.Char.{digit_char}
 use Rattle.std.proofs.Math.Seq.{drop-append_seam}
 use Rattle.std.proofs.lemmas.Bool.Decides.{nat_tests}
-use Rattle.gql_text.specs.Chars.{is_break, is_source_byte, begins, one_quote}
+use Rattle.gql_text.specs.Chars.{is_break, is_source_byte, one_quote}
 use Rattle.gql_text.specs.Pieces.{four_digits, is_high, is_low, digits_piece, escape_piece, string_piece}
 use Rattle.gql_text.specs.Lexis.{Run, closes, goes, Stands, string}
 use Rattle.gql_text.specs.declared.token.Kind.TheVariants.{StringValue}
@@ -12,7 +12,7 @@ use Rattle.gql_text.specs.declared.front.Part.TheVariants.{Taken}
 use Rattle.gql_text.specs.declared.front.Piece.TheVariants.{Closes, Goes}
 use Rattle.gql_ast.specs.LiteralTexts.{escaped, string_text}
 use Rattle.gql_printed.proofs.Strings.{Digits, below, controls}
-use Rattle.gql_printed.proofs.Followed.{Ends, continues}
+use Rattle.gql_printed.proofs.Followed.{Ends}
 
 -- ---- the pieces
 

@@ -1,6 +1,6 @@
 -- The tokens of a text, from those of the rest of it.
-use Rattle.std.proofs.Common.{◌≡◌, ℕ, List, [], ◌∷◌, ◌++◌, length, take, drop, append_assoc, append-nil, refl, sym, ap, subst, Bool, true, false}
-use Rattle.std.specs.Prelude.{◌==◌, codes}
+use Rattle.std.proofs.Common.{◌≡◌, ℕ, List, [], ◌∷◌, ◌++◌, length, append_assoc, append-nil, refl, sym, subst, Bool, true, false}
+use Rattle.std.specs.Prelude.{◌==◌}
 use Rattle.std.proofs.Math.Seq.{drop-append_seam, take-append_seam}
 use Rattle.gql_text.specs.Marks.{plain_part}
 use Rattle.gql_text.specs.Lexeme.{Lexeme}

@@ -1,11 +1,10 @@
 -- The text of a string is one token, and its value is the string.
-use Rattle.std.proofs.Common.{◌≡◌, ℕ, zero, suc, ◌<◌, List, [], ◌∷◌, ◌++◌, append_assoc, refl, sym, ap, subst, ◌∙◌, arith, Bool, true, false, cond, Some, inl, inr, ◌⊎◌}
-use Rattle.std.specs.Prelude.{codes, ◌==◌, ◌/◌, ◌%◌, nat_lt, nat_le, flat_map, encode_utf8}
+use Rattle.std.proofs.Common.{◌≡◌, ℕ, zero, suc, ◌<◌, List, [], ◌∷◌, ◌++◌, refl, sym, subst, arith, Bool, true, false, cond, Some}
+use Rattle.std.specs.Prelude.{codes, ◌==◌, ◌/◌, ◌%◌, nat_lt, flat_map, encode_utf8}
 use Rattle.std.specs.Char.{digit_char}
 use Rattle.std.proofs.lemmas.Bool.{eqb-true}
 use Rattle.std.proofs.lemmas.Bool.Decides.{nat_tests}
-use Rattle.gql_text.specs.Chars.{is_source_byte}
-use Rattle.gql_text.specs.Pieces.{four_digits, is_high, is_low}
+use Rattle.gql_text.specs.Pieces.{four_digits}
 use Rattle.gql_text.specs.Strings as s
 use Rattle.gql_text.specs.Strings.{IsStringCharacter, IsStringCharacters, IsString}
 use Rattle.gql_ast.specs.LiteralTexts.{escaped, string_text}

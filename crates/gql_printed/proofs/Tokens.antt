@@ -1,11 +1,10 @@
 -- What tokens derive.
-use Rattle.std.proofs.Common.{◌≡◌, ◌≢◌, ℕ, List, [], ◌∷◌, refl, sym, ap, ◌∙◌, Bool, true, false, Ok, inr}
-use Rattle.std.specs.Prelude.{codes, not, bytes_eq}
+use Rattle.std.proofs.Common.{◌≡◌, ℕ, List, ◌∷◌, refl, sym, ap, Bool, true, false, Ok, inr}
+use Rattle.std.specs.Prelude.{codes, not}
 use Rattle.gql_text.specs.Kinds.{same_kind_same}
 use Rattle.gql_text.specs.Lexeme.{Lexeme}
 use Rattle.gql_text.specs.Values.{text_value}
 use Rattle.gql_text.specs.declared.place.Place.{Place}
-use Rattle.gql_text.specs.declared.token.Kind.{Kind}
 use Rattle.gql_text.specs.declared.token.Kind.TheVariants as k
 use Rattle.gql_ast.specs.declared.literal.Literal.{Literal}
 use Rattle.gql_ast.specs.declared.literal.Literal.TheVariants as l

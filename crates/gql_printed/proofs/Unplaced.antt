@@ -1,8 +1,8 @@
 -- Literals without places, by their form.
 use Rattle.std.proofs.Common.{◌≡◌, ℕ, List, [], ◌∷◌, Bool, map, refl, sym, ap, ◌∙◌}
 use Rattle.gql_text.specs.declared.place.Place.{Place}
-use Rattle.gql_ast.specs.declared.literal.Literal.{Literal, fold-Literal}
-use Rattle.gql_ast.specs.declared.literal.Literal.TheOpen.{Literal-F, ObjectField-F}
+use Rattle.gql_ast.specs.declared.literal.Literal.{Literal}
+use Rattle.gql_ast.specs.declared.literal.Literal.TheOpen.{Literal-F}
 use Rattle.gql_ast.specs.declared.literal.Literal.TheFolds.{fold-roll-Literal, fold_out-ObjectField}
 use Rattle.gql_ast.specs.declared.literal.Literal.TheVariants as l
 use Rattle.gql_ast.specs.declared.literal.ObjectField.{ObjectField, fold-ObjectField}
