@@ -1,0 +1,44 @@
+-- What holds of the text of a literal.
+use Rattle.std.specs.Prelude.{◌≡◌, ◌≤◌, ℕ, List, [], ◌++◌, length, Bool}
+use Rattle.gql_text.specs.Lexeme.{Lexeme}
+use Rattle.gql_text.specs.Lexis.{IsLexed, text_limit}
+use Rattle.gql_ast.specs.LiteralTexts.{literal_text}
+use Rattle.gql_ast.specs.declared.literal.Literal.{Literal}
+use Rattle.gql_grammar.specs.Symbol.{Derives}
+use Rattle.gql_parse.specs.Values.{value}
+use Rattle.gql_printed.specs.Same.{HaveSameValue}
+use Rattle.gql_printed.specs.Written.{IsWritten}
+
+-- the whole text has tokens, and they derive a literal of the same value
+pub record IsTextOf (constant : Bool) (text : List ℕ) (literal : Literal) : Type 0 where
+  pub tokens : List Lexeme
+  pub parsed : Literal
+  pub lexed : IsLexed text tokens
+  pub derived : Derives (value constant) tokens parsed []
+  pub same_value : HaveSameValue parsed literal
+
+-- tokens among those of a text derive the literal
+pub record IsFound (constant : Bool) (source : List ℕ) (literal : Literal) : Type 0 where
+  pub tokens : List Lexeme
+  pub lexed : IsLexed source tokens
+  pub earlier : List Lexeme
+  pub part : List Lexeme
+  pub later : List Lexeme
+  pub parts : earlier ++ (part ++ later) ≡ tokens
+  pub rest : List Lexeme
+  pub derived : Derives (value constant) part literal rest
+
+-- the text of a literal that a document can write parses to the same value
+abbrev pub WrittenIsParsed : Type 0
+WrittenIsParsed = (constant : Bool) (literal : Literal) → IsWritten constant literal
+    → length (literal_text literal) ≤ text_limit → IsTextOf constant (literal_text literal) literal
+
+-- a literal that is found in a text is one that a document can write
+abbrev pub FoundIsWritten : Type 0
+FoundIsWritten = (constant : Bool) (source : List ℕ) (literal : Literal) → IsFound constant source literal
+    → IsWritten constant literal
+
+-- the text of a literal that is found in a text parses to the same value
+abbrev pub FoundIsParsed : Type 0
+FoundIsParsed = (constant : Bool) (source : List ℕ) (literal : Literal) → IsFound constant source literal
+    → length (literal_text literal) ≤ text_limit → IsTextOf constant (literal_text literal) literal
