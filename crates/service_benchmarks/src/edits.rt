@@ -1,5 +1,6 @@
 //! How long an edit takes: one schema file of many is put again, and the report of all is made
-//! anew, with 12, 48 and 192 files.
+//! anew, with 12, 48 and 192 files; and one of four files that give two input objects 8,000 fields
+//! each, with and without default values.
 use crate::times::micros;
 use anyhow::Result;
 use gql_ast::FileName;
@@ -13,6 +14,12 @@ const TYPES: u64 = 100;
 
 /// How often a file is put again.
 const ROUNDS: u64 = 5;
+
+/// How many fields each file of fields adds.
+const FIELDS: u64 = 4_000;
+
+/// Two input objects, to which the files of fields add.
+const INPUTS: &str = "type Query { a(of: A): Int } input A { a: Int } input B { b: Int }";
 
 /// The file on which the types of all others depend.
 const ROOTS: &str = "type Query { node(id: ID!): Node } interface Node { id: ID! }\n";
@@ -33,10 +40,9 @@ fn text(alloc: Global, file: u64) -> Result<String> {
 }
 
 /// Puts a file, and answers how many faults there are then.
-fn put(alloc: Global, registry: &mut Registry, file: u64, text: &str) -> Result<u64> {
-    let name = format!(in alloc; "f{file}")?;
+fn put(alloc: Global, registry: &mut Registry, name: &str, text: &str) -> Result<u64> {
     let mut meter = Meter::new(alloc);
-    if let Some(name) = FileName::read(name.as_str()) {
+    if let Some(name) = FileName::read(name) {
         if let Ok(edited) = registry.put_schema(name, text.as_bytes(), None, &mut meter) {
             return Ok(edited.faults);
         }
@@ -48,8 +54,9 @@ fn put(alloc: Global, registry: &mut Registry, file: u64, text: &str) -> Result<
 fn filled(alloc: Global, count: u64) -> Result<Registry> {
     let mut registry = Registry::new(alloc);
     for file in 0..count {
+        let name = format!(in alloc; "f{file}")?;
         let text = text(alloc, file)?;
-        put(alloc, &mut registry, file, text.as_str())?;
+        put(alloc, &mut registry, name.as_str(), text.as_str())?;
     }
     Ok(registry)
 }
@@ -60,10 +67,41 @@ fn measure_edit(rt: &HostRuntime, count: u64) -> Result<()> {
     let mut faults: u64 = 0;
     let start = Instant::now(rt)?;
     for _round in 0..ROUNDS {
-        faults = put(rt.alloc(), &mut registry, 1, text.as_str())?;
+        faults = put(rt.alloc(), &mut registry, "f1", text.as_str())?;
     }
     let each = micros(start.elapsed(rt)?) / ROUNDS;
     println!(rt; "edit one of {count} schema files: {each} us for each edit ({faults} faults)")?;
+    Ok(())
+}
+
+/// A file that adds fields of a type to an input object.
+fn extension(alloc: Global, object: &str, field: &str, of_type: &str) -> Result<String> {
+    let mut text = format!(in alloc; "extend input {object} {{\n")?;
+    for number in 0..FIELDS {
+        let line = format!(in alloc; "{field}{number}: {of_type}\n")?;
+        text.push_str(line.as_str())?;
+    }
+    text.push_str("}\n")?;
+    Ok(text)
+}
+
+/// Prints the time of an edit of a file whose fields have this type, which may have a default value
+/// after it.
+fn measure_fields(rt: &HostRuntime, what: &str, of_type: &str) -> Result<()> {
+    let alloc = rt.alloc();
+    let mut registry = Registry::new(alloc);
+    put(alloc, &mut registry, "inputs", INPUTS)?;
+    put(alloc, &mut registry, "b1", extension(alloc, "B", "c", "Int")?.as_str())?;
+    put(alloc, &mut registry, "b2", extension(alloc, "B", "d", "Int")?.as_str())?;
+    put(alloc, &mut registry, "a1", extension(alloc, "A", "c", of_type)?.as_str())?;
+    let text = extension(alloc, "A", "d", of_type)?;
+    let mut faults = put(alloc, &mut registry, "a2", text.as_str())?;
+    let start = Instant::now(rt)?;
+    for _round in 0..ROUNDS {
+        faults = put(alloc, &mut registry, "a2", text.as_str())?;
+    }
+    let each = micros(start.elapsed(rt)?) / ROUNDS;
+    println!(rt; "edit one of four files of 4,000 fields, {what}: {each} us ({faults} faults)")?;
     Ok(())
 }
 
@@ -72,5 +110,6 @@ pub fn measure(rt: &HostRuntime) -> Result<()> {
     for count in [12, 48, 192] {
         measure_edit(rt, count)?;
     }
-    Ok(())
+    measure_fields(rt, "no default values", "B")?;
+    measure_fields(rt, "half of them with the default {}", "B = {}")
 }
