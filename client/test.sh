@@ -285,7 +285,7 @@ fi
 has 'a page' 1 '^page.html: 1 fault in 2 files' "$client" page changed -o page.html
 has 'its mark' 0 '<mark>name</mark>' cat page.html
 has 'its rule' 0 '<tr id="V04">' cat page.html
-has 'its line in the list' 0 '<a href="#documents/profile-5">changed/documents/profile.graphql:5:26</a>' cat page.html
+has 'its line in the list' 0 '<a href="#documents/profile-5">changed/<wbr>documents/<wbr>profile.graphql:5:26</a>' cat page.html
 has 'its fragment' 0 'of this name. (in fragment Shown)' cat page.html
 has 'a page of two places' 1 'page.html: 1 fault' "$client" page pair -o page.html
 has 'both are marked' 0 '{ <mark>a</mark>: x <mark>a</mark>: y }' cat page.html

@@ -1,6 +1,7 @@
 #!/bin/sh
-# Prints requests that put the schema of the shop and the document files of its clients, then the schema without the
-# field `placed` of `Order`, and then ask for the report: examples/break.sh | gqlreg pipe.
+# Prints requests that put the schema of the shop and the document files of its clients, then the
+# schema without the field `placed` of `Order`, and then ask for the report: examples/break.sh |
+# gqlreg pipe.
 set -eu
 folder=$(cd "$(dirname "$0")" && pwd)
 schema="$folder/../crates/tables/data/schemas/shop.graphql"

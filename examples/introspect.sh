@@ -1,6 +1,7 @@
 #!/bin/sh
-# Prints requests that put a schema file, by default that of the shop, and the operation by which tools ask for a whole
-# schema, and then run it: examples/introspect.sh [SCHEMA] | gqlreg pipe | tail -1 > schema.json.
+# Prints requests that put a schema file, by default that of the shop, and the operation by which
+# tools ask for a whole schema, and then run it: examples/introspect.sh [SCHEMA] | gqlreg pipe |
+# tail -1 > schema.json.
 set -eu
 folder=$(cd "$(dirname "$0")" && pwd)
 data="$folder/../crates/tables/data"

@@ -1,7 +1,7 @@
 #!/bin/sh
-# Writes the requests that put schema files, each under its file's name, and ask for the report then: input for
-# `gqlreg pipe`. examples/put.sh FILE.graphql.. A missing file, a name that the registry does not take, and two
-# files of one name are refused before anything is written.
+# Writes the requests that put schema files, each under its file's name, and ask for the report
+# then: input for `gqlreg pipe`. examples/put.sh FILE.graphql.. A missing file, a name that the
+# registry does not take, and two files of one name are refused before anything is written.
 set -eu
 export LC_ALL=C
 names=' '

@@ -1,7 +1,8 @@
 #!/bin/sh
-# Starts the server: examples/serve.sh [PORT [CONNECTIONS]], by default port 8080 and 1,000,000 connections. It prints
-# `listening` once it is ready, answers one connection after the other, and ends after that number of connections.
-# Where the proved program is not built, the same sources run without proof (`rt try`), for ten minutes at most.
+# Starts the server: examples/serve.sh [PORT [CONNECTIONS]], by default port 8080 and 1,000,000
+# connections. It prints `listening` once it is ready, answers one connection after the other, and
+# ends after that number of connections. Where the proved program is not built, the same sources run
+# without proof (`rt try`), for ten minutes at most.
 set -eu
 cd "$(dirname "$0")/../crates/gqlreg"
 port=${1:-8080} connections=${2:-1000000}

@@ -1,7 +1,8 @@
 #!/bin/sh
-# A tour of the registry with curl, against a server on an empty registry: examples/tour.sh [PORT], by default 8080.
-# Start the server in another terminal by examples/serve.sh. The tour prints each request and its answer, and compares
-# what it printed with examples/tour.txt. It makes sixteen connections.
+# A tour of the registry with curl, against a server on an empty registry: examples/tour.sh [PORT],
+# by default 8080. Start the server in another terminal by examples/serve.sh. The tour prints each
+# request and its answer, and compares what it printed with examples/tour.txt. It makes sixteen
+# connections.
 set -eu
 folder=$(cd "$(dirname "$0")" && pwd)
 at="http://127.0.0.1:${1:-8080}"

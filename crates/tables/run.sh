@@ -1,7 +1,7 @@
 #!/bin/sh
-# Compares the answers of the crates with those that the tables expect: crates/tables/run.sh [FILE..], by default all files
-# of data/. Its last line is the number of answers. Where the proved program is not built, the same sources run without proof
-# (`rt try`, some two minutes).
+# Compares the answers of the crates with those that the tables expect: crates/tables/run.sh
+# [FILE..], by default all files of data/. Its last line is the number of answers. Where the proved
+# program is not built, the same sources run without proof (`rt try`, some two minutes).
 set -eu
 cd "$(dirname "$0")"
 if [ $# = 0 ]; then
