@@ -167,6 +167,29 @@ fn measure_introspection(rt: &HostRuntime, files: u64) -> Result<()> {
     measure_long(rt, what.as_str(), &mut hub)
 }
 
+/// A file of 2,000 input objects, each with an object of the next one as the default of its field.
+fn nested(alloc: Global, file: u64) -> Result<String> {
+    let mut text = String::new(alloc);
+    for number in 0..2_000u64 {
+        let this = file.wrapping_mul(2_000).wrapping_add(number);
+        let next = this.wrapping_add(1);
+        let line = format!(in alloc; "input A{this}{{f:A{next}={{}}}}\n")?;
+        text.push_str(line.as_str())?;
+    }
+    Ok(text)
+}
+
+fn measure_nested(rt: &HostRuntime) -> Result<()> {
+    let schema = "type Query { a(x: A0 = {}): Int } input A100000 { f: Int }";
+    let mut hub = service(rt.alloc(), schema, "{ a }", "{}")?;
+    for file in 0..50u64 {
+        let line = format!(in rt.alloc(); "PUT /schema/t{file}")?;
+        let text = nested(rt.alloc(), file)?;
+        feed(&mut hub, request(rt.alloc(), line.as_str(), text.as_str())?.as_str());
+    }
+    measure_long(rt, "run with 100,000 default values within one another", &mut hub)
+}
+
 /// Prints the time of each run.
 pub fn measure(rt: &HostRuntime) -> Result<()> {
     measure_short(rt)?;
@@ -175,5 +198,5 @@ pub fn measure(rt: &HostRuntime) -> Result<()> {
     for files in [1, 2, 3] {
         measure_introspection(rt, files)?;
     }
-    Ok(())
+    measure_nested(rt)
 }
