@@ -10,4 +10,5 @@ if [ -x out/gqlreg ]; then
     exec out/gqlreg serve --port "$port" --connections "$connections"
 fi
 echo "gqlreg is not built yet: the same sources run without proof" >&2
+echo "it listens in one to four minutes, and says \`listening\` only when it has ended" >&2
 exec rt try --seconds 600 -- serve --port "$port" --connections "$connections"
