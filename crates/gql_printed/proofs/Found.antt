@@ -59,11 +59,11 @@ rest_of : {A : Type 0} → Outcome A → List Lexeme
 rest_of (Ok r) = r.1
 rest_of (Err e) = e
 
-same_value : {A : Type 0} (a b : A) (us vs : List Lexeme) → ◌≡◌ {A = Outcome A} (Ok (a, us)) (Ok (b, vs)) → a ≡ b
+pub same_value : {A : Type 0} (a b : A) (us vs : List Lexeme) → ◌≡◌ {A = Outcome A} (Ok (a, us)) (Ok (b, vs)) → a ≡ b
 unfolding value_or
 same_value a b us vs e = ap (λ o. value_or a o) e
 
-same_rest : {A : Type 0} (a b : A) (us vs : List Lexeme) → ◌≡◌ {A = Outcome A} (Ok (a, us)) (Ok (b, vs)) → us ≡ vs
+pub same_rest : {A : Type 0} (a b : A) (us vs : List Lexeme) → ◌≡◌ {A = Outcome A} (Ok (a, us)) (Ok (b, vs)) → us ≡ vs
 unfolding rest_of
 same_rest a b us vs e = ap (λ o. rest_of o) e
 

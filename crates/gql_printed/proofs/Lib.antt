@@ -6,3 +6,4 @@ pub mod Steps
 pub mod Tokens
 pub mod Printed
 pub mod Found
+pub mod Nesting

@@ -1,12 +1,14 @@
 -- Literals without places, by their form.
-use Rattle.std.proofs.Common.{◌≡◌, ℕ, List, [], ◌∷◌, Bool, map, refl, sym, ap, ◌∙◌}
+use Rattle.std.proofs.Common.{◌≡◌, true≢false, ℕ, List, [], ◌∷◌, Bool, map, refl, sym, ap, ◌∙◌}
+use Rattle.std.specs.Prelude.{codes, bytes_eq}
 use Rattle.gql_text.specs.declared.place.Place.{Place}
 use Rattle.gql_ast.specs.declared.literal.Literal.{Literal}
 use Rattle.gql_ast.specs.declared.literal.Literal.TheOpen.{Literal-F}
 use Rattle.gql_ast.specs.declared.literal.Literal.TheFolds.{fold-roll-Literal, fold_out-ObjectField}
 use Rattle.gql_ast.specs.declared.literal.Literal.TheVariants as l
 use Rattle.gql_ast.specs.declared.literal.ObjectField.{ObjectField, fold-ObjectField}
-use Rattle.gql_printed.specs.Same.{no_place, unplaced, unplaced_field, without_places}
+use Rattle.gql_ast.specs.LiteralTexts.{literal_text, text_int}
+use Rattle.gql_printed.specs.Same.{HaveSameValue, no_place, unplaced, unplaced_field, without_places}
 
 pub of_variable : (p : Place) (n : List ℕ) → without_places (l.Variable p n) ≡ l.Variable no_place n
 unfolding without_places
@@ -55,3 +57,11 @@ pub of_object : (p : Place) (fields : List ObjectField) → without_places (l.Ob
 unfolding without_places
 of_object p fields = ap without_places (sym (l.rolls-Object p fields)) ∙ fold-roll-Literal Literal ObjectField unplaced unplaced_field (Literal-F.Object p fields)
     ∙ ap (λ fs. l.Object no_place fs) (fields_of fields)
+
+-- ---- an example: 1 and 2 differ in value
+
+one_is_not_two : (p q : Place) → HaveSameValue (l.Int p (codes "1")) (l.Int q (codes "2")) → ⊥
+one_is_not_two p q same =
+    let bare : l.Int no_place (codes "1") ≡ l.Int no_place (codes "2") = sym (of_int p (codes "1")) ∙ same ∙ of_int q (codes "2") in
+    let texts : codes "1" ≡ codes "2" = sym (text_int no_place (codes "1")) ∙ ap literal_text bare ∙ text_int no_place (codes "2") in
+    true≢false (ap (λ text. bytes_eq text (codes "1")) texts)
