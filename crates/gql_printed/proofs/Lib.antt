@@ -7,3 +7,4 @@ pub mod Tokens
 pub mod Printed
 pub mod Found
 pub mod Nesting
+pub mod Levels

@@ -22,18 +22,18 @@ use Rattle.gql_parse.specs.Values.{value, value_of, value_by, variable_unless, v
 use Rattle.gql_printed.proofs.Found.{same_value, same_rest}
 
 -- the greatest of the numbers
-abbrev most : List ℕ → ℕ
+abbrev pub most : List ℕ → ℕ
 most [] = 0
 most (n ∷ ns) = max n (most ns)
 
 abbrev nesting_at : Literal-F ℕ ℕ → ℕ
-nesting_at (Literal-F.Variable place name) = 0
+nesting_at (Literal-F.Variable place text) = 0
 nesting_at (Literal-F.Int place text) = 0
 nesting_at (Literal-F.Float place text) = 0
 nesting_at (Literal-F.String place text) = 0
 nesting_at (Literal-F.Boolean place truth) = 0
 nesting_at (Literal-F.Null place) = 0
-nesting_at (Literal-F.Enum place name) = 0
+nesting_at (Literal-F.Enum place text) = 0
 nesting_at (Literal-F.List place items) = suc (most items)
 nesting_at (Literal-F.Object place fields) = suc (most fields)
 
@@ -41,41 +41,41 @@ abbrev nesting_of_field : ObjectField-F ℕ ℕ → ℕ
 nesting_of_field f = f.value
 
 -- how deep the lists and objects of a literal are nested
-nesting : Literal → ℕ
+pub nesting : Literal → ℕ
 nesting = fold-Literal ℕ ℕ nesting_at nesting_of_field
 
-abbrev field_nesting : ObjectField → ℕ
+abbrev pub field_nesting : ObjectField → ℕ
 field_nesting f = nesting f.value
 
-of_variable : (p : Place) (n : List ℕ) → nesting (l.Variable p n) ≡ 0
+pub of_variable : (p : Place) (n : List ℕ) → nesting (l.Variable p n) ≡ 0
 unfolding nesting
 of_variable p n = ap nesting (sym (l.rolls-Variable p n)) ∙ fold-roll-Literal ℕ ℕ nesting_at nesting_of_field (Literal-F.Variable p n)
 
-of_int : (p : Place) (t : List ℕ) → nesting (l.Int p t) ≡ 0
+pub of_int : (p : Place) (t : List ℕ) → nesting (l.Int p t) ≡ 0
 unfolding nesting
 of_int p t = ap nesting (sym (l.rolls-Int p t)) ∙ fold-roll-Literal ℕ ℕ nesting_at nesting_of_field (Literal-F.Int p t)
 
-of_float : (p : Place) (t : List ℕ) → nesting (l.Float p t) ≡ 0
+pub of_float : (p : Place) (t : List ℕ) → nesting (l.Float p t) ≡ 0
 unfolding nesting
 of_float p t = ap nesting (sym (l.rolls-Float p t)) ∙ fold-roll-Literal ℕ ℕ nesting_at nesting_of_field (Literal-F.Float p t)
 
-of_string : (p : Place) (t : List ℕ) → nesting (l.String p t) ≡ 0
+pub of_string : (p : Place) (t : List ℕ) → nesting (l.String p t) ≡ 0
 unfolding nesting
 of_string p t = ap nesting (sym (l.rolls-String p t)) ∙ fold-roll-Literal ℕ ℕ nesting_at nesting_of_field (Literal-F.String p t)
 
-of_boolean : (p : Place) (b : Bool) → nesting (l.Boolean p b) ≡ 0
+pub of_boolean : (p : Place) (b : Bool) → nesting (l.Boolean p b) ≡ 0
 unfolding nesting
 of_boolean p b = ap nesting (sym (l.rolls-Boolean p b)) ∙ fold-roll-Literal ℕ ℕ nesting_at nesting_of_field (Literal-F.Boolean p b)
 
-of_null : (p : Place) → nesting (l.Null p) ≡ 0
+pub of_null : (p : Place) → nesting (l.Null p) ≡ 0
 unfolding nesting
 of_null p = ap nesting (sym (l.rolls-Null p)) ∙ fold-roll-Literal ℕ ℕ nesting_at nesting_of_field (Literal-F.Null p)
 
-of_enum : (p : Place) (n : List ℕ) → nesting (l.Enum p n) ≡ 0
+pub of_enum : (p : Place) (n : List ℕ) → nesting (l.Enum p n) ≡ 0
 unfolding nesting
 of_enum p n = ap nesting (sym (l.rolls-Enum p n)) ∙ fold-roll-Literal ℕ ℕ nesting_at nesting_of_field (Literal-F.Enum p n)
 
-of_list : (p : Place) (items : List Literal) → nesting (l.List p items) ≡ suc (most (map nesting items))
+pub of_list : (p : Place) (items : List Literal) → nesting (l.List p items) ≡ suc (most (map nesting items))
 unfolding nesting
 of_list p items = ap nesting (sym (l.rolls-List p items)) ∙ fold-roll-Literal ℕ ℕ nesting_at nesting_of_field (Literal-F.List p items)
 
@@ -86,7 +86,7 @@ fields_of (f ∷ fields) =
     ap (λ t. t ∷ map (fold-ObjectField ℕ ℕ nesting_at nesting_of_field) fields) (fold_out-ObjectField ℕ ℕ nesting_at nesting_of_field f)
     ∙ ap (λ ts. field_nesting f ∷ ts) (fields_of fields)
 
-of_object : (p : Place) (fields : List ObjectField) → nesting (l.Object p fields) ≡ suc (most (map field_nesting fields))
+pub of_object : (p : Place) (fields : List ObjectField) → nesting (l.Object p fields) ≡ suc (most (map field_nesting fields))
 unfolding nesting
 of_object p fields = ap nesting (sym (l.rolls-Object p fields)) ∙ fold-roll-Literal ℕ ℕ nesting_at nesting_of_field (Literal-F.Object p fields)
     ∙ ap (λ ns. suc (most ns)) (fields_of fields)
@@ -94,10 +94,10 @@ of_object p fields = ap nesting (sym (l.rolls-Object p fields)) ∙ fold-roll-Li
 -- ---- of tokens
 
 -- the part opens so many levels over those that are open
-abbrev Opens : {A : Type 0} {d : ℕ → ℕ} {s : Bool} → Symbol d s A → (A → ℕ) → Type 0
+abbrev pub Opens : {A : Type 0} {d : ℕ → ℕ} {s : Bool} → Symbol d s A → (A → ℕ) → Type 0
 Opens {A} symbol levels = (ts rest : List Lexeme) (x : A) → Derives symbol ts x rest → (n : ℕ) → depth_from n ts ≡ max (n + levels x) (depth_from n rest)
 
-at_least : (n : ℕ) (ts : List Lexeme) → n ≤ depth_from n ts
+pub at_least : (n : ℕ) (ts : List Lexeme) → n ≤ depth_from n ts
 at_least n [] = omega arith
 at_least n (t ∷ ts) = omega arith
 
@@ -223,6 +223,6 @@ unfolding nested
 opens_nested c zero = λ ts rest x h n. absurd (cc)
 opens_nested c (suc m) = λ ts rest x h n. opens_by (nested (value_of c) m) (opens_nested c m) c _ ts rest x h n
 
-opens_value : (c : Bool) → Opens (value c) nesting
+pub opens_value : (c : Bool) → Opens (value c) nesting
 unfolding value recursive
 opens_value c ts rest x h n = opens_nested c (suc (length ts)) ts rest x h n

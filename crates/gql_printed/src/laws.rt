@@ -17,3 +17,9 @@ pub fn found_is_written()
 pub fn found_is_parsed()
     ensures { laws.FoundIsParsed }
 {}
+
+/// The text of a literal opens no more levels at one time than the text in which it is found: where that one has 100 at
+/// most, so has this one.
+pub fn levels_are_kept()
+    ensures { laws.LevelsAreKept }
+{}
