@@ -3,9 +3,8 @@ use Rattle.std.proofs.Common.{◌≡◌, ◌≤◌, ℕ, suc, List, [], ◌∷�
 use Rattle.gql_text.specs.Lexeme.{Lexeme}
 use Rattle.gql_ast.specs.LiteralTexts.{literal_text}
 use Rattle.gql_ast.specs.declared.literal.Literal.{Literal}
-use Rattle.gql_ast.specs.declared.literal.Literal.TheVariants as l
 use Rattle.gql_ast.specs.declared.literal.ObjectField.{ObjectField}
-use Rattle.gql_grammar.specs.Levels.{shift, level, depth_from, depth}
+use Rattle.gql_grammar.specs.Levels.{shift, level, depth_from}
 use Rattle.gql_printed.specs.Laws.{LevelsAreKept}
 use Rattle.gql_printed.specs.Same.{no_place, without_places}
 use Rattle.gql_printed.specs.Written.{IsWritten, variable, int, float, string, boolean, null, enum, list, object, AreWritten, no_items, item, AreWrittenFields, no_fields, field}

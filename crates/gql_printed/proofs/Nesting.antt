@@ -1,5 +1,5 @@
 -- How many levels a literal's tokens open: as many as its lists and objects are nested.
-use Rattle.std.proofs.Common.{◌≡◌, ◌≤◌, ℕ, zero, suc, ◌+◌, List, [], ◌∷◌, ◌++◌, length, map, refl, sym, ap, ap₂, subst, ◌∙◌, arith, Bool, true, false, cond, inl, inr}
+use Rattle.std.proofs.Common.{◌≡◌, ◌≤◌, ℕ, zero, suc, ◌+◌, List, [], ◌∷◌, length, map, refl, sym, ap, ap₂, subst, ◌∙◌, arith, Bool, true, false, cond, inl, inr}
 use Rattle.std.specs.Prelude.{codes, max, bytes_eq}
 use Rattle.gql_text.specs.Kinds.{same_kind_true}
 use Rattle.gql_text.specs.Lexeme.{Lexeme}
@@ -13,7 +13,7 @@ use Rattle.gql_ast.specs.declared.literal.Literal.TheFolds.{fold-roll-Literal, f
 use Rattle.gql_ast.specs.declared.literal.Literal.TheVariants as l
 use Rattle.gql_ast.specs.declared.literal.ObjectField.{ObjectField, fold-ObjectField}
 use Rattle.gql_ast.specs.declared.text.Name.{Name}
-use Rattle.gql_grammar.specs.Levels.{shift, level, depth_from, depth}
+use Rattle.gql_grammar.specs.Levels.{shift, depth_from}
 use Rattle.gql_grammar.specs.Symbol.{Symbol, Phrase, Derives, ◌>>=◌, pure, token, sees, before}
 use Rattle.gql_grammar.specs.Repetition.{Items, any_while}
 use Rattle.gql_grammar.specs.Recursion.{nested, recursive}

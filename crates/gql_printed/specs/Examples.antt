@@ -1,11 +1,10 @@
 -- Worked examples: texts of literals, parsed.
-use Rattle.std.specs.Prelude.{◌≡◌, ℕ, List, [], ◌∷◌, ◌++◌, codes, true, Ok, refl}
+use Rattle.std.specs.Prelude.{◌≡◌, List, [], ◌∷◌, ◌++◌, codes, true, Ok, refl}
 use Rattle.gql_text.specs.Lexeme.{Lexeme}
 use Rattle.gql_text.specs.Kinds.{same_kind}
 use Rattle.gql_text.specs.Lexis.{Tokens, token, dropped, at_end, plain, string, goes, closes}
 use Rattle.gql_text.specs.Marks.{plain_part}
 use Rattle.gql_text.specs.Pieces.{string_piece, escape_piece, four_digits, escaped_number}
-use Rattle.gql_text.specs.Place.{place_after}
 use Rattle.gql_text.specs.Values.{text_value, string_value, escape_value}
 use Rattle.gql_text.specs.declared.token.Kind.TheVariants as k
 use Rattle.gql_ast.specs.LiteralTexts.{Text, escaped, string_text}
