@@ -1,11 +1,13 @@
 -- Worked examples: texts of literals, parsed.
-use Rattle.std.specs.Prelude.{◌≡◌, List, [], ◌∷◌, ◌++◌, codes, true, Ok, refl}
+use Rattle.std.specs.Prelude.{◌≡◌, ℕ, List, [], ◌∷◌, ◌++◌, codes, true, Ok, refl}
 use Rattle.gql_text.specs.Lexeme.{Lexeme}
 use Rattle.gql_text.specs.Kinds.{same_kind}
 use Rattle.gql_text.specs.Lexis.{Tokens, token, dropped, at_end, plain, string, goes, closes}
 use Rattle.gql_text.specs.Marks.{plain_part}
 use Rattle.gql_text.specs.Pieces.{string_piece, escape_piece, four_digits, escaped_number}
 use Rattle.gql_text.specs.Values.{text_value, string_value, escape_value}
+use Rattle.gql_text.specs.declared.place.Place.{Place}
+use Rattle.gql_text.specs.declared.token.Kind.{Kind}
 use Rattle.gql_text.specs.declared.token.Kind.TheVariants as k
 use Rattle.gql_ast.specs.LiteralTexts.{Text, escaped, string_text}
 use Rattle.gql_ast.specs.declared.literal.Literal.TheVariants as l
@@ -24,20 +26,28 @@ unfolding escaped
 text_of_string = refl
 
 string_again : text_value (string_text some_string) ≡ some_string
-unfolding text_value string_value escape_piece escape_value four_digits escaped_number escaped lib.Utf8.encode
+unfolding text_value string_value escape_piece escape_value four_digits escaped_number escaped
+    lib.Utf8.encode
 string_again = refl
 
 -- `["\n", A]`
 abbrev list_text : Text
 list_text = codes "[\"\\n\", A]"
 
+-- a place on its first line, and a token there
+abbrev at : ℕ → ℕ → Place
+at column offset = record { line = 1; column = column; offset = offset }
+
+abbrev one : Kind → Text → Place → Lexeme
+one kind text place = record { kind = kind; text = text; place = place }
+
 -- its tokens
 abbrev list_tokens : List Lexeme
 list_tokens =
-    record { kind = k.LeftBracket; text = codes "["; place = record { line = 1; column = 1; offset = 0 } }
-    ∷ record { kind = k.StringValue; text = codes "\"\\n\""; place = record { line = 1; column = 2; offset = 1 } }
-    ∷ record { kind = k.Name; text = codes "A"; place = record { line = 1; column = 8; offset = 7 } }
-    ∷ record { kind = k.RightBracket; text = codes "]"; place = record { line = 1; column = 9; offset = 8 } }
+    one k.LeftBracket (codes "[") (at 1 0)
+    ∷ one k.StringValue (codes "\"\\n\"") (at 2 1)
+    ∷ one k.Name (codes "A") (at 8 7)
+    ∷ one k.RightBracket (codes "]") (at 9 8)
     ∷ []
 
 tokens_of_list : Tokens [] list_text list_tokens
@@ -52,9 +62,8 @@ tokens_of_list =
 
 -- and the list that they derive
 list_of_tokens : (v.value true).read list_tokens
-    ≡ Ok (l.List (record { line = 1; column = 1; offset = 0 })
-    (l.String (record { line = 1; column = 2; offset = 1 }) (10 ∷ [])
-    ∷ l.Enum (record { line = 1; column = 8; offset = 7 }) (codes "A")
-    ∷ []), [])
-unfolding v.value recursive nested v.list_of v.string v.word_literal y.token y.sees y.before same_kind while_from text_value string_value escape_piece escape_value four_digits escaped_number lib.Utf8.encode
+    ≡ Ok (l.List (at 1 0) (l.String (at 2 1) (10 ∷ []) ∷ l.Enum (at 8 7) (codes "A") ∷ []), [])
+unfolding v.value recursive nested v.list_of v.string v.word_literal y.token y.sees y.before
+    same_kind while_from text_value string_value escape_piece escape_value four_digits
+    escaped_number lib.Utf8.encode
 list_of_tokens = refl

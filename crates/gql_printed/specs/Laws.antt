@@ -36,15 +36,19 @@ WrittenIsParsed = (constant : Bool) (literal : Literal) → IsWritten constant l
 
 -- a literal that is found in a text is one that a document can write
 abbrev pub FoundIsWritten : Type 0
-FoundIsWritten = (constant : Bool) (source : List ℕ) (literal : Literal) → IsFound constant source literal
+FoundIsWritten = (constant : Bool) (source : List ℕ) (literal : Literal)
+    → IsFound constant source literal
     → IsWritten constant literal
 
 -- the text of a literal that is found in a text parses to the same value
 abbrev pub FoundIsParsed : Type 0
-FoundIsParsed = (constant : Bool) (source : List ℕ) (literal : Literal) → IsFound constant source literal
+FoundIsParsed = (constant : Bool) (source : List ℕ) (literal : Literal)
+    → IsFound constant source literal
     → length (literal_text literal) ≤ text_limit → IsTextOf constant (literal_text literal) literal
 
--- the text of a literal opens no more levels at one time than the text in which the literal is found
+-- the text of a literal opens no more levels at one time than the text in which it is found
 abbrev pub LevelsAreKept : Type 0
-LevelsAreKept = (constant : Bool) (source : List ℕ) (literal : Literal) (found : IsFound constant source literal)
-    → (text : IsTextOf constant (literal_text literal) literal) → depth text.tokens ≤ depth found.tokens
+LevelsAreKept = (constant : Bool) (source : List ℕ) (literal : Literal)
+    (found : IsFound constant source literal)
+    → (text : IsTextOf constant (literal_text literal) literal)
+    → depth text.tokens ≤ depth found.tokens
