@@ -27,61 +27,21 @@ below P (suc n) h b less = below_at P n b (b == n) refl less h.1 (λ fewer. belo
 abbrev pub Digits : ℕ → Type 0
 Digits b = four_digits (48 ∷ 48 ∷ digit_char (b / 16) ∷ digit_char (b % 16) ∷ []) ≡ Some b
 
+eight : Below Digits 8
+unfolding four_digits
+eight = ((((((((tt, refl), refl), refl), refl), refl), refl), refl), refl)
+
 sixteen : Below Digits 16
 unfolding four_digits
-sixteen = (
-  (
-    (
-      (
-        (
-          (
-            (
-              (
-                ((((((((tt, refl), refl), refl), refl), refl), refl), refl), refl),
-                refl,
-              ),
-              refl,
-            ),
-            refl,
-          ),
-          refl,
-        ),
-        refl,
-      ),
-      refl,
-    ),
-    refl,
-  ),
-  refl,
-)
+sixteen = ((((((((eight, refl), refl), refl), refl), refl), refl), refl), refl)
+
+twenty_four : Below Digits 24
+unfolding four_digits
+twenty_four = ((((((((sixteen, refl), refl), refl), refl), refl), refl), refl), refl)
 
 pub controls : Below Digits 32
 unfolding four_digits
-controls = (
-  (
-    (
-      (
-        (
-          (
-            (
-              (
-                ((((((((sixteen, refl), refl), refl), refl), refl), refl), refl), refl),
-                refl,
-              ),
-              refl,
-            ),
-            refl,
-          ),
-          refl,
-        ),
-        refl,
-      ),
-      refl,
-    ),
-    refl,
-  ),
-  refl,
-)
+controls = ((((((((twenty_four, refl), refl), refl), refl), refl), refl), refl), refl)
 
 -- a character below U+0080 is its own byte
 one_byte : (b : ℕ) → b < 128 → b ∷ [] ≡ encode_utf8 b
