@@ -8,3 +8,4 @@ pub mod Printed
 pub mod Found
 pub mod Nesting
 pub mod Levels
+pub mod Only

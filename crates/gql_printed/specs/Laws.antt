@@ -34,6 +34,12 @@ abbrev pub WrittenIsParsed : Type 0
 WrittenIsParsed = (constant : Bool) (literal : Literal) → IsWritten constant literal
     → length (literal_text literal) ≤ text_limit → IsTextOf constant (literal_text literal) literal
 
+-- and it parses to no other value
+abbrev pub OnlySameValue : Type 0
+OnlySameValue = (constant : Bool) (literal : Literal) → IsWritten constant literal
+    → (tokens : List Lexeme) (parsed : Literal) → IsLexed (literal_text literal) tokens
+    → Derives (value constant) tokens parsed [] → HaveSameValue parsed literal
+
 -- a literal that is found in a text is one that a document can write
 abbrev pub FoundIsWritten : Type 0
 FoundIsWritten = (constant : Bool) (source : List ℕ) (literal : Literal)
