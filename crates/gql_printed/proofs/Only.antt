@@ -1,8 +1,6 @@
 -- The text of a literal parses to no other value.
-use Rattle.std.proofs.Common.{◌≡◌, List, [], Bool, sym, ap, ◌∙◌, Ok}
+use Rattle.std.proofs.Common.{◌≡◌, [], sym, ap, ◌∙◌, Ok}
 use Rattle.gql_text.proofs.Readings.{lexed_one}
-use Rattle.gql_text.specs.Lexeme.{Lexeme}
-use Rattle.gql_ast.specs.declared.literal.Literal.{Literal}
 use Rattle.gql_parse.specs.Values.{value}
 use Rattle.gql_printed.specs.Laws.{OnlySameValue}
 use Rattle.gql_printed.specs.Same.{without_places}
