@@ -6,3 +6,6 @@ pub mod Steps
 pub mod Tokens
 pub mod Printed
 pub mod Found
+pub mod Nesting
+pub mod Levels
+pub mod Only

@@ -14,7 +14,8 @@ abbrev pub Below : (ℕ → Type 0) → ℕ → Type 0
 Below P zero = Unit {0}
 Below P (suc n) = Below P n × P n
 
-below_at : (P : ℕ → Type 0) (n b : ℕ) (t : Bool) → (b == n) ≡ t → b < suc n → P n → (b < n → P b) → P b
+below_at : (P : ℕ → Type 0) (n b : ℕ) (t : Bool) → (b == n) ≡ t → b < suc n → P n → (b < n → P b)
+    → P b
 below_at P n b true e less last earlier = subst P (sym (eqb-true b n e)) last
 below_at P n b false e less last earlier = earlier (grind (arith, nat_tests, e, less))
 
@@ -26,32 +27,48 @@ below P (suc n) h b less = below_at P n b (b == n) refl less h.1 (λ fewer. belo
 abbrev pub Digits : ℕ → Type 0
 Digits b = four_digits (48 ∷ 48 ∷ digit_char (b / 16) ∷ digit_char (b % 16) ∷ []) ≡ Some b
 
+eight : Below Digits 8
+unfolding four_digits
+eight = ((((((((tt, refl), refl), refl), refl), refl), refl), refl), refl)
+
 sixteen : Below Digits 16
 unfolding four_digits
-sixteen = ((((((((((((((((tt, refl), refl), refl), refl), refl), refl), refl), refl), refl), refl), refl), refl), refl), refl), refl), refl)
+sixteen = ((((((((eight, refl), refl), refl), refl), refl), refl), refl), refl)
+
+twenty_four : Below Digits 24
+unfolding four_digits
+twenty_four = ((((((((sixteen, refl), refl), refl), refl), refl), refl), refl), refl)
 
 pub controls : Below Digits 32
 unfolding four_digits
-controls = ((((((((((((((((sixteen, refl), refl), refl), refl), refl), refl), refl), refl), refl), refl), refl), refl), refl), refl), refl), refl)
+controls = ((((((((twenty_four, refl), refl), refl), refl), refl), refl), refl), refl)
 
 -- a character below U+0080 is its own byte
 one_byte : (b : ℕ) → b < 128 → b ∷ [] ≡ encode_utf8 b
 unfolding lib.Utf8.encode
 one_byte b less = let e : nat_lt b 128 ≡ true = grind (arith, nat_tests, less) in rw e refl
 
-control : (b : ℕ) → b < 32 → IsStringCharacter (codes "\\u00" ++ digit_char (b / 16) ∷ digit_char (b % 16) ∷ []) (b ∷ [])
-control b less = s.unicode {digits = 48 ∷ 48 ∷ digit_char (b / 16) ∷ digit_char (b % 16) ∷ []} {n = b} refl (one_byte b (omega (arith, less)))
-    (record { long = refl; writes = below Digits 32 controls b less }) (grind (arith, nat_tests)) (grind (arith, nat_tests))
+control : (b : ℕ) → b < 32
+    → IsStringCharacter (codes "\\u00" ++ digit_char (b / 16) ∷ digit_char (b % 16) ∷ []) (b ∷ [])
+control b less =
+    s.unicode {digits = 48 ∷ 48 ∷ digit_char (b / 16) ∷ digit_char (b % 16) ∷ []} {n = b} refl
+    (one_byte b (omega (arith, less)))
+    (record { long = refl; writes = below Digits 32 controls b less }) (grind (arith, nat_tests))
+    (grind (arith, nat_tests))
 
 -- a character that stands for itself
-plain : (b : ℕ) → nat_lt b 32 ≡ false → (b == 34) ≡ false → (b == 92) ≡ false → IsStringCharacter (b ∷ []) (b ∷ [])
+plain : (b : ℕ) → nat_lt b 32 ≡ false → (b == 34) ≡ false → (b == 92) ≡ false
+    → IsStringCharacter (b ∷ []) (b ∷ [])
 plain b high quote slash = s.source refl refl (grind (arith, nat_tests, high)) quote slash
 
 -- one of the escapes of a letter
-letter : (a byte b : ℕ) → (b == byte) ≡ true → IsStringCharacter (92 ∷ a ∷ []) (byte ∷ []) → IsStringCharacter (92 ∷ a ∷ []) (b ∷ [])
-letter a byte b e h = subst (λ n. IsStringCharacter (92 ∷ a ∷ []) (n ∷ [])) (sym (eqb-true b byte e)) h
+letter : (a byte b : ℕ) → (b == byte) ≡ true → IsStringCharacter (92 ∷ a ∷ []) (byte ∷ [])
+    → IsStringCharacter (92 ∷ a ∷ []) (b ∷ [])
+letter a byte b e h =
+    subst (λ n. IsStringCharacter (92 ∷ a ∷ []) (n ∷ [])) (sym (eqb-true b byte e)) h
 
-pick : (value : List ℕ) (t : Bool) (x y : List ℕ) → (t ≡ true → IsStringCharacter x value) → (t ≡ false → IsStringCharacter y value) → IsStringCharacter (cond t x y) value
+pick : (value : List ℕ) (t : Bool) (x y : List ℕ) → (t ≡ true → IsStringCharacter x value)
+    → (t ≡ false → IsStringCharacter y value) → IsStringCharacter (cond t x y) value
 pick value true x y h k = h refl
 pick value false x y h k = k refl
 
@@ -70,8 +87,12 @@ character b =
 
 characters : (value : List ℕ) → IsStringCharacters (flat_map escaped value) value
 characters [] = s.none refl refl
-characters (b ∷ bs) = s.more {front = escaped b} {rest = flat_map escaped bs} {v = b ∷ []} {w = bs} refl refl (character b) (characters bs)
+characters
+    (b ∷ bs) =
+    s.more {front = escaped b} {rest = flat_map escaped bs} {v = b ∷ []} {w = bs} refl refl
+    (character b) (characters bs)
 
 -- the text of a string, in quotes, is a string of the grammar with its value
 pub string_is : (value : List ℕ) → IsString (string_text value) value
-string_is value = record { inner = flat_map escaped value; parts = refl; characters = characters value }
+string_is value =
+    record { inner = flat_map escaped value; parts = refl; characters = characters value }

@@ -4,6 +4,7 @@ use Rattle.gql_text.specs.Lexeme.{Lexeme}
 use Rattle.gql_text.specs.Lexis.{IsLexed, text_limit}
 use Rattle.gql_ast.specs.LiteralTexts.{literal_text}
 use Rattle.gql_ast.specs.declared.literal.Literal.{Literal}
+use Rattle.gql_grammar.specs.Levels.{depth}
 use Rattle.gql_grammar.specs.Symbol.{Derives}
 use Rattle.gql_parse.specs.Values.{value}
 use Rattle.gql_printed.specs.Same.{HaveSameValue}
@@ -33,12 +34,27 @@ abbrev pub WrittenIsParsed : Type 0
 WrittenIsParsed = (constant : Bool) (literal : Literal) → IsWritten constant literal
     → length (literal_text literal) ≤ text_limit → IsTextOf constant (literal_text literal) literal
 
+-- and it parses to no other value
+abbrev pub OnlySameValue : Type 0
+OnlySameValue = (constant : Bool) (literal : Literal) → IsWritten constant literal
+    → (tokens : List Lexeme) (parsed : Literal) → IsLexed (literal_text literal) tokens
+    → Derives (value constant) tokens parsed [] → HaveSameValue parsed literal
+
 -- a literal that is found in a text is one that a document can write
 abbrev pub FoundIsWritten : Type 0
-FoundIsWritten = (constant : Bool) (source : List ℕ) (literal : Literal) → IsFound constant source literal
+FoundIsWritten = (constant : Bool) (source : List ℕ) (literal : Literal)
+    → IsFound constant source literal
     → IsWritten constant literal
 
 -- the text of a literal that is found in a text parses to the same value
 abbrev pub FoundIsParsed : Type 0
-FoundIsParsed = (constant : Bool) (source : List ℕ) (literal : Literal) → IsFound constant source literal
+FoundIsParsed = (constant : Bool) (source : List ℕ) (literal : Literal)
+    → IsFound constant source literal
     → length (literal_text literal) ≤ text_limit → IsTextOf constant (literal_text literal) literal
+
+-- the text of a literal opens no more levels at one time than the text in which it is found
+abbrev pub LevelsAreKept : Type 0
+LevelsAreKept = (constant : Bool) (source : List ℕ) (literal : Literal)
+    (found : IsFound constant source literal)
+    → (text : IsTextOf constant (literal_text literal) literal)
+    → depth text.tokens ≤ depth found.tokens

@@ -1,3 +1,4 @@
 pub mod Same
 pub mod Written
 pub mod Laws
+pub mod Examples

@@ -24,7 +24,8 @@ unplaced (Literal-F.Object place fields) = l.Object no_place fields
 
 -- a field of an object, by its value without places
 abbrev pub unplaced_field : ObjectField-F Literal ObjectField → ObjectField
-unplaced_field f = record { name = record { place = no_place; text = f.name.text }; value = f.value }
+unplaced_field f =
+    record { name = record { place = no_place; text = f.name.text }; value = f.value }
 
 -- the literal with one and the same place in each of its parts
 unfoldable pub without_places : Literal → Literal

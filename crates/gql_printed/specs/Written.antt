@@ -13,19 +13,25 @@ pub record IsEnumName (name : List ℕ) : Type 0 where
   pub not_false : name ≢ codes "false"
   pub not_null : name ≢ codes "null"
 
--- Names are names (2.1.9), numbers are numbers (2.9.1, 2.9.2), strings have any bytes, and only a value that need not
--- be constant has variables.
+-- Names are names (2.1.9), numbers are numbers (2.9.1, 2.9.2), strings have any bytes, and only a
+-- value that need not be constant has variables.
 mutual
   pub data IsWritten (constant : Bool) : Literal → Type 0 where
-    variable : {x : Literal} (p : Place) (name : List ℕ) → x ≡ l.Variable p name → constant ≡ false → IsName name
+    variable : {x : Literal} (p : Place) (name : List ℕ) → x ≡ l.Variable p name → constant ≡ false
+        → IsName name
         → IsWritten constant x
-    int : {x : Literal} (p : Place) (text : List ℕ) → x ≡ l.Int p text → IsInteger text → IsWritten constant x
-    float : {x : Literal} (p : Place) (text : List ℕ) → x ≡ l.Float p text → IsFloat text → IsWritten constant x
+    int : {x : Literal} (p : Place) (text : List ℕ) → x ≡ l.Int p text → IsInteger text
+        → IsWritten constant x
+    float : {x : Literal} (p : Place) (text : List ℕ) → x ≡ l.Float p text → IsFloat text
+        → IsWritten constant x
     string : {x : Literal} (p : Place) (text : List ℕ) → x ≡ l.String p text → IsWritten constant x
-    boolean : {x : Literal} (p : Place) (truth : Bool) → x ≡ l.Boolean p truth → IsWritten constant x
+    boolean : {x : Literal} (p : Place) (truth : Bool) → x ≡ l.Boolean p truth
+        → IsWritten constant x
     null : {x : Literal} (p : Place) → x ≡ l.Null p → IsWritten constant x
-    enum : {x : Literal} (p : Place) (name : List ℕ) → x ≡ l.Enum p name → IsEnumName name → IsWritten constant x
-    list : {x : Literal} (p : Place) (items : List Literal) → x ≡ l.List p items → AreWritten constant items
+    enum : {x : Literal} (p : Place) (name : List ℕ) → x ≡ l.Enum p name → IsEnumName name
+        → IsWritten constant x
+    list : {x : Literal} (p : Place) (items : List Literal) → x ≡ l.List p items
+        → AreWritten constant items
         → IsWritten constant x
     object : {x : Literal} (p : Place) (fields : List ObjectField) → x ≡ l.Object p fields
         → AreWrittenFields constant fields → IsWritten constant x
@@ -39,5 +45,6 @@ mutual
   -- the fields of an object
   pub data AreWrittenFields (constant : Bool) : List ObjectField → Type 0 where
     no_fields : AreWrittenFields constant []
-    field : {f : ObjectField} {fs : List ObjectField} → IsName f.name.text → IsWritten constant f.value
+    field : {f : ObjectField} {fs : List ObjectField} → IsName f.name.text
+        → IsWritten constant f.value
         → AreWrittenFields constant fs → AreWrittenFields constant (f ∷ fs)

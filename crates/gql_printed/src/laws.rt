@@ -1,11 +1,12 @@
 //! Laws of the text of a literal. The functions do nothing; their contracts hold.
 ghost use Rattle.gql_printed.specs.Laws as laws;
 
-/// The text of a literal parses to the same value. This holds of each literal whose names are names, whose numbers are
-/// numbers and whose enum values are not `true`, `false` or `null`, unless the text is longer than a text may be
-/// (GraphQL specification, 2.9).
+/// The text of a literal parses to the same value, and to no other. This holds of each literal whose
+/// names are names, whose numbers are numbers and whose enum values are not `true`, `false` or
+/// `null`, unless the text is longer than a text may be (GraphQL specification, 2.9).
 pub fn written_is_parsed()
-    ensures { laws.WrittenIsParsed }
+    ensures parsed { laws.WrittenIsParsed }
+    ensures no_other { laws.OnlySameValue }
 {}
 
 /// Each literal that tokens of a text derive is such a literal.
@@ -13,7 +14,14 @@ pub fn found_is_written()
     ensures { laws.FoundIsWritten }
 {}
 
-/// The text of each literal that tokens of a text derive parses to the same value, unless it is longer than a text may be.
+/// The text of each literal that tokens of a text derive parses to the same value, unless it is
+/// longer than a text may be.
 pub fn found_is_parsed()
     ensures { laws.FoundIsParsed }
+{}
+
+/// The text of a literal opens no more levels at one time than the text in which it is found: where
+/// that one has 100 at most, so has this one.
+pub fn levels_are_kept()
+    ensures { laws.LevelsAreKept }
 {}
