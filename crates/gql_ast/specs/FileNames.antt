@@ -5,8 +5,10 @@ use Rattle.std.specs.List.{list_all}
 -- a letter, a digit, `_`, `.` or `-`
 abbrev pub is_file_name_byte : ℕ → Bool
 is_file_name_byte b =
-    (nat_le 97 b && nat_le b 122) || (nat_le 65 b && nat_le b 90) || (nat_le 48 b && nat_le b 57) || (b == 95) || (b == 46) || (b == 45)
+    (nat_le 97 b && nat_le b 122) || (nat_le 65 b && nat_le b 90) || (nat_le 48 b && nat_le b 57)
+    || (b == 95) || (b == 46) || (b == 45)
 
 -- 1 to 64 of these
 abbrev pub is_file_name : List ℕ → Bool
-is_file_name text = nat_lt 0 (length text) && nat_le (length text) 64 && list_all is_file_name_byte text
+is_file_name text =
+    nat_lt 0 (length text) && nat_le (length text) 64 && list_all is_file_name_byte text

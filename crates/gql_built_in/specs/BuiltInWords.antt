@@ -56,11 +56,13 @@ string_value value = e.String nowhere value
 
 -- InputValueDefinition: name, type and default (3.6.1)
 unfoldable pub argument : List ℕ → TypeRef → Option Literal → InputValueDefinition
-argument name type default = record { description = None; name = word name; of_type = type; default = default; directives = [] }
+argument name type default = record
+    { description = None; name = word name; of_type = type; default = default; directives = [] }
 
 -- FieldDefinition: name, arguments and type (3.6)
 unfoldable pub field_with : List ℕ → List InputValueDefinition → TypeRef → FieldDefinition
-field_with name arguments type = record { description = None; name = word name; arguments = arguments; of_type = type; directives = [] }
+field_with name arguments type = record
+    { description = None; name = word name; arguments = arguments; of_type = type; directives = [] }
 
 -- a field without arguments
 abbrev pub field : List ℕ → TypeRef → FieldDefinition
@@ -71,7 +73,8 @@ unfoldable pub enum_value : List ℕ → EnumValueDefinition
 enum_value name = record { description = None; name = word name; directives = [] }
 
 unfoldable pub type_of : List ℕ → TypeParts → TypeDefinition
-type_of name parts = record { place = nowhere; description = None; name = word name; directives = []; parts = parts }
+type_of name parts =
+    record { place = nowhere; description = None; name = word name; directives = []; parts = parts }
 
 -- ScalarTypeDefinition (3.5)
 abbrev pub scalar : List ℕ → TypeDefinition

@@ -51,7 +51,8 @@ pub fn share_name(sets: &Sets, left: usize, right: usize) -> bool
 
 // Whether the results of two fields may be those of one object.
 fn do_meet(left: NumberedField, right: NumberedField) -> bool
-    ensures { result ≡ (nat_eq left.parent right.parent || not left.of_object || not right.of_object) }
+    ensures { result ≡ (nat_eq left.parent right.parent || not left.of_object
+        || not right.of_object) }
 {
     left.parent == right.parent || !left.of_object || !right.of_object
 }

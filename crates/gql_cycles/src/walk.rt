@@ -177,7 +177,8 @@ fn follow_edge(edges: &[Vec<usize>], walk: &mut Walk, at: usize) -> Result<(), A
     requires at { Ends walk.old.calls.items at }
     requires more { slice_index_or walk.old.next_edges.items
         (slice_index_or walk.old.path.items at 0) 0
-        < length (slice_index_or (map (λ v. v.items) edges.now) (slice_index_or walk.old.path.items at 0) []) }
+        < length (slice_index_or (map (λ v. v.items) edges.now)
+        (slice_index_or walk.old.path.items at 0) []) }
     ensures { OnOk result (Advances (map (λ v. v.items) edges.now) walk.old walk.new) }
 {
     let node = node_of(edges, walk, at);

@@ -24,7 +24,8 @@ impl HasName for InputFact {
 }
 
 impl DefinedInput for InputFact {
-    ghost is_required = { λ input. required.is_required (typed_of input.of_type) input.has_default };
+    ghost is_required = { λ input.
+        required.is_required (typed_of input.of_type) input.has_default };
 
     fn is_required(&self) -> bool {
         self.of_type.is_non_null() && !self.has_default

@@ -57,17 +57,22 @@ last_place end ts = first_place end (drop (length ts - 1) ts)
 -- appear there, or the end of the text. If they fail at their end and too many levels are open, it is the last token
 -- that is looked at.
 abbrev pub fault_by : Place → List Lexeme → List Lexeme → SyntaxFault
-fault_by end ts [] = if leb (depth ts) most_levels then At r.Unexpected end else At r.TooDeep (last_place end (looked_at ts))
+fault_by end ts [] = if leb (depth ts) most_levels then At r.Unexpected end
+    else At r.TooDeep (last_place end (looked_at ts))
 fault_by end ts (t ∷ rest) = At r.Unexpected t.place
 
 -- where tokens are refused: those that are looked at fail
-abbrev pub Refuses : {A : Type 0} {d : ℕ → ℕ} {s : Bool} → Symbol d s A → Place → List Lexeme → SyntaxFault → Type 0
-Refuses p end ts fault = (at : List Lexeme) × Fails p (looked_at ts) at × (fault_by end ts at ≡ fault)
+abbrev pub Refuses : {A : Type 0} {d : ℕ → ℕ} {s : Bool} → Symbol d s A → Place → List Lexeme
+    → SyntaxFault → Type 0
+Refuses p end ts fault =
+    (at : List Lexeme) × Fails p (looked_at ts) at × (fault_by end ts at ≡ fault)
 
 -- What a function that parses whole texts answers: as the tokens that are looked at are read, unless memory runs out.
-abbrev pub Parses : {A : Type 0} {d : ℕ → ℕ} {s : Bool} → Symbol d s A → Place → List Lexeme → Result A SyntaxFault → Type 0
+abbrev pub Parses : {A : Type 0} {d : ℕ → ℕ} {s : Bool} → Symbol d s A → Place → List Lexeme
+    → Result A SyntaxFault → Type 0
 Parses p end ts (Ok a) = p.read (looked_at ts) ≡ Ok (a, [])
-Parses p end ts (Err fault) = fault ≢ Memory → (at : List Lexeme) × (p.read (looked_at ts) ≡ Err at) × (fault_by end ts at ≡ fault)
+Parses p end ts (Err fault) = fault ≢ Memory
+    → (at : List Lexeme) × (p.read (looked_at ts) ≡ Err at) × (fault_by end ts at ≡ fault)
 
 -- A fault with its place, where these of the tokens that are looked at were left.
 abbrev pub placed : Place → List Lexeme → List Lexeme → ParseError → SyntaxFault

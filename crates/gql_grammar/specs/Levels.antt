@@ -37,7 +37,8 @@ most_levels = 100
 
 abbrev pub looked_from : ℕ → List Lexeme → List Lexeme
 looked_from n [] = []
-looked_from n (t ∷ ts) = t ∷ (if leb (shift t.kind n) most_levels then looked_from (shift t.kind n) ts else [])
+looked_from n (t ∷ ts) =
+    t ∷ (if leb (shift t.kind n) most_levels then looked_from (shift t.kind n) ts else [])
 
 -- The tokens that are looked at: all, or those up to the first that opens a level too many, which is the last of them.
 abbrev pub looked_at : List Lexeme → List Lexeme

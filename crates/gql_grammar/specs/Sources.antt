@@ -15,7 +15,9 @@ abbrev pub IsSourceOf : {A : Type 0} {d : ℕ → ℕ} {s : Bool} → Symbol d s
 IsSourceOf p source a = (ts : List Lexeme) × IsLexed source ts × Accepts p ts a
 
 -- the source has a fault of the lexer, or is tokens that the symbol refuses
-abbrev pub IsFaultOf : {A : Type 0} {d : ℕ → ℕ} {s : Bool} → Symbol d s A → List ℕ → SyntaxFault → Type 0
+abbrev pub IsFaultOf : {A : Type 0} {d : ℕ → ℕ} {s : Bool} → Symbol d s A → List ℕ → SyntaxFault
+    → Type 0
 IsFaultOf p source fault =
-    ((number : LexRefusal) × (place : Place) × LexFails source number place × (At (refusal_of number) place ≡ fault))
+    ((number : LexRefusal) × (place : Place) × LexFails source number place
+    × (At (refusal_of number) place ≡ fault))
     ⊎ ((ts : List Lexeme) × IsLexed source ts × Refuses p (place_after source) ts fault)

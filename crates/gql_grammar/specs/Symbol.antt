@@ -76,15 +76,21 @@ and_then (Err e) f = Err e
 
 -- the first part fails, or it derives some tokens and the second part goes on from there
 abbrev pub Then : {A B : Type 0} → Rule A → (A → Rule B) → Rule B
-Then {A = A} p q ts o = ((at : List Lexeme) × p ts (Err at) × (Err at ≡ o)) ⊎ ((a : A) × (middle : List Lexeme) × p ts (Ok (a, middle)) × q a middle o)
+Then {A = A} p q ts o = ((at : List Lexeme) × p ts (Err at) × (Err at ≡ o))
+    ⊎ ((a : A) × (middle : List Lexeme) × p ts (Ok (a, middle)) × q a middle o)
 
-pub then_holds : {A B : Type 0} (p : Rule A) (q : A → Rule B) (o : Outcome A) (f : A → Reader B) (ts : List Lexeme) → p ts o → ((a : A) (middle : List Lexeme) → q a middle (f a middle)) → Then p q ts (and_then o f)
+pub then_holds : {A B : Type 0} (p : Rule A) (q : A → Rule B) (o : Outcome A) (f : A → Reader B)
+    (ts : List Lexeme) → p ts o → ((a : A) (middle : List Lexeme) → q a middle (f a middle))
+    → Then p q ts (and_then o f)
 then_holds p q (Ok r) f ts h g = inr (r.0, r.1, h, g r.0 r.1)
 then_holds p q (Err e) f ts h g = inl (e, h, refl)
 
-pub then_only : {A B : Type 0} {d e : ℕ → ℕ} {s t : Bool} (p : Symbol d s A) (q : A → Symbol e t B) (ts : List Lexeme) (o : Outcome B) → Then p.Allows (λ a. (q a).Allows) ts o → and_then (p.read ts) (λ a. (q a).read) ≡ o
+pub then_only : {A B : Type 0} {d e : ℕ → ℕ} {s t : Bool} (p : Symbol d s A) (q : A → Symbol e t B)
+    (ts : List Lexeme) (o : Outcome B) → Then p.Allows (λ a. (q a).Allows) ts o
+    → and_then (p.read ts) (λ a. (q a).read) ≡ o
 then_only p q ts o (inl h) = ap (λ r. and_then r (λ a. (q a).read)) (p.only ts (Err h.0) h.1) ∙ h.2
-then_only p q ts o (inr h) = ap (λ r. and_then r (λ a. (q a).read)) (p.only ts (Ok (h.0, h.1)) h.2) ∙ (q h.0).only h.1 o h.3
+then_only p q ts o (inr h) =
+    ap (λ r. and_then r (λ a. (q a).read)) (p.only ts (Ok (h.0, h.1)) h.2) ∙ (q h.0).only h.1 o h.3
 
 leaves_more : (s t : Bool) (a b c : ℕ) → Leaves s b c → Leaves t a b → Leaves (s || t) a c
 leaves_more true true a b c h k = omega arith
@@ -92,35 +98,42 @@ leaves_more true false a b c h k = omega arith
 leaves_more false true a b c h k = omega arith
 leaves_more false false a b c h k = omega arith
 
-then_second : {B : Type 0} (s t : Bool) (ts middle : List Lexeme) (o : Outcome B) → Leaves s (length middle) (length ts) → Takes t middle o → Takes (s || t) ts o
+then_second : {B : Type 0} (s t : Bool) (ts middle : List Lexeme) (o : Outcome B)
+    → Leaves s (length middle) (length ts) → Takes t middle o → Takes (s || t) ts o
 then_second s t ts middle (Ok r) h k = leaves_more s t (length r.1) (length middle) (length ts) h k
 then_second s t ts middle (Err e) h k = tt
 
-pub then_takes : {A B : Type 0} {e : ℕ → ℕ} (s t : Bool) (o : Outcome A) (q : A → Symbol e t B) (ts : List Lexeme) → Takes s ts o → Takes (s || t) ts (and_then o (λ a. (q a).read))
+pub then_takes : {A B : Type 0} {e : ℕ → ℕ} (s t : Bool) (o : Outcome A) (q : A → Symbol e t B)
+    (ts : List Lexeme) → Takes s ts o → Takes (s || t) ts (and_then o (λ a. (q a).read))
 then_takes s t (Ok r) q ts h = then_second s t ts r.1 ((q r.0).read r.1) h ((q r.0).takes r.1)
 then_takes s t (Err e) q ts h = tt
 
-shift_more : {B : Type 0} (d e : ℕ → ℕ) (ts middle : List Lexeme) (o : Outcome B) → ((n : ℕ) → level n ts ≡ level (d n) middle) → Shifts e middle o → Shifts (λ n. e (d n)) ts o
+shift_more : {B : Type 0} (d e : ℕ → ℕ) (ts middle : List Lexeme) (o : Outcome B)
+    → ((n : ℕ) → level n ts ≡ level (d n) middle) → Shifts e middle o → Shifts (λ n. e (d n)) ts o
 shift_more d e ts middle (Ok r) h k = λ n. h n ∙ k (d n)
 shift_more d e ts middle (Err x) h k = tt
 
-pub then_shifts : {A B : Type 0} {t : Bool} (d e : ℕ → ℕ) (o : Outcome A) (q : A → Symbol e t B) (ts : List Lexeme) → Shifts d ts o → Shifts (λ n. e (d n)) ts (and_then o (λ a. (q a).read))
+pub then_shifts : {A B : Type 0} {t : Bool} (d e : ℕ → ℕ) (o : Outcome A) (q : A → Symbol e t B)
+    (ts : List Lexeme) → Shifts d ts o → Shifts (λ n. e (d n)) ts (and_then o (λ a. (q a).read))
 then_shifts d e (Ok r) q ts h = shift_more d e ts r.1 ((q r.0).read r.1) h ((q r.0).shifts r.1)
 then_shifts d e (Err x) q ts h = tt
 
 infixl 10 ◌>>=◌
-abbrev pub ◌>>=◌ : {A B : Type 0} {d e : ℕ → ℕ} {s t : Bool} → Symbol d s A → (A → Symbol e t B) → Symbol (λ n. e (d n)) (s || t) B
+abbrev pub ◌>>=◌ : {A B : Type 0} {d e : ℕ → ℕ} {s t : Bool} → Symbol d s A → (A → Symbol e t B)
+    → Symbol (λ n. e (d n)) (s || t) B
 ◌>>=◌ {d = d} {e = e} {s = s} {t = t} p q = record {
   read = λ ts. and_then (p.read ts) (λ a. (q a).read);
   Allows = Then p.Allows (λ a. (q a).Allows);
-  holds = λ ts. then_holds p.Allows (λ a. (q a).Allows) (p.read ts) (λ a. (q a).read) ts (p.holds ts) (λ a middle. (q a).holds middle);
+  holds = λ ts. then_holds p.Allows (λ a. (q a).Allows) (p.read ts) (λ a. (q a).read) ts
+      (p.holds ts) (λ a middle. (q a).holds middle);
   only = then_only p q;
   takes = λ ts. then_takes s t (p.read ts) q ts (p.takes ts);
   shifts = λ ts. then_shifts d e (p.read ts) q ts (p.shifts ts);
 }
 
 infixl 10 ◌>>◌
-abbrev pub ◌>>◌ : {A B : Type 0} {d e : ℕ → ℕ} {s t : Bool} → Symbol d s A → Symbol e t B → Symbol (λ n. e (d n)) (s || t) B
+abbrev pub ◌>>◌ : {A B : Type 0} {d e : ℕ → ℕ} {s t : Bool} → Symbol d s A → Symbol e t B
+    → Symbol (λ n. e (d n)) (s || t) B
 p >> q = p >>= (λ _. q)
 
 -- ---- a fault at the next token
@@ -181,20 +194,24 @@ IsToken test [] o = Err [] ≡ o
 IsToken test (t ∷ ts) (Ok r) = (test (t ∷ ts) ≡ true) × (t ≡ r.0) × (ts ≡ r.1)
 IsToken test (t ∷ ts) (Err at) = (test (t ∷ ts) ≡ false) × (t ∷ ts ≡ at)
 
-token_holds_by : (pass : Bool) (test : List Lexeme → Bool) (t : Lexeme) (ts : List Lexeme) → test (t ∷ ts) ≡ pass → IsToken test (t ∷ ts) (cond pass (Ok (t, ts)) (Err (t ∷ ts)))
+token_holds_by : (pass : Bool) (test : List Lexeme → Bool) (t : Lexeme) (ts : List Lexeme)
+    → test (t ∷ ts) ≡ pass → IsToken test (t ∷ ts) (cond pass (Ok (t, ts)) (Err (t ∷ ts)))
 token_holds_by true test t ts h = (h, refl, refl)
 token_holds_by false test t ts h = (h, refl)
 
-pub token_holds : (test : List Lexeme → Bool) (ts : List Lexeme) → IsToken test ts (take_if (test ts) ts)
+pub token_holds : (test : List Lexeme → Bool) (ts : List Lexeme)
+    → IsToken test ts (take_if (test ts) ts)
 token_holds test [] = refl
 token_holds test (t ∷ ts) = token_holds_by (test (t ∷ ts)) test t ts refl
 
-pub token_only : (test : List Lexeme → Bool) (ts : List Lexeme) (o : Outcome Lexeme) → IsToken test ts o → take_if (test ts) ts ≡ o
+pub token_only : (test : List Lexeme → Bool) (ts : List Lexeme) (o : Outcome Lexeme)
+    → IsToken test ts o → take_if (test ts) ts ≡ o
 token_only test [] o h = h
 token_only test (t ∷ ts) (Ok r) h = rw h.0 (ap₂ (λ a b. Ok (a, b)) h.1 h.2)
 token_only test (t ∷ ts) (Err e) h = rw h.0 (ap Err h.1)
 
-token_takes_by : (pass : Bool) (t : Lexeme) (ts : List Lexeme) → Takes true (t ∷ ts) (cond pass (Ok (t, ts)) (Err (t ∷ ts)))
+token_takes_by : (pass : Bool) (t : Lexeme) (ts : List Lexeme)
+    → Takes true (t ∷ ts) (cond pass (Ok (t, ts)) (Err (t ∷ ts)))
 token_takes_by true t ts = omega arith
 token_takes_by false t ts = tt
 
@@ -202,15 +219,20 @@ pub token_takes : (pass : Bool) (ts : List Lexeme) → Takes true ts (take_if pa
 token_takes pass [] = tt
 token_takes pass (t ∷ ts) = token_takes_by pass t ts
 
-token_shifts_by : (pass : Bool) (d : ℕ → ℕ) (t : Lexeme) (ts : List Lexeme) → (pass ≡ true → (n : ℕ) → shift t.kind n ≡ d n) → Shifts d (t ∷ ts) (cond pass (Ok (t, ts)) (Err (t ∷ ts)))
+token_shifts_by : (pass : Bool) (d : ℕ → ℕ) (t : Lexeme) (ts : List Lexeme)
+    → (pass ≡ true → (n : ℕ) → shift t.kind n ≡ d n)
+    → Shifts d (t ∷ ts) (cond pass (Ok (t, ts)) (Err (t ∷ ts)))
 token_shifts_by true d t ts h = λ n. ap (λ m. level m ts) (h refl n)
 token_shifts_by false d t ts h = tt
 
-pub token_shifts : (test : List Lexeme → Bool) (d : ℕ → ℕ) → ((t : Lexeme) (ts : List Lexeme) → test (t ∷ ts) ≡ true → (n : ℕ) → shift t.kind n ≡ d n) → (ts : List Lexeme) → Shifts d ts (take_if (test ts) ts)
+pub token_shifts : (test : List Lexeme → Bool) (d : ℕ → ℕ)
+    → ((t : Lexeme) (ts : List Lexeme) → test (t ∷ ts) ≡ true → (n : ℕ) → shift t.kind n ≡ d n)
+    → (ts : List Lexeme) → Shifts d ts (take_if (test ts) ts)
 token_shifts test d h [] = tt
 token_shifts test d h (t ∷ ts) = token_shifts_by (test (t ∷ ts)) d t ts (h t ts)
 
-pub kind_shifts : (k : Kind) (t : Lexeme) (ts : List Lexeme) → sees k (t ∷ ts) ≡ true → (n : ℕ) → shift t.kind n ≡ shift k n
+pub kind_shifts : (k : Kind) (t : Lexeme) (ts : List Lexeme) → sees k (t ∷ ts) ≡ true → (n : ℕ)
+    → shift t.kind n ≡ shift k n
 unfolding sees
 kind_shifts k t ts h n = ap (λ x. shift x n) (same_kind_true t.kind k h)
 
@@ -218,7 +240,8 @@ first_of_both : (a b : Bool) → (a && b) ≡ true → a ≡ true
 first_of_both true b h = refl
 first_of_both false b h = h
 
-pub name_shifts : (test : List ℕ → Bool) (t : Lexeme) (ts : List Lexeme) → sees_name test (t ∷ ts) ≡ true → (n : ℕ) → shift t.kind n ≡ n
+pub name_shifts : (test : List ℕ → Bool) (t : Lexeme) (ts : List Lexeme)
+    → sees_name test (t ∷ ts) ≡ true → (n : ℕ) → shift t.kind n ≡ n
 unfolding sees_name
 name_shifts test t ts h n = kind_shifts Name t ts (first_of_both _ _ h) n
 
@@ -262,12 +285,14 @@ by_kind f = record {
 
 -- ---- a choice by a test of what follows
 
-abbrev pub choose : {A : Type 0} {d : ℕ → ℕ} {s : Bool} → Bool → Symbol d s A → Symbol d s A → Symbol d s A
+abbrev pub choose : {A : Type 0} {d : ℕ → ℕ} {s : Bool} → Bool → Symbol d s A → Symbol d s A
+    → Symbol d s A
 choose true p q = p
 choose false p q = q
 
 -- the first symbol where the test holds, the second elsewhere
-abbrev pub by_test : {A : Type 0} {d : ℕ → ℕ} {s : Bool} → (List Lexeme → Bool) → Symbol d s A → Symbol d s A → Symbol d s A
+abbrev pub by_test : {A : Type 0} {d : ℕ → ℕ} {s : Bool} → (List Lexeme → Bool) → Symbol d s A
+    → Symbol d s A → Symbol d s A
 by_test test p q = record {
   read = λ ts. (choose (test ts) p q).read ts;
   Allows = λ ts o. (choose (test ts) p q).Allows ts o;
@@ -277,7 +302,8 @@ by_test test p q = record {
   shifts = λ ts. (choose (test ts) p q).shifts ts;
 }
 
-pub takes_less : {A : Type 0} (s : Bool) (ts : List Lexeme) (o : Outcome A) → Takes s ts o → Takes false ts o
+pub takes_less : {A : Type 0} (s : Bool) (ts : List Lexeme) (o : Outcome A) → Takes s ts o
+    → Takes false ts o
 takes_less true ts (Ok r) h = omega arith
 takes_less false ts (Ok r) h = h
 takes_less s ts (Err e) h = tt
@@ -332,11 +358,13 @@ whole p = do
 -- ---- derivations and faults
 
 -- the symbol derives the tokens up to rest, as the value
-abbrev pub Derives : {A : Type 0} {d : ℕ → ℕ} {s : Bool} → Symbol d s A → List Lexeme → A → List Lexeme → Type 0
+abbrev pub Derives : {A : Type 0} {d : ℕ → ℕ} {s : Bool} → Symbol d s A → List Lexeme → A
+    → List Lexeme → Type 0
 Derives p ts a rest = p.Allows ts (Ok (a, rest))
 
 -- the symbol fails at the first of these tokens, which are left; at the end of the tokens where none are
-abbrev pub Fails : {A : Type 0} {d : ℕ → ℕ} {s : Bool} → Symbol d s A → List Lexeme → List Lexeme → Type 0
+abbrev pub Fails : {A : Type 0} {d : ℕ → ℕ} {s : Bool} → Symbol d s A → List Lexeme → List Lexeme
+    → Type 0
 Fails p ts at = p.Allows ts (Err at)
 
 -- ---- what a function that reads ensures of its result and of the tokens that it leaves
@@ -358,7 +386,8 @@ Reads outcome (Err e) new = e ≡ errors.Unexpected → outcome ≡ Err new
 
 -- What a call that reads by a symbol answers: the value that the symbol derives, with the tokens after it left. Or
 -- `Unexpected`: the symbol fails at the first of the tokens left. Or `Memory`: an allocation failed on the way.
-abbrev pub Answers : {A : Type 0} {d : ℕ → ℕ} {s : Bool} → Symbol d s A → List Lexeme → Result A ParseError → List Lexeme → Type 0
+abbrev pub Answers : {A : Type 0} {d : ℕ → ℕ} {s : Bool} → Symbol d s A → List Lexeme
+    → Result A ParseError → List Lexeme → Type 0
 Answers p old (Ok a) new = Derives p old a new
 Answers p old (Err errors.Unexpected) new = Fails p old new
 Answers p old (Err errors.Memory) new = IsRest new old

@@ -105,5 +105,6 @@ pub fn levels_law()
     ensures front { (ts : List Lexeme) → (rest : List Lexeme) × (the_looked_at ts ++ rest ≡ ts) }
     ensures all { (ts : List Lexeme) → depth ts ≤ most_levels → the_looked_at ts ≡ ts }
     ensures over { (ts : List Lexeme) → most_levels < depth ts → level 0 (the_looked_at ts) ≡ 101 }
-    ensures first { (ts before : List Lexeme) (t : Lexeme) → the_looked_at ts ≡ before ++ t ∷ [] → depth before ≤ most_levels }
+    ensures first { (ts before : List Lexeme) (t : Lexeme) → the_looked_at ts ≡ before ++ t ∷ []
+        → depth before ≤ most_levels }
 {}

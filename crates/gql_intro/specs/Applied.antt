@@ -84,36 +84,52 @@ specified_by_url t =
 module _ (place : Place) where
   pub string_is : (value : List ℕ) → string_of (l.String place value) ≡ Some value
   unfolding string_of
-  string_is value = ap string_of (sym (l.rolls-String place value)) ∙ fold-roll-Literal (Option (List ℕ)) (Option (List ℕ)) string_at string_in (Literal-F.String place value)
+  string_is value = ap string_of (sym (l.rolls-String place value))
+      ∙ fold-roll-Literal (Option (List ℕ)) (Option (List ℕ)) string_at string_in
+      (Literal-F.String place value)
 
   pub null_is_none : string_of (l.Null place) ≡ None
   unfolding string_of
-  null_is_none = ap string_of (sym (l.rolls-Null place)) ∙ fold-roll-Literal (Option (List ℕ)) (Option (List ℕ)) string_at string_in (Literal-F.Null place)
+  null_is_none = ap string_of (sym (l.rolls-Null place))
+      ∙ fold-roll-Literal (Option (List ℕ)) (Option (List ℕ)) string_at string_in
+      (Literal-F.Null place)
 
   pub variable_is_none : (name : List ℕ) → string_of (l.Variable place name) ≡ None
   unfolding string_of
-  variable_is_none name = ap string_of (sym (l.rolls-Variable place name)) ∙ fold-roll-Literal (Option (List ℕ)) (Option (List ℕ)) string_at string_in (Literal-F.Variable place name)
+  variable_is_none name = ap string_of (sym (l.rolls-Variable place name))
+      ∙ fold-roll-Literal (Option (List ℕ)) (Option (List ℕ)) string_at string_in
+      (Literal-F.Variable place name)
 
   pub int_is_none : (text : List ℕ) → string_of (l.Int place text) ≡ None
   unfolding string_of
-  int_is_none text = ap string_of (sym (l.rolls-Int place text)) ∙ fold-roll-Literal (Option (List ℕ)) (Option (List ℕ)) string_at string_in (Literal-F.Int place text)
+  int_is_none text = ap string_of (sym (l.rolls-Int place text))
+      ∙ fold-roll-Literal (Option (List ℕ)) (Option (List ℕ)) string_at string_in
+      (Literal-F.Int place text)
 
   pub float_is_none : (text : List ℕ) → string_of (l.Float place text) ≡ None
   unfolding string_of
-  float_is_none text = ap string_of (sym (l.rolls-Float place text)) ∙ fold-roll-Literal (Option (List ℕ)) (Option (List ℕ)) string_at string_in (Literal-F.Float place text)
+  float_is_none text = ap string_of (sym (l.rolls-Float place text))
+      ∙ fold-roll-Literal (Option (List ℕ)) (Option (List ℕ)) string_at string_in
+      (Literal-F.Float place text)
 
   pub boolean_is_none : (value : Bool) → string_of (l.Boolean place value) ≡ None
   unfolding string_of
-  boolean_is_none value = ap string_of (sym (l.rolls-Boolean place value)) ∙ fold-roll-Literal (Option (List ℕ)) (Option (List ℕ)) string_at string_in (Literal-F.Boolean place value)
+  boolean_is_none value = ap string_of (sym (l.rolls-Boolean place value))
+      ∙ fold-roll-Literal (Option (List ℕ)) (Option (List ℕ)) string_at string_in
+      (Literal-F.Boolean place value)
 
   pub enum_is_none : (name : List ℕ) → string_of (l.Enum place name) ≡ None
   unfolding string_of
-  enum_is_none name = ap string_of (sym (l.rolls-Enum place name)) ∙ fold-roll-Literal (Option (List ℕ)) (Option (List ℕ)) string_at string_in (Literal-F.Enum place name)
+  enum_is_none name = ap string_of (sym (l.rolls-Enum place name))
+      ∙ fold-roll-Literal (Option (List ℕ)) (Option (List ℕ)) string_at string_in
+      (Literal-F.Enum place name)
 
   pub list_is_none : (items : List Literal) → string_of (l.List place items) ≡ None
   unfolding string_of
-  list_is_none items = ap string_of (sym (l.rolls-List place items)) ∙ fold-roll-Literal (Option (List ℕ)) (Option (List ℕ)) string_at string_in _
+  list_is_none items = ap string_of (sym (l.rolls-List place items))
+      ∙ fold-roll-Literal (Option (List ℕ)) (Option (List ℕ)) string_at string_in _
 
   pub object_is_none : (fields : List ObjectField) → string_of (l.Object place fields) ≡ None
   unfolding string_of
-  object_is_none fields = ap string_of (sym (l.rolls-Object place fields)) ∙ fold-roll-Literal (Option (List ℕ)) (Option (List ℕ)) string_at string_in _
+  object_is_none fields = ap string_of (sym (l.rolls-Object place fields))
+      ∙ fold-roll-Literal (Option (List ℕ)) (Option (List ℕ)) string_at string_in _

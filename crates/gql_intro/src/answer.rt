@@ -67,7 +67,8 @@ pub fn optional_text(text: &Option<Text>) -> IntroAnswer<'_>
 
 /// A node, or null.
 pub fn node_or_null<'s>(node: Option<IntroNode<'s>>) -> IntroAnswer<'s>
-    ensures { (s : ASchema) → answer_of s result ≡ spec.optional_node (option_map node_of node.entry) }
+    ensures { (s : ASchema)
+        → answer_of s result ≡ spec.optional_node (option_map node_of node.entry) }
 {
     match node {
         Some(node) => IntroAnswer::Node(node),

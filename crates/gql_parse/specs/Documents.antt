@@ -11,7 +11,8 @@ use Rattle.gql_parse.specs.Operations.{operation, fragment}
 
 -- ExecutableDefinition: OperationDefinition or FragmentDefinition
 unfoldable pub definition : Phrase Tree
-definition = by_test (sees_word (codes "fragment")) (do found ← fragment; pure (t.Fragment found)) (do found ← operation; pure (t.Operation found))
+definition = by_test (sees_word (codes "fragment")) (do found ← fragment; pure (t.Fragment found))
+    (do found ← operation; pure (t.Operation found))
 
 -- a definition with the file that it stands in
 unfoldable pub definition_in : List ℕ → Phrase Definition

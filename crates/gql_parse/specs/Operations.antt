@@ -35,7 +35,8 @@ variable_definition = do
   of ← type_ref
   given ← optional_default
   applied ← directives true
-  pure (record { place = mark.place; name = found; of_type = of; default = given; directives = applied })
+  pure (record
+      { place = mark.place; name = found; of_type = of; default = given; directives = applied })
 
 -- VariableDefinitions: ( VariableDefinition+ )
 unfoldable pub variable_definitions : Phrase (List VariableDefinition)
@@ -50,7 +51,8 @@ optional_variables = optional (sees k.LeftParenthesis) [] variable_definitions
 
 -- OperationType: query, mutation or subscription (2.3)
 abbrev pub is_operation_type : List ℕ → Bool
-is_operation_type text = bytes_eq text (codes "query") || (bytes_eq text (codes "mutation") || bytes_eq text (codes "subscription"))
+is_operation_type text = bytes_eq text (codes "query")
+    || (bytes_eq text (codes "mutation") || bytes_eq text (codes "subscription"))
 
 abbrev pub operation_kind : List ℕ → OperationKind
 operation_kind text =

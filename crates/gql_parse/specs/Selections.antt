@@ -74,13 +74,15 @@ inline_fragment_of mark set = do
   on ← optional_condition
   applied ← directives false
   inner ← set
-  pure (roll-InlineFragment (record { place = mark.place; condition = on; directives = applied; selections = inner }))
+  pure (roll-InlineFragment
+      (record { place = mark.place; condition = on; directives = applied; selections = inner }))
 
 -- a fragment name behind ... makes a spread, anything else an inline fragment
 unfoldable pub spread_or_inline_of : Phrase (List Selection) → Phrase Selection
 spread_or_inline_of set = do
   mark ← token k.Ellipsis
-  by_test (sees_name is_fragment_name) (do found ← spread mark; pure (s.Spread found)) (do found ← inline_fragment_of mark set; pure (s.InlineFragment found))
+  by_test (sees_name is_fragment_name) (do found ← spread mark; pure (s.Spread found))
+      (do found ← inline_fragment_of mark set; pure (s.InlineFragment found))
 
 -- Selection: Field, FragmentSpread or InlineFragment (2.4)
 abbrev pub selection_by : Phrase (List Selection) → Kind → Phrase Selection

@@ -30,7 +30,9 @@ fn argument_list(
     cursor: &mut Cursor<'_>,
     constant: bool,
 ) -> Result<Items<Argument>, ParseError>
-    ensures value { Reads ((some_while (before k.RightParenthesis) (spec.argument constant)).read cursor.old) result cursor.new }
+    ensures value { Reads
+        ((some_while (before k.RightParenthesis) (spec.argument constant)).read cursor.old)
+        result cursor.new }
     ensures shorter { OnOk result (length cursor.new < length cursor.old) }
     ensures rest { IsRest cursor.new cursor.old }
 {

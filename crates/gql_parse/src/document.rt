@@ -42,12 +42,16 @@ pub fn parse_tokens(
     // What is parsed derives from the tokens, and opens at most 100 levels.
     ensures accepted { IfOk result (λ d. Accepts (executable file.now) (map lexeme tokens.now) d) }
     // What derives from the tokens with at most 100 levels is parsed.
-    ensures complete { (d : TheDocument) → Accepts (executable file.now) (map lexeme tokens.now) d → OrMemory result (Ok d) }
+    ensures complete { (d : TheDocument) → Accepts (executable file.now) (map lexeme tokens.now) d
+        → OrMemory result (Ok d) }
     // A fault is where the tokens are refused.
-    ensures refused { (number : TheRefusal) (place : ThePlace) → result ≡ Err (SyntaxFault.At number place)
+    ensures refused { (number : TheRefusal) (place : ThePlace)
+        → result ≡ Err (SyntaxFault.At number place)
         → Refuses (executable file.now) end (map lexeme tokens.now) (SyntaxFault.At number place) }
     // Where the tokens are refused is the fault.
-    ensures faulty { (fault : TheFault) → Refuses (executable file.now) end (map lexeme tokens.now) fault → OrMemory result (Err fault) }
+    ensures faulty { (fault : TheFault)
+        → Refuses (executable file.now) end (map lexeme tokens.now) fault
+        → OrMemory result (Err fault) }
 {
     parse_looked_at(alloc, tokens, file, end)
 }
@@ -57,12 +61,15 @@ pub fn parse(alloc: Global, file: FileName, source: &str) -> Result<Document, Sy
     // What is parsed is what the source's tokens derive, with at most 100 levels.
     ensures accepted { IfOk result (λ d. IsSourceOf (executable file) source.now d) }
     // What the source's tokens derive is parsed.
-    ensures complete { (d : TheDocument) → IsSourceOf (executable file) source.now d → OrMemory result (Ok d) }
+    ensures complete { (d : TheDocument) → IsSourceOf (executable file) source.now d
+        → OrMemory result (Ok d) }
     // A fault is that of the source.
-    ensures refused { (number : TheRefusal) (place : ThePlace) → result ≡ Err (SyntaxFault.At number place)
+    ensures refused { (number : TheRefusal) (place : ThePlace)
+        → result ≡ Err (SyntaxFault.At number place)
         → IsFaultOf (executable file) source.now (SyntaxFault.At number place) }
     // The fault of the source is reported.
-    ensures faulty { (fault : TheFault) → IsFaultOf (executable file) source.now fault → OrMemory result (Err fault) }
+    ensures faulty { (fault : TheFault) → IsFaultOf (executable file) source.now fault
+        → OrMemory result (Err fault) }
 {
     match lex(alloc, source) {
         Ok(tokens) => parse_looked_at(alloc, tokens.as_slice(), &file, end_place(source)),
@@ -72,8 +79,13 @@ pub fn parse(alloc: Global, file: FileName, source: &str) -> Result<Document, Sy
 
 /// A source is one document, or has one fault, and never both.
 pub fn one_answer()
-    ensures document { (file source : List ℕ) (a b : TheDocument) → IsSourceOf (executable file) source a → IsSourceOf (executable file) source b → a ≡ b }
-    ensures fault { (file source : List ℕ) (f g : TheFault) → IsFaultOf (executable file) source f → IsFaultOf (executable file) source g → f ≡ g }
-    ensures apart { (file source : List ℕ) (d : TheDocument) (f : TheFault) → IsSourceOf (executable file) source d → IsFaultOf (executable file) source f → ⊥ }
-    ensures some { (file source : List ℕ) → ((d : TheDocument) × IsSourceOf (executable file) source d) ⊎ ((f : TheFault) × IsFaultOf (executable file) source f) }
+    ensures document { (file source : List ℕ) (a b : TheDocument)
+        → IsSourceOf (executable file) source a → IsSourceOf (executable file) source b → a ≡ b }
+    ensures fault { (file source : List ℕ) (f g : TheFault) → IsFaultOf (executable file) source f
+        → IsFaultOf (executable file) source g → f ≡ g }
+    ensures apart { (file source : List ℕ) (d : TheDocument) (f : TheFault)
+        → IsSourceOf (executable file) source d → IsFaultOf (executable file) source f → ⊥ }
+    ensures some { (file source : List ℕ)
+        → ((d : TheDocument) × IsSourceOf (executable file) source d)
+        ⊎ ((f : TheFault) × IsFaultOf (executable file) source f) }
 {}

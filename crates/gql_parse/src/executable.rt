@@ -50,7 +50,9 @@ fn definitions(
     cursor: &mut Cursor<'_>,
     file: &FileName,
 ) -> Result<Items<Definition>, ParseError>
-    ensures value { Reads ((some_while (before k.EndOfText) (spec.definition_in file.now)).read cursor.old) result cursor.new }
+    ensures value { Reads
+        ((some_while (before k.EndOfText) (spec.definition_in file.now)).read cursor.old)
+        result cursor.new }
     ensures shorter { OnOk result (length cursor.new < length cursor.old) }
     ensures rest { IsRest cursor.new cursor.old }
 {

@@ -16,14 +16,16 @@ pub fn values()
         → Derives (value constant) tokens literal rest
         ↔ Derives (value_of constant (value constant)) tokens literal rest }
     ensures refused { (constant : Bool) (tokens rest : List Lexeme)
-        → Fails (value constant) tokens rest ↔ Fails (value_of constant (value constant)) tokens rest }
+        → Fails (value constant) tokens rest
+        ↔ Fails (value_of constant (value constant)) tokens rest }
 {}
 
 /// A type is what its rule derives where the types in it are types, and fails where that rule fails (GraphQL
 /// specification, 2.11).
 pub fn types()
     ensures derived { (tokens rest : List Lexeme) (reference : TypeRef)
-        → Derives type_ref tokens reference rest ↔ Derives (type_ref_of type_ref) tokens reference rest }
+        → Derives type_ref tokens reference rest
+        ↔ Derives (type_ref_of type_ref) tokens reference rest }
     ensures refused { (tokens rest : List Lexeme)
         → Fails type_ref tokens rest ↔ Fails (type_ref_of type_ref) tokens rest }
 {}
@@ -33,5 +35,6 @@ pub fn types()
 pub fn selection_sets()
     ensures derived { (tokens rest : List Lexeme) (selections : List Selection)
         → Derives set tokens selections rest ↔ Derives (set_of set) tokens selections rest }
-    ensures refused { (tokens rest : List Lexeme) → Fails set tokens rest ↔ Fails (set_of set) tokens rest }
+    ensures refused { (tokens rest : List Lexeme)
+        → Fails set tokens rest ↔ Fails (set_of set) tokens rest }
 {}

@@ -166,7 +166,9 @@ fn items(
     cursor: &mut Cursor<'_>,
     constant: bool,
 ) -> Result<Items<Literal>, ParseError>
-    ensures value { Reads ((any_while (before k.RightBracket) (spec.value constant)).read cursor.old) result cursor.new }
+    ensures value { Reads
+        ((any_while (before k.RightBracket) (spec.value constant)).read cursor.old)
+        result cursor.new }
     ensures shorter { OnOk result (length cursor.new ≤ length cursor.old) }
     ensures rest { IsRest cursor.new cursor.old }
 {
@@ -180,7 +182,8 @@ fn items(
 #[cycle(value)]
 #[tactic(auto, using(gql_grammar::proofs::Rests::rests), unfolding(crate::specs::Values::object_of))]
 fn object(alloc: Global, cursor: &mut Cursor<'_>, constant: bool) -> Result<Literal, ParseError>
-    ensures value { Reads ((spec.object_of (spec.value constant)).read cursor.old) result cursor.new }
+    ensures value { Reads
+        ((spec.object_of (spec.value constant)).read cursor.old) result cursor.new }
     ensures shorter { OnOk result (length cursor.new < length cursor.old) }
     ensures rest { IsRest cursor.new cursor.old }
 {
@@ -200,7 +203,9 @@ fn fields(
     cursor: &mut Cursor<'_>,
     constant: bool,
 ) -> Result<Items<ObjectField>, ParseError>
-    ensures value { Reads ((any_while (before k.RightBrace) (spec.object_field_of (spec.value constant))).read cursor.old) result cursor.new }
+    ensures value { Reads
+        ((any_while (before k.RightBrace)
+        (spec.object_field_of (spec.value constant))).read cursor.old) result cursor.new }
     ensures shorter { OnOk result (length cursor.new ≤ length cursor.old) }
     ensures rest { IsRest cursor.new cursor.old }
 {
@@ -218,7 +223,8 @@ fn object_field(
     cursor: &mut Cursor<'_>,
     constant: bool,
 ) -> Result<ObjectField, ParseError>
-    ensures value { Reads ((spec.object_field_of (spec.value constant)).read cursor.old) result cursor.new }
+    ensures value { Reads
+        ((spec.object_field_of (spec.value constant)).read cursor.old) result cursor.new }
     ensures shorter { OnOk result (length cursor.new < length cursor.old) }
     ensures rest { IsRest cursor.new cursor.old }
 {

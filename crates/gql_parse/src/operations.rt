@@ -62,7 +62,9 @@ fn variable_list(
     alloc: Global,
     cursor: &mut Cursor<'_>,
 ) -> Result<Items<VariableDefinition>, ParseError>
-    ensures value { Reads ((some_while (before k.RightParenthesis) spec.variable_definition).read cursor.old) result cursor.new }
+    ensures value { Reads
+        ((some_while (before k.RightParenthesis) spec.variable_definition).read cursor.old)
+        result cursor.new }
     ensures shorter { OnOk result (length cursor.new < length cursor.old) }
     ensures rest { IsRest cursor.new cursor.old }
 {

@@ -170,7 +170,8 @@ fn field(alloc: Global, cursor: &mut Cursor<'_>) -> Result<Field, ParseError>
 #[cycle(set)]
 #[tactic(auto, using(gql_grammar::proofs::Rests::rests))]
 fn optional_set(alloc: Global, cursor: &mut Cursor<'_>) -> Result<Items<Selection>, ParseError>
-    ensures value { Reads ((optional (sees k.LeftBrace) [] spec.set).read cursor.old) result cursor.new }
+    ensures value { Reads
+        ((optional (sees k.LeftBrace) [] spec.set).read cursor.old) result cursor.new }
     ensures shorter { OnOk result (length cursor.new ≤ length cursor.old) }
     ensures rest { IsRest cursor.new cursor.old }
 {
@@ -187,7 +188,8 @@ fn inline_fragment(
     cursor: &mut Cursor<'_>,
     mark: Token<'_>,
 ) -> Result<InlineFragment, ParseError>
-    ensures value { Reads ((spec.inline_fragment_of (lexeme mark.entry) spec.set).read cursor.old) result cursor.new }
+    ensures value { Reads
+        ((spec.inline_fragment_of (lexeme mark.entry) spec.set).read cursor.old) result cursor.new }
     ensures shorter { OnOk result (length cursor.new < length cursor.old) }
     ensures rest { IsRest cursor.new cursor.old }
 {

@@ -33,7 +33,8 @@ pub fn type_ref(alloc: Global, cursor: &mut Cursor<'_>) -> Result<TypeRef, Parse
 #[cycle(type_ref)]
 #[tactic(auto, using(gql_grammar::proofs::Rests::rests))]
 fn nullable(alloc: Global, cursor: &mut Cursor<'_>) -> Result<TypeRef, ParseError>
-    ensures value { Reads ((by_kind (spec.nullable_by spec.type_ref)).read cursor.old) result cursor.new }
+    ensures value { Reads
+        ((by_kind (spec.nullable_by spec.type_ref)).read cursor.old) result cursor.new }
     ensures shorter { OnOk result (length cursor.new < length cursor.old) }
     ensures rest { IsRest cursor.new cursor.old }
 {

@@ -11,7 +11,8 @@ use Rattle.gql_parse_sdl.specs.Descriptions.{optional_description, text_of}
 
 -- EnumValue: a name other than true, false and null (2.9.6)
 abbrev pub is_enum_value : List ℕ → Bool
-is_enum_value text = not (bytes_eq text (codes "true") || (bytes_eq text (codes "false") || bytes_eq text (codes "null")))
+is_enum_value text = not (bytes_eq text (codes "true")
+    || (bytes_eq text (codes "false") || bytes_eq text (codes "null")))
 
 unfoldable pub enum_name : Phrase Name
 enum_name = do

@@ -57,7 +57,9 @@ typed from None = refuse
 
 -- what stands behind extend
 abbrev pub extended : Place → Phrase Tree
-extended from = by_test (sees_word (codes "schema")) (do found ← schema_extension from; pure (t.SchemaExtension found)) (by_text (λ text. typed from (type_keyword text)))
+extended from = by_test (sees_word (codes "schema"))
+    (do found ← schema_extension from; pure (t.SchemaExtension found))
+    (by_text (λ text. typed from (type_keyword text)))
 
 -- TypeSystemExtension (3.1)
 unfoldable pub extension : Phrase Tree

@@ -20,7 +20,8 @@ typed described None = refuse
 abbrev pub defined : Option Description → Phrase Tree
 defined described =
     by_test (sees_word (codes "schema")) (do found ← schema described; pure (t.Schema found))
-    (by_test (sees_word (codes "directive")) (do found ← directive_definition described; pure (t.Directive found))
+    (by_test (sees_word (codes "directive"))
+    (do found ← directive_definition described; pure (t.Directive found))
     (by_text (λ text. typed described (type_keyword text))))
 
 -- TypeSystemDefinition: a description, if there is one, and what it describes

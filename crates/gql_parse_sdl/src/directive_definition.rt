@@ -93,7 +93,8 @@ fn location(cursor: &mut Cursor<'_>) -> Result<DirectiveLocation, Unexpected>
 
 #[tactic(auto, using(gql_grammar::proofs::Rests::rests), unfolding(crate::specs::DirectiveDefinitions::further_location))]
 fn further_location(cursor: &mut Cursor<'_>) -> Result<DirectiveLocation, Unexpected>
-    ensures value { Gives (λ found. found) (spec.further_location.read cursor.old) result cursor.new }
+    ensures value { Gives (λ found. found)
+        (spec.further_location.read cursor.old) result cursor.new }
     ensures shorter { OnOk result (length cursor.new < length cursor.old) }
     ensures rest { IsRest cursor.new cursor.old }
 {
@@ -131,7 +132,8 @@ fn locations(alloc: Global, cursor: &mut Cursor<'_>) -> Result<Items<DirectiveLo
 
 #[tactic(auto, using(gql_grammar::proofs::Rests::rests), unfolding(crate::specs::DirectiveDefinitions::repeatable))]
 fn optional_repeatable(cursor: &mut Cursor<'_>) -> Result<bool, Unexpected>
-    ensures value { Gives (λ found. found) (spec.optional_repeatable.read cursor.old) result cursor.new }
+    ensures value { Gives (λ found. found)
+        (spec.optional_repeatable.read cursor.old) result cursor.new }
     ensures shorter { OnOk result (length cursor.new ≤ length cursor.old) }
     ensures rest { IsRest cursor.new cursor.old }
 {
@@ -149,7 +151,8 @@ pub fn directive_definition(
     cursor: &mut Cursor<'_>,
     description: Option<Description>,
 ) -> Result<DirectiveDefinition, ParseError>
-    ensures value { Reads ((spec.directive_definition description).read cursor.old) result cursor.new }
+    ensures value { Reads
+        ((spec.directive_definition description).read cursor.old) result cursor.new }
     ensures shorter { OnOk result (length cursor.new < length cursor.old) }
     ensures rest { IsRest cursor.new cursor.old }
 {

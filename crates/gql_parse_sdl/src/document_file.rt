@@ -121,12 +121,15 @@ pub fn parse_any(alloc: Global, file: FileName, source: &str) -> Result<Document
     // What is parsed is what the source's tokens derive, with at most 100 levels.
     ensures accepted { IfOk result (spec.IsDocumentFile file source.now) }
     // What the source's tokens derive is parsed.
-    ensures complete { (d : TheDocument) → spec.IsDocumentFile file source.now d → OrMemory result (Ok d) }
+    ensures complete { (d : TheDocument) → spec.IsDocumentFile file source.now d
+        → OrMemory result (Ok d) }
     // A fault is that of the source.
-    ensures refused { (number : TheRefusal) (place : ThePlace) → result ≡ Err (SyntaxFault.At number place)
+    ensures refused { (number : TheRefusal) (place : ThePlace)
+        → result ≡ Err (SyntaxFault.At number place)
         → spec.IsDocumentFault file source.now (SyntaxFault.At number place) }
     // The fault of the source is reported.
-    ensures faulty { (fault : TheFault) → spec.IsDocumentFault file source.now fault → OrMemory result (Err fault) }
+    ensures faulty { (fault : TheFault) → spec.IsDocumentFault file source.now fault
+        → OrMemory result (Err fault) }
     // The definitions have the file's name, and stand at rising places.
     ensures placed { IfOk result (λ d. ArePlaced file d.definitions) }
 {
@@ -138,8 +141,13 @@ pub fn parse_any(alloc: Global, file: FileName, source: &str) -> Result<Document
 
 /// A source is one document file, or has one fault, and never both.
 pub fn one_document_answer()
-    ensures document { (file source : List ℕ) (a b : TheDocument) → spec.IsDocumentFile file source a → spec.IsDocumentFile file source b → a ≡ b }
-    ensures fault { (file source : List ℕ) (f g : TheFault) → spec.IsDocumentFault file source f → spec.IsDocumentFault file source g → f ≡ g }
-    ensures apart { (file source : List ℕ) (d : TheDocument) (f : TheFault) → spec.IsDocumentFile file source d → spec.IsDocumentFault file source f → ⊥ }
-    ensures some { (file source : List ℕ) → ((d : TheDocument) × spec.IsDocumentFile file source d) ⊎ ((f : TheFault) × spec.IsDocumentFault file source f) }
+    ensures document { (file source : List ℕ) (a b : TheDocument)
+        → spec.IsDocumentFile file source a → spec.IsDocumentFile file source b → a ≡ b }
+    ensures fault { (file source : List ℕ) (f g : TheFault) → spec.IsDocumentFault file source f
+        → spec.IsDocumentFault file source g → f ≡ g }
+    ensures apart { (file source : List ℕ) (d : TheDocument) (f : TheFault)
+        → spec.IsDocumentFile file source d → spec.IsDocumentFault file source f → ⊥ }
+    ensures some { (file source : List ℕ)
+        → ((d : TheDocument) × spec.IsDocumentFile file source d)
+        ⊎ ((f : TheFault) × spec.IsDocumentFault file source f) }
 {}

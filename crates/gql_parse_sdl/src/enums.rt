@@ -58,7 +58,8 @@ fn enum_value_list(
     alloc: Global,
     cursor: &mut Cursor<'_>,
 ) -> Result<Items<Shared<EnumValueDefinition>>, ParseError>
-    ensures value { Reads ((some_while (before k.RightBrace) spec.enum_value).read cursor.old) result cursor.new }
+    ensures value { Reads
+        ((some_while (before k.RightBrace) spec.enum_value).read cursor.old) result cursor.new }
     ensures shorter { OnOk result (length cursor.new < length cursor.old) }
     ensures rest { IsRest cursor.new cursor.old }
 {

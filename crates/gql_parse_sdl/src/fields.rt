@@ -15,7 +15,8 @@ use std::alloc::Global;
 
 #[tactic(auto, using(gql_grammar::proofs::Rests::rests), unfolding(crate::specs::Fields::ampersand))]
 fn optional_ampersand(cursor: &mut Cursor<'_>) -> Result<(), Unexpected>
-    ensures value { Gives (λ found. found) (spec.optional_ampersand.read cursor.old) result cursor.new }
+    ensures value { Gives (λ found. found)
+        (spec.optional_ampersand.read cursor.old) result cursor.new }
     ensures shorter { OnOk result (length cursor.new ≤ length cursor.old) }
     ensures rest { IsRest cursor.new cursor.old }
 {
@@ -94,7 +95,8 @@ fn field_list(
     alloc: Global,
     cursor: &mut Cursor<'_>,
 ) -> Result<Items<Shared<FieldDefinition>>, ParseError>
-    ensures value { Reads ((some_while (before k.RightBrace) spec.field).read cursor.old) result cursor.new }
+    ensures value { Reads
+        ((some_while (before k.RightBrace) spec.field).read cursor.old) result cursor.new }
     ensures shorter { OnOk result (length cursor.new < length cursor.old) }
     ensures rest { IsRest cursor.new cursor.old }
 {

@@ -61,7 +61,8 @@ fn root(alloc: Global, cursor: &mut Cursor<'_>) -> Result<RootOperation, ParseEr
 
 #[tactic(auto, using(gql_grammar::proofs::Rests::rests, gql_grammar::proofs::Loops::going_init, gql_grammar::proofs::Loops::going_on))]
 fn root_list(alloc: Global, cursor: &mut Cursor<'_>) -> Result<Items<RootOperation>, ParseError>
-    ensures value { Reads ((some_while (before k.RightBrace) spec.root).read cursor.old) result cursor.new }
+    ensures value { Reads
+        ((some_while (before k.RightBrace) spec.root).read cursor.old) result cursor.new }
     ensures shorter { OnOk result (length cursor.new < length cursor.old) }
     ensures rest { IsRest cursor.new cursor.old }
 {

@@ -83,12 +83,15 @@ pub fn parse_sdl(alloc: Global, file: FileName, source: &str) -> Result<Document
     // What is parsed is what the source's tokens derive, with at most 100 levels.
     ensures accepted { IfOk result (spec.IsSchemaFile file source.now) }
     // What the source's tokens derive is parsed.
-    ensures complete { (d : TheDocument) → spec.IsSchemaFile file source.now d → OrMemory result (Ok d) }
+    ensures complete { (d : TheDocument) → spec.IsSchemaFile file source.now d
+        → OrMemory result (Ok d) }
     // A fault is that of the source.
-    ensures refused { (number : TheRefusal) (place : ThePlace) → result ≡ Err (SyntaxFault.At number place)
+    ensures refused { (number : TheRefusal) (place : ThePlace)
+        → result ≡ Err (SyntaxFault.At number place)
         → spec.IsSchemaFault file source.now (SyntaxFault.At number place) }
     // The fault of the source is reported.
-    ensures faulty { (fault : TheFault) → spec.IsSchemaFault file source.now fault → OrMemory result (Err fault) }
+    ensures faulty { (fault : TheFault) → spec.IsSchemaFault file source.now fault
+        → OrMemory result (Err fault) }
 {
     match lex(alloc, source) {
         Ok(tokens) => from_tokens(alloc, &file, tokens.as_slice(), end_place(source)),
@@ -98,8 +101,13 @@ pub fn parse_sdl(alloc: Global, file: FileName, source: &str) -> Result<Document
 
 /// A source is one schema file, or has one fault, and never both.
 pub fn one_answer()
-    ensures document { (file source : List ℕ) (a b : TheDocument) → spec.IsSchemaFile file source a → spec.IsSchemaFile file source b → a ≡ b }
-    ensures fault { (file source : List ℕ) (f g : TheFault) → spec.IsSchemaFault file source f → spec.IsSchemaFault file source g → f ≡ g }
-    ensures apart { (file source : List ℕ) (d : TheDocument) (f : TheFault) → spec.IsSchemaFile file source d → spec.IsSchemaFault file source f → ⊥ }
-    ensures some { (file source : List ℕ) → ((d : TheDocument) × spec.IsSchemaFile file source d) ⊎ ((f : TheFault) × spec.IsSchemaFault file source f) }
+    ensures document { (file source : List ℕ) (a b : TheDocument) → spec.IsSchemaFile file source a
+        → spec.IsSchemaFile file source b → a ≡ b }
+    ensures fault { (file source : List ℕ) (f g : TheFault) → spec.IsSchemaFault file source f
+        → spec.IsSchemaFault file source g → f ≡ g }
+    ensures apart { (file source : List ℕ) (d : TheDocument) (f : TheFault)
+        → spec.IsSchemaFile file source d → spec.IsSchemaFault file source f → ⊥ }
+    ensures some { (file source : List ℕ)
+        → ((d : TheDocument) × spec.IsSchemaFile file source d)
+        ⊎ ((f : TheFault) × spec.IsSchemaFault file source f) }
 {}

@@ -19,7 +19,8 @@ pub fn type_definition(
     description: Option<Description>,
     keyword: TypeKeyword,
 ) -> Result<TypeDefinition, ParseError>
-    ensures value { Reads ((spec.type_definition description keyword).read cursor.old) result cursor.new }
+    ensures value { Reads
+        ((spec.type_definition description keyword).read cursor.old) result cursor.new }
     ensures shorter { OnOk result (length cursor.new < length cursor.old) }
     ensures rest { IsRest cursor.new cursor.old }
 {

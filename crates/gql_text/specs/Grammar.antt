@@ -23,7 +23,8 @@ pub record IsDigits (text : List ℕ) : Type 0 where
 -- 0, or digits that don't begin with 0
 pub data IsUnsigned : List ℕ → Type 0 where
   zero_alone : {text : List ℕ} → text ≡ 48 ∷ [] → IsUnsigned text
-  not_zero : {text rest : List ℕ} {first : ℕ} → text ≡ first ∷ rest → first ≢ 48 → IsTrue (list_all is_ascii_digit (first ∷ rest)) → IsUnsigned text
+  not_zero : {text rest : List ℕ} {first : ℕ} → text ≡ first ∷ rest → first ≢ 48
+      → IsTrue (list_all is_ascii_digit (first ∷ rest)) → IsUnsigned text
 
 -- IntegerPart: a minus or none, and then 0 or digits that don't begin with 0
 pub record IsInteger (text : List ℕ) : Type 0 where
@@ -53,7 +54,8 @@ pub record IsExponent (text : List ℕ) : Type 0 where
 pub data IsFloatTail : List ℕ → Type 0 where
   fraction : {text : List ℕ} → IsFraction text → IsFloatTail text
   exponent : {text : List ℕ} → IsExponent text → IsFloatTail text
-  both : {text front back : List ℕ} → text ≡ front ++ back → IsFraction front → IsExponent back → IsFloatTail text
+  both : {text front back : List ℕ} → text ≡ front ++ back → IsFraction front → IsExponent back
+      → IsFloatTail text
 
 -- FloatValue
 pub record IsFloat (text : List ℕ) : Type 0 where

@@ -11,4 +11,5 @@ pub data IsIgnored : List ℕ → Type 0 where
   white_space : {text : List ℕ} {b : ℕ} → text ≡ b ∷ [] → is_white b ≡ true → IsIgnored text
   line_terminator : {text : List ℕ} {b : ℕ} → text ≡ b ∷ [] → is_break b ≡ true → IsIgnored text
   comma : {text : List ℕ} → text ≡ 44 ∷ [] → IsIgnored text
-  comment : {text rest : List ℕ} → text ≡ 35 ∷ rest → list_all is_source_byte rest ≡ true → IsIgnored text
+  comment : {text rest : List ℕ} → text ≡ 35 ∷ rest → list_all is_source_byte rest ≡ true
+      → IsIgnored text

@@ -9,11 +9,13 @@ use Rattle.gql_text.specs.declared.front.Part.TheVariants.{Taken}
 
 -- the text has tokens, or it has a fault
 abbrev pub HasReading : List ℕ → Type 0
-HasReading source = ((tokens : List Lexeme) × IsLexed source tokens) ⊎ ((refusal : LexRefusal) × (place : Place) × LexFails source refusal place)
+HasReading source = ((tokens : List Lexeme) × IsLexed source tokens)
+    ⊎ ((refusal : LexRefusal) × (place : Place) × LexFails source refusal place)
 
 -- each token's text is the part of the source at its place
 abbrev pub IsSliceOf : List ℕ → Lexeme → Type 0
-IsSliceOf source token = token.text ≡ slice_range source token.place.offset (token.place.offset + length token.text)
+IsSliceOf source token =
+    token.text ≡ slice_range source token.place.offset (token.place.offset + length token.text)
 
 -- the text as a whole is one token of that kind
 abbrev pub IsToken : Kind → List ℕ → Type 0

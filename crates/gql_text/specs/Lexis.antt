@@ -24,34 +24,45 @@ refused_at refusal n = n
 
 -- n bytes of a string are read and these are left: piece by piece, they make of it this part
 pub data Run (piece_of : List ℕ → Piece) (kind : Kind) : ℕ → List ℕ → Part → Type 0 where
-  closes : {n k m : ℕ} {bs : List ℕ} → piece_of bs ≡ Closes k → m ≡ n + k → Run piece_of kind n bs (Taken kind m)
-  goes : {n k : ℕ} {bs : List ℕ} {p : Part} → piece_of bs ≡ Goes k → Run piece_of kind (n + k) (drop k bs) p → Run piece_of kind n bs p
-  stops : {n m : ℕ} {bs : List ℕ} {refusal : LexRefusal} → piece_of bs ≡ Stops refusal → m ≡ refused_at refusal n
+  closes : {n k m : ℕ} {bs : List ℕ} → piece_of bs ≡ Closes k → m ≡ n + k
+      → Run piece_of kind n bs (Taken kind m)
+  goes : {n k : ℕ} {bs : List ℕ} {p : Part} → piece_of bs ≡ Goes k
+      → Run piece_of kind (n + k) (drop k bs) p → Run piece_of kind n bs p
+  stops : {n m : ℕ} {bs : List ℕ} {refusal : LexRefusal} → piece_of bs ≡ Stops refusal
+      → m ≡ refused_at refusal n
       → Run piece_of kind n bs (Refused refusal m)
 
 -- this part stands at the front of the text: n bytes are dropped, or are taken as a token, or a refusal is n bytes ahead
 pub data Stands : List ℕ → Part → Type 0 where
-  block_string : {text : List ℕ} {p : Part} → three_quotes text ≡ true → Run block_piece BlockString 3 (drop 3 text) p → Stands text p
-  string : {text : List ℕ} {p : Part} → one_quote text ≡ true → Run string_piece StringValue 1 (drop 1 text) p → Stands text p
-  plain : {b : ℕ} {bs : List ℕ} {p : Part} → three_quotes (b ∷ bs) ≡ false → one_quote (b ∷ bs) ≡ false → p ≡ plain_part b bs → Stands (b ∷ bs) p
+  block_string : {text : List ℕ} {p : Part} → three_quotes text ≡ true
+      → Run block_piece BlockString 3 (drop 3 text) p → Stands text p
+  string : {text : List ℕ} {p : Part} → one_quote text ≡ true
+      → Run string_piece StringValue 1 (drop 1 text) p → Stands text p
+  plain : {b : ℕ} {bs : List ℕ} {p : Part} → three_quotes (b ∷ bs) ≡ false
+      → one_quote (b ∷ bs) ≡ false → p ≡ plain_part b bs → Stands (b ∷ bs) p
 
 -- behind these bytes the rest of the text is these tokens
 pub data Tokens : List ℕ → List ℕ → List Lexeme → Type 0 where
   at_end : {before : List ℕ} → Tokens before [] []
   dropped : {before rest : List ℕ} {n : ℕ} {tokens : List Lexeme}
-      → Stands rest (Dropped n) → Tokens (before ++ take n rest) (drop n rest) tokens → Tokens before rest tokens
+      → Stands rest (Dropped n) → Tokens (before ++ take n rest) (drop n rest) tokens
+      → Tokens before rest tokens
   token : {before rest : List ℕ} {kind : Kind} {n : ℕ} {tokens : List Lexeme}
       → Stands rest (Taken kind n) → Tokens (before ++ take n rest) (drop n rest) tokens
-      → Tokens before rest (record { kind = kind; text = take n rest; place = place_after before } ∷ tokens)
+      → Tokens before rest (record { kind = kind; text = take n rest; place = place_after before }
+      ∷ tokens)
 
 -- behind these bytes the rest of the text has this fault first, at this place
 pub data Faulty : List ℕ → List ℕ → LexRefusal → Place → Type 0 where
   here : {before rest : List ℕ} {refusal : LexRefusal} {n : ℕ} {place : Place}
-      → Stands rest (Refused refusal n) → place ≡ place_after (before ++ take n rest) → Faulty before rest refusal place
+      → Stands rest (Refused refusal n) → place ≡ place_after (before ++ take n rest)
+      → Faulty before rest refusal place
   behind_dropped : {before rest : List ℕ} {n : ℕ} {refusal : LexRefusal} {place : Place}
-      → Stands rest (Dropped n) → Faulty (before ++ take n rest) (drop n rest) refusal place → Faulty before rest refusal place
+      → Stands rest (Dropped n) → Faulty (before ++ take n rest) (drop n rest) refusal place
+      → Faulty before rest refusal place
   behind_token : {before rest : List ℕ} {kind : Kind} {n : ℕ} {refusal : LexRefusal} {place : Place}
-      → Stands rest (Taken kind n) → Faulty (before ++ take n rest) (drop n rest) refusal place → Faulty before rest refusal place
+      → Stands rest (Taken kind n) → Faulty (before ++ take n rest) (drop n rest) refusal place
+      → Faulty before rest refusal place
 
 -- how many bytes a text may have
 abbrev pub text_limit : ℕ
@@ -64,8 +75,10 @@ pub record IsLexed (source : List ℕ) (tokens : List Lexeme) : Type 0 where
 
 -- the text has this fault, at this place
 pub data LexFails : List ℕ → LexRefusal → Place → Type 0 where
-  too_long : {source : List ℕ} {place : Place} → text_limit < length source → place ≡ place_after [] → LexFails source TooLong place
-  first : {source : List ℕ} {refusal : LexRefusal} {place : Place} → length source ≤ text_limit → Faulty [] source refusal place
+  too_long : {source : List ℕ} {place : Place} → text_limit < length source → place ≡ place_after []
+      → LexFails source TooLong place
+  first : {source : List ℕ} {refusal : LexRefusal} {place : Place} → length source ≤ text_limit
+      → Faulty [] source refusal place
       → LexFails source refusal place
 
 -- the fault of the text, or want of memory

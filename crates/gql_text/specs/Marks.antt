@@ -45,7 +45,8 @@ order_part _ = Refused BadCharacter 0
 
 -- a comment whose n bytes are read goes up to the end of its line (2.1.4)
 abbrev pub comment_part : ℕ → List ℕ → Part
-comment_part n rest = if begins (λ b. not (is_break b)) rest then Refused BadCharacter n else Dropped n
+comment_part n rest =
+    if begins (λ b. not (is_break b)) rest then Refused BadCharacter n else Dropped n
 
 -- what stands at the front of b and the bytes behind it, where b is no quote
 unfoldable pub plain_part : ℕ → List ℕ → Part
@@ -54,7 +55,8 @@ plain_part b bs =
     else if is_name_start b then Taken Name (1 + prefix_len is_name_byte bs)
     else if b == 45 then number_part 1 bs
     else if is_ascii_digit b then number_part 0 (b ∷ bs)
-    else if b == 35 then comment_part (1 + prefix_len is_source_byte bs) (drop (prefix_len is_source_byte bs) bs)
+    else if b == 35 then comment_part (1 + prefix_len is_source_byte bs)
+    (drop (prefix_len is_source_byte bs) bs)
     else if b == 46 then dots_part bs
     else if b == 239 then order_part bs
     else mark_part (mark_kind b)

@@ -29,7 +29,8 @@ number_end kind n rest = if begins spoils_number rest then Refused BadNumber 0 e
 unfoldable pub exponent_digits : ℕ → List ℕ → Part
 exponent_digits n bs =
     if prefix_len is_ascii_digit bs == 0 then Refused BadNumber 0
-    else number_end FloatValue (n + prefix_len is_ascii_digit bs) (drop (prefix_len is_ascii_digit bs) bs)
+    else number_end FloatValue (n + prefix_len is_ascii_digit bs)
+    (drop (prefix_len is_ascii_digit bs) bs)
 
 -- behind a number of n bytes that has no exponent yet
 unfoldable pub exponent_part : Kind → ℕ → List ℕ → Part
@@ -42,17 +43,21 @@ exponent_part kind n (b ∷ bs) =
 unfoldable pub fraction_digits : ℕ → List ℕ → Part
 fraction_digits n bs =
     if prefix_len is_ascii_digit bs == 0 then Refused BadNumber 0
-    else exponent_part FloatValue (n + prefix_len is_ascii_digit bs) (drop (prefix_len is_ascii_digit bs) bs)
+    else exponent_part FloatValue (n + prefix_len is_ascii_digit bs)
+    (drop (prefix_len is_ascii_digit bs) bs)
 
 -- behind the integer part of a number, which has n bytes
 unfoldable pub fraction_part : ℕ → List ℕ → Part
 fraction_part n [] = exponent_part IntValue n []
-fraction_part n (b ∷ bs) = if b == 46 then fraction_digits (n + 1) bs else exponent_part IntValue n (b ∷ bs)
+fraction_part n (b ∷ bs) =
+    if b == 46 then fraction_digits (n + 1) bs else exponent_part IntValue n (b ∷ bs)
 
 -- the digits of the integer part, with n bytes of the number before them: 0, or digits that don't begin with 0
 unfoldable pub number_part : ℕ → List ℕ → Part
 number_part n [] = Refused BadNumber 0
 number_part n (b ∷ bs) =
     if b == 48 then fraction_part (n + 1) bs
-    else if is_ascii_digit b then fraction_part (n + 1 + prefix_len is_ascii_digit bs) (drop (prefix_len is_ascii_digit bs) bs)
+    else if is_ascii_digit b
+    then fraction_part (n + 1 + prefix_len is_ascii_digit bs)
+    (drop (prefix_len is_ascii_digit bs) bs)
     else Refused BadNumber 0

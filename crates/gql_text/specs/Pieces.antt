@@ -33,7 +33,8 @@ escaped_number _ = 0
 
 -- digits that stop too early: the line or the text ends behind them, or something else stands there
 abbrev pub short_escape : List ℕ → Piece
-short_escape rest = if begins (λ b. not (is_break b)) rest then Stops BadEscape else Stops UnfinishedText
+short_escape rest =
+    if begins (λ b. not (is_break b)) rest then Stops BadEscape else Stops UnfinishedText
 
 -- an escape \u of this number, with these bytes behind its digits: the halves of a pair stand together
 abbrev pub number_piece : ℕ → List ℕ → Piece

@@ -14,12 +14,14 @@ starts_with_return (b ∷ bs) = b == 13
 -- the line behind these bytes, which are read backwards: a line ends at CR, and at LF with no CR before it
 abbrev pub line_behind : List ℕ → ℕ
 line_behind [] = 1
-line_behind (b ∷ bs) = (if b == 13 || (b == 10 && not (starts_with_return bs)) then 1 else 0) + line_behind bs
+line_behind (b ∷ bs) =
+    (if b == 13 || (b == 10 && not (starts_with_return bs)) then 1 else 0) + line_behind bs
 
 -- the column behind these bytes, which are read backwards: characters are counted from the line's start
 abbrev pub column_behind : List ℕ → ℕ
 column_behind [] = 1
-column_behind (b ∷ bs) = if b == 13 || b == 10 then 1 else (if begins_char b then 1 else 0) + column_behind bs
+column_behind (b ∷ bs) =
+    if b == 13 || b == 10 then 1 else (if begins_char b then 1 else 0) + column_behind bs
 
 -- the place behind these bytes
 abbrev pub place_after : List ℕ → Place

@@ -21,19 +21,25 @@ pair_value high low = 0x1_0000 + (high - 0xD800) * 0x400 + (low - 0xDC00)
 -- StringCharacter, with its value. It is a SourceCharacter but not ", \ or LineTerminator (one of several bytes is taken
 -- byte by byte); or \ EscapedCharacter; or \u EscapedUnicode, which is no half of a surrogate pair; or both halves.
 pub data IsStringCharacter : List ℕ → List ℕ → Type 0 where
-  source : {text value : List ℕ} {b : ℕ} → text ≡ b ∷ [] → value ≡ b ∷ [] → is_source_byte b ≡ true → (b == 34) ≡ false → (b == 92) ≡ false
+  source : {text value : List ℕ} {b : ℕ} → text ≡ b ∷ [] → value ≡ b ∷ [] → is_source_byte b ≡ true
+      → (b == 34) ≡ false → (b == 92) ≡ false
       → IsStringCharacter text value
-  escaped : {text value : List ℕ} {b : ℕ} → text ≡ 92 ∷ b ∷ [] → value ≡ encode_utf8 (letter_value b) → IsEscapedCharacter b
+  escaped : {text value : List ℕ} {b : ℕ} → text ≡ 92 ∷ b ∷ []
+      → value ≡ encode_utf8 (letter_value b) → IsEscapedCharacter b
       → IsStringCharacter text value
-  unicode : {text value digits : List ℕ} {n : ℕ} → text ≡ 92 ∷ 117 ∷ digits → value ≡ encode_utf8 n → IsEscapedUnicode digits n
+  unicode : {text value digits : List ℕ} {n : ℕ} → text ≡ 92 ∷ 117 ∷ digits → value ≡ encode_utf8 n
+      → IsEscapedUnicode digits n
       → is_high n ≡ false → is_low n ≡ false → IsStringCharacter text value
-  pair : {text value first second : List ℕ} {m n : ℕ} → text ≡ 92 ∷ 117 ∷ (first ++ 92 ∷ 117 ∷ second) → value ≡ encode_utf8 (pair_value m n)
-      → IsEscapedUnicode first m → IsEscapedUnicode second n → is_high m ≡ true → is_low n ≡ true → IsStringCharacter text value
+  pair : {text value first second : List ℕ} {m n : ℕ}
+      → text ≡ 92 ∷ 117 ∷ (first ++ 92 ∷ 117 ∷ second) → value ≡ encode_utf8 (pair_value m n)
+      → IsEscapedUnicode first m → IsEscapedUnicode second n → is_high m ≡ true → is_low n ≡ true
+      → IsStringCharacter text value
 
 -- StringCharacter*, with the values one after another
 pub data IsStringCharacters : List ℕ → List ℕ → Type 0 where
   none : {text value : List ℕ} → text ≡ [] → value ≡ [] → IsStringCharacters text value
-  more : {text value front rest v w : List ℕ} → text ≡ front ++ rest → value ≡ v ++ w → IsStringCharacter front v → IsStringCharacters rest w
+  more : {text value front rest v w : List ℕ} → text ≡ front ++ rest → value ≡ v ++ w
+      → IsStringCharacter front v → IsStringCharacters rest w
       → IsStringCharacters text value
 
 -- StringValue: " StringCharacter* "
@@ -46,13 +52,17 @@ pub record IsString (text value : List ℕ) : Type 0 where
 -- is a SourceCharacter, with which neither """ nor \""" begins
 pub data IsBlock : List ℕ → List ℕ → Type 0 where
   closing : {text raw : List ℕ} → text ≡ 34 ∷ 34 ∷ 34 ∷ [] → raw ≡ [] → IsBlock text raw
-  escaped_quotes : {text raw rest w : List ℕ} → text ≡ 92 ∷ 34 ∷ 34 ∷ 34 ∷ rest → raw ≡ 34 ∷ 34 ∷ 34 ∷ w → IsBlock rest w → IsBlock text raw
-  character : {text raw rest w : List ℕ} {b : ℕ} → text ≡ b ∷ rest → raw ≡ b ∷ w → (is_break b || is_source_byte b) ≡ true
-      → three_quotes text ≡ false → (b ≡ 92 → three_quotes rest ≡ false) → IsBlock rest w → IsBlock text raw
+  escaped_quotes : {text raw rest w : List ℕ} → text ≡ 92 ∷ 34 ∷ 34 ∷ 34 ∷ rest
+      → raw ≡ 34 ∷ 34 ∷ 34 ∷ w → IsBlock rest w → IsBlock text raw
+  character : {text raw rest w : List ℕ} {b : ℕ} → text ≡ b ∷ rest → raw ≡ b ∷ w
+      → (is_break b || is_source_byte b) ≡ true
+      → three_quotes text ≡ false → (b ≡ 92 → three_quotes rest ≡ false) → IsBlock rest w
+      → IsBlock text raw
 
 -- BlockStringValue(): the value of a block string, from its raw value
 abbrev pub block_string_value : List ℕ → List ℕ
-block_string_value raw = join_with_byte 10 (up_to_last (from_first (without_common_indent (lines_of raw))))
+block_string_value raw =
+    join_with_byte 10 (up_to_last (from_first (without_common_indent (lines_of raw))))
 
 -- StringValue: """ BlockStringCharacter* """, with the value that BlockStringValue() makes of the raw value
 pub record IsBlockString (text value : List ℕ) : Type 0 where

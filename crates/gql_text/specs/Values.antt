@@ -18,12 +18,14 @@ letter_value b =
 
 -- the character of an escape by number, with these bytes behind its digits: the halves of a pair make one
 abbrev pub number_value : ℕ → List ℕ → ℕ
-number_value n bs = if is_high n then 0x1_0000 + (n - 0xD800) * 0x400 + (escaped_number bs - 0xDC00) else n
+number_value n bs =
+    if is_high n then 0x1_0000 + (n - 0xD800) * 0x400 + (escaped_number bs - 0xDC00) else n
 
 -- the character of an escape, behind its backslash
 unfoldable pub escape_value : List ℕ → ℕ
 escape_value [] = 0
-escape_value (b ∷ bs) = if b == 117 then number_value (unwrap_or (four_digits bs) 0) (drop 4 bs) else letter_value b
+escape_value (b ∷ bs) =
+    if b == 117 then number_value (unwrap_or (four_digits bs) 0) (drop 4 bs) else letter_value b
 
 -- how many bytes an escape has behind its backslash, and the bytes that it stands for
 abbrev pub escape_len : Piece → ℕ
@@ -39,7 +41,8 @@ abbrev pub string_value_behind : ℕ → List ℕ → List ℕ
 string_value_behind n [] = []
 string_value_behind (suc n) (b ∷ bs) = string_value_behind n bs
 string_value_behind zero (b ∷ bs) =
-    if b == 92 then escape_text (escape_piece bs) bs ++ string_value_behind (escape_len (escape_piece bs)) bs
+    if b == 92 then escape_text (escape_piece bs) bs
+    ++ string_value_behind (escape_len (escape_piece bs)) bs
     else b ∷ string_value_behind zero bs
 
 -- the value of a string, from what stands between its quotes
@@ -98,7 +101,8 @@ without_indent n line = drop (min n (indent_of line)) line
 -- the first line as it is, and the others without their common indent
 unfoldable pub without_common_indent : List (List ℕ) → List (List ℕ)
 without_common_indent [] = []
-without_common_indent (line ∷ lines) = line ∷ map (without_indent (unwrap_or (common_indent lines) 0)) lines
+without_common_indent (line ∷ lines) =
+    line ∷ map (without_indent (unwrap_or (common_indent lines) 0)) lines
 
 -- the lines from the first that isn't blank
 abbrev pub from_first : List (List ℕ) → List (List ℕ)
@@ -110,11 +114,13 @@ up_to_last lines = reverse (from_first (reverse lines))
 
 -- the value of a block string, from what stands between its quotes
 unfoldable pub block_value : List ℕ → List ℕ
-block_value bs = join_with_byte 10 (up_to_last (from_first (without_common_indent (lines_of (raw_value bs)))))
+block_value bs =
+    join_with_byte 10 (up_to_last (from_first (without_common_indent (lines_of (raw_value bs)))))
 
 -- the text begins and ends with these quotes
 abbrev pub is_within : List ℕ → List ℕ → Bool
-is_within quotes text = nat_le (2 * length quotes) (length text) && starts_with nat_eq text quotes && ends_with nat_eq text quotes
+is_within quotes text = nat_le (2 * length quotes) (length text) && starts_with nat_eq text quotes
+    && ends_with nat_eq text quotes
 
 -- what stands between quotes of n bytes
 abbrev pub between : ℕ → List ℕ → List ℕ

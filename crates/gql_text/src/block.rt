@@ -13,7 +13,8 @@ use std::alloc::{AllocError, Global};
 fn push_backslash<'a>(value: &mut String, text: &'a str) -> Result<&'a str, AllocError>
     requires { StartsEscape text.now }
     ensures value { IfOk result (λ rest.
-        string_bytes value.new ++ raw_value rest.now ≡ string_bytes value.old ++ raw_value text.now) }
+        string_bytes value.new ++ raw_value rest.now
+        ≡ string_bytes value.old ++ raw_value text.now) }
     ensures shorter { IfOk result (λ rest. length rest.now < length text.now) }
     ensures utf8 { IfOk result (λ rest. IsUtf8 rest.now) }
 {
@@ -192,7 +193,8 @@ fn trimmed<'a, 'b>(lines: &'a [&'b str]) -> &'a [&'b str]
 
 /// The lines with a line end between each two.
 fn joined(alloc: Global, lines: &[&str]) -> Result<String, AllocError>
-    ensures { IfOk result (λ text. string_bytes text ≡ join_with_byte 10 (map (λ x. x.now) lines.now)) }
+    ensures { IfOk result (λ text.
+        string_bytes text ≡ join_with_byte 10 (map (λ x. x.now) lines.now)) }
 {
     let mut text = String::new(alloc);
     let Some((first, others)) = lines.split_first() else {

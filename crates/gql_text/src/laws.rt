@@ -21,7 +21,8 @@ pub fn one_reading()
     ensures one_fault { (source : List ℕ) (refusal other : LexRefusal) (place elsewhere : Place)
         → LexFails source refusal place → LexFails source other elsewhere
         → (refusal ≡ other) × (place ≡ elsewhere) }
-    ensures not_both { (source : List ℕ) (tokens : List Lexeme) (refusal : LexRefusal) (place : Place)
+    ensures not_both { (source : List ℕ) (tokens : List Lexeme) (refusal : LexRefusal)
+        (place : Place)
         → IsLexed source tokens → LexFails source refusal place → ⊥ }
 {}
 

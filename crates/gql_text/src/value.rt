@@ -78,7 +78,8 @@ pub fn plain_len(text: &str) -> usize
 fn push_escape<'a>(value: &mut String, text: &'a str) -> Result<&'a str, AllocError>
     requires { StartsEscape text.now }
     ensures value { IfOk result (λ rest.
-        string_bytes value.new ++ string_value rest.now ≡ string_bytes value.old ++ string_value text.now) }
+        string_bytes value.new ++ string_value rest.now
+        ≡ string_bytes value.old ++ string_value text.now) }
     ensures shorter { IfOk result (λ rest. length rest.now < length text.now) }
     ensures utf8 { IfOk result (λ rest. IsUtf8 rest.now) }
 {

@@ -35,7 +35,9 @@ stands_by kind.InputObject t base = false
 -- each name stands for itself
 abbrev pub stands_for : Schema → List ℕ → List ℕ → Option Bool
 stands_for s name base = if bytes_eq name base then Some true
-    else option_and_then (λ (t : SchemaType). option_map (λ (b : SchemaType). stands_by b.kind t b) (type_named s base)) (type_named s name)
+    else option_and_then
+    (λ (t : SchemaType). option_map (λ (b : SchemaType). stands_by b.kind t b) (type_named s base))
+    (type_named s name)
 
 -- a type without a Non-Null outside
 abbrev pub nullable : Written → Written

@@ -12,7 +12,8 @@ abbrev pub pair : Declaration → List ℕ × List ℕ
 pair d = (d.interface.now, d.object.now)
 
 abbrev pub declared_by : TypeKind → List ℕ → List (Sited Name) → List (List ℕ × List ℕ)
-declared_by kind.Object object interfaces = map (λ (i : Sited Name). (i.node.text, object)) interfaces
+declared_by kind.Object object interfaces =
+    map (λ (i : Sited Name). (i.node.text, object)) interfaces
 declared_by kind.Scalar object interfaces = []
 declared_by kind.Interface object interfaces = []
 declared_by kind.Union object interfaces = []
@@ -20,4 +21,5 @@ declared_by kind.Enum object interfaces = []
 declared_by kind.InputObject object interfaces = []
 
 abbrev pub declarations : List SchemaType → List (List ℕ × List ℕ)
-declarations types = flat_map (λ (t : SchemaType). declared_by t.kind (name_of t) t.interfaces) types
+declarations types =
+    flat_map (λ (t : SchemaType). declared_by t.kind (name_of t) t.interfaces) types

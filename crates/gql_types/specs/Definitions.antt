@@ -35,7 +35,8 @@ names_a_type name = not (bytes_eq name (codes "Float"))
 
 -- a definition as that of a type, if it is one and not of Float
 abbrev pub type_in : Option (List ℕ) → Tree → List (Sited TypeDefinition)
-type_in file (tree.Type definition) = if names_a_type definition.name.text then record { file = file; node = definition } ∷ [] else []
+type_in file (tree.Type definition) =
+    if names_a_type definition.name.text then record { file = file; node = definition } ∷ [] else []
 type_in file (tree.Operation operation) = []
 type_in file (tree.Fragment fragment) = []
 type_in file (tree.Schema definition) = []
@@ -75,7 +76,8 @@ schema_in file (tree.TypeExtension extension) = []
 
 -- as an extension of the schema
 abbrev pub schema_extension_in : Option (List ℕ) → Tree → List (Sited SchemaExtension)
-schema_extension_in file (tree.SchemaExtension extension) = record { file = file; node = extension } ∷ []
+schema_extension_in file (tree.SchemaExtension extension) =
+    record { file = file; node = extension } ∷ []
 schema_extension_in file (tree.Operation operation) = []
 schema_extension_in file (tree.Fragment fragment) = []
 schema_extension_in file (tree.Schema definition) = []

@@ -15,7 +15,8 @@ name_of t = t.definition.node.name.text
 
 -- an object that declares the interface of this name
 abbrev pub declares : TypeKind → List (Sited Name) → List ℕ → Bool
-declares kind.Object interfaces interface = list_any (λ (i : Sited Name). bytes_eq interface i.node.text) interfaces
+declares kind.Object interfaces interface =
+    list_any (λ (i : Sited Name). bytes_eq interface i.node.text) interfaces
 declares kind.Scalar interfaces interface = false
 declares kind.Interface interfaces interface = false
 declares kind.Union interfaces interface = false
@@ -24,11 +25,14 @@ declares kind.InputObject interfaces interface = false
 
 -- the objects that declare the interface of this name (3.7)
 abbrev pub objects_of : List SchemaType → List ℕ → List (List ℕ)
-objects_of types interface = map name_of (filter (λ (t : SchemaType). declares t.kind t.interfaces interface) types)
+objects_of types interface =
+    map name_of (filter (λ (t : SchemaType). declares t.kind t.interfaces interface) types)
 
 -- these names, each once, in the order of their bytes
 abbrev pub entries_of : List (List ℕ) → List (List ℕ × Unit {0})
-entries_of names = fold (λ (entries : List (List ℕ × Unit {0})) (n : List ℕ). insert_entry name_order entries n tt) [] names
+entries_of names = fold
+    (λ (entries : List (List ℕ × Unit {0})) (n : List ℕ). insert_entry name_order entries n tt)
+    [] names
 
 abbrev pub in_order : List (List ℕ) → List (List ℕ)
 in_order names = map (λ (e : List ℕ × Unit {0}). e.0) (entries_of names)
@@ -37,8 +41,10 @@ in_order names = map (λ (e : List ℕ × Unit {0}). e.0) (entries_of names)
 -- members. `declaring` gives the objects that declare an interface.
 abbrev pub possible_by : TypeKind → (List ℕ → List (List ℕ)) → SchemaType → List PossibleTypes
 possible_by kind.Object declaring t = record { of_type = name_of t; types = name_of t ∷ [] } ∷ []
-possible_by kind.Interface declaring t = record { of_type = name_of t; types = in_order (declaring (name_of t)) } ∷ []
-possible_by kind.Union declaring t = record { of_type = name_of t; types = in_order (map (λ (m : Sited Name). m.node.text) t.members) } ∷ []
+possible_by kind.Interface declaring t =
+    record { of_type = name_of t; types = in_order (declaring (name_of t)) } ∷ []
+possible_by kind.Union declaring t = record
+    { of_type = name_of t; types = in_order (map (λ (m : Sited Name). m.node.text) t.members) } ∷ []
 possible_by kind.Scalar declaring t = []
 possible_by kind.Enum declaring t = []
 possible_by kind.InputObject declaring t = []

@@ -21,7 +21,9 @@ implied types kind text = option_map_or (λ (t : SchemaType). record { kind = ki
 
 -- where no definition of the schema stands, the types of these names
 abbrev pub all_implied : List SchemaType → List Root
-all_implied types = implied types Query (codes "Query") ++ (implied types Mutation (codes "Mutation") ++ implied types Subscription (codes "Subscription"))
+all_implied types = implied types Query (codes "Query")
+    ++ (implied types Mutation (codes "Mutation")
+    ++ implied types Subscription (codes "Subscription"))
 
 -- the entries of the first definition of the schema, or else the implied ones
 abbrev pub defined : List SchemaType → List (Sited SchemaDefinition) → List Root
@@ -29,5 +31,7 @@ defined types [] = all_implied types
 defined types (s ∷ ss) = entries s.file s.node.roots
 
 -- these, then the entries of the extensions of the schema (3.3.2)
-abbrev pub roots_of : List SchemaType → List (Sited SchemaDefinition) → List (Sited SchemaExtension) → List Root
-roots_of types definitions extensions = defined types definitions ++ flat_map (λ (e : Sited SchemaExtension). entries e.file e.node.roots) extensions
+abbrev pub roots_of : List SchemaType → List (Sited SchemaDefinition) → List (Sited SchemaExtension)
+    → List Root
+roots_of types definitions extensions = defined types definitions
+    ++ flat_map (λ (e : Sited SchemaExtension). entries e.file e.node.roots) extensions

@@ -51,11 +51,15 @@ kind_named s name = option_map (λ (t : SchemaType). t.kind) (type_named s name)
 
 -- the first field of this name that an object or an interface has
 abbrev pub field_named : Schema → List ℕ → List ℕ → Option (Sited FieldDefinition)
-field_named s of_type name = option_and_then (λ (t : SchemaType). find (λ (f : Sited FieldDefinition). bytes_eq name f.node.name.text) t.fields) (type_named s of_type)
+field_named s of_type name = option_and_then
+    (λ (t : SchemaType).
+    find (λ (f : Sited FieldDefinition). bytes_eq name f.node.name.text) t.fields)
+    (type_named s of_type)
 
 -- the possible types of a composite type
 abbrev pub possible_named : Schema → List ℕ → Option (List (List ℕ))
-possible_named s name = option_map (λ (p : PossibleTypes). p.types) (find (λ (p : PossibleTypes). bytes_eq name p.of_type) s.possible)
+possible_named s name = option_map (λ (p : PossibleTypes). p.types)
+    (find (λ (p : PossibleTypes). bytes_eq name p.of_type) s.possible)
 
 -- the fields of an input object
 abbrev pub inputs_by : TypeKind → SchemaType → Option (List (Sited InputValueDefinition))
@@ -83,7 +87,8 @@ enum_named s name = option_and_then (λ (t : SchemaType). values_by t.kind t) (t
 
 -- the first directive of this name
 abbrev pub directive_named : Schema → List ℕ → Option (Sited DirectiveDefinition)
-directive_named s name = find (λ (d : Sited DirectiveDefinition). bytes_eq name d.node.name.text) s.directives
+directive_named s name =
+    find (λ (d : Sited DirectiveDefinition). bytes_eq name d.node.name.text) s.directives
 
 -- the first root operation type of a kind
 abbrev pub root_of : Schema → OperationKind → Option Root

@@ -11,18 +11,23 @@ use Rattle.gql_types.specs.declared.schema_type.SchemaType.{SchemaType}
 -- the first definition of each name, in their order
 abbrev pub first_definitions : List (Sited TypeDefinition) → List (Sited TypeDefinition)
 first_definitions [] = []
-first_definitions (d ∷ ds) = d ∷ filter (λ (e : Sited TypeDefinition). not (bytes_eq d.node.name.text e.node.name.text)) (first_definitions ds)
+first_definitions (d ∷ ds) = d
+    ∷ filter (λ (e : Sited TypeDefinition). not (bytes_eq d.node.name.text e.node.name.text))
+    (first_definitions ds)
 
 -- an extension of the same name and kind (3.4.3)
 abbrev pub extends : Sited TypeDefinition → Sited TypeExtension → Bool
-extends d e = bytes_eq d.node.name.text e.node.name.text && same_kind (kind_of d.node.parts) (kind_of e.node.parts)
+extends d e = bytes_eq d.node.name.text e.node.name.text
+    && same_kind (kind_of d.node.parts) (kind_of e.node.parts)
 
-abbrev pub extensions_of : List (Sited TypeExtension) → Sited TypeDefinition → List (Sited TypeExtension)
+abbrev pub extensions_of : List (Sited TypeExtension) → Sited TypeDefinition
+    → List (Sited TypeExtension)
 extensions_of extensions d = filter (extends d) extensions
 
 -- the parts of a type: those of its definition, then those of its extensions
 abbrev pub parts_in : Sited TypeDefinition → List (Sited TypeExtension) → List (Sited TypeParts)
-parts_in d extensions = record { file = d.file; node = d.node.parts } ∷ map (λ (e : Sited TypeExtension). record { file = e.file; node = e.node.parts }) extensions
+parts_in d extensions = record { file = d.file; node = d.node.parts }
+    ∷ map (λ (e : Sited TypeExtension). record { file = e.file; node = e.node.parts }) extensions
 
 -- a type as one, of its first definition and these extensions
 abbrev pub assembled : Sited TypeDefinition → List (Sited TypeExtension) → SchemaType
@@ -39,4 +44,5 @@ assembled d extensions = record {
 
 -- the types of a schema
 abbrev pub types_of : List (Sited TypeDefinition) → List (Sited TypeExtension) → List SchemaType
-types_of ds extensions = map (λ (d : Sited TypeDefinition). assembled d (extensions_of extensions d)) (first_definitions ds)
+types_of ds extensions = map
+    (λ (d : Sited TypeDefinition). assembled d (extensions_of extensions d)) (first_definitions ds)

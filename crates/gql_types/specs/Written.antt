@@ -24,12 +24,15 @@ written = fold-TypeRef Written written_at
 -- its equations
 pub written_named : (n : Name) → written (t.Named n) ≡ named n.text
 unfolding written
-written_named n = ap written (sym (t.rolls-Named n)) ∙ fold-roll-TypeRef Written written_at (TypeRef-F.Named n)
+written_named n =
+    ap written (sym (t.rolls-Named n)) ∙ fold-roll-TypeRef Written written_at (TypeRef-F.Named n)
 
 pub written_list : (p : Place) (x : TypeRef) → written (t.List p x) ≡ listed (written x)
 unfolding written
-written_list p x = ap written (sym (t.rolls-List p x)) ∙ fold-roll-TypeRef Written written_at (TypeRef-F.List p x)
+written_list p x =
+    ap written (sym (t.rolls-List p x)) ∙ fold-roll-TypeRef Written written_at (TypeRef-F.List p x)
 
 pub written_non_null : (x : TypeRef) → written (t.NonNull x) ≡ required (written x)
 unfolding written
-written_non_null x = ap written (sym (t.rolls-NonNull x)) ∙ fold-roll-TypeRef Written written_at (TypeRef-F.NonNull x)
+written_non_null x = ap written (sym (t.rolls-NonNull x))
+    ∙ fold-roll-TypeRef Written written_at (TypeRef-F.NonNull x)

@@ -11,7 +11,9 @@ pub type ByName<'s, T> = HashMap<String, Vec<&'s T>>;
 
 /// All things by their names.
 pub fn by_name<'s, T: HasName>(alloc: Global, things: &'s [T]) -> Result<ByName<'s, T>, AllocError>
-    ensures { IfOk result (λ groups. (q : List ℕ) → option_map_or (λ group. map (λ x. x.now) group.items) (hash.get_by_text groups q) []
+    ensures { IfOk result (λ groups.
+        (q : List ℕ)
+        → option_map_or (λ group. map (λ x. x.now) group.items) (hash.get_by_text groups q) []
         ≡ filter (λ x. bytes_eq q (T.name x)) things.now) }
 {
     let mut groups: ByName<'s, T> = HashMap::new(alloc);

@@ -58,7 +58,8 @@ fn add_type(
     definition: &Sited<Tree>,
     found: &mut Items<Sited<Shared<TypeDefinition>>>,
 ) -> Result<(), AllocError>
-    ensures { OnOk result (found.new ≡ found.old ++ spec.type_in definition.now.file definition.now.node) }
+    ensures { OnOk result (found.new
+        ≡ found.old ++ spec.type_in definition.now.file definition.now.node) }
 {
     match &definition.node {
         Tree::Type(node) => {

@@ -13,10 +13,14 @@ fn add_first<'d>(
     definition: &'d Sited<Shared<TypeDefinition>>,
     firsts: &mut Vec<&'d Sited<Shared<TypeDefinition>>>,
 ) -> Result<(), AllocError>
-    ensures names { OnOk result ((q : List ℕ) → is_some (hash.get_by (λ k. bytes_eq q k.now) seen.new)
-        ≡ (is_some (hash.get_by (λ k. bytes_eq q k.now) seen.old) || bytes_eq q definition.now.node.name.text)) }
-    ensures firsts { OnOk result (map (λ d. d.now) firsts.new.items ≡ map (λ d. d.now) firsts.old.items
-        ++ (if is_some (hash.get_by (λ k. bytes_eq definition.now.node.name.text k.now) seen.old) then [] else definition.now ∷ [])) }
+    ensures names { OnOk result ((q : List ℕ)
+        → is_some (hash.get_by (λ k. bytes_eq q k.now) seen.new)
+        ≡ (is_some (hash.get_by (λ k. bytes_eq q k.now) seen.old)
+        || bytes_eq q definition.now.node.name.text)) }
+    ensures firsts { OnOk result (map (λ d. d.now) firsts.new.items
+        ≡ map (λ d. d.now) firsts.old.items
+        ++ (if is_some (hash.get_by (λ k. bytes_eq definition.now.node.name.text k.now) seen.old)
+        then [] else definition.now ∷ [])) }
 {
     let name = definition.node.get().name.as_str();
     if !seen.contains_key(name) {
@@ -31,7 +35,8 @@ pub fn first_definitions(
     alloc: Global,
     definitions: &[Sited<Shared<TypeDefinition>>],
 ) -> Result<Vec<&Sited<Shared<TypeDefinition>>>, AllocError>
-    ensures { IfOk result (λ firsts. map (λ d. d.now) firsts.items ≡ first_definitions definitions.now) }
+    ensures { IfOk result (λ firsts.
+        map (λ d. d.now) firsts.items ≡ first_definitions definitions.now) }
 {
     let mut seen = HashMap::new(alloc);
     let mut firsts = Vec::new(alloc);

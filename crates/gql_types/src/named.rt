@@ -43,7 +43,9 @@ impl<T: HasName> Model for Named<T> {
 
     ghost view = { λ n. n.things.items };
 
-    ghost invariant = { λ n. (q : List ℕ) → option_and_then (λ i. slice_get n.things.items i) (hash.get_by_text n.first q)
+    ghost invariant = { λ n.
+        (q : List ℕ)
+        → option_and_then (λ i. slice_get n.things.items i) (hash.get_by_text n.first q)
         ≡ find (λ x. bytes_eq q (T.name x)) n.things.items };
 }
 

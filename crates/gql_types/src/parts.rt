@@ -105,7 +105,8 @@ fn add_held<T: Held + Drop>(
     part: &Part<'_>,
     found: &mut Vec<Sited<Shared<T>>>,
 ) -> Result<(), AllocError>
-    ensures { OnOk result (found.new.items ≡ found.old.items ++ spec.in_all T.held (one part.now ∷ [])) }
+    ensures { OnOk result (found.new.items
+        ≡ found.old.items ++ spec.in_all T.held (one part.now ∷ [])) }
 {
     match T::held(part.parts) {
         Some(nodes) => add_nodes(part.file, nodes.as_slice(), found),
@@ -149,7 +150,8 @@ fn add_interfaces(
     part: &Part<'_>,
     found: &mut Items<Sited<Name>>,
 ) -> Result<(), AllocError>
-    ensures { OnOk result (found.new ≡ found.old ++ spec.in_all spec.interfaces_of (one part.now ∷ [])) }
+    ensures { OnOk result (found.new
+        ≡ found.old ++ spec.in_all spec.interfaces_of (one part.now ∷ [])) }
 {
     match part.parts {
         TypeParts::Object { interfaces, .. } | TypeParts::Interface { interfaces, .. } => {
@@ -175,7 +177,8 @@ fn add_members(
     part: &Part<'_>,
     found: &mut Items<Sited<Name>>,
 ) -> Result<(), AllocError>
-    ensures { OnOk result (found.new ≡ found.old ++ spec.in_all spec.members_of (one part.now ∷ [])) }
+    ensures { OnOk result (found.new
+        ≡ found.old ++ spec.in_all spec.members_of (one part.now ∷ [])) }
 {
     match part.parts {
         TypeParts::Union { members } => add_names(alloc, part.file, members.as_slice(), found),

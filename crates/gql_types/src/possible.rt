@@ -49,7 +49,8 @@ fn add_interfaces<'t>(
     interfaces: &'t [Sited<Name>],
     found: &mut Vec<Declaration<'t>>,
 ) -> Result<(), AllocError>
-    ensures { OnOk result (map pair found.new.items ≡ map pair found.old.items ++ map (λ i. (i.node.text, object.now)) interfaces.now) }
+    ensures { OnOk result (map pair found.new.items
+        ≡ map pair found.old.items ++ map (λ i. (i.node.text, object.now)) interfaces.now) }
 {
     for interface in interfaces {
         found.push(Declaration {
@@ -116,7 +117,8 @@ fn in_order(alloc: Global, names: &[&str]) -> Result<Items<Text>, AllocError>
 }
 
 fn objects_in<'t>(alloc: Global, group: &[&Declaration<'t>]) -> Result<Vec<&'t str>, AllocError>
-    ensures { IfOk result (λ names. map (λ n. n.now) names.items ≡ map (λ d. d.object.now) (map (λ x. x.now) group.now)) }
+    ensures { IfOk result (λ names.
+        map (λ n. n.now) names.items ≡ map (λ d. d.object.now) (map (λ x. x.now) group.now)) }
 {
     let mut names = Vec::new(alloc);
     for declaration in group {
@@ -131,7 +133,9 @@ fn of_interface(
     declaring: &ByName<'_, Declaration<'_>>,
 ) -> Result<Items<Text>, AllocError>
     ensures { IfOk result (λ found. found ≡ spec.in_order
-        (map (λ d. d.object.now) (option_map_or (λ group. map (λ x. x.now) group.items) (hash.get_by_text declaring.now name.now) []))) }
+        (map (λ d. d.object.now)
+        (option_map_or (λ group. map (λ x. x.now) group.items)
+        (hash.get_by_text declaring.now name.now) []))) }
 {
     match declaring.get(name) {
         Some(group) => {
@@ -166,7 +170,8 @@ fn add(
     types: Items<Text>,
     found: &mut Vec<PossibleTypes>,
 ) -> Result<(), AllocError>
-    ensures { OnOk result (found.new.items ≡ found.old.items ++ (record { of_type = name.now; types = types }) ∷ []) }
+    ensures { OnOk result (found.new.items
+        ≡ found.old.items ++ (record { of_type = name.now; types = types }) ∷ []) }
 {
     found.push(PossibleTypes {
         of_type: name.copy()?,
@@ -182,7 +187,9 @@ fn add_possible(
     found: &mut Vec<PossibleTypes>,
 ) -> Result<(), AllocError>
     ensures { OnOk result (found.new.items ≡ found.old.items ++ spec.possible_by of_type.now.kind
-        (λ q. map (λ d. d.object.now) (option_map_or (λ group. map (λ x. x.now) group.items) (hash.get_by_text declaring.now q) [])) of_type.now) }
+        (λ q. map (λ d. d.object.now)
+        (option_map_or (λ group. map (λ x. x.now) group.items)
+        (hash.get_by_text declaring.now q) [])) of_type.now) }
 {
     let name = &of_type.definition.node.get().name.text;
     match of_type.kind {
@@ -205,7 +212,9 @@ fn all_by(
     declaring: &ByName<'_, Declaration<'_>>,
 ) -> Result<Vec<PossibleTypes>, AllocError>
     ensures { IfOk result (λ found. found.items ≡ flat_map (λ t. spec.possible_by t.kind
-        (λ q. map (λ d. d.object.now) (option_map_or (λ group. map (λ x. x.now) group.items) (hash.get_by_text declaring.now q) [])) t) types.now) }
+        (λ q. map (λ d. d.object.now)
+        (option_map_or (λ group. map (λ x. x.now) group.items)
+        (hash.get_by_text declaring.now q) [])) t) types.now) }
 {
     let mut found = Vec::new(alloc);
     for of_type in types {

@@ -114,7 +114,8 @@ pub fn roots_of(
     definitions: &[Sited<Shared<SchemaDefinition>>],
     extensions: &[Sited<Shared<SchemaExtension>>],
 ) -> Result<Items<Root>, AllocError>
-    ensures { IfOk result (λ roots. roots ≡ spec.roots_of types.now definitions.now extensions.now) }
+    ensures { IfOk result (λ roots.
+        roots ≡ spec.roots_of types.now definitions.now extensions.now) }
 {
     let mut roots = Items::new(alloc);
     add_defined(alloc, types, definitions, &mut roots)?;

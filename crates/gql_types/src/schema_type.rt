@@ -101,7 +101,9 @@ fn of_kind(
     kind: TypeKind,
     extensions: &[&Sited<Shared<TypeExtension>>],
 ) -> Result<Items<Sited<Shared<TypeExtension>>>, AllocError>
-    ensures { IfOk result (λ found. found ≡ filter (λ e. same_kind kind (kind_of e.node.parts)) (map (λ e. e.now) extensions.now)) }
+    ensures { IfOk result (λ found.
+        found ≡ filter (λ e. same_kind kind (kind_of e.node.parts))
+        (map (λ e. e.now) extensions.now)) }
 {
     let mut found = Items::new(alloc);
     for extension in extensions {
@@ -120,8 +122,10 @@ fn extensions_of(
     definition: &Sited<Shared<TypeDefinition>>,
     extensions: &ByName<'_, Sited<Shared<TypeExtension>>>,
 ) -> Result<Items<Sited<Shared<TypeExtension>>>, AllocError>
-    ensures { IfOk result (λ found. found ≡ filter (λ e. same_kind (kind_of definition.now.node.parts) (kind_of e.node.parts))
-        (option_map_or (λ group. map (λ x. x.now) group.items) (hash.get_by_text extensions.now definition.now.node.name.text) [])) }
+    ensures { IfOk result (λ found.
+        found ≡ filter (λ e. same_kind (kind_of definition.now.node.parts) (kind_of e.node.parts))
+        (option_map_or (λ group. map (λ x. x.now) group.items)
+        (hash.get_by_text extensions.now definition.now.node.name.text) [])) }
 {
     let definition = definition.node.get();
     match extensions.get(definition.name.as_str()) {
@@ -164,8 +168,11 @@ fn with_extensions(
     definition: &Sited<Shared<TypeDefinition>>,
     extensions: &ByName<'_, Sited<Shared<TypeExtension>>>,
 ) -> Result<SchemaType, AllocError>
-    ensures { IfOk result (λ t. t ≡ spec.assembled definition.now (filter (λ e. same_kind (kind_of definition.now.node.parts) (kind_of e.node.parts))
-        (option_map_or (λ group. map (λ x. x.now) group.items) (hash.get_by_text extensions.now definition.now.node.name.text) []))) }
+    ensures { IfOk result (λ t.
+        t ≡ spec.assembled definition.now
+        (filter (λ e. same_kind (kind_of definition.now.node.parts) (kind_of e.node.parts))
+        (option_map_or (λ group. map (λ x. x.now) group.items)
+        (hash.get_by_text extensions.now definition.now.node.name.text) []))) }
 {
     let found = extensions_of(alloc, definition, extensions)?;
     let of_type = assembled(alloc, definition, found)?;
@@ -177,8 +184,12 @@ fn all_with_extensions(
     definitions: &[&Sited<Shared<TypeDefinition>>],
     extensions: &ByName<'_, Sited<Shared<TypeExtension>>>,
 ) -> Result<Vec<SchemaType>, AllocError>
-    ensures { IfOk result (λ types. types.items ≡ map (λ d. spec.assembled d (filter (λ e. same_kind (kind_of d.node.parts) (kind_of e.node.parts))
-        (option_map_or (λ group. map (λ x. x.now) group.items) (hash.get_by_text extensions.now d.node.name.text) []))) (map (λ d. d.now) definitions.now)) }
+    ensures { IfOk result (λ types.
+        types.items ≡ map (λ d.
+        spec.assembled d (filter (λ e. same_kind (kind_of d.node.parts) (kind_of e.node.parts))
+        (option_map_or (λ group. map (λ x. x.now) group.items)
+        (hash.get_by_text extensions.now d.node.name.text) [])))
+        (map (λ d. d.now) definitions.now)) }
 {
     let mut types = Vec::new(alloc);
     for definition in definitions {
