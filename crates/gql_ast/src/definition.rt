@@ -1,3 +1,5 @@
+//! Definitions, and the documents that hold them.
+
 ghost use Rattle.std.specs.Prelude.{◌≡◌, IfOk};
 ghost use Rattle.gql_ast.specs.Trees.{place_of, id_of};
 

@@ -1,3 +1,5 @@
+//! The trees of operations and fragments.
+
 use crate::literal::{Argument, Directive, Literal};
 use crate::text::Name;
 use crate::type_ref::TypeRef;

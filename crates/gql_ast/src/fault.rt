@@ -1,3 +1,5 @@
+//! Faults: which rule is broken, where, and about which text.
+
 ghost use Rattle.std.specs.Prelude.{◌≡◌, IfOk};
 
 use crate::file_name::FileName;

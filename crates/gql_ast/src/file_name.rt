@@ -1,3 +1,5 @@
+//! The names of files.
+
 ghost use Rattle.std.specs.Prelude.{◌≡◌, ◌↔◌, ◌&&◌, nat_lt, nat_le, length, IsTrue, IsSome, IfSome, Some, refl, bytes_eq};
 ghost use Rattle.std.specs.Ordering.{nat_cmp};
 ghost use Rattle.std.specs.List.{list_all};

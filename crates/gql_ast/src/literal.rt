@@ -1,3 +1,5 @@
+//! The trees of literals, arguments and directives.
+
 use crate::text::{Name, Text};
 use gql_text::Place;
 use sqlite_items::Items;

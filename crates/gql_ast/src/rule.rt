@@ -1,3 +1,5 @@
+//! The rules that faults break, with their names.
+
 ghost use Rattle.std.specs.Prelude.{◌≡◌};
 ghost use Rattle.gql_ast.specs.Rules.{name_of};
 

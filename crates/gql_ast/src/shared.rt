@@ -1,3 +1,5 @@
+//! Values with several owners.
+
 ghost use Rattle.std.specs.Prelude.{◌≡◌, IfOk};
 
 use std::alloc::{AllocError, Global};

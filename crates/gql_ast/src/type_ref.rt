@@ -1,3 +1,5 @@
+//! The trees of types, as they are written.
+
 use crate::text::Name;
 use gql_text::Place;
 use sqlite_items::Boxed;

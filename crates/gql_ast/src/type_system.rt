@@ -1,3 +1,5 @@
+//! The trees of the definitions of a schema, and of its extensions.
+
 use crate::executable::OperationKind;
 use crate::literal::{Directive, Literal};
 use crate::shared::Shared;

@@ -1,3 +1,5 @@
+//! Parts of a schema, with the file that they are in.
+
 use gql_ast::FileName;
 
 /// A part of a schema with its file, or with none if it is built in.

@@ -1,3 +1,5 @@
+//! The graph of the names of rows: a node for each name, and its edges.
+
 ghost use Rattle.std.specs.Prelude.{◌≡◌, ◌++◌, ◌<◌, ◌↔◌, ℕ, List, [], Some, map, IfOk, OnOk, length, flat_map, replicate, bytes_eq, Contains};
 ghost use Rattle.std.specs.Option.{option_to_list};
 ghost use Rattle.std.specs.HashMap as hash;

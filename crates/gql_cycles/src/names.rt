@@ -1,3 +1,5 @@
+//! The names that lead back to themselves.
+
 ghost use Rattle.std.specs.Prelude.{ℕ, List, map, IfOk, Contains};
 ghost use Rattle.gql_cycles.specs.Names.{Leads, row_of};
 ghost use Rattle.gql_cycles.specs.NameGraph.{AreApart};

@@ -1,3 +1,5 @@
+//! The walk over a graph that finds the nodes on cycles.
+
 ghost use Rattle.std.specs.Prelude.{◌≡◌, ◌≢◌, ◌<◌, ◌≤◌, ◌+◌, ◌++◌, ◌∷◌, ◌↔◌, [], ℕ, map, IfOk, OnOk, IsTrue, length, take, slice_set, slice_index_or, replicate, Contains, ◌⊎◌};
 ghost use Rattle.gql_cycles.specs.Nodes.{IsEdge, IsGraph, MarksCycles};
 ghost use Rattle.gql_cycles.specs.Path.{Ends, IsWalk, KeepsMet, KeepsUpTo, Meets, Rises, Advances, closed_from, is_marked};

@@ -1,3 +1,5 @@
+//! The cursor: the tokens that a parser still has to read.
+
 ghost use Rattle.std.specs.Prelude.{◌≡◌, ◌+◌, ◌<◌, [], ◌∷◌, length, map, drop, OnErr, OnOk, OnSome, MatchOption};
 ghost use Rattle.gql_text.specs.Lexeme.{lexeme};
 ghost use Rattle.gql_grammar.specs.Symbol.{Gives, IsRest, before, end as no_tokens, kind_of, place_of, sees, sees_word, take_if, text_of, token, word};

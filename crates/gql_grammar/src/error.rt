@@ -1,3 +1,5 @@
+//! Why a parsing function reads nothing.
+
 ghost use Rattle.std.specs.Prelude.{◌≡◌};
 ghost use Rattle.gql_grammar.specs.declared.error.ParseError.TheVariants as errors;
 

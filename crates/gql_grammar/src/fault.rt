@@ -1,3 +1,5 @@
+//! Syntax faults: why a text is refused, and where.
+
 ghost use Rattle.std.specs.Prelude.{◌≡◌};
 ghost use Rattle.gql_grammar.specs.Files.{fault_of, number_of, refusal_of};
 

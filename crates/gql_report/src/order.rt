@@ -1,3 +1,5 @@
+//! The order of faults in a report.
+
 ghost use Rattle.std.specs.Prelude.{◌≡◌, take, drop};
 ghost use Rattle.std.specs.Option.{option_cmp};
 ghost use Rattle.std.specs.Cmp.Lexicographic.{slice_cmp};

@@ -1,3 +1,5 @@
+//! Faults in the order of reports, each once.
+
 ghost use Rattle.std.specs.Prelude.{◌≡◌, ◌↔◌, ◌++◌, List, [], IfOk, OnOk, Contains, fold};
 ghost use Rattle.std.specs.BTreeMap.{insert_entry, keys};
 ghost use Rattle.std.specs.List.Sorted.{IsStrictlySortedBy};

@@ -1,3 +1,5 @@
+//! The value of a block string (GraphQL specification, 2.9.4).
+
 ghost use Rattle.std.specs.Prelude.{◌≡◌, ◌+◌, ◌-◌, ◌<◌, ◌≤◌, ◌++◌, ◌==◌, not, List, ℕ, length, drop, map, min, reverse, Option, IfOk, string_bytes, unwrap_or};
 ghost use Rattle.std.specs.List.{prefix_len, join_with_byte};
 ghost use Rattle.std.specs.Str.{IsUtf8, IsCharBoundary};

@@ -1,3 +1,5 @@
+//! What is at the front of a text, or of the rest of a string: a token, ignored bytes, or a refusal.
+
 ghost use Rattle.std.specs.Prelude.{◌≡◌, ◌+◌, ◌<◌, ◌≤◌, ◌∷◌, length, drop};
 ghost use Rattle.std.specs.List.{prefix_len};
 ghost use Rattle.gql_text.specs.Chars.{is_name_start, is_name_byte, is_source_byte, is_blank};

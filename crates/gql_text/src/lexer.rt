@@ -1,3 +1,5 @@
+//! The lexer: the tokens of a text, or its first fault.
+
 ghost use Rattle.std.specs.Prelude.{◌≡◌, ◌≤◌, ◌<◌, ◌+◌, ◌-◌, map, length, take, drop, IfOk, IfErr};
 ghost use Rattle.std.specs.Str.{IsCharBoundary};
 ghost use Rattle.gql_text.specs.Place.{place_after};

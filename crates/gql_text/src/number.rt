@@ -1,3 +1,5 @@
+//! The numbers at the front of a text (GraphQL specification, 2.9.1 and 2.9.2).
+
 ghost use Rattle.std.specs.Prelude.{◌≡◌, ◌+◌, ◌<◌, ◌≤◌, length};
 ghost use Rattle.std.specs.List.{prefix_len};
 ghost use Rattle.std.specs.Char.{is_ascii_digit};

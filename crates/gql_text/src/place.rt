@@ -1,3 +1,5 @@
+//! Places in a text: line, column and offset.
+
 ghost use Rattle.std.specs.Prelude.{◌≡◌, ◌+◌, ◌<◌, ◌≤◌, length, take};
 ghost use Rattle.gql_text.specs.Place.{place_after};
 

@@ -1,3 +1,5 @@
+//! Tokens, their kinds, and why a text has none.
+
 ghost use Rattle.std.specs.Prelude.{◌≡◌, ◌≢◌, true, false};
 ghost use Rattle.gql_text.specs.Kinds.{same_kind};
 ghost use Rattle.gql_text.specs.Numbers.{number_of};

@@ -1,3 +1,5 @@
+//! All things of each name.
+
 ghost use Rattle.std.specs.Prelude.{◌≡◌, ℕ, List, [], IfOk, map, filter, bytes_eq};
 ghost use Rattle.std.specs.Option.{option_map_or};
 ghost use Rattle.std.specs.HashMap as hash;

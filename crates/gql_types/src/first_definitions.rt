@@ -1,3 +1,5 @@
+//! The first definition of each name.
+
 ghost use Rattle.std.specs.Prelude.{◌≡◌, ◌++◌, ◌∷◌, [], ◌||◌, ℕ, List, IfOk, OnOk, map, is_some, bytes_eq, if◌then◌else◌};
 ghost use Rattle.std.specs.HashMap as hash;
 ghost use Rattle.gql_types.specs.Types.{first_definitions};

@@ -1,3 +1,5 @@
+//! The kinds of types.
+
 ghost use Rattle.std.specs.Prelude.{◌≡◌};
 ghost use Rattle.gql_types.specs.Parts.{kind_of};
 ghost use Rattle.gql_types.specs.Kinds as spec;

@@ -1,3 +1,5 @@
+//! Things that have names, with a look-up of the first of a name.
+
 ghost use Rattle.std.specs.Prelude.{◌≡◌, ℕ, List, IfOk, find, bytes_eq, string_bytes, slice_get, option_and_then};
 ghost use Rattle.std.specs.Option.{option_copied};
 ghost use Rattle.std.specs.List.{position_from};

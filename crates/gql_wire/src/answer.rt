@@ -1,3 +1,5 @@
+//! The heads of answers.
+
 ghost use Rattle.std.specs.Prelude.{◌≡◌, ◌+◌, ◌<◌, ◌≤◌, ◌++◌, IsTrue, IsOk, OnOk, OnErr, length, vec_len, vec_capacity, codes, decimal};
 ghost use Rattle.gql_wire.specs.Answer.{is_answered, phrase_of, methods_text, allow_line, status_line, body_lines, closing_line, answer_head_of};
 

@@ -1,3 +1,5 @@
+//! The answer to the question for the built-in definitions.
+
 use crate::joined::join;
 use gql_ast::Tree;
 use gql_built_in::{Sited, built_in_definitions};

@@ -1,3 +1,5 @@
+//! Texts joined with a text between any two.
+
 use std::alloc::AllocError;
 
 /// Adds a text to others, with a text between any two.

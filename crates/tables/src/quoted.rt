@@ -1,3 +1,5 @@
+//! Texts as strings of JSON.
+
 use serde_json::Value;
 use std::alloc::{AllocError, Global};
 

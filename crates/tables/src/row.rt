@@ -1,3 +1,5 @@
+//! The rows of tables: the files of a row, and the answers to its questions.
+
 use crate::editing::Editing;
 use crate::facts::facts_answer;
 use crate::faults::written_faults;

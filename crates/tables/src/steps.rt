@@ -1,3 +1,5 @@
+//! Answers to a question that has several steps.
+
 use crate::joined::join;
 use std::alloc::Global;
 

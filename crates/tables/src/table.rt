@@ -1,3 +1,5 @@
+//! The tables as far as they are read.
+
 use crate::quoted::unquoted;
 use crate::row::Row;
 use anyhow::{Context, Result};

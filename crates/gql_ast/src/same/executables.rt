@@ -1,3 +1,5 @@
+//! Comparison of operations, fragments and selections.
+
 ghost use Rattle.std.specs.Prelude.{◌≡◌, ◌↔◌, IsTrue};
 
 use crate::executable::{

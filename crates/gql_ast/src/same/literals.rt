@@ -1,3 +1,5 @@
+//! Comparison of literals, arguments and directives.
+
 ghost use Rattle.std.specs.Prelude.{◌≡◌, ◌↔◌, IsTrue};
 
 use crate::literal::{Argument, Directive, Literal, ObjectField};

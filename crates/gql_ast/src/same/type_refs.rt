@@ -1,3 +1,5 @@
+//! Comparison of types, as they are written.
+
 ghost use Rattle.std.specs.Prelude.{◌≡◌, ◌↔◌, IsTrue};
 
 use crate::same::Same;

@@ -1,3 +1,5 @@
+//! Comparison of the definitions and extensions of a schema.
+
 ghost use Rattle.std.specs.Prelude.{◌≡◌, ◌↔◌, IsTrue};
 
 use crate::same::{Same, same_items, same_option};

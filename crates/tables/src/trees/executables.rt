@@ -1,3 +1,5 @@
+//! Operations, fragments and selections, as the tables write them.
+
 use crate::joined::join;
 use crate::trees::{Written, between, enclosed, optional};
 use gql_ast::{

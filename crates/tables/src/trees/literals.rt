@@ -1,3 +1,5 @@
+//! Literals, arguments and directives, as the tables write them.
+
 use crate::joined::join;
 use crate::quoted::quoted;
 use crate::trees::{Written, enclosed};

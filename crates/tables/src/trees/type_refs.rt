@@ -1,3 +1,5 @@
+//! Types, as the tables write them.
+
 use crate::trees::Written;
 use gql_ast::TypeRef;
 use std::alloc::{AllocError, Global};
