@@ -57,7 +57,7 @@ impl Tree {
     }
 }
 
-/// A definition and the file that it stands in.
+/// A definition and the file that it is in.
 #[derive(Drop)]
 pub struct Definition {
     pub file: FileName,

@@ -17,7 +17,7 @@ shift RightBrace n = one_less n
 shift RightBracket n = one_less n
 shift _ n = n
 
--- how many are open behind the tokens, where n are open before them
+-- how many are open after the tokens, where n are open before them
 abbrev pub level : ℕ → List Lexeme → ℕ
 level n [] = n
 level n (t ∷ ts) = level (shift t.kind n) ts

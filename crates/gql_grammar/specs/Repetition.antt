@@ -1,4 +1,4 @@
--- A symbol repeated for as long as what stands next passes a test.
+-- A symbol repeated for as long as what is next passes a test.
 use Rattle.std.specs.Prelude.{◌≡◌, ℕ, zero, suc, ◌<◌, ◌≤◌, Bool, true, false, if◌then◌else◌, List, [], ◌∷◌, ◌++◌, length, Ok, Err, refl}
 use Rattle.std.proofs.Common.{arith, sym, ap, ap₂, ◌∙◌, cond, append_assoc, append-nil, subst}
 use Rattle.gql_text.specs.Lexeme.{Lexeme}
@@ -165,7 +165,7 @@ pub while_shifts : {A : Type 0} (test : List Lexeme → Bool) (item : Phrase A) 
     (ts : List Lexeme) → Shifts (λ n. n) ts (while_from test item.read (suc (length ts)) found ts)
 while_shifts test item found ts = level_by test item found ts _ (while_holds test item found ts)
 
--- further items, behind those that were found
+-- further items, after those that were found
 abbrev pub further : {A : Type 0} → (List Lexeme → Bool) → Phrase A → List A → Part (List A)
 further test item found = record {
   read = λ ts. while_from test item.read (suc (length ts)) found ts;

@@ -148,7 +148,7 @@ refuse = record {
   shifts = λ ts. tt;
 }
 
--- ---- what stands next
+-- ---- what is next
 
 -- the kind of the next token
 abbrev pub kind_of : List Lexeme → Kind
@@ -165,19 +165,19 @@ abbrev pub place_of : List Lexeme → Option Place
 place_of [] = None
 place_of (t ∷ ts) = Some t.place
 
--- whether a token of this kind stands next
+-- whether a token of this kind is next
 unfoldable pub sees : Kind → List Lexeme → Bool
 sees k ts = same_kind (kind_of ts) k
 
--- whether something else stands next, or nothing
+-- whether something else is next, or nothing
 unfoldable pub before : Kind → List Lexeme → Bool
 before k ts = not (sees k ts)
 
--- whether a name that passes the test stands next
+-- whether a name that passes the test is next
 unfoldable pub sees_name : (List ℕ → Bool) → List Lexeme → Bool
 sees_name test ts = sees Name ts && test (text_of ts)
 
--- whether this word stands next
+-- whether this word is next
 abbrev pub sees_word : List ℕ → List Lexeme → Bool
 sees_word word = sees_name (λ text. bytes_eq text word)
 

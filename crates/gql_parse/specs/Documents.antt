@@ -14,7 +14,7 @@ unfoldable pub definition : Phrase Tree
 definition = by_test (sees_word (codes "fragment")) (do found ← fragment; pure (t.Fragment found))
     (do found ← operation; pure (t.Operation found))
 
--- a definition with the file that it stands in
+-- a definition with the file that it is in
 unfoldable pub definition_in : List ℕ → Phrase Definition
 definition_in file = do
   found ← definition

@@ -15,14 +15,14 @@ use Rattle.gql_grammar.specs.Recursion.{recursive}
 use Rattle.gql_parse.specs.Names.{name, name_of}
 use Rattle.gql_parse.specs.Directives.{optional_arguments, directives}
 
--- : Name, behind an alias (2.7)
+-- : Name, after an alias (2.7)
 unfoldable pub aliased : Name → Phrase (Option Name × Name)
 aliased alias = do
   token k.Colon
   found ← name
   pure (Some alias, found)
 
--- (Alias)? Name: a name with a : behind it is an alias (2.7)
+-- (Alias)? Name: a name with a : after it is an alias (2.7)
 unfoldable pub names : Phrase (Option Name × Name)
 names = do
   first ← name
@@ -61,14 +61,14 @@ some_condition = do
 abbrev pub optional_condition : Part (Option Name)
 optional_condition = optional (sees_word (codes "on")) None some_condition
 
--- FragmentSpread: ... FragmentName Directives? (2.8), behind its mark
+-- FragmentSpread: ... FragmentName Directives? (2.8), after its mark
 unfoldable pub spread : Lexeme → Phrase Spread
 spread mark = do
   found ← fragment_name
   applied ← directives false
   pure (record { place = mark.place; name = found; directives = applied })
 
--- InlineFragment: ... TypeCondition? Directives? SelectionSet (2.8.2), behind its mark
+-- InlineFragment: ... TypeCondition? Directives? SelectionSet (2.8.2), after its mark
 unfoldable pub inline_fragment_of : Lexeme → Phrase (List Selection) → Phrase InlineFragment
 inline_fragment_of mark set = do
   on ← optional_condition
@@ -77,7 +77,7 @@ inline_fragment_of mark set = do
   pure (roll-InlineFragment
       (record { place = mark.place; condition = on; directives = applied; selections = inner }))
 
--- a fragment name behind ... makes a spread, anything else an inline fragment
+-- a fragment name after ... makes a spread, anything else an inline fragment
 unfoldable pub spread_or_inline_of : Phrase (List Selection) → Phrase Selection
 spread_or_inline_of set = do
   mark ← token k.Ellipsis

@@ -26,7 +26,7 @@ nullable_by type k.Name = named_type
 nullable_by type k.LeftBracket = list_type_of type
 nullable_by type _ = refuse
 
--- NonNullType: with a ! behind it
+-- NonNullType: with a ! after it
 unfoldable pub non_null : TypeRef → Phrase TypeRef
 non_null of = do
   token k.Bang

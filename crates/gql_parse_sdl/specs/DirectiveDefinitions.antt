@@ -92,7 +92,7 @@ locations = do
   found ← location_names
   pure found
 
--- DirectiveDefinition, behind its description: directive @ Name ArgumentsDefinition? repeatable? DirectiveLocations (3.13)
+-- DirectiveDefinition, after its description: directive @ Name ArgumentsDefinition? repeatable? DirectiveLocations (3.13)
 unfoldable pub directive_definition : Option Description → Phrase DirectiveDefinition
 directive_definition described = do
   mark ← word (codes "directive")

@@ -17,7 +17,7 @@ use Rattle.gql_parse_sdl.specs.TypeSystem.{type_system}
 abbrev pub is_executable_word : List ℕ → Bool
 is_executable_word text = bytes_eq text (codes "fragment") || is_operation_type text
 
--- whether an operation or a fragment stands next
+-- whether an operation or a fragment is next
 abbrev pub begins_executable : List Lexeme → Bool
 begins_executable ts = sees k.LeftBrace ts || sees_name is_executable_word ts
 
@@ -25,7 +25,7 @@ begins_executable ts = sees k.LeftBrace ts || sees_name is_executable_word ts
 abbrev pub any_definition : Phrase Tree
 any_definition = by_test begins_executable executable.definition type_system
 
--- a definition with the file that it stands in
+-- a definition with the file that it is in
 unfoldable pub definition : List ℕ → Phrase Definition
 definition file = do
   found ← any_definition

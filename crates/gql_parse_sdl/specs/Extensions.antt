@@ -1,4 +1,4 @@
--- Extensions of the schema and of types (3.1): each has at least one part behind what it extends.
+-- Extensions of the schema and of types (3.1): each has at least one part after what it extends.
 use Rattle.std.specs.Prelude.{List, Option, Some, None, Bool, true, ◌||◌, codes}
 use Rattle.gql_text.specs.Lexeme.{Lexeme}
 use Rattle.gql_text.specs.declared.place.Place.{Place}
@@ -16,11 +16,11 @@ use Rattle.gql_parse_sdl.specs.Words.{by_text}
 use Rattle.gql_parse_sdl.specs.Types.{body, spelling, type_keyword}
 use Rattle.gql_parse_sdl.specs.Schemas.{optional_roots}
 
--- whether directives or a part in braces stand next
+-- whether directives or a part in braces are next
 abbrev pub begins_braces : List Lexeme → Bool
 begins_braces ts = sees k.At ts || sees k.LeftBrace ts
 
--- whether a part of such a type stands next
+-- whether a part of such a type is next
 abbrev pub begins_part : TypeKeyword → List Lexeme → Bool
 begins_part w.Scalar ts = sees k.At ts
 begins_part w.Object ts = begins_braces ts || sees_word (codes "implements") ts
@@ -29,11 +29,11 @@ begins_part w.Union ts = sees k.At ts || sees k.Equals ts
 begins_part w.Enum ts = begins_braces ts
 begins_part w.InputObject ts = begins_braces ts
 
--- that a part stands next
+-- that a part is next
 abbrev pub some_part : (List Lexeme → Bool) → Part (Unit {0})
 some_part begins = by_test begins (pure tt) (relaxed refuse)
 
--- TypeExtension, behind extend: its keyword, Name, and at least one part (3.4.3)
+-- TypeExtension, after extend: its keyword, Name, and at least one part (3.4.3)
 unfoldable pub type_extension : Place → TypeKeyword → Phrase TypeExtension
 type_extension from keyword = do
   word (spelling keyword)
@@ -42,7 +42,7 @@ type_extension from keyword = do
   rest ← body keyword
   pure (record { place = from; name = found; directives = rest.directives; parts = rest.parts })
 
--- SchemaExtension, behind extend: schema Directives? { RootOperationTypeDefinition+ }?, one of the two at least (3.3.2)
+-- SchemaExtension, after extend: schema Directives? { RootOperationTypeDefinition+ }?, one of the two at least (3.3.2)
 unfoldable pub schema_extension : Place → Phrase SchemaExtension
 schema_extension from = do
   word (codes "schema")
@@ -55,7 +55,7 @@ abbrev pub typed : Place → Option TypeKeyword → Phrase Tree
 typed from (Some keyword) = do found ← type_extension from keyword; pure (t.TypeExtension found)
 typed from None = refuse
 
--- what stands behind extend
+-- what follows extend
 abbrev pub extended : Place → Phrase Tree
 extended from = by_test (sees_word (codes "schema"))
     (do found ← schema_extension from; pure (t.SchemaExtension found))

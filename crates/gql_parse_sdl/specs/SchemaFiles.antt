@@ -9,7 +9,7 @@ use Rattle.gql_ast.specs.declared.definition.Definition.{Definition}
 use Rattle.gql_ast.specs.declared.definition.Document.{Document}
 use Rattle.gql_parse_sdl.specs.TypeSystem.{type_system}
 
--- a definition or extension, with the file that it stands in  (3)
+-- a definition or extension, with the file that it is in  (3)
 unfoldable pub definition : List ℕ → Phrase Definition
 definition file = do
   found ← type_system

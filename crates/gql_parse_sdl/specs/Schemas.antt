@@ -30,7 +30,7 @@ roots = do
 abbrev pub optional_roots : Part (List RootOperation)
 optional_roots = optional (sees k.LeftBrace) [] roots
 
--- SchemaDefinition, behind its description: schema Directives? { RootOperationTypeDefinition+ } (3.3)
+-- SchemaDefinition, after its description: schema Directives? { RootOperationTypeDefinition+ } (3.3)
 unfoldable pub schema : Option Description → Phrase SchemaDefinition
 schema described = do
   mark ← word (codes "schema")

@@ -16,7 +16,7 @@ abbrev pub typed : Option Description → Option TypeKeyword → Phrase Tree
 typed described (Some keyword) = do found ← type_definition described keyword; pure (t.Type found)
 typed described None = refuse
 
--- SchemaDefinition, DirectiveDefinition or TypeDefinition, behind its description
+-- SchemaDefinition, DirectiveDefinition or TypeDefinition, after its description
 abbrev pub defined : Option Description → Phrase Tree
 defined described =
     by_test (sees_word (codes "schema")) (do found ← schema described; pure (t.Schema found))

@@ -34,13 +34,13 @@ spelling w.Union = codes "union"
 spelling w.Enum = codes "enum"
 spelling w.InputObject = codes "input"
 
--- ScalarTypeDefinition, behind the name: Directives? (3.5)
+-- ScalarTypeDefinition, after the name: Directives? (3.5)
 unfoldable pub scalar_body : Part TypeBody
 scalar_body = do
   applied ← directives true
   pure (record { directives = applied; parts = parts.Scalar })
 
--- ObjectTypeDefinition, behind the name: ImplementsInterfaces? Directives? FieldsDefinition? (3.6)
+-- ObjectTypeDefinition, after the name: ImplementsInterfaces? Directives? FieldsDefinition? (3.6)
 unfoldable pub object_body : Part TypeBody
 object_body = do
   kept ← optional_interfaces
@@ -48,7 +48,7 @@ object_body = do
   found ← optional_fields
   pure (record { directives = applied; parts = parts.Object kept found })
 
--- InterfaceTypeDefinition, behind the name: ImplementsInterfaces? Directives? FieldsDefinition? (3.7)
+-- InterfaceTypeDefinition, after the name: ImplementsInterfaces? Directives? FieldsDefinition? (3.7)
 unfoldable pub interface_body : Part TypeBody
 interface_body = do
   kept ← optional_interfaces
@@ -56,21 +56,21 @@ interface_body = do
   found ← optional_fields
   pure (record { directives = applied; parts = parts.Interface kept found })
 
--- UnionTypeDefinition, behind the name: Directives? UnionMemberTypes? (3.8)
+-- UnionTypeDefinition, after the name: Directives? UnionMemberTypes? (3.8)
 unfoldable pub union_body : Part TypeBody
 union_body = do
   applied ← directives true
   found ← optional_members
   pure (record { directives = applied; parts = parts.Union found })
 
--- EnumTypeDefinition, behind the name: Directives? EnumValuesDefinition? (3.9)
+-- EnumTypeDefinition, after the name: Directives? EnumValuesDefinition? (3.9)
 unfoldable pub enum_body : Part TypeBody
 enum_body = do
   applied ← directives true
   found ← optional_enum_values
   pure (record { directives = applied; parts = parts.Enum found })
 
--- InputObjectTypeDefinition, behind the name: Directives? InputFieldsDefinition? (3.10)
+-- InputObjectTypeDefinition, after the name: Directives? InputFieldsDefinition? (3.10)
 unfoldable pub input_object_body : Part TypeBody
 input_object_body = do
   applied ← directives true
@@ -85,7 +85,7 @@ body w.Union = union_body
 body w.Enum = enum_body
 body w.InputObject = input_object_body
 
--- TypeDefinition, behind its description: its keyword, Name, and what stands behind the name (3.4)
+-- TypeDefinition, after its description: its keyword, Name, and what follows the name (3.4)
 unfoldable pub type_definition : Option Description → TypeKeyword → Phrase TypeDefinition
 type_definition described keyword = do
   mark ← word (spelling keyword)

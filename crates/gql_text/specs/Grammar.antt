@@ -1,4 +1,4 @@
--- Punctuators, names and numbers in the specification's own words (2.1.8, 2.1.9, 2.9.1, 2.9.2).
+-- Punctuators, names and numbers, by the specification's productions (2.1.8, 2.1.9, 2.9.1, 2.9.2).
 use Rattle.std.specs.Prelude.{ℕ, ◌≡◌, ◌≢◌, ◌<◌, ◌⊎◌, List, [], ◌∷◌, ◌++◌, length, IsTrue, Option, Some, None, codes}
 use Rattle.gql_text.specs.declared.token.Kind.{Kind}
 use Rattle.gql_text.specs.declared.token.Kind.TheVariants.{Bang, Dollar, Ampersand, LeftParenthesis, RightParenthesis, Ellipsis, Colon, Equals, At, LeftBracket, RightBracket, LeftBrace, Pipe, RightBrace}
@@ -26,7 +26,7 @@ pub data IsUnsigned : List ℕ → Type 0 where
   not_zero : {text rest : List ℕ} {first : ℕ} → text ≡ first ∷ rest → first ≢ 48
       → IsTrue (list_all is_ascii_digit (first ∷ rest)) → IsUnsigned text
 
--- IntegerPart: a minus or none, and then 0 or digits that don't begin with 0
+-- IntegerPart: an optional minus, and then 0 or digits that don't begin with 0
 pub record IsInteger (text : List ℕ) : Type 0 where
   pub sign : List ℕ
   pub digits : List ℕ
@@ -40,7 +40,7 @@ pub record IsFraction (text : List ℕ) : Type 0 where
   pub parts : text ≡ 46 ∷ digits
   pub are_digits : IsDigits digits
 
--- ExponentPart: e or E, a sign or none, and then digits
+-- ExponentPart: e or E, an optional sign, and then digits
 pub record IsExponent (text : List ℕ) : Type 0 where
   pub mark : ℕ
   pub sign : List ℕ
@@ -57,7 +57,7 @@ pub data IsFloatTail : List ℕ → Type 0 where
   both : {text front back : List ℕ} → text ≡ front ++ back → IsFraction front → IsExponent back
       → IsFloatTail text
 
--- FloatValue
+-- FloatValue: an IntegerPart, and then a fraction, an exponent, or both
 pub record IsFloat (text : List ℕ) : Type 0 where
   pub integer : List ℕ
   pub tail : List ℕ
@@ -65,7 +65,7 @@ pub record IsFloat (text : List ℕ) : Type 0 where
   pub is_integer : IsInteger integer
   pub is_tail : IsFloatTail tail
 
--- Punctuator: its bytes (2.1.8)
+-- the bytes of a Punctuator; none for other kinds of tokens (2.1.8)
 abbrev pub mark_text : Kind → Option (List ℕ)
 mark_text Bang = Some (codes "!")
 mark_text Dollar = Some (codes "$")

@@ -1,4 +1,4 @@
--- Whether two kinds are the same.
+-- Comparison of the kinds of tokens.
 use Rattle.std.specs.Prelude.{◌≡◌, ◌≢◌, Bool, true, false}
 use Rattle.std.proofs.Common.{rules, refl, subst}
 use denote.Enum.Bare.{sameb, same_true}
@@ -6,6 +6,7 @@ use Rattle.gql_text.specs.contracts.token.Kind.{the_type}
 use Rattle.gql_text.specs.declared.token.Kind.{Kind}
 use Rattle.gql_text.specs.declared.token.Kind.TheVariants.{EndOfText}
 
+-- whether two kinds are the same
 unfoldable pub same_kind : Kind → Kind → Bool
 same_kind = sameb the_type
 

@@ -1,4 +1,4 @@
--- Laws of tokens and faults.
+-- Helper definitions for the laws of tokens and faults.
 use Rattle.std.specs.Prelude.{ℕ, ◌≡◌, ◌+◌, ◌⊎◌, List, length, slice_range}
 use Rattle.gql_text.specs.Lexeme.{Lexeme}
 use Rattle.gql_text.specs.Lexis.{Stands, IsLexed, LexFails}
@@ -7,12 +7,12 @@ use Rattle.gql_text.specs.declared.token.Kind.{Kind}
 use Rattle.gql_text.specs.declared.token.LexRefusal.{LexRefusal}
 use Rattle.gql_text.specs.declared.front.Part.TheVariants.{Taken}
 
--- the text has tokens, or it has a fault
+-- the text has a list of tokens, or a fault
 abbrev pub HasReading : List ℕ → Type 0
 HasReading source = ((tokens : List Lexeme) × IsLexed source tokens)
     ⊎ ((refusal : LexRefusal) × (place : Place) × LexFails source refusal place)
 
--- each token's text is the part of the source at its place
+-- the text of the token is the part of the source at its place
 abbrev pub IsSliceOf : List ℕ → Lexeme → Type 0
 IsSliceOf source token =
     token.text ≡ slice_range source token.place.offset (token.place.offset + length token.text)

@@ -1,4 +1,4 @@
--- A token as definitions see it: without where its text lies in memory.
+-- A token as contracts see it: its text is a list of bytes, not a borrowed slice.
 use Rattle.std.specs.Prelude.{ℕ, List}
 use Rattle.gql_text.specs.declared.place.Place.{Place}
 use Rattle.gql_text.specs.declared.token.Kind.{Kind}
@@ -10,6 +10,6 @@ pub record Lexeme : Type 0 where
   pub text : List ℕ
   pub place : Place
 
--- what a token of the code says
+-- a token of the code, as contracts see it
 abbrev pub lexeme : Token → Lexeme
 lexeme t = record { kind = t.kind; text = t.text.now; place = t.place }

@@ -17,12 +17,14 @@ use Rattle.gql_text.specs.declared.front.Part.TheVariants.{Dropped, Taken, Refus
 use Rattle.gql_text.specs.declared.front.Piece.{Piece}
 use Rattle.gql_text.specs.declared.front.Piece.TheVariants.{Closes, Goes, Stops}
 
--- where in its token a refusal is told: unfinished text at the opening quote, the others at the piece
+-- the offset in its token where a refusal is reported: the opening quote for unfinished text, else
+-- the piece
 abbrev pub refused_at : LexRefusal → ℕ → ℕ
 refused_at UnfinishedText n = 0
 refused_at refusal n = n
 
--- n bytes of a string are read and these are left: piece by piece, they make of it this part
+-- Reading a string piece by piece: n bytes of it are read, these bytes are left, and the result is
+-- this part.
 pub data Run (piece_of : List ℕ → Piece) (kind : Kind) : ℕ → List ℕ → Part → Type 0 where
   closes : {n k m : ℕ} {bs : List ℕ} → piece_of bs ≡ Closes k → m ≡ n + k
       → Run piece_of kind n bs (Taken kind m)
@@ -32,7 +34,8 @@ pub data Run (piece_of : List ℕ → Piece) (kind : Kind) : ℕ → List ℕ �
       → m ≡ refused_at refusal n
       → Run piece_of kind n bs (Refused refusal m)
 
--- this part stands at the front of the text: n bytes are dropped, or are taken as a token, or a refusal is n bytes ahead
+-- this part is at the front of the text: n ignored bytes, a token of n bytes, or a refusal n bytes
+-- ahead
 pub data Stands : List ℕ → Part → Type 0 where
   block_string : {text : List ℕ} {p : Part} → three_quotes text ≡ true
       → Run block_piece BlockString 3 (drop 3 text) p → Stands text p
@@ -41,7 +44,7 @@ pub data Stands : List ℕ → Part → Type 0 where
   plain : {b : ℕ} {bs : List ℕ} {p : Part} → three_quotes (b ∷ bs) ≡ false
       → one_quote (b ∷ bs) ≡ false → p ≡ plain_part b bs → Stands (b ∷ bs) p
 
--- behind these bytes the rest of the text is these tokens
+-- after the bytes before it, the rest of the text is these tokens
 pub data Tokens : List ℕ → List ℕ → List Lexeme → Type 0 where
   at_end : {before : List ℕ} → Tokens before [] []
   dropped : {before rest : List ℕ} {n : ℕ} {tokens : List Lexeme}
@@ -52,7 +55,7 @@ pub data Tokens : List ℕ → List ℕ → List Lexeme → Type 0 where
       → Tokens before rest (record { kind = kind; text = take n rest; place = place_after before }
       ∷ tokens)
 
--- behind these bytes the rest of the text has this fault first, at this place
+-- after the bytes before it, the first fault of the rest of the text is this, at this place
 pub data Faulty : List ℕ → List ℕ → LexRefusal → Place → Type 0 where
   here : {before rest : List ℕ} {refusal : LexRefusal} {n : ℕ} {place : Place}
       → Stands rest (Refused refusal n) → place ≡ place_after (before ++ take n rest)
@@ -81,7 +84,7 @@ pub data LexFails : List ℕ → LexRefusal → Place → Type 0 where
       → Faulty [] source refusal place
       → LexFails source refusal place
 
--- the fault of the text, or want of memory
+-- what the lexer may answer for a text with a fault: this fault, or `Memory`
 abbrev pub IsLexFault : List ℕ → LexFault → Type 0
 IsLexFault source (lex_fault.At number place) = LexFails source number place
 IsLexFault source lex_fault.Memory = Unit {0}

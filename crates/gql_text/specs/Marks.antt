@@ -1,4 +1,4 @@
--- What stands at the front of a text that doesn't begin with a quote (2.1).
+-- What is at the front of a text that doesn't begin with a quote (2.1).
 use Rattle.std.specs.Prelude.{ℕ, ◌+◌, List, ◌∷◌, drop, ◌&&◌, not, ◌==◌, if◌then◌else◌, Option, Some, None}
 use Rattle.std.specs.List.{prefix_len}
 use Rattle.std.specs.Char.{is_ascii_digit}
@@ -28,27 +28,28 @@ mark_kind b =
     else if b == 125 then Some RightBrace
     else None
 
--- a punctuator of one byte, or a character that begins nothing
+-- the token for a punctuator of one byte; any other byte here begins no token
 abbrev pub mark_part : Option Kind → Part
 mark_part (Some kind) = Taken kind 1
 mark_part None = Refused BadCharacter 0
 
--- behind a dot stand two more, or the dot begins nothing (2.1.8)
+-- the punctuator of three dots, from the bytes after its first dot; a dot alone begins no token
+-- (2.1.8)
 abbrev pub dots_part : List ℕ → Part
 dots_part (b ∷ c ∷ bs) = if b == 46 && c == 46 then Taken Ellipsis 3 else Refused BadCharacter 0
 dots_part _ = Refused BadCharacter 0
 
--- U+FEFF, behind its first byte (2.1.1)
+-- the byte order mark U+FEFF, from the bytes after its first (2.1.1)
 abbrev pub order_part : List ℕ → Part
 order_part (b ∷ c ∷ bs) = if b == 187 && c == 191 then Dropped 3 else Refused BadCharacter 0
 order_part _ = Refused BadCharacter 0
 
--- a comment whose n bytes are read goes up to the end of its line (2.1.4)
+-- a comment of n bytes, which ends at the end of its line (2.1.4)
 abbrev pub comment_part : ℕ → List ℕ → Part
 comment_part n rest =
     if begins (λ b. not (is_break b)) rest then Refused BadCharacter n else Dropped n
 
--- what stands at the front of b and the bytes behind it, where b is no quote
+-- what is at the front of a text that begins with the byte b, which is not a quote
 unfoldable pub plain_part : ℕ → List ℕ → Part
 plain_part b bs =
     if is_blank b then Dropped 1

@@ -1,9 +1,9 @@
--- The numbers of the refusals of a text.
+-- The error codes of the lexer.
 use Rattle.std.specs.Prelude.{ℕ}
 use Rattle.gql_text.specs.declared.token.LexRefusal.{LexRefusal}
 use Rattle.gql_text.specs.declared.token.LexRefusal.TheVariants.{BadCharacter, BadNumber, UnfinishedText, BadEscape, LoneSurrogate, TooLong}
 
--- the number that users see
+-- the error code of a refusal, 101 to 106
 abbrev pub number_of : LexRefusal → ℕ
 number_of BadCharacter = 101
 number_of BadNumber = 102

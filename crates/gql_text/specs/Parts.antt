@@ -1,15 +1,16 @@
--- How far a part of a text goes.
+-- Helper definitions for private contracts: how far a part of a text goes.
 use Rattle.std.specs.Prelude.{ℕ, ◌≡◌, ◌≤◌, ◌<◌, ◌+◌, List, Bool, true, false}
 use Rattle.std.specs.Str.{IsCharBoundary}
 use Rattle.gql_text.specs.declared.front.Part.{Part}
 use Rattle.gql_text.specs.declared.front.Part.TheVariants.{Dropped, Taken, Refused}
 
--- how many bytes a part has, or how many stand before the place of its refusal
+-- how many bytes a part has; for a refusal, how many are before its place
 abbrev pub part_len : Part → ℕ
 part_len (Dropped n) = n
 part_len (Taken kind n) = n
 part_len (Refused refusal n) = n
 
+-- whether the part is a refusal
 abbrev pub is_refused : Part → Bool
 is_refused (Dropped n) = false
 is_refused (Taken kind n) = false
@@ -20,6 +21,6 @@ pub record Fits (n len : ℕ) (p : Part) : Type 0 where
   pub some : is_refused p ≡ false → n < part_len p
   pub within : part_len p ≤ len
 
--- behind the part, unless it is refused, the text may be cut
+-- the part ends at the boundary of a character, unless it is refused
 abbrev pub CutsBehind : List ℕ → ℕ → Part → Type 0
 CutsBehind source offset p = is_refused p ≡ false → IsCharBoundary source (offset + part_len p)

@@ -1,4 +1,4 @@
--- Strings and block strings in the specification's own productions (2.9.4), each with its value.
+-- Strings and block strings, by the specification's productions (2.9.4), each with its value.
 use Rattle.std.specs.Prelude.{ℕ, ◌≡◌, ◌+◌, ◌-◌, ◌*◌, List, [], ◌∷◌, ◌++◌, length, true, false, ◌||◌, ◌==◌, Some, codes, encode_utf8}
 use Rattle.std.specs.List.{list_any, join_with_byte}
 use Rattle.gql_text.specs.Chars.{is_break, is_source_byte, three_quotes}
@@ -9,7 +9,7 @@ use Rattle.gql_text.specs.Values.{letter_value, lines_of, without_common_indent,
 abbrev pub IsEscapedCharacter : ℕ → Type 0
 IsEscapedCharacter b = list_any (λ c. c == b) (codes "\"\\/bfnrt") ≡ true
 
--- EscapedUnicode: four hexadecimal digits, with the number that they write
+-- EscapedUnicode: four hexadecimal digits, with their number
 pub record IsEscapedUnicode (text : List ℕ) (number : ℕ) : Type 0 where
   pub long : length text ≡ 4
   pub writes : four_digits text ≡ Some number
@@ -18,8 +18,9 @@ pub record IsEscapedUnicode (text : List ℕ) (number : ℕ) : Type 0 where
 abbrev pub pair_value : ℕ → ℕ → ℕ
 pair_value high low = 0x1_0000 + (high - 0xD800) * 0x400 + (low - 0xDC00)
 
--- StringCharacter, with its value. It is a SourceCharacter but not ", \ or LineTerminator (one of several bytes is taken
--- byte by byte); or \ EscapedCharacter; or \u EscapedUnicode, which is no half of a surrogate pair; or both halves.
+-- StringCharacter, with its value: a SourceCharacter but not ", \ or LineTerminator (one of several
+-- bytes is read byte by byte); \ EscapedCharacter; \u EscapedUnicode that is not half of a
+-- surrogate pair; or both halves of a pair.
 pub data IsStringCharacter : List ℕ → List ℕ → Type 0 where
   source : {text value : List ℕ} {b : ℕ} → text ≡ b ∷ [] → value ≡ b ∷ [] → is_source_byte b ≡ true
       → (b == 34) ≡ false → (b == 92) ≡ false
@@ -48,8 +49,8 @@ pub record IsString (text value : List ℕ) : Type 0 where
   pub parts : text ≡ 34 ∷ (inner ++ 34 ∷ [])
   pub characters : IsStringCharacters inner value
 
--- BlockStringCharacter* and the quotes that close the string, with the raw value: \""" stands for """; another character
--- is a SourceCharacter, with which neither """ nor \""" begins
+-- BlockStringCharacter* and the closing quotes, with the raw value: \""" means """; any other
+-- character is a SourceCharacter at which neither """ nor \""" begins.
 pub data IsBlock : List ℕ → List ℕ → Type 0 where
   closing : {text raw : List ℕ} → text ≡ 34 ∷ 34 ∷ 34 ∷ [] → raw ≡ [] → IsBlock text raw
   escaped_quotes : {text raw rest w : List ℕ} → text ≡ 92 ∷ 34 ∷ 34 ∷ 34 ∷ rest
@@ -64,7 +65,8 @@ abbrev pub block_string_value : List ℕ → List ℕ
 block_string_value raw =
     join_with_byte 10 (up_to_last (from_first (without_common_indent (lines_of raw))))
 
--- StringValue: """ BlockStringCharacter* """, with the value that BlockStringValue() makes of the raw value
+-- StringValue: """ BlockStringCharacter* """, with the value that BlockStringValue() computes from
+-- the raw value
 pub record IsBlockString (text value : List ℕ) : Type 0 where
   pub rest : List ℕ
   pub raw : List ℕ

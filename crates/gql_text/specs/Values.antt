@@ -1,4 +1,4 @@
--- The value of a string or of a block string: a function of the token's text (2.9.4, StringValue and BlockStringValue()).
+-- The value of a string or a block string, as a function of the token's text (2.9.4).
 use Rattle.std.specs.Prelude.{ℕ, zero, suc, ◌+◌, ◌-◌, ◌*◌, List, [], ◌∷◌, ◌++◌, length, take, drop, map, reverse, min, Bool, ◌&&◌, ◌||◌, nat_le, ◌==◌, if◌then◌else◌, Option, Some, None, unwrap_or, nat_eq, codes, encode_utf8}
 use Rattle.std.specs.List.{prefix_len, starts_with, ends_with, join_with_byte}
 use Rattle.gql_text.specs.Chars.{is_break, begins, three_quotes}
@@ -6,7 +6,7 @@ use Rattle.gql_text.specs.Pieces.{four_digits, escaped_number, is_high, escape_p
 use Rattle.gql_text.specs.declared.front.Piece.{Piece}
 use Rattle.gql_text.specs.declared.front.Piece.TheVariants.{Goes}
 
--- the character of an escape of one letter, by its letter; the others stand for themselves
+-- the character of an escape \b, \f, \n, \r or \t, by its letter; the others mean themselves
 abbrev pub letter_value : ℕ → ℕ
 letter_value b =
     if b == 98 then 8
@@ -16,27 +16,30 @@ letter_value b =
     else if b == 116 then 9
     else b
 
--- the character of an escape by number, with these bytes behind its digits: the halves of a pair make one
+-- the character of an escape \u of this number, with the bytes after its digits: two halves are one
+-- character
 abbrev pub number_value : ℕ → List ℕ → ℕ
 number_value n bs =
     if is_high n then 0x1_0000 + (n - 0xD800) * 0x400 + (escaped_number bs - 0xDC00) else n
 
--- the character of an escape, behind its backslash
+-- the character of an escape, from the bytes after its backslash
 unfoldable pub escape_value : List ℕ → ℕ
 escape_value [] = 0
 escape_value (b ∷ bs) =
     if b == 117 then number_value (unwrap_or (four_digits bs) 0) (drop 4 bs) else letter_value b
 
--- how many bytes an escape has behind its backslash, and the bytes that it stands for
+-- how many bytes an escape has after its backslash
 abbrev pub escape_len : Piece → ℕ
 escape_len (Goes n) = n - 1
 escape_len _ = 0
 
+-- the bytes of the character that an escape means
 abbrev pub escape_text : Piece → List ℕ → List ℕ
 escape_text (Goes n) bs = encode_utf8 (escape_value bs)
 escape_text _ bs = []
 
--- the value of the rest of a string, behind the next n bytes: an escape is its character, another byte is itself
+-- the value of the rest of a string, without the next n bytes: each escape is its character, other
+-- bytes are themselves
 abbrev pub string_value_behind : ℕ → List ℕ → List ℕ
 string_value_behind n [] = []
 string_value_behind (suc n) (b ∷ bs) = string_value_behind n bs
@@ -45,16 +48,16 @@ string_value_behind zero (b ∷ bs) =
     ++ string_value_behind (escape_len (escape_piece bs)) bs
     else b ∷ string_value_behind zero bs
 
--- the value of a string, from what stands between its quotes
+-- the value of a string, from what is between its quotes
 unfoldable pub string_value : List ℕ → List ℕ
 string_value bs = string_value_behind 0 bs
 
--- what stands in a block string: a backslash before three quotes is left out
+-- the raw value of a block string: a backslash before three quotes is left out
 unfoldable pub raw_value : List ℕ → List ℕ
 raw_value [] = []
 raw_value (b ∷ bs) = if b == 92 && three_quotes bs then raw_value bs else b ∷ raw_value bs
 
--- one byte more at the front of the first line
+-- the lines, with one more byte at the front of the first
 abbrev pub longer_line : ℕ → List (List ℕ) → List (List ℕ)
 longer_line b [] = (b ∷ []) ∷ []
 longer_line b (line ∷ lines) = (b ∷ line) ∷ lines
@@ -75,11 +78,11 @@ is_white b = b == 9 || b == 32
 abbrev pub indent_of : List ℕ → ℕ
 indent_of line = prefix_len is_white line
 
--- a line has nothing but tabs and spaces
+-- whether a line has nothing but tabs and spaces
 abbrev pub is_blank_line : List ℕ → Bool
 is_blank_line line = indent_of line == length line
 
--- the least of the counts, of which there may be none
+-- the smaller of two counts, each of which may be missing
 abbrev pub least : Option ℕ → Option ℕ → Option ℕ
 least None count = count
 least count None = count
@@ -112,21 +115,22 @@ from_first lines = drop (prefix_len is_blank_line lines) lines
 abbrev pub up_to_last : List (List ℕ) → List (List ℕ)
 up_to_last lines = reverse (from_first (reverse lines))
 
--- the value of a block string, from what stands between its quotes
+-- the value of a block string, from what is between its quotes
 unfoldable pub block_value : List ℕ → List ℕ
 block_value bs =
     join_with_byte 10 (up_to_last (from_first (without_common_indent (lines_of (raw_value bs)))))
 
--- the text begins and ends with these quotes
+-- whether the text begins and ends with these quotes
 abbrev pub is_within : List ℕ → List ℕ → Bool
 is_within quotes text = nat_le (2 * length quotes) (length text) && starts_with nat_eq text quotes
     && ends_with nat_eq text quotes
 
--- what stands between quotes of n bytes
+-- what is between quotes of n bytes
 abbrev pub between : ℕ → List ℕ → List ℕ
 between n text = take (length text - 2 * n) (drop n text)
 
--- the value of a token's text: of a block string, of a string, or, of any other text, the text itself
+-- the value of a token's text: of a block string, of a string, or of any other token, which is its
+-- own value
 unfoldable pub text_value : List ℕ → List ℕ
 text_value text =
     if is_within (codes "\"\"\"") text then block_value (between 3 text)

@@ -11,7 +11,8 @@ use crate::pieces::is_three_quotes;
 use crate::value::plain_len;
 use std::alloc::{AllocError, Global};
 
-/// Leaves out the backslash at the front if three quotes follow it, and gives what follows the backslash.
+/// Leaves out the backslash at the front if three quotes follow it, and returns what follows the
+/// backslash.
 fn push_backslash<'a>(value: &mut String, text: &'a str) -> Result<&'a str, AllocError>
     requires { StartsEscape text.now }
     ensures value { IfOk result (λ rest.
@@ -28,7 +29,7 @@ fn push_backslash<'a>(value: &mut String, text: &'a str) -> Result<&'a str, Allo
     Ok(behind)
 }
 
-/// What stands between the quotes of a block string, with its escapes replaced.
+/// What is between the quotes of a block string, with its escapes replaced.
 fn raw(alloc: Global, text: &str) -> Result<String, AllocError>
     ensures { IfOk result (λ value. string_bytes value ≡ raw_value text.now) }
 {
@@ -56,7 +57,7 @@ fn line_len(text: &str) -> usize
         .count()
 }
 
-/// Whether CRLF stands at the front.
+/// Whether CRLF is at the front.
 fn is_pair(bytes: &[u8]) -> bool
     ensures { result ≡ begins_pair bytes.now }
 {
@@ -144,7 +145,7 @@ fn shared_indent(lines: &[&str]) -> Option<usize>
     count
 }
 
-/// A line without its first tabs and spaces, of which so many go.
+/// A line without its first tabs and spaces, at most so many.
 fn cut(line: &str, count: usize) -> &str
     ensures { result.now ≡ without_indent count line.now }
 {
@@ -210,7 +211,7 @@ fn joined(alloc: Global, lines: &[&str]) -> Result<String, AllocError>
     Ok(text)
 }
 
-/// The value of what stands between the quotes of a block string.
+/// The value of what is between the quotes of a block string.
 #[tactic(auto, unfolding(crate::specs::Values::block_value))]
 pub fn block_value(alloc: Global, text: &str) -> Result<String, AllocError>
     ensures { IfOk result (λ value. string_bytes value ≡ block_value text.now) }

@@ -1,4 +1,5 @@
-//! What is at the front of a text, or of the rest of a string: a token, ignored bytes, or a refusal.
+//! What is at the front of a text, or of the rest of a string: a token, ignored bytes, or a
+//! refusal.
 
 ghost use Rattle.std.specs.Prelude.{◌≡◌, ◌+◌, ◌<◌, ◌≤◌, ◌∷◌, length, drop};
 ghost use Rattle.std.specs.List.{prefix_len};
@@ -10,10 +11,10 @@ use crate::number::number;
 use crate::pieces::{block_part, is_three_quotes, string_part};
 use crate::token::{Kind, LexRefusal};
 
-/// What stands at the front of a text.
+/// What is at the front of a text.
 #[derive(Clone, Copy, Debug, PartialEq, Eq)]
 pub enum Part {
-    /// So many bytes that are no token.
+    /// So many ignored bytes.
     Dropped(usize),
     /// A token of so many bytes.
     Taken(Kind, usize),
@@ -21,7 +22,7 @@ pub enum Part {
     Refused(LexRefusal, usize),
 }
 
-/// What stands at the front of the rest of a string or of a block string.
+/// What is at the front of the rest of a string or of a block string.
 #[derive(Clone, Copy, Debug, PartialEq, Eq)]
 pub enum Piece {
     /// Its closing quotes, of so many bytes.
@@ -69,7 +70,7 @@ fn line_len(bytes: &[u8]) -> usize
         .count()
 }
 
-/// A comment whose bytes so far are read, if its line ends there.
+/// A comment of so many bytes, which ends at the end of its line.
 fn comment(len: usize, rest: &[u8]) -> Part
     ensures { result ≡ comment_part len rest.now }
 {
@@ -79,7 +80,7 @@ fn comment(len: usize, rest: &[u8]) -> Part
     }
 }
 
-/// What stands behind a dot.
+/// The punctuator of three dots, from the bytes after its first dot.
 fn dots(behind: &[u8]) -> Part
     ensures { result ≡ dots_part behind.now }
 {
@@ -89,7 +90,7 @@ fn dots(behind: &[u8]) -> Part
     }
 }
 
-/// What stands behind the first byte of U+FEFF.
+/// The byte order mark U+FEFF, from the bytes after its first.
 fn order_mark(behind: &[u8]) -> Part
     ensures { result ≡ order_part behind.now }
 {
@@ -121,7 +122,7 @@ fn punctuator(byte: u8) -> Option<Kind>
     }
 }
 
-/// A punctuator of one byte, or a character that begins nothing.
+/// The token for a punctuator of one byte. Any other byte here begins no token.
 fn mark(byte: u8) -> Part
     ensures { result ≡ mark_part (mark_kind byte) }
 {
@@ -131,7 +132,7 @@ fn mark(byte: u8) -> Part
     }
 }
 
-/// What begins with a byte that is no quote.
+/// What is at the front of a text that begins with this byte, which is not a quote.
 #[tactic(auto, unfolding(crate::specs::Marks::plain_part))]
 fn plain(first: u8, bytes: &[u8], behind: &[u8]) -> Part
     requires whole { bytes.now ≡ first ∷ behind.now }
@@ -158,7 +159,7 @@ fn plain(first: u8, bytes: &[u8], behind: &[u8]) -> Part
     }
 }
 
-/// What stands at the front of a text.
+/// What is at the front of a text.
 pub fn first_part(bytes: &[u8]) -> Part
     requires some { 0 < length bytes.now }
     requires short { length bytes.now ≤ 65536 }

@@ -1,4 +1,4 @@
-//! What holds of tokens and faults, as contracts of functions that do nothing.
+//! Laws of tokens and faults: contracts of functions that do nothing.
 ghost use Rattle.std.specs.Prelude.{◌↔◌, ◌≡◌, ◌≢◌, ◌<◌, ◌≤◌, ℕ, List, All, length, take, Some};
 ghost use Rattle.gql_text.specs.Grammar.{IsName, IsInteger, IsFloat, mark_text};
 ghost use Rattle.gql_text.specs.Ignored.{IsIgnored};
@@ -26,7 +26,8 @@ pub fn one_reading()
         → IsLexed source tokens → LexFails source refusal place → ⊥ }
 {}
 
-/// Each token's text is the part of the source at its place, and no token has the kind of the text's end.
+/// Each token's text is the part of the source at its place, and no token has the kind of the
+/// text's end.
 pub fn tokens_of_a_text()
     ensures slices { (source : List ℕ) (tokens : List Lexeme)
         → IsLexed source tokens → All (IsSliceOf source) tokens }
@@ -34,7 +35,8 @@ pub fn tokens_of_a_text()
         → IsLexed source tokens → All (λ token. token.kind ≢ EndOfText) tokens }
 {}
 
-/// A token is as long as it can be: its text alone is that token, and no longer front of the text is a token.
+/// A token is as long as it can be: its text alone is that token, and no longer start of the text
+/// is a token.
 pub fn longest_match()
     ensures alone { (rest : List ℕ) (kind : Kind) (n : ℕ)
         → Stands rest (Taken kind n) → IsToken kind (take n rest) }
@@ -64,8 +66,8 @@ pub fn strings_of_the_grammar()
         → ((IsToken BlockString text) × (text_value text ≡ value)) ↔ IsBlockString text value }
 {}
 
-/// The value of a string's token is that of what stands between its quotes, of a block string's that of its block
-/// between its quotes, and any other token is its own value (2.9.4).
+/// The value of a string token, and of a block string token, is that of the text between its
+/// quotes. Any other token is its own value (2.9.4).
 pub fn values_of_tokens()
     ensures strings { (text : List ℕ)
         → IsToken StringValue text → text_value text ≡ string_value (between 1 text) }

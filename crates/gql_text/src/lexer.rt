@@ -22,7 +22,7 @@ const START: Place = Place {
     offset: 0,
 };
 
-/// What stands at an offset of the text.
+/// What is at an offset of the text.
 fn part_at(source: &str, offset: usize) -> Part
     requires some { offset < length source.now }
     requires short { length source.now ≤ 65536 }
@@ -34,7 +34,7 @@ fn part_at(source: &str, offset: usize) -> Part
     first_part(&source.as_bytes()[offset..])
 }
 
-/// The place behind the next bytes.
+/// The place after the next bytes.
 fn past_part(source: &str, place: Place, count: usize) -> Place
     requires within { place.offset + count ≤ length source.now }
     requires short { length source.now ≤ 65536 }
@@ -45,8 +45,8 @@ fn past_part(source: &str, place: Place, count: usize) -> Place
     past(source.as_bytes(), place, count)
 }
 
-/// The tokens of a text, in order, or its first fault: numbers 101 to 106, or want of memory (2.1).
-/// A text has at most 65,536 bytes. The tokens borrow it.
+/// The tokens of a text, in order, or its first fault, 101 to 106 (2.1); `Memory` if an allocation
+/// fails. A text has at most 65,536 bytes. The tokens borrow it.
 pub fn lex<'a>(alloc: Global, source: &'a str) -> Result<Vec<Token<'a>>, LexFault>
     ensures tokens { IfOk result (λ found. IsLexed source.now (map lexeme found.items)) }
     ensures fault { IfErr result (λ fault. IsLexFault source.now fault) }
@@ -76,7 +76,7 @@ pub fn lex<'a>(alloc: Global, source: &'a str) -> Result<Vec<Token<'a>>, LexFaul
     Ok(tokens)
 }
 
-/// The place behind the whole text, where a text that ends too early is refused.
+/// The place after the whole text, where a text that ends too early is refused.
 pub fn end_place(source: &str) -> Place
     requires { length source.now ≤ 65536 }
     ensures { result ≡ place_after source.now }

@@ -1,4 +1,5 @@
-//! The lexical tokens of a GraphQL text, each with its place (GraphQL specification, October 2021, section 2.1).
+//! The lexical tokens of a GraphQL text, each with its place (GraphQL specification, October 2021,
+//! section 2.1).
 #![tactic(auto)]
 
 mod block;

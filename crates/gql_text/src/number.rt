@@ -18,7 +18,7 @@ fn digits_len(bytes: &[u8]) -> usize
         .count()
 }
 
-/// How long the sign of an exponent is.
+/// The length of the sign of an exponent: 0 or 1.
 fn sign_length(bytes: &[u8]) -> usize
     ensures value { result ≡ sign_len bytes.now }
     ensures short { result ≤ length bytes.now }
@@ -55,7 +55,7 @@ fn exponent_end(len: usize, bytes: &[u8]) -> Part
     }
 }
 
-/// What stands behind a number that has no exponent yet.
+/// The exponent that may follow a number, with so many bytes of the number before it.
 #[tactic(auto, unfolding(crate::specs::Number::exponent_part))]
 fn exponent(kind: Kind, len: usize, bytes: &[u8]) -> Part
     requires { len + length bytes.now ≤ 65537 }
@@ -86,7 +86,7 @@ fn fraction_end(len: usize, bytes: &[u8]) -> Part
     }
 }
 
-/// What stands behind the integer part of a number.
+/// The fraction or exponent that may follow an integer part of so many bytes.
 #[tactic(auto, unfolding(crate::specs::Number::fraction_part))]
 fn fraction(len: usize, bytes: &[u8]) -> Part
     requires { len + length bytes.now ≤ 65537 }

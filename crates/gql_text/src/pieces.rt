@@ -11,7 +11,7 @@ ghost use Rattle.gql_text.specs.declared.token.Kind.TheVariants.{StringValue, Bl
 use crate::front::{Part, Piece};
 use crate::token::{Kind, LexRefusal};
 
-/// Whether three quotes stand at the front.
+/// Whether three quotes are at the front.
 pub fn is_three_quotes(bytes: &[u8]) -> bool
     ensures { result ≡ three_quotes bytes.now }
 {
@@ -47,7 +47,7 @@ fn are_digits(a: u8, b: u8, c: u8, d: u8) -> bool
     a.is_ascii_hexdigit() && b.is_ascii_hexdigit() && c.is_ascii_hexdigit() && d.is_ascii_hexdigit()
 }
 
-/// The number that four hexadecimal digits at the front write.
+/// The number of the four hexadecimal digits at the front.
 #[tactic(auto, unfolding(crate::specs::Pieces::four_digits))]
 pub fn hexadecimal(bytes: &[u8]) -> Option<u32>
     ensures value { result ≡ four_digits bytes.now }
@@ -77,7 +77,7 @@ pub fn is_low_half(number: u32) -> bool
     0xDC00 <= number && number < 0xE000
 }
 
-/// The number that an escape by number at the front writes, or 0.
+/// The number of the escape `\u` at the front, or 0 if there is none.
 #[tactic(auto, unfolding(crate::specs::Pieces::escaped_number))]
 pub fn number_ahead(bytes: &[u8]) -> u32
     ensures { result ≡ escaped_number bytes.now }
@@ -98,7 +98,7 @@ fn hexadecimal_len(bytes: &[u8]) -> usize
         .count()
 }
 
-/// Digits that stop too early, with what stands behind them.
+/// An escape with too few digits, with the bytes after them.
 fn cut_escape(rest: &[u8]) -> Piece
     ensures { result ≡ short_escape rest.now }
 {
@@ -108,7 +108,7 @@ fn cut_escape(rest: &[u8]) -> Piece
     }
 }
 
-/// An escape of this number, with what stands behind its digits.
+/// An escape `\u` of this number, with the bytes after its digits.
 fn numbered(number: u32, behind: &[u8]) -> Piece
     ensures { result ≡ number_piece number behind.now }
 {
@@ -125,7 +125,7 @@ fn numbered(number: u32, behind: &[u8]) -> Piece
     }
 }
 
-/// What stands behind a backslash and a `u`.
+/// What follows a backslash and a `u`.
 fn digits(bytes: &[u8]) -> Piece
     ensures { result ≡ digits_piece (four_digits bytes.now) bytes.now }
 {
@@ -135,7 +135,7 @@ fn digits(bytes: &[u8]) -> Piece
     }
 }
 
-/// What stands behind a backslash.
+/// What follows a backslash.
 #[tactic(auto, unfolding(crate::specs::Pieces::escape_piece))]
 pub fn escape(bytes: &[u8]) -> Piece
     ensures { result ≡ escape_piece bytes.now }
@@ -151,7 +151,7 @@ pub fn escape(bytes: &[u8]) -> Piece
     }
 }
 
-/// What stands at the front of the rest of a string.
+/// What is at the front of the rest of a string.
 #[tactic(auto, unfolding(crate::specs::Pieces::string_piece))]
 fn next_piece(bytes: &[u8]) -> Piece
     ensures { result ≡ string_piece bytes.now }
@@ -168,7 +168,7 @@ fn next_piece(bytes: &[u8]) -> Piece
     }
 }
 
-/// What stands at the front of the rest of a block string.
+/// What is at the front of the rest of a block string.
 #[tactic(auto, unfolding(crate::specs::Pieces::block_piece))]
 fn next_block_piece(bytes: &[u8]) -> Piece
     ensures { result ≡ block_piece bytes.now }
@@ -187,7 +187,7 @@ fn next_block_piece(bytes: &[u8]) -> Piece
     }
 }
 
-/// Where a refusal is told: unfinished text at its opening quote.
+/// Where a refusal is reported: at the opening quote for unfinished text, else at the piece.
 fn refusal_offset(refusal: LexRefusal, read: usize) -> usize
     ensures { result ≡ refused_at refusal read }
 {
@@ -197,7 +197,7 @@ fn refusal_offset(refusal: LexRefusal, read: usize) -> usize
     }
 }
 
-/// The string behind its opening quote.
+/// The string after its opening quote.
 pub fn string_part(bytes: &[u8]) -> Part
     requires { length bytes.now ≤ 65536 }
     ensures { Run string_piece StringValue 1 bytes.now result }
@@ -215,7 +215,7 @@ pub fn string_part(bytes: &[u8]) -> Part
     unreachable!()
 }
 
-/// The block string behind its opening quotes.
+/// The block string after its opening quotes.
 pub fn block_part(bytes: &[u8]) -> Part
     requires { length bytes.now ≤ 65536 }
     ensures { Run block_piece BlockString 3 bytes.now result }

@@ -12,7 +12,7 @@ pub struct Place {
     pub offset: usize,
 }
 
-/// The place behind one more byte.
+/// The place after one more byte.
 fn past_byte(source: &[u8], place: Place) -> Place
     requires within { place.offset < length source.now }
     requires short { length source.now ≤ 65536 }
@@ -41,7 +41,7 @@ fn past_byte(source: &[u8], place: Place) -> Place
     }
 }
 
-/// The place behind the next bytes.
+/// The place after the next bytes.
 pub fn past(source: &[u8], place: Place, count: usize) -> Place
     requires within { place.offset + count ≤ length source.now }
     requires short { length source.now ≤ 65536 }

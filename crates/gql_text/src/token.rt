@@ -8,10 +8,12 @@ ghost use Rattle.gql_text.specs.declared.token.LexFault.TheVariants.{Memory};
 use crate::place::Place;
 use std::alloc::AllocFailed;
 
-/// What a token is: a punctuator, a name, a number or a text (GraphQL specification, 2.1.6 and appendix B.1).
+/// What a token is: a punctuator, a name, a number or a text (GraphQL specification, 2.1.6 and
+/// appendix B.1).
 #[derive(Clone, Copy, Debug, PartialEq, Eq)]
 pub enum Kind {
-    /// What stands behind the last token. A parser looks at it there; no token of a text has this kind.
+    /// The end of the text, which a parser sees after the last token. No token of a text has this
+    /// kind.
     EndOfText,
     Bang,
     Dollar,
@@ -31,9 +33,9 @@ pub enum Kind {
     Name,
     IntValue,
     FloatValue,
-    /// A string in single quotes: `"text"`.
+    /// A string: `"text"`.
     StringValue,
-    /// A string in triple quotes.
+    /// A block string, within three quotes on each side.
     BlockString,
 }
 
@@ -59,11 +61,13 @@ pub struct Token<'a> {
 /// Why a text has no tokens.
 #[derive(Clone, Copy, Debug, PartialEq, Eq)]
 pub enum LexRefusal {
-    /// 101: no token and nothing ignored begins with this character, or it is no source character.
+    /// 101: neither a token nor anything ignored begins with this character, or it is not a source
+    /// character.
     BadCharacter,
     /// 102: a number that isn't finished, or that runs into a name, a digit or a dot.
     BadNumber,
-    /// 103: a string that ends with its line or with the text, or a block string that ends with the text.
+    /// 103: a string that ends with its line or with the text, or a block string that ends with the
+    /// text.
     UnfinishedText,
     /// 104: an escape that isn't one of those of the specification.
     BadEscape,
@@ -89,7 +93,7 @@ impl LexRefusal {
     }
 }
 
-/// Why a text has no tokens and where, or want of memory.
+/// Why a text has no tokens, and where; or an allocation failed.
 #[derive(Clone, Copy, Debug, PartialEq, Eq)]
 pub enum LexFault {
     At { number: LexRefusal, place: Place },

@@ -27,7 +27,7 @@ fn letter(byte: u8) -> u32
     }
 }
 
-/// The character of an escape by number, with what stands behind its digits.
+/// The character of an escape `\u` of this number, with the bytes after its digits.
 fn numbered_character(number: u32, behind: &[u8]) -> u32
     requires { number < 2 ^ 21 }
     ensures { result ≡ number_value number behind.now }
@@ -39,7 +39,7 @@ fn numbered_character(number: u32, behind: &[u8]) -> u32
     }
 }
 
-/// The number of the character of an escape, behind its backslash.
+/// The number of the character of an escape, from the bytes after its backslash.
 #[tactic(auto, unfolding(crate::specs::Values::escape_value))]
 fn escape_number(bytes: &[u8]) -> u32
     ensures { result ≡ escape_value bytes.now }
@@ -57,7 +57,7 @@ fn escape_number(bytes: &[u8]) -> u32
     }
 }
 
-/// The character of an escape, behind its backslash.
+/// The character of an escape, from the bytes after its backslash.
 fn escape_character(bytes: &[u8]) -> char
     requires { IsTrue (goes (escape_piece bytes.now)) }
     ensures { result ≡ escape_value bytes.now }
@@ -65,7 +65,7 @@ fn escape_character(bytes: &[u8]) -> char
     char::from_u32(escape_number(bytes)).unwrap()
 }
 
-/// How many bytes stand before the first backslash.
+/// How many bytes there are before the first backslash.
 pub fn plain_len(text: &str) -> usize
     ensures value { result ≡ prefix_len (λ b. not (b == 92)) text.now }
     ensures cut { IsCharBoundary text.now result }
@@ -76,7 +76,7 @@ pub fn plain_len(text: &str) -> usize
         .count()
 }
 
-/// Writes the character of the escape at the front, and gives what follows the escape.
+/// Writes the character of the escape at the front, and returns what follows the escape.
 fn push_escape<'a>(value: &mut String, text: &'a str) -> Result<&'a str, AllocError>
     requires { StartsEscape text.now }
     ensures value { IfOk result (λ rest.
@@ -95,7 +95,7 @@ fn push_escape<'a>(value: &mut String, text: &'a str) -> Result<&'a str, AllocEr
     }
 }
 
-/// The value of what stands between the quotes of a string.
+/// The value of what is between the quotes of a string.
 fn unescaped(alloc: Global, text: &str) -> Result<String, AllocError>
     ensures { IfOk result (λ value. string_bytes value ≡ string_value text.now) }
 {
@@ -120,7 +120,7 @@ fn is_quoted(text: &[u8], quotes: &[u8]) -> bool
     2 * quotes.len() <= text.len() && text.starts_with(quotes) && text.ends_with(quotes)
 }
 
-/// What stands between quotes of so many bytes.
+/// What is between quotes of so many bytes.
 fn inside(text: &str, quotes: usize) -> &str
     requires room { 2 * quotes ≤ length text.now }
     requires start { IsCharBoundary text.now quotes }
@@ -130,8 +130,9 @@ fn inside(text: &str, quotes: usize) -> &str
     &text[quotes..text.len() - quotes]
 }
 
-/// The value of a token's text: of a string, its characters with the escapes replaced; of a block string, its lines
-/// without their common indent (2.9.4). Any other text is its own value. The only error is want of memory.
+/// The value of a token's text: of a string, its characters with the escapes replaced; of a block
+/// string, its lines without their common indent (2.9.4). Any other text is its own value. The call
+/// fails only if an allocation fails.
 pub fn text_value(alloc: Global, token: &Token<'_>) -> Result<String, AllocError>
     ensures { IfOk result (λ value. string_bytes value ≡ text_value token.now.text.now) }
 {
