@@ -1,13 +1,14 @@
--- A symbol that stands in its own rule.
+-- Symbols whose rule contains the symbol itself.
 use Rattle.std.specs.Prelude.{ℕ, zero, suc, length}
 use Rattle.gql_grammar.specs.Symbol.{Phrase, refuse}
 
--- the rule within itself, this many times
+-- the rule unfolded this many times; deeper than that, it refuses
 unfoldable pub nested : {A : Type 0} → (Phrase A → Phrase A) → ℕ → Phrase A
 nested rule zero = refuse
 nested rule (suc n) = rule (nested rule n)
 
--- The rule within itself as often as may be: more often than there are tokens, each level taking one.
+-- The symbol of a recursive rule. Each unfolding takes a token, so one more than the count of
+-- tokens is enough.
 unfoldable pub recursive : {A : Type 0} → (Phrase A → Phrase A) → Phrase A
 recursive rule = record {
   read = λ ts. (nested rule (suc (length ts))).read ts;

@@ -1,11 +1,12 @@
--- A symbol repeated for as long as what is next passes a test.
+-- Repetition: a symbol, as often as the next tokens pass a test.
 use Rattle.std.specs.Prelude.{◌≡◌, ℕ, zero, suc, ◌<◌, ◌≤◌, Bool, true, false, if◌then◌else◌, List, [], ◌∷◌, ◌++◌, length, Ok, Err, refl}
 use Rattle.std.proofs.Common.{arith, sym, ap, ap₂, ◌∙◌, cond, append_assoc, append-nil, subst}
 use Rattle.gql_text.specs.Lexeme.{Lexeme}
 use Rattle.gql_grammar.specs.Levels.{level}
 use Rattle.gql_grammar.specs.Symbol.{Phrase, Part, Outcome, Reader, Rule, Takes, Shifts, and_then, ◌>>=◌}
 
--- The number bounds the turns. Each takes a token, so more than the count of the tokens is enough.
+-- Reads items while the test holds, at most n of them. Each takes a token, so one more than their
+-- count is enough.
 unfoldable pub while_from : {A : Type 0} → (List Lexeme → Bool) → Reader A → ℕ → List A
     → Reader (List A)
 while_from test item zero found = λ ts. Err ts
@@ -13,14 +14,15 @@ while_from test item (suc n) found = λ ts.
     if test ts then and_then (item ts) (λ x. while_from test item n (found ++ x ∷ []))
     else Ok (found, ts)
 
--- these items one after another, the test holding before each
+-- the rule derives these items one after another, and the test holds before each
 abbrev pub Items : {A : Type 0} → (List Lexeme → Bool) → Rule A → List Lexeme → List A → List Lexeme
     → Type 0
 Items test item ts [] rest = ts ≡ rest
 Items test item ts (x ∷ xs) rest = (test ts ≡ true) × (middle : List Lexeme)
     × item ts (Ok (x, middle)) × Items test item middle xs rest
 
--- the items that were found, and further ones until the test fails; or items up to one that fails
+-- the outcomes of a repetition, after some items were found: more items until the test fails, or up
+-- to one that fails
 abbrev pub After : {A : Type 0} → (List Lexeme → Bool) → Rule A → List A → Rule (List A)
 After {A = A} test item found ts (Ok r) =
     (xs : List A) × (found ++ xs ≡ r.0) × Items test item ts xs r.1 × (test r.1 ≡ false)
@@ -165,7 +167,7 @@ pub while_shifts : {A : Type 0} (test : List Lexeme → Bool) (item : Phrase A) 
     (ts : List Lexeme) → Shifts (λ n. n) ts (while_from test item.read (suc (length ts)) found ts)
 while_shifts test item found ts = level_by test item found ts _ (while_holds test item found ts)
 
--- further items, after those that were found
+-- more items, after those that were found
 abbrev pub further : {A : Type 0} → (List Lexeme → Bool) → Phrase A → List A → Part (List A)
 further test item found = record {
   read = λ ts. while_from test item.read (suc (length ts)) found ts;

@@ -1,4 +1,4 @@
--- Sources: the texts whose tokens a symbol derives, and the faults of the others.
+-- Source texts: which a symbol accepts, and the faults of the others.
 use Rattle.std.specs.Prelude.{◌≡◌, ◌⊎◌, ℕ, Bool, List}
 use Rattle.gql_text.specs.Lexeme.{Lexeme}
 use Rattle.gql_text.specs.Lexis.{IsLexed, LexFails}
@@ -10,11 +10,11 @@ use Rattle.gql_grammar.specs.Files.{Accepts, Refuses, refusal_of}
 use Rattle.gql_grammar.specs.declared.fault.SyntaxFault.{SyntaxFault}
 use Rattle.gql_grammar.specs.declared.fault.SyntaxFault.TheVariants.{At}
 
--- the source is tokens that the symbol accepts as this value
+-- the symbol accepts the tokens of the source as this value
 abbrev pub IsSourceOf : {A : Type 0} {d : ℕ → ℕ} {s : Bool} → Symbol d s A → List ℕ → A → Type 0
 IsSourceOf p source a = (ts : List Lexeme) × IsLexed source ts × Accepts p ts a
 
--- the source has a fault of the lexer, or is tokens that the symbol refuses
+-- the fault of a source: one of the lexer, or one with which the symbol refuses its tokens
 abbrev pub IsFaultOf : {A : Type 0} {d : ℕ → ℕ} {s : Bool} → Symbol d s A → List ℕ → SyntaxFault
     → Type 0
 IsFaultOf p source fault =

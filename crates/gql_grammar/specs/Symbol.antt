@@ -1,4 +1,4 @@
--- A grammar symbol: what it derives, where it fails, and how it is read.
+-- Symbols of a grammar: what each derives, where it fails, and how it is read.
 use Rattle.std.specs.Prelude.{◌≡◌, ℕ, ◌<◌, ◌≤◌, ◌⊎◌, ◌||◌, ◌&&◌, not, bytes_eq, Bool, true, false, if◌then◌else◌, List, [], ◌∷◌, ◌++◌, length, Result, Ok, Err, Option, Some, None, refl}
 use Rattle.std.proofs.Common.{inl, inr, arith, ap, ap₂, ◌∙◌, cond}
 use Rattle.gql_text.specs.Kinds.{same_kind, same_kind_true}
@@ -11,22 +11,24 @@ use Rattle.gql_grammar.specs.declared.error.ParseError.{ParseError}
 use Rattle.gql_grammar.specs.declared.error.ParseError.TheVariants as errors
 use Rattle.gql_grammar.specs.declared.error.Unexpected.{Unexpected}
 
--- a value and the tokens after it; or a fault, as the tokens left from it on
+-- the outcome of reading: a value and the tokens after it; or the tokens left where it failed
 abbrev pub Outcome : Type 0 → Type 0
 Outcome A = Result (A × List Lexeme) (List Lexeme)
 
+-- how tokens are read: the outcome for each list of tokens
 abbrev pub Reader : Type 0 → Type 0
 Reader A = List Lexeme → Outcome A
 
--- which outcomes the grammar allows
+-- which outcomes the grammar allows for which tokens
 abbrev pub Rule : Type 0 → Type 1
 Rule A = List Lexeme → Outcome A → Type 0
 
--- fewer tokens are left, or at least no more
+-- m tokens are left of n: fewer if one has to be taken, else no more
 abbrev pub Leaves : Bool → ℕ → ℕ → Type 0
 Leaves true m n = m < n
 Leaves false m n = m ≤ n
 
+-- a value takes at least one token if `s` is true, and never gives one back
 abbrev pub Takes : {A : Type 0} → Bool → List Lexeme → Outcome A → Type 0
 Takes s ts (Ok r) = Leaves s (length r.1) (length ts)
 Takes s ts (Err e) = Unit {0}
@@ -36,7 +38,9 @@ abbrev pub Shifts : {A : Type 0} → (ℕ → ℕ) → List Lexeme → Outcome A
 Shifts shift ts (Ok r) = (n : ℕ) → level n ts ≡ level (shift n) r.1
 Shifts shift ts (Err e) = Unit {0}
 
--- A symbol shifts the level as `shift` says, and takes at least one token where `some` is true.
+-- A symbol: the outcomes that the grammar allows (`Allows`), and a reader whose outcome is the only
+-- one (`read`). It shifts the level as `shift` says, and takes at least one token if `some` is
+-- true.
 pub record Symbol (shift : ℕ → ℕ) (some : Bool) (A : Type 0) : Type 1 where
   pub read : Reader A
   pub Allows : Rule A
@@ -45,19 +49,20 @@ pub record Symbol (shift : ℕ → ℕ) (some : Bool) (A : Type 0) : Type 1 wher
   pub takes : (ts : List Lexeme) → Takes some ts (read ts)
   pub shifts : (ts : List Lexeme) → Shifts shift ts (read ts)
 
--- a symbol of at least one token that closes what it opens
+-- a symbol of at least one token that closes each brace and bracket that it opens
 abbrev pub Phrase : Type 0 → Type 1
 Phrase A = Symbol (λ n. n) true A
 
--- a symbol that may take no token, and closes what it opens
+-- a symbol that may take no token, and closes each brace and bracket that it opens
 abbrev pub Part : Type 0 → Type 1
 Part A = Symbol (λ n. n) false A
 
--- ---- nothing is taken
+-- ---- the end of the tokens
 
 pub takes_none : (ts : List Lexeme) → length ts ≤ length ts
 takes_none ts = omega arith
 
+-- the symbol that takes no token and has this value
 abbrev pub pure : {A : Type 0} → A → Part A
 pure a = record {
   read = λ ts. Ok (a, ts);
@@ -70,11 +75,13 @@ pure a = record {
 
 -- ---- one part after another
 
+-- reading goes on after a value; a failure stays
 abbrev pub and_then : {A B : Type 0} → Outcome A → (A → Reader B) → Outcome B
 and_then (Ok r) f = f r.0 r.1
 and_then (Err e) f = Err e
 
--- the first part fails, or it derives some tokens and the second part goes on from there
+-- the rule of two parts: the first fails, or it derives some tokens and the second goes on after
+-- them
 abbrev pub Then : {A B : Type 0} → Rule A → (A → Rule B) → Rule B
 Then {A = A} p q ts o = ((at : List Lexeme) × p ts (Err at) × (Err at ≡ o))
     ⊎ ((a : A) × (middle : List Lexeme) × p ts (Ok (a, middle)) × q a middle o)
@@ -119,6 +126,7 @@ then_shifts d e (Ok r) q ts h = shift_more d e ts r.1 ((q r.0).read r.1) h ((q r
 then_shifts d e (Err x) q ts h = tt
 
 infixl 10 ◌>>=◌
+-- one symbol, and then one that depends on its value
 abbrev pub ◌>>=◌ : {A B : Type 0} {d e : ℕ → ℕ} {s t : Bool} → Symbol d s A → (A → Symbol e t B)
     → Symbol (λ n. e (d n)) (s || t) B
 ◌>>=◌ {d = d} {e = e} {s = s} {t = t} p q = record {
@@ -132,12 +140,14 @@ abbrev pub ◌>>=◌ : {A B : Type 0} {d e : ℕ → ℕ} {s t : Bool} → Symbo
 }
 
 infixl 10 ◌>>◌
+-- one symbol, and then another; the value is that of the second
 abbrev pub ◌>>◌ : {A B : Type 0} {d e : ℕ → ℕ} {s t : Bool} → Symbol d s A → Symbol e t B
     → Symbol (λ n. e (d n)) (s || t) B
 p >> q = p >>= (λ _. q)
 
--- ---- a fault at the next token
+-- ---- a failure at the next token
 
+-- the symbol that fails at the next token, whatever it is
 abbrev pub refuse : {A : Type 0} {d : ℕ → ℕ} → Symbol d true A
 refuse = record {
   read = λ ts. Err ts;
@@ -155,12 +165,12 @@ abbrev pub kind_of : List Lexeme → Kind
 kind_of [] = EndOfText
 kind_of (t ∷ ts) = t.kind
 
--- its text
+-- the text of the next token
 abbrev pub text_of : List Lexeme → List ℕ
 text_of [] = []
 text_of (t ∷ ts) = t.text
 
--- its place, if one is left
+-- the place of the next token, if one is left
 abbrev pub place_of : List Lexeme → Option Place
 place_of [] = None
 place_of (t ∷ ts) = Some t.place
@@ -169,7 +179,7 @@ place_of (t ∷ ts) = Some t.place
 unfoldable pub sees : Kind → List Lexeme → Bool
 sees k ts = same_kind (kind_of ts) k
 
--- whether something else is next, or nothing
+-- whether a token of another kind is next, or none
 unfoldable pub before : Kind → List Lexeme → Bool
 before k ts = not (sees k ts)
 
@@ -183,12 +193,12 @@ sees_word word = sees_name (λ text. bytes_eq text word)
 
 -- ---- one token
 
--- the next token, where it passes
+-- the next token, if it passes
 abbrev pub take_if : Bool → Reader Lexeme
 take_if pass [] = Err []
 take_if pass (t ∷ ts) = if pass then Ok (t, ts) else Err (t ∷ ts)
 
--- the next token is one that passes; else the symbol fails there, or at the end
+-- the rule of one token that passes the test: it fails at any other, and at the end
 abbrev pub IsToken : (List Lexeme → Bool) → Rule Lexeme
 IsToken test [] o = Err [] ≡ o
 IsToken test (t ∷ ts) (Ok r) = (test (t ∷ ts) ≡ true) × (t ≡ r.0) × (ts ≡ r.1)
@@ -267,12 +277,13 @@ name_where test = record {
   shifts = token_shifts (sees_name test) (λ n. n) (name_shifts test);
 }
 
--- the keyword that is spelled so
+-- the keyword of this spelling
 abbrev pub word : List ℕ → Phrase Lexeme
 word spelling = name_where (λ text. bytes_eq text spelling)
 
 -- ---- a choice by the kind of the next token
 
+-- the symbol for the kind of the next token
 abbrev pub by_kind : {A : Type 0} {d : ℕ → ℕ} {s : Bool} → (Kind → Symbol d s A) → Symbol d s A
 by_kind f = record {
   read = λ ts. (f (kind_of ts)).read ts;
@@ -283,14 +294,15 @@ by_kind f = record {
   shifts = λ ts. (f (kind_of ts)).shifts ts;
 }
 
--- ---- a choice by a test of what follows
+-- ---- a choice by a test of the next tokens
 
+-- the first symbol if the test is true, else the second
 abbrev pub choose : {A : Type 0} {d : ℕ → ℕ} {s : Bool} → Bool → Symbol d s A → Symbol d s A
     → Symbol d s A
 choose true p q = p
 choose false p q = q
 
--- the first symbol where the test holds, the second elsewhere
+-- the first symbol if the test holds for the next tokens, else the second
 abbrev pub by_test : {A : Type 0} {d : ℕ → ℕ} {s : Bool} → (List Lexeme → Bool) → Symbol d s A
     → Symbol d s A → Symbol d s A
 by_test test p q = record {
@@ -308,7 +320,7 @@ takes_less true ts (Ok r) h = omega arith
 takes_less false ts (Ok r) h = h
 takes_less s ts (Err e) h = tt
 
--- the same, where it is not said that a token is taken
+-- the same symbol, as one that may take no token
 abbrev pub relaxed : {A : Type 0} {d : ℕ → ℕ} {s : Bool} → Symbol d s A → Symbol d false A
 relaxed {s = s} p = record {
   read = p.read;
@@ -319,12 +331,13 @@ relaxed {s = s} p = record {
   shifts = p.shifts;
 }
 
--- a part that may be absent, taken where its first token stands
+-- a part that may be absent: it is read if the test for its first token holds
 abbrev pub optional : {A : Type 0} → (List Lexeme → Bool) → A → Phrase A → Part A
 optional begins absent p = by_test begins (relaxed p) (pure absent)
 
 -- ---- the end of the tokens
 
+-- succeeds if no token is left, and else fails at the next one
 abbrev pub end_read_at : Reader (Unit {0})
 end_read_at [] = Ok (tt, [])
 end_read_at (t ∷ ts) = Err (t ∷ ts)
@@ -337,7 +350,7 @@ pub end_shifts : (ts : List Lexeme) → Shifts (λ n. n) ts (end_read_at ts)
 end_shifts [] = λ n. refl
 end_shifts (t ∷ ts) = tt
 
--- no token
+-- the end of the tokens
 unfoldable pub end : Part (Unit {0})
 end = record {
   read = end_read_at;
@@ -348,7 +361,7 @@ end = record {
   shifts = end_shifts;
 }
 
--- all of the tokens
+-- the symbol, up to the end of the tokens
 abbrev pub whole : {A : Type 0} {d : ℕ → ℕ} {s : Bool} → Symbol d s A → Symbol d (s || false) A
 whole p = do
   a ← p
@@ -357,35 +370,36 @@ whole p = do
 
 -- ---- derivations and faults
 
--- the symbol derives the tokens up to rest, as the value
+-- the symbol derives the tokens before the rest, as the value
 abbrev pub Derives : {A : Type 0} {d : ℕ → ℕ} {s : Bool} → Symbol d s A → List Lexeme → A
     → List Lexeme → Type 0
 Derives p ts a rest = p.Allows ts (Ok (a, rest))
 
--- the symbol fails at the first of these tokens, which are left; at the end of the tokens where none are
+-- the symbol fails at the first of the tokens left; at the end if none is left
 abbrev pub Fails : {A : Type 0} {d : ℕ → ℕ} {s : Bool} → Symbol d s A → List Lexeme → List Lexeme
     → Type 0
 Fails p ts at = p.Allows ts (Err at)
 
--- ---- what a function that reads ensures of its result and of the tokens that it leaves
+-- ---- what a parsing function ensures of its result and of the tokens that it leaves
 
--- The last tokens of a list.
+-- the first list is the end of the second
 pub record IsRest (rest ts : List Lexeme) : Type 0 where
   pub front : List Lexeme
   pub parts : front ++ rest ≡ ts
 
--- a function that allocates nothing: the outcome
+-- a function that allocates nothing returns the outcome
 abbrev pub Gives : {X A : Type 0} → (X → A) → Outcome A → Result X Unexpected → List Lexeme → Type 0
 Gives view outcome (Ok x) new = outcome ≡ Ok (view x, new)
 Gives view outcome (Err e) new = outcome ≡ Err new
 
--- a function that allocates: the outcome, unless an allocation fails
+-- a function that allocates returns the outcome, unless an allocation fails
 abbrev pub Reads : {A : Type 0} → Outcome A → Result A ParseError → List Lexeme → Type 0
 Reads outcome (Ok a) new = outcome ≡ Ok (a, new)
 Reads outcome (Err e) new = e ≡ errors.Unexpected → outcome ≡ Err new
 
--- What a call that reads by a symbol answers: the value that the symbol derives, with the tokens after it left. Or
--- `Unexpected`: the symbol fails at the first of the tokens left. Or `Memory`: an allocation failed on the way.
+-- What a parsing function returns: the value that the symbol derives, and the tokens after it are
+-- left; `Unexpected` if the symbol fails, at the first of the tokens left; or `Memory` if an
+-- allocation failed.
 abbrev pub Answers : {A : Type 0} {d : ℕ → ℕ} {s : Bool} → Symbol d s A → List Lexeme
     → Result A ParseError → List Lexeme → Type 0
 Answers p old (Ok a) new = Derives p old a new

@@ -27,7 +27,7 @@ impl<'a> Model for Cursor<'a> {
 }
 
 impl<'a> Cursor<'a> {
-    /// At the first of the tokens.
+    /// A cursor at the first of the tokens.
     pub fn new(tokens: &'a [Token<'a>]) -> Cursor<'a>
         ensures { result ≡ map lexeme tokens.now }
     {
@@ -137,7 +137,7 @@ impl<'a> Cursor<'a> {
         self.take_if(pass)
     }
 
-    /// That no token is left.
+    /// Ensures that no token is left.
     #[tactic(auto, using(crate::proofs::Outcomes::end_none, crate::proofs::Outcomes::end_some))]
     pub fn end(&self) -> Result<(), Unexpected>
         ensures value { Gives (λ u. u) (no_tokens.read self.now) result self.now }

@@ -5,7 +5,8 @@ ghost use Rattle.gql_grammar.specs.declared.error.ParseError.TheVariants as erro
 
 use std::alloc::{AllocError, AllocFailed};
 
-/// The next token cannot appear where it does, or the tokens end too early. The cursor is at that token, or at the end.
+/// The next token cannot appear where it does, or the tokens end too early. The cursor is at that
+/// token, or at the end.
 #[derive(Clone, Copy, Debug, PartialEq, Eq)]
 pub struct Unexpected;
 
@@ -14,8 +15,8 @@ pub struct Unexpected;
 pub enum ParseError {
     /// An allocation failed. The cursor is at one of the tokens that it had before, or at the end.
     Memory,
-    /// The next token cannot appear where it does, or the tokens end too early. The cursor is at that token, or at the
-    /// end.
+    /// The next token cannot appear where it does, or the tokens end too early. The cursor is at
+    /// that token, or at the end.
     Unexpected,
 }
 

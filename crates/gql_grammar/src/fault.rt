@@ -8,11 +8,13 @@ use gql_text::{LexFault, LexRefusal, Place};
 /// Why a text is refused: by its lexer (101 to 106) or by the grammar.
 #[derive(Clone, Copy, Debug, PartialEq, Eq)]
 pub enum SyntaxRefusal {
-    /// 101: no token and nothing ignored begins with this character, or it is no source character.
+    /// 101: neither a token nor anything ignored begins with this character, or it is not a source
+    /// character.
     BadCharacter,
     /// 102: a number that is not finished, or that runs into a name, a digit or a dot.
     BadNumber,
-    /// 103: a string that ends with its line or with the text, or a block string that ends with the text.
+    /// 103: a string that ends with its line or with the text, or a block string that ends with the
+    /// text.
     UnfinishedText,
     /// 104: an escape that is not one of those of the specification.
     BadEscape,
@@ -58,7 +60,7 @@ impl SyntaxRefusal {
     }
 }
 
-/// Why a text has no tree, and where; or that an allocation failed.
+/// Why a text has no tree, and where; or an allocation failed.
 #[derive(Clone, Copy, Debug, PartialEq, Eq)]
 pub enum SyntaxFault {
     At { number: SyntaxRefusal, place: Place },

@@ -1,4 +1,4 @@
-//! Whole texts: the tokens that are looked at, and faults with their places.
+//! Whole texts: the tokens that are read, and faults with their places.
 ghost use Rattle.std.specs.Prelude.{◌≡◌, ◌≤◌, ◌<◌, ◌++◌, List, [], ◌∷◌, length, map, take};
 ghost use Rattle.gql_text.specs.Lexeme.{Lexeme, lexeme};
 ghost use Rattle.gql_grammar.specs.Levels.{depth, level, looked_at as the_looked_at, most_levels, shift};
@@ -25,7 +25,7 @@ fn shifted(level: usize, kind: Kind) -> usize
     }
 }
 
-// How many of the tokens are looked at, and whether at most 100 levels are open at one time.
+// How many of the tokens are read, and whether at most 100 levels are open at one time.
 #[tactic(auto, using(crate::proofs::Levels::deep_none, crate::proofs::Levels::deep_here, crate::proofs::Levels::deep_later))]
 fn look(tokens: &[Token<'_>]) -> (usize, bool)
     ensures within { result.0 ≤ length tokens.now }
@@ -42,7 +42,8 @@ fn look(tokens: &[Token<'_>]) -> (usize, bool)
     (tokens.len(), true)
 }
 
-/// How many of the tokens are looked at: all, or those up to the first that opens a level too many.
+/// How many of the tokens are read: all, or those up to and including the first that opens level
+/// 101.
 pub fn looked_at(tokens: &[Token<'_>]) -> usize
     ensures within { result ≤ length tokens.now }
     ensures value { map lexeme (take result tokens.now) ≡ the_looked_at (map lexeme tokens.now) }
@@ -63,7 +64,7 @@ fn last_place(tokens: &[Token<'_>], end: Place) -> Place
     }
 }
 
-// The fault of tokens of which those that are looked at end too early.
+// The fault of tokens, if those that are read end too early.
 fn placed_at_end(tokens: &[Token<'_>], end: Place) -> SyntaxFault
     ensures { result ≡ fault_by end (map lexeme tokens.now) [] }
 {
@@ -80,8 +81,8 @@ fn placed_at_end(tokens: &[Token<'_>], end: Place) -> SyntaxFault
     }
 }
 
-/// The fault of a text, from the error that reading its tokens gave. The cursor that read them, up to the first that
-/// opens level 101, is at the token that cannot appear there, or at the end.
+/// The fault of a text, from the error of reading its tokens up to the first that opens level 101.
+/// The cursor that read them is at the token that cannot appear there, or at the end.
 pub fn placed(
     error: ParseError,
     cursor: &Cursor<'_>,
@@ -100,7 +101,7 @@ pub fn placed(
     }
 }
 
-/// The tokens that are looked at are all, or those up to the first that opens level 101.
+/// The tokens that are read are all, or those up to and including the first that opens level 101.
 pub fn levels_law()
     ensures front { (ts : List Lexeme) → (rest : List Lexeme) × (the_looked_at ts ++ rest ≡ ts) }
     ensures all { (ts : List Lexeme) → depth ts ≤ most_levels → the_looked_at ts ≡ ts }

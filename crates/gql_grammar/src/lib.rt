@@ -1,4 +1,5 @@
-//! Grammars over the tokens of GraphQL texts: what a grammar derives, where it fails, and a cursor that reads by it.
+//! Grammars over the tokens of GraphQL texts: what a grammar derives, where it fails, and a cursor
+//! that reads by it.
 #![tactic(auto)]
 
 mod cursor;
