@@ -11,14 +11,14 @@ abbrev pub name_order : List ℕ → List ℕ → Ordering
 name_order = slice_cmp nat_cmp
 
 module _ {T : Type 0} where
-  -- what stands under the name
+  -- the value of the file of this name, if there is one
   abbrev pub file_named : List (List ℕ × T) → List ℕ → Option T
   file_named files name = lookup (is_at (name_order name)) files
 
-  -- with this file in the place of any file of that name
+  -- the map with this file; it replaces a file of the same name
   abbrev pub with_file : List (List ℕ × T) → List ℕ → T → List (List ℕ × T)
   with_file = insert_entry name_order
 
-  -- without the file of that name
+  -- the map without the file of this name
   abbrev pub without_file : List (List ℕ × T) → List ℕ → List (List ℕ × T)
   without_file files name = remove_entry (is_at (name_order name)) files

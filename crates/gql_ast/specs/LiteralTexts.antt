@@ -1,5 +1,5 @@
--- The text of a literal (GraphQL 2.9): numbers and names as they are written, strings in quotes with
--- their escapes (block strings too, by their value), and `[1, 2]`, `{a: 1, b: 2}`, `[]`, `{}`.
+-- The text of a literal (GraphQL 2.9): numbers and names as they are written, strings in quotes
+-- with their escapes (block strings too, by their value), and `[1, 2]`, `{a: 1, b: 2}`, `[]`, `{}`.
 use Rattle.std.specs.Prelude.{◌≡◌, ◌==◌, ◌/◌, ◌%◌, ℕ, List, [], ◌∷◌, ◌++◌, map, flat_map, nat_lt, codes, Bool, true, false, refl, if◌then◌else◌}
 use Rattle.std.proofs.Common.{ap, sym, ◌∙◌}
 use Rattle.std.specs.Char.{digit_char}
@@ -17,7 +17,7 @@ Text = List ℕ
 
 -- ---- strings (2.9.4)
 
--- what a string has between its quotes for a byte of its value
+-- how a string is written, between its quotes, for one byte of its value
 unfoldable pub escaped : ℕ → Text
 escaped b =
     if b == 34 then codes "\\\""
@@ -30,17 +30,17 @@ escaped b =
     else if nat_lt b 32 then codes "\\u00" ++ digit_char (b / 16) ∷ digit_char (b % 16) ∷ []
     else b ∷ []
 
--- a string with this value, in quotes
+-- the string with this value, in quotes
 abbrev pub string_text : Text → Text
 string_text value = codes "\"" ++ (flat_map escaped value ++ codes "\"")
 
 -- ---- lists and objects (2.9.7, 2.9.8)
 
--- `, ` after an earlier text
+-- `, ` if a text comes before, else nothing
 abbrev pub comma_if : Bool → Text
 comma_if later = if later then codes ", " else []
 
--- texts with `, ` between them, and before the first where others are before it
+-- texts with `, ` between them, and before the first if a text comes before it
 abbrev pub comma_list : Bool → List Text → Text
 comma_list later [] = []
 comma_list later (t ∷ ts) = comma_if later ++ (t ++ comma_list true ts)
@@ -49,17 +49,18 @@ comma_list later (t ∷ ts) = comma_if later ++ (t ++ comma_list true ts)
 abbrev pub with_commas : List Text → Text
 with_commas = comma_list false
 
--- a field of an object: its name and its value
+-- the text of a field of an object, from its name and the text of its value
 abbrev pub field_text : Text → Text → Text
 field_text name value = name ++ (codes ": " ++ value)
 
 -- ---- literals
 
+-- the text of a boolean (2.9.3)
 abbrev pub boolean_text : Bool → Text
 boolean_text true = codes "true"
 boolean_text false = codes "false"
 
--- a literal of this form, by the texts of its parts
+-- the text of a literal of this form, from the texts of its parts
 abbrev pub text_at : Literal-F Text Text → Text
 text_at (Literal-F.Variable place name) = codes "$" ++ name
 text_at (Literal-F.Int place text) = text
@@ -71,6 +72,7 @@ text_at (Literal-F.Enum place name) = name
 text_at (Literal-F.List place items) = codes "[" ++ (with_commas items ++ codes "]")
 text_at (Literal-F.Object place fields) = codes "{" ++ (with_commas fields ++ codes "}")
 
+-- the text of a field of an object, from the text of its value
 abbrev pub text_of_field : ObjectField-F Text Text → Text
 text_of_field f = field_text f.name.text f.value
 
@@ -80,6 +82,7 @@ literal_text = fold-Literal Text Text text_at text_of_field
 
 -- ---- the text of each form of a literal
 
+-- the text of a field of an object
 abbrev pub object_field_text : ObjectField → Text
 object_field_text f = field_text f.name.text (literal_text f.value)
 
@@ -145,9 +148,11 @@ text_object p fields = ap literal_text (sym (l.rolls-Object p fields))
 
 -- ---- examples
 
+-- a name at a place
 abbrev name : Place → Text → Name
 name p n = record { place = p; text = n }
 
+-- an object field of this name and value, at a place
 abbrev one : Place → Text → Literal → ObjectField
 one p n v = record { name = name p n; value = v }
 

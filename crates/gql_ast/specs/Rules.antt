@@ -3,7 +3,7 @@ use Rattle.std.specs.Prelude.{ℕ, List, codes}
 use Rattle.gql_ast.specs.declared.rule.Rule.{Rule}
 use Rattle.gql_ast.specs.declared.rule.Rule.TheVariants as rule
 
--- the name that users see
+-- the name of a rule: a letter and two digits
 abbrev pub name_of : Rule → List ℕ
 name_of rule.P01 = codes "P01"
 name_of rule.P02 = codes "P02"

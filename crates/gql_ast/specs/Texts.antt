@@ -1,7 +1,7 @@
--- The bytes of a text that a tree owns.
+-- Helper definitions for private contracts: the bytes of a text that a tree owns.
 use Rattle.std.specs.Prelude.{ℕ, List, [], ◌∷◌}
 
--- a text is held in place, or as a longer one
+-- the bytes of a text: those of the longer form, unless it is empty
 abbrev pub whole : List ℕ → List ℕ → List ℕ
 whole short [] = short
 whole short (b ∷ bytes) = b ∷ bytes

@@ -1,4 +1,4 @@
--- What a definition is named by.
+-- The place of a definition, and what identifies it.
 use Rattle.gql_text.specs.declared.place.Place.{Place}
 use Rattle.gql_ast.specs.declared.definition.Tree.{Tree}
 use Rattle.gql_ast.specs.declared.definition.Tree.TheVariants as tree
@@ -15,6 +15,6 @@ place_of (tree.Directive definition) = definition.place
 place_of (tree.SchemaExtension extension) = extension.place
 place_of (tree.TypeExtension extension) = extension.place
 
--- what names a definition: its file, and the offset of its first token
+-- what identifies a definition: its file, and the offset of its first token
 abbrev pub id_of : Definition → DefinitionId
 id_of d = record { file = d.file; offset = (place_of d.tree).offset }

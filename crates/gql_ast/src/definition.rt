@@ -13,7 +13,8 @@ use gql_text::Place;
 use sqlite_items::Items;
 use std::alloc::{AllocError, Global};
 
-/// The forms of a definition (GraphQL specification, 2.2). Each shares its tree, so that a copy costs no walk.
+/// The forms of a definition (GraphQL specification, 2.2). Each shares its tree, so that a copy
+/// costs no walk.
 #[derive(Drop)]
 pub enum Tree {
     Operation(Shared<Operation>),
@@ -64,7 +65,7 @@ pub struct Definition {
     pub tree: Tree,
 }
 
-/// What names a definition: its file, and the offset of its first token there.
+/// What identifies a definition: its file, and the offset of its first token there.
 #[derive(Drop)]
 pub struct DefinitionId {
     pub file: FileName,
@@ -82,7 +83,7 @@ impl Definition {
         })
     }
 
-    /// What names it.
+    /// What identifies the definition.
     pub fn id(&self) -> DefinitionId
         ensures { result ≡ id_of self.now }
     {

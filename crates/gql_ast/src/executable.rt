@@ -14,7 +14,8 @@ pub enum OperationKind {
     Subscription,
 }
 
-/// A field of a selection set (GraphQL specification, 2.5). It starts at its alias, or else at its name.
+/// A field of a selection set (GraphQL specification, 2.5). It starts at its alias, or else at its
+/// name.
 #[cycle(selection)]
 #[derive(Drop)]
 pub struct Field {
@@ -44,7 +45,7 @@ pub struct InlineFragment {
     pub selections: Items<Selection>,
 }
 
-/// What stands in a selection set (GraphQL specification, 2.4).
+/// A selection of a selection set (GraphQL specification, 2.4).
 #[cycle(selection)]
 #[derive(Drop)]
 pub enum Selection {

@@ -9,7 +9,7 @@ use gql_text::Place;
 use sqlite_items::Items;
 use std::alloc::{AllocError, Global};
 
-/// Which kind of file a place stands in.
+/// Which kind of file a place is in.
 #[derive(Clone, Copy, Debug, PartialEq, Eq)]
 pub enum FileSide {
     Schema,
@@ -37,8 +37,8 @@ impl FilePlace {
     }
 }
 
-/// What breaks a rule: about which text, at which places (none, one or two), and the definition that owns it. A
-/// fault of the schema has no owner.
+/// A fault: the rule that is broken, the text that it is about, its places (none, one or two), and
+/// the definition that owns it. A fault of the schema has no owner.
 #[derive(Debug, Drop)]
 pub struct Fault {
     pub rule: Rule,

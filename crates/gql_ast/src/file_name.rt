@@ -12,8 +12,8 @@ use std::alloc::AllocError;
 use std::cmp::Ordering;
 use std::marker::Model;
 
-/// The name of a file: 1 to 64 letters, digits, `_`, `.` and `-`, held in place and ordered by bytes.
-/// Contracts see the list of its bytes.
+/// The name of a file: 1 to 64 letters, digits, `_`, `.` and `-`, held in place and ordered by
+/// bytes. Contracts see the list of its bytes.
 #[derive(Debug, Drop)]
 pub struct FileName {
     text: ArrayString<64>,
@@ -46,7 +46,7 @@ fn has_name_bytes(text: &str) -> bool
 }
 
 impl FileName {
-    /// Reads a name; none where the text is no name of a file.
+    /// The file name of this text, if the text is one.
     pub fn read(text: &str) -> Option<FileName>
         ensures name { IfSome result (λ n. n ≡ text.now) }
         ensures exact { IsSome result ↔ IsTrue (is_file_name text.now) }

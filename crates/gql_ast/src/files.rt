@@ -12,7 +12,8 @@ use std::alloc::{AllocError, Global};
 use std::collections::BTreeMap;
 use std::marker::Model;
 
-/// A finite map from names of files, which contracts see as the list of names and values by the bytes of names.
+/// A finite map from names of files. Contracts see the list of names and values, in the order of
+/// the bytes of names.
 #[derive(Drop)]
 pub struct FileMap<T> {
     entries: BTreeMap<FileName, T>,
@@ -72,7 +73,8 @@ impl<T> FileMap<T> {
 }
 
 impl<T: Drop> FileMap<T> {
-    /// Puts a file in the place of any of its name. Where memory is wanting nothing is changed.
+    /// Adds a file; it replaces a file of the same name. If an allocation fails, nothing is
+    /// changed.
     pub fn put(&mut self, name: FileName, file: T) -> Result<(), AllocError>
         ensures ok { OnOk result (self.new ≡ with_file self.old name file) }
         ensures err { OnErr result (self.new ≡ self.old) }
@@ -83,7 +85,7 @@ impl<T: Drop> FileMap<T> {
         }
     }
 
-    /// Takes a file away, if there is one of that name.
+    /// Removes the file of that name, if there is one.
     pub fn remove(&mut self, name: &FileName) -> Option<T>
         ensures found { result ≡ file_named self.old name.now }
         ensures left { self.new ≡ without_file self.old name.now }

@@ -69,7 +69,8 @@ pub struct Argument {
     pub value: Literal,
 }
 
-/// A directive that is applied to a node (GraphQL specification, 2.12). Its place is that of its `@`.
+/// A directive that is applied to a node (GraphQL specification, 2.12). Its place is that of its
+/// `@`.
 #[derive(Drop)]
 pub struct Directive {
     pub place: Place,

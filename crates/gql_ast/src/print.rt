@@ -15,7 +15,7 @@ const fn digit(n: u8) -> u8
     if n < 10 { b'0' + n } else { b'a' + (n - 10) }
 }
 
-/// Writes what a string has between its quotes for a byte of its value.
+/// Writes one byte of the value of a string, as it is between quotes.
 #[tactic(auto, unfolding(crate::specs::LiteralTexts::escaped))]
 fn write_byte(byte: u8, out: &mut Vec<u8>) -> Result<(), AllocError>
     ensures { OnOk result (out.new.items ≡ out.old.items ++ spec.escaped byte) }
@@ -36,7 +36,7 @@ fn write_byte(byte: u8, out: &mut Vec<u8>) -> Result<(), AllocError>
     }
 }
 
-/// Writes what a string has between its quotes.
+/// Writes the value of a string, as it is between quotes.
 fn write_escaped(bytes: &[u8], out: &mut Vec<u8>) -> Result<(), AllocError>
     ensures { OnOk result (out.new.items ≡ out.old.items ++ flat_map spec.escaped bytes.now) }
 {
@@ -56,7 +56,7 @@ fn write_string(value: &str, out: &mut Vec<u8>) -> Result<(), AllocError>
     Ok(())
 }
 
-/// Writes `, ` after an earlier text.
+/// Writes `, ` if a text comes before.
 fn write_comma(later: bool, out: &mut Vec<u8>) -> Result<(), AllocError>
     ensures { OnOk result (out.new.items ≡ out.old.items ++ spec.comma_if later) }
 {

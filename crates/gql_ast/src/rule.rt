@@ -5,8 +5,8 @@ ghost use Rattle.gql_ast.specs.Rules.{name_of};
 
 /// The rules that faults break, by the names that users see, in the order of these names.
 ///
-/// P is for what this registry does not serve, S for the rules on a schema (GraphQL 3) and V for the
-/// rules on documents (GraphQL 5). `docs/RULES.md` says where each is reported and about what.
+/// P is for what this registry does not serve, S for the rules on a schema (GraphQL 3) and V for
+/// the rules on documents (GraphQL 5). `docs/RULES.md` says where each is reported and about what.
 #[derive(Clone, Copy, Debug, PartialEq, Eq)]
 pub enum Rule {
     /// Float References: a schema file refers to Float, which this registry does not serve.
@@ -35,7 +35,7 @@ pub enum Rule {
     S07,
     /// Duplicate Arguments: a field or a directive has two arguments of the same name.
     S08,
-    /// Bad Interface Names: a type lists a type that is no interface, or lists a name twice.
+    /// Bad Interface Names: a type lists a type that is not an interface, or lists a name twice.
     S09,
     /// Self-Implementation: an interface implements itself.
     S10,

@@ -15,12 +15,12 @@ use std::cmp::Ordering;
 use std::hash::{Hash, Hasher};
 use std::marker::Model;
 
-/// A text that a tree owns, which contracts see as the list of its bytes. A text of at most 24 bytes
-/// is held in place, so that it takes no memory of its own and its copy takes none either.
+/// A text that a tree owns, which contracts see as the list of its bytes. A text of at most 24
+/// bytes is held in place, so that it takes no memory of its own and its copy takes none either.
 #[derive(Debug, Drop)]
 pub struct Text {
     short: ArrayString<24>,
-    /// The text, where it is longer; else empty.
+    /// The text, if it is longer; else empty.
     long: String,
 }
 
@@ -115,7 +115,7 @@ impl Hash for Text {
     }
 }
 
-/// A name where it stands in a file (GraphQL specification, 2.1.9).
+/// A name with its place in a file (GraphQL specification, 2.1.9).
 #[derive(Debug, Drop)]
 pub struct Name {
     pub place: Place,

@@ -11,6 +11,6 @@ pub enum TypeRef {
     Named(Name),
     /// A list; the place is that of its `[`.
     List { place: Place, item: Boxed<TypeRef> },
-    /// The type with `!` after it, which is no Non-Null type itself.
+    /// The type with `!` after it. That type is not a Non-Null type itself.
     NonNull(Boxed<TypeRef>),
 }

@@ -8,8 +8,8 @@ use crate::type_ref::TypeRef;
 use gql_text::Place;
 use sqlite_items::Items;
 
-/// An argument of a field or of a directive definition, or a field of an input object (GraphQL specification,
-/// 3.6.1 and 3.10).
+/// An argument of a field or of a directive definition, or a field of an input object (GraphQL
+/// specification, 3.6.1 and 3.10).
 #[derive(Drop)]
 pub struct InputValueDefinition {
     pub description: Option<Text>,
@@ -37,8 +37,9 @@ pub struct EnumValueDefinition {
     pub directives: Items<Directive>,
 }
 
-/// What kind of type is defined or extended, and with which parts (GraphQL specification, 3.4). A list is empty
-/// where it isn't written. Fields and values are shared, so that a schema can hold them without a copy.
+/// What kind of type is defined or extended, and with which parts (GraphQL specification, 3.4). A
+/// list is empty where it isn't written. Fields and values are shared, so that a schema can hold
+/// them without a copy.
 #[derive(Drop)]
 pub enum TypeParts {
     /// (3.5)
@@ -67,8 +68,8 @@ pub enum TypeParts {
     },
 }
 
-/// The definition of a type (GraphQL specification, 3.4). Its place is that of its description, or else of its
-/// first word.
+/// The definition of a type (GraphQL specification, 3.4). Its place is that of its description, or
+/// else of its first word.
 #[derive(Drop)]
 pub struct TypeDefinition {
     pub place: Place,
@@ -87,8 +88,8 @@ pub struct TypeExtension {
     pub parts: TypeParts,
 }
 
-/// A root operation type: the type of the operations of a kind (GraphQL specification, 3.3.1). Its place is that
-/// of the kind.
+/// A root operation type: the type of the operations of a kind (GraphQL specification, 3.3.1). Its
+/// place is that of the kind.
 #[derive(Drop)]
 pub struct RootOperation {
     pub place: Place,
@@ -96,8 +97,8 @@ pub struct RootOperation {
     pub name: Name,
 }
 
-/// The definition of a schema (GraphQL specification, 3.3). Its place is that of its description, or else of the
-/// word `schema`, whose place is kept too.
+/// The definition of a schema (GraphQL specification, 3.3). Its place is that of its description,
+/// or else of the word `schema`, whose place is kept too.
 #[derive(Drop)]
 pub struct SchemaDefinition {
     pub place: Place,
@@ -139,8 +140,8 @@ pub enum DirectiveLocation {
     InputFieldDefinition,
 }
 
-/// The definition of a directive (GraphQL specification, 3.13). Its place is that of its description, or else of
-/// the word `directive`.
+/// The definition of a directive (GraphQL specification, 3.13). Its place is that of its
+/// description, or else of the word `directive`.
 #[derive(Drop)]
 pub struct DirectiveDefinition {
     pub place: Place,

@@ -1,4 +1,4 @@
--- Arguments (2.6) and directives (2.12), with constant values or not.
+-- Arguments (2.6) and directives (2.12). The values of constant ones have no variables.
 use Rattle.std.specs.Prelude.{List, [], Bool}
 use Rattle.gql_text.specs.declared.token.Kind.TheVariants as k
 use Rattle.gql_ast.specs.declared.literal.Argument.{Argument}
@@ -24,6 +24,7 @@ arguments constant = do
   token k.RightParenthesis
   pure found
 
+-- Arguments?
 abbrev pub optional_arguments : Bool → Part (List Argument)
 optional_arguments constant = optional (sees k.LeftParenthesis) [] (arguments constant)
 
@@ -35,6 +36,6 @@ directive constant = do
   given ← optional_arguments constant
   pure (record { place = mark.place; name = found; arguments = given })
 
--- Directives?: Directive*
+-- Directives?
 unfoldable pub directives : Bool → Part (List Directive)
 directives constant = any_while (sees k.At) (directive constant)

@@ -14,7 +14,7 @@ unfoldable pub definition : Phrase Tree
 definition = by_test (sees_word (codes "fragment")) (do found ← fragment; pure (t.Fragment found))
     (do found ← operation; pure (t.Operation found))
 
--- a definition with the file that it is in
+-- ExecutableDefinition, with the file that it is in
 unfoldable pub definition_in : List ℕ → Phrase Definition
 definition_in file = do
   found ← definition
@@ -26,6 +26,6 @@ document file = do
   found ← some_while (before k.EndOfText) (definition_in file)
   pure (record { definitions = found })
 
--- all of the text
+-- ExecutableDocument, up to the end of the text
 unfoldable pub executable : List ℕ → Phrase Document
 executable file = whole (document file)

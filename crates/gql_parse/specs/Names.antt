@@ -5,7 +5,7 @@ use Rattle.gql_text.specs.declared.token.Kind.TheVariants as k
 use Rattle.gql_ast.specs.declared.text.Name.{Name}
 use Rattle.gql_grammar.specs.Symbol.{Phrase, Part, ◌>>=◌, pure, token, sees, optional}
 
--- the name that a token is
+-- the name of a token, with its place
 abbrev pub name_of : Lexeme → Name
 name_of t = record { place = t.place; text = t.text }
 
@@ -15,11 +15,12 @@ name = do
   t ← token k.Name
   pure (name_of t)
 
--- Name, as the part of an operation that may be absent (2.3)
+-- Name, as a name that an operation may have (2.3)
 unfoldable pub some_name : Phrase (Option Name)
 some_name = do
   found ← name
   pure (Some found)
 
+-- Name? (2.3)
 abbrev pub optional_name : Part (Option Name)
 optional_name = optional (sees k.Name) None some_name

@@ -16,17 +16,18 @@ use Rattle.gql_parse.specs.Types.{type_ref}
 use Rattle.gql_parse.specs.Directives.{directives}
 use Rattle.gql_parse.specs.Selections.{fragment_name, type_condition, set, selections_of}
 
--- DefaultValue: = Value, a constant one (2.10)
+-- DefaultValue: = Value, which is constant (2.10)
 unfoldable pub default : Phrase (Option Literal)
 default = do
   token k.Equals
   found ← value true
   pure (Some found)
 
+-- DefaultValue? (2.10)
 abbrev pub optional_default : Part (Option Literal)
 optional_default = optional (sees k.Equals) None default
 
--- VariableDefinition: Variable : Type DefaultValue? Directives?, these constant (2.10)
+-- VariableDefinition: Variable : Type DefaultValue? Directives?, with constant directives (2.10)
 unfoldable pub variable_definition : Phrase VariableDefinition
 variable_definition = do
   mark ← token k.Dollar
@@ -38,7 +39,7 @@ variable_definition = do
   pure (record
       { place = mark.place; name = found; of_type = of; default = given; directives = applied })
 
--- VariableDefinitions: ( VariableDefinition+ )
+-- VariableDefinitions: ( VariableDefinition+ ) (2.10)
 unfoldable pub variable_definitions : Phrase (List VariableDefinition)
 variable_definitions = do
   token k.LeftParenthesis
@@ -46,20 +47,23 @@ variable_definitions = do
   token k.RightParenthesis
   pure found
 
+-- VariableDefinitions? (2.10)
 abbrev pub optional_variables : Part (List VariableDefinition)
 optional_variables = optional (sees k.LeftParenthesis) [] variable_definitions
 
--- OperationType: query, mutation or subscription (2.3)
+-- whether the text is an OperationType: query, mutation or subscription (2.3)
 abbrev pub is_operation_type : List ℕ → Bool
 is_operation_type text = bytes_eq text (codes "query")
     || (bytes_eq text (codes "mutation") || bytes_eq text (codes "subscription"))
 
+-- the kind of operation that an OperationType means (2.3)
 abbrev pub operation_kind : List ℕ → OperationKind
 operation_kind text =
     if bytes_eq text (codes "query") then o.Query
     else if bytes_eq text (codes "mutation") then o.Mutation
     else o.Subscription
 
+-- OperationType (2.3)
 unfoldable pub operation_word : Phrase Lexeme
 operation_word = name_where is_operation_type
 
@@ -73,7 +77,7 @@ named_operation = do
   found ← set
   pure (record { place = kind.place; kind = operation_kind kind.text; name = named; variables = variables; directives = applied; selections = found })
 
--- OperationDefinition: SelectionSet, which is a query (2.3)
+-- OperationDefinition: SelectionSet, the short form of a query (2.3)
 unfoldable pub shorthand : Phrase Operation
 shorthand = do
   mark ← token k.LeftBrace
@@ -81,6 +85,7 @@ shorthand = do
   token k.RightBrace
   pure (record { place = mark.place; kind = o.Query; name = None; variables = []; directives = []; selections = found })
 
+-- OperationDefinition, in either form (2.3)
 abbrev pub operation : Phrase Operation
 operation = by_test (sees k.LeftBrace) shorthand named_operation
 

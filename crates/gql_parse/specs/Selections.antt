@@ -15,20 +15,20 @@ use Rattle.gql_grammar.specs.Recursion.{recursive}
 use Rattle.gql_parse.specs.Names.{name, name_of}
 use Rattle.gql_parse.specs.Directives.{optional_arguments, directives}
 
--- : Name, after an alias (2.7)
+-- : Name, the rest of a name with an alias (2.7)
 unfoldable pub aliased : Name → Phrase (Option Name × Name)
 aliased alias = do
   token k.Colon
   found ← name
   pure (Some alias, found)
 
--- (Alias)? Name: a name with a : after it is an alias (2.7)
+-- Alias? Name: a name is an alias if a : follows it (2.7)
 unfoldable pub names : Phrase (Option Name × Name)
 names = do
   first ← name
   optional (sees k.Colon) (None, first) (aliased first)
 
--- Field: (Alias)? Name Arguments? Directives? SelectionSet? (2.5)
+-- Field: Alias? Name Arguments? Directives? SelectionSet? (2.5)
 unfoldable pub field_of : Phrase (List Selection) → Phrase Field
 field_of set = do
   named ← names
@@ -37,10 +37,11 @@ field_of set = do
   inner ← optional (sees k.LeftBrace) [] set
   pure (roll-Field (record { alias = named.0; name = named.1; arguments = given; directives = applied; selections = inner }))
 
--- FragmentName: a name other than on (2.8)
+-- whether a name is a FragmentName: any but on (2.8)
 abbrev pub is_fragment_name : List ℕ → Bool
 is_fragment_name text = not (bytes_eq text (codes "on"))
 
+-- FragmentName (2.8)
 unfoldable pub fragment_name : Phrase Name
 fragment_name = do
   t ← name_where is_fragment_name
@@ -53,22 +54,24 @@ type_condition = do
   found ← name
   pure found
 
+-- TypeCondition, as a condition that an inline fragment may have (2.8.2)
 unfoldable pub some_condition : Phrase (Option Name)
 some_condition = do
   found ← type_condition
   pure (Some found)
 
+-- TypeCondition? (2.8.2)
 abbrev pub optional_condition : Part (Option Name)
 optional_condition = optional (sees_word (codes "on")) None some_condition
 
--- FragmentSpread: ... FragmentName Directives? (2.8), after its mark
+-- FragmentSpread: ... FragmentName Directives? (2.8), from the token after the ...
 unfoldable pub spread : Lexeme → Phrase Spread
 spread mark = do
   found ← fragment_name
   applied ← directives false
   pure (record { place = mark.place; name = found; directives = applied })
 
--- InlineFragment: ... TypeCondition? Directives? SelectionSet (2.8.2), after its mark
+-- InlineFragment: ... TypeCondition? Directives? SelectionSet (2.8.2), from the token after the ...
 unfoldable pub inline_fragment_of : Lexeme → Phrase (List Selection) → Phrase InlineFragment
 inline_fragment_of mark set = do
   on ← optional_condition
@@ -77,26 +80,29 @@ inline_fragment_of mark set = do
   pure (roll-InlineFragment
       (record { place = mark.place; condition = on; directives = applied; selections = inner }))
 
--- a fragment name after ... makes a spread, anything else an inline fragment
+-- FragmentSpread or InlineFragment: a fragment name after ... makes a spread, anything else an
+-- inline fragment
 unfoldable pub spread_or_inline_of : Phrase (List Selection) → Phrase Selection
 spread_or_inline_of set = do
   mark ← token k.Ellipsis
   by_test (sees_name is_fragment_name) (do found ← spread mark; pure (s.Spread found))
       (do found ← inline_fragment_of mark set; pure (s.InlineFragment found))
 
--- Selection: Field, FragmentSpread or InlineFragment (2.4)
+-- Selection: Field, FragmentSpread or InlineFragment, by the kind of its first token (2.4)
 abbrev pub selection_by : Phrase (List Selection) → Kind → Phrase Selection
 selection_by set k.Name = do found ← field_of set; pure (s.Field found)
 selection_by set k.Ellipsis = spread_or_inline_of set
 selection_by set _ = refuse
 
+-- Selection, given what a selection set is (2.4)
 unfoldable pub selection_of : Phrase (List Selection) → Phrase Selection
 selection_of set = by_kind (selection_by set)
 
+-- Selection+, given what a selection set is (2.4)
 abbrev pub selections_of : Phrase (List Selection) → Phrase (List Selection)
 selections_of set = some_while (before k.RightBrace) (selection_of set)
 
--- SelectionSet: { Selection+ } (2.4)
+-- SelectionSet: { Selection+ }, given what an inner selection set is (2.4)
 unfoldable pub set_of : Phrase (List Selection) → Phrase (List Selection)
 set_of set = do
   token k.LeftBrace
@@ -104,5 +110,6 @@ set_of set = do
   token k.RightBrace
   pure found
 
+-- SelectionSet (2.4)
 unfoldable pub set : Phrase (List Selection)
 set = recursive set_of

@@ -13,7 +13,7 @@ named_type = do
   found ← name
   pure (r.Named found)
 
--- ListType: [ Type ]
+-- ListType: [ Type ], given what a type is
 unfoldable pub list_type_of : Phrase TypeRef → Phrase TypeRef
 list_type_of type = do
   mark ← token k.LeftBracket
@@ -21,20 +21,23 @@ list_type_of type = do
   token k.RightBracket
   pure (r.List mark.place item)
 
+-- NamedType or ListType, by the kind of its first token
 abbrev pub nullable_by : Phrase TypeRef → Kind → Phrase TypeRef
 nullable_by type k.Name = named_type
 nullable_by type k.LeftBracket = list_type_of type
 nullable_by type _ = refuse
 
--- NonNullType: with a ! after it
+-- the ! of a NonNullType, after the type that it marks
 unfoldable pub non_null : TypeRef → Phrase TypeRef
 non_null of = do
   token k.Bang
   pure (r.NonNull of)
 
+-- the type, as Non-Null if a ! follows it
 abbrev pub marked : TypeRef → Part TypeRef
 marked of = optional (sees k.Bang) of (non_null of)
 
+-- Type: NamedType, ListType or NonNullType, given what an inner type is
 abbrev pub type_ref_of : Phrase TypeRef → Phrase TypeRef
 type_ref_of type = do
   of ← by_kind (nullable_by type)

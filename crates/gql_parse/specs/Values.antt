@@ -1,4 +1,4 @@
--- Values (2.9).
+-- Values (2.9). A constant value has no variables.
 use Rattle.std.specs.Prelude.{Bool, true, false, bytes_eq, codes, if◌then◌else◌}
 use Rattle.gql_text.specs.Lexeme.{Lexeme}
 use Rattle.gql_text.specs.Values.{text_value}
@@ -37,13 +37,13 @@ string = do
   t ← token k.StringValue
   pure (e.String t.place (text_value t.text))
 
--- StringValue in triple quotes (2.9.4)
+-- StringValue, as a block string (2.9.4)
 unfoldable pub block_string : Phrase Literal
 block_string = do
   t ← token k.BlockString
   pure (e.String t.place (text_value t.text))
 
--- true, false (2.9.3), null (2.9.5), or another name as an EnumValue (2.9.6)
+-- the value of a name: true or false (2.9.3), null (2.9.5), or else an EnumValue (2.9.6)
 abbrev pub word_value : Lexeme → Literal
 word_value t =
     if bytes_eq t.text (codes "true") then e.Boolean t.place true
@@ -51,12 +51,13 @@ word_value t =
     else if bytes_eq t.text (codes "null") then e.Null t.place
     else e.Enum t.place t.text
 
+-- BooleanValue, NullValue or EnumValue
 unfoldable pub word_literal : Phrase Literal
 word_literal = do
   t ← token k.Name
   pure (word_value t)
 
--- ListValue: [ Value* ] (2.9.7)
+-- ListValue: [ Value* ], given what a value is (2.9.7)
 unfoldable pub list_of : Phrase Literal → Phrase Literal
 list_of value = do
   mark ← token k.LeftBracket
@@ -64,7 +65,7 @@ list_of value = do
   token k.RightBracket
   pure (e.List mark.place items)
 
--- ObjectField: Name : Value (2.9.8)
+-- ObjectField: Name : Value, given what a value is (2.9.8)
 unfoldable pub object_field_of : Phrase Literal → Phrase ObjectField
 object_field_of value = do
   found ← name
@@ -72,7 +73,7 @@ object_field_of value = do
   given ← value
   pure (roll-ObjectField (record { name = found; value = given }))
 
--- ObjectValue: { ObjectField* } (2.9.8)
+-- ObjectValue: { ObjectField* }, given what a value is (2.9.8)
 unfoldable pub object_of : Phrase Literal → Phrase Literal
 object_of value = do
   mark ← token k.LeftBrace
@@ -80,10 +81,11 @@ object_of value = do
   token k.RightBrace
   pure (e.Object mark.place fields)
 
+-- Variable, which a constant value may not be (2.9)
 abbrev pub variable_unless : Bool → Phrase Literal
 variable_unless constant = choose constant refuse variable
 
--- by its first token; in a constant value no variable may stand (2.9)
+-- Value, by the kind of its first token, given what an inner value is (2.9)
 abbrev pub value_by : Bool → Phrase Literal → Kind → Phrase Literal
 value_by constant value k.Dollar = variable_unless constant
 value_by constant value k.IntValue = int
@@ -95,6 +97,7 @@ value_by constant value k.LeftBracket = list_of value
 value_by constant value k.LeftBrace = object_of value
 value_by constant value _ = refuse
 
+-- Value, given what an inner value is (2.9)
 abbrev pub value_of : Bool → Phrase Literal → Phrase Literal
 value_of constant value = by_kind (value_by constant value)
 

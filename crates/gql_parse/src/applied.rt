@@ -1,4 +1,5 @@
-//! Arguments and directives (GraphQL specification, 2.6 and 2.12), with constant values or not.
+//! Arguments and directives (GraphQL specification, 2.6 and 2.12), whose values may have to be
+//! constant.
 ghost use Rattle.std.specs.Prelude.{◌<◌, ◌≤◌, length, OnOk};
 ghost use Rattle.gql_text.specs.declared.token.Kind.TheVariants as k;
 ghost use Rattle.gql_grammar.specs.Symbol.{IsRest, Reads, before};
@@ -97,7 +98,7 @@ fn directive(
     })
 }
 
-/// The directives that follow, of which there may be none (2.12). The values of constant ones have no variables.
+/// The directives that follow, possibly none (2.12). The values of constant ones have no variables.
 #[tactic(auto, unfolding(crate::specs::Directives::directives), using(gql_grammar::proofs::Rests::rests, gql_grammar::proofs::Loops::going_init, gql_grammar::proofs::Loops::going_on))]
 pub fn directives(
     alloc: Global,

@@ -1,6 +1,7 @@
-//! The calls that read one part of a document from a cursor. Each answers the part, with the cursor after it; or
-//! `Unexpected`, with the cursor at the first token that cannot continue the part, or at the end; or `Memory`, if an
-//! allocation failed, with the cursor anywhere from where it was.
+//! The calls that read one part of a document from a cursor. Each returns the part, with the cursor
+//! after it; or `Unexpected`, with the cursor at the first token that cannot continue the part, or
+//! at the end; or `Memory`, if an allocation failed, with the cursor at any token from its start
+//! on.
 ghost use Rattle.std.specs.Prelude.{◌<◌, ◌≤◌, length, OnOk};
 ghost use Rattle.gql_grammar.specs.Symbol.{Answers, IsRest, Reads};
 ghost use Rattle.gql_parse.specs.Directives as of_directives;
@@ -26,7 +27,7 @@ pub fn definition(alloc: Global, cursor: &mut Cursor<'_>) -> Result<Tree, ParseE
     executable::definition(alloc, cursor)
 }
 
-/// The directives that follow, of which there may be none (GraphQL specification, 2.12).
+/// The directives that follow, possibly none (GraphQL specification, 2.12).
 pub fn directives(
     alloc: Global,
     cursor: &mut Cursor<'_>,
@@ -40,8 +41,8 @@ pub fn directives(
     applied::directives(alloc, cursor, constant)
 }
 
-/// A value (GraphQL specification, 2.9). It nests as deep as its brackets: a whole file has at most 100 of them open at
-/// one time, a bare cursor as many as its tokens have.
+/// A value (GraphQL specification, 2.9). It nests as deep as its brackets: a whole file has at most
+/// 100 of them open at one time, a bare cursor as many as its tokens have.
 pub fn value(alloc: Global, cursor: &mut Cursor<'_>, constant: bool) -> Result<Literal, ParseError>
     ensures answers { Answers (of_values.value constant) cursor.old result cursor.new }
     ensures value { Reads ((of_values.value constant).read cursor.old) result cursor.new }
@@ -51,8 +52,8 @@ pub fn value(alloc: Global, cursor: &mut Cursor<'_>, constant: bool) -> Result<L
     literal::value(alloc, cursor, constant)
 }
 
-/// A type reference (GraphQL specification, 2.11). It nests as deep as its brackets: a whole file has at most 100 of
-/// them open at one time, a bare cursor as many as its tokens have.
+/// A type reference (GraphQL specification, 2.11). It nests as deep as its brackets: a whole file
+/// has at most 100 of them open at one time, a bare cursor as many as its tokens have.
 pub fn type_ref(alloc: Global, cursor: &mut Cursor<'_>) -> Result<TypeRef, ParseError>
     ensures answers { Answers of_types.type_ref cursor.old result cursor.new }
     ensures value { Reads (of_types.type_ref.read cursor.old) result cursor.new }

@@ -32,23 +32,23 @@ fn parse_looked_at(
     }
 }
 
-/// The document that tokens are, or their fault. The end is the place after the text.
+/// The document of these tokens, or their fault. `end` is the place after the text.
 pub fn parse_tokens(
     alloc: Global,
     tokens: &[Token<'_>],
     file: &FileName,
     end: Place,
 ) -> Result<Document, SyntaxFault>
-    // What is parsed derives from the tokens, and opens at most 100 levels.
+    // A document that is returned derives from the tokens, with at most 100 levels.
     ensures accepted { IfOk result (λ d. Accepts (executable file.now) (map lexeme tokens.now) d) }
-    // What derives from the tokens with at most 100 levels is parsed.
+    // A document that derives from the tokens, with at most 100 levels, is returned.
     ensures complete { (d : TheDocument) → Accepts (executable file.now) (map lexeme tokens.now) d
         → OrMemory result (Ok d) }
-    // A fault is where the tokens are refused.
+    // The tokens are refused with a fault that is returned.
     ensures refused { (number : TheRefusal) (place : ThePlace)
         → result ≡ Err (SyntaxFault.At number place)
         → Refuses (executable file.now) end (map lexeme tokens.now) (SyntaxFault.At number place) }
-    // Where the tokens are refused is the fault.
+    // A fault with which the tokens are refused is returned.
     ensures faulty { (fault : TheFault)
         → Refuses (executable file.now) end (map lexeme tokens.now) fault
         → OrMemory result (Err fault) }
@@ -56,18 +56,18 @@ pub fn parse_tokens(
     parse_looked_at(alloc, tokens, file, end)
 }
 
-/// The document that a source is, or its fault: one of the lexer, else 111 or 112.
+/// The document of a source, or its fault: one of the lexer, else 111 or 112.
 pub fn parse(alloc: Global, file: FileName, source: &str) -> Result<Document, SyntaxFault>
-    // What is parsed is what the source's tokens derive, with at most 100 levels.
+    // A document that is returned derives from the source's tokens, with at most 100 levels.
     ensures accepted { IfOk result (λ d. IsSourceOf (executable file) source.now d) }
-    // What the source's tokens derive is parsed.
+    // A document that derives from the source's tokens is returned.
     ensures complete { (d : TheDocument) → IsSourceOf (executable file) source.now d
         → OrMemory result (Ok d) }
-    // A fault is that of the source.
+    // A fault that is returned is that of the source.
     ensures refused { (number : TheRefusal) (place : ThePlace)
         → result ≡ Err (SyntaxFault.At number place)
         → IsFaultOf (executable file) source.now (SyntaxFault.At number place) }
-    // The fault of the source is reported.
+    // The fault of the source is returned.
     ensures faulty { (fault : TheFault) → IsFaultOf (executable file) source.now fault
         → OrMemory result (Err fault) }
 {
@@ -77,7 +77,7 @@ pub fn parse(alloc: Global, file: FileName, source: &str) -> Result<Document, Sy
     }
 }
 
-/// A source is one document, or has one fault, and never both.
+/// A source has one document or one fault, and never both.
 pub fn one_answer()
     ensures document { (file source : List ℕ) (a b : TheDocument)
         → IsSourceOf (executable file) source a → IsSourceOf (executable file) source b → a ≡ b }

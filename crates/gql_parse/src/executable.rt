@@ -64,7 +64,7 @@ fn definitions(
     Ok(found)
 }
 
-/// The document that all of the tokens are.
+/// The document of all tokens.
 #[tactic(auto, unfolding(crate::specs::Documents::executable, crate::specs::Documents::document))]
 pub fn document(
     alloc: Global,

@@ -1,4 +1,4 @@
-//! Laws of the grammar's recursive symbols, as contracts of functions that do nothing.
+//! Laws of the grammar's recursive symbols: contracts of functions that do nothing.
 ghost use Rattle.std.specs.Prelude.{◌↔◌, Bool, List};
 ghost use Rattle.gql_text.specs.Lexeme.{Lexeme};
 ghost use Rattle.gql_ast.specs.declared.executable.Selection.{Selection};
@@ -9,8 +9,8 @@ ghost use Rattle.gql_parse.specs.Selections.{set, set_of};
 ghost use Rattle.gql_parse.specs.Types.{type_ref, type_ref_of};
 ghost use Rattle.gql_parse.specs.Values.{value, value_of};
 
-/// A value is what its rule derives where the values in it are values, and fails where that rule fails (GraphQL
-/// specification, 2.9).
+/// A value derives exactly what its rule derives, and fails exactly where its rule fails, if the
+/// inner values of the rule are values (GraphQL specification, 2.9).
 pub fn values()
     ensures derived { (constant : Bool) (tokens rest : List Lexeme) (literal : Literal)
         → Derives (value constant) tokens literal rest
@@ -20,8 +20,8 @@ pub fn values()
         ↔ Fails (value_of constant (value constant)) tokens rest }
 {}
 
-/// A type is what its rule derives where the types in it are types, and fails where that rule fails (GraphQL
-/// specification, 2.11).
+/// A type derives exactly what its rule derives, and fails exactly where its rule fails, if the
+/// inner types of the rule are types (GraphQL specification, 2.11).
 pub fn types()
     ensures derived { (tokens rest : List Lexeme) (reference : TypeRef)
         → Derives type_ref tokens reference rest
@@ -30,8 +30,8 @@ pub fn types()
         → Fails type_ref tokens rest ↔ Fails (type_ref_of type_ref) tokens rest }
 {}
 
-/// A selection set is what its rule derives where the sets in it are selection sets, and fails where that rule fails
-/// (GraphQL specification, 2.4).
+/// A selection set derives exactly what its rule derives, and fails exactly where its rule fails,
+/// if the inner sets of the rule are selection sets (GraphQL specification, 2.4).
 pub fn selection_sets()
     ensures derived { (tokens rest : List Lexeme) (selections : List Selection)
         → Derives set tokens selections rest ↔ Derives (set_of set) tokens selections rest }

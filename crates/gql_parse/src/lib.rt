@@ -1,4 +1,5 @@
-//! Executable GraphQL documents: from tokens to syntax trees (GraphQL specification, October 2021, section 2).
+//! Executable GraphQL documents: from tokens to syntax trees (GraphQL specification, October 2021,
+//! section 2).
 #![tactic(auto)]
 
 mod applied;
