@@ -42,12 +42,12 @@ pub enum Literal {
         place: Place,
         name: Text,
     },
-    /// (2.9.7)
+    /// A list (2.9.7).
     List {
         place: Place,
         items: Items<Literal>,
     },
-    /// (2.9.8)
+    /// An input object (2.9.8).
     Object {
         place: Place,
         fields: Items<ObjectField>,

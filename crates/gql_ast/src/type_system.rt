@@ -42,27 +42,27 @@ pub struct EnumValueDefinition {
 /// them without a copy.
 #[derive(Drop)]
 pub enum TypeParts {
-    /// (3.5)
+    /// A scalar (3.5).
     Scalar,
-    /// (3.6)
+    /// An object (3.6).
     Object {
         interfaces: Items<Name>,
         fields: Items<Shared<FieldDefinition>>,
     },
-    /// (3.7)
+    /// An interface (3.7).
     Interface {
         interfaces: Items<Name>,
         fields: Items<Shared<FieldDefinition>>,
     },
-    /// (3.8)
+    /// A union (3.8).
     Union {
         members: Items<Name>,
     },
-    /// (3.9)
+    /// An enum (3.9).
     Enum {
         values: Items<Shared<EnumValueDefinition>>,
     },
-    /// (3.10)
+    /// An input object (3.10).
     InputObject {
         fields: Items<Shared<InputValueDefinition>>,
     },

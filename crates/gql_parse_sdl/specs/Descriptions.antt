@@ -13,12 +13,13 @@ string = do
   t ← token k.StringValue
   pure (Some (record { place = t.place; text = text_value t.text }))
 
--- Description: StringValue in triple quotes
+-- Description: StringValue, as a block string
 unfoldable pub block_string : Phrase (Option Description)
 block_string = do
   t ← token k.BlockString
   pure (Some (record { place = t.place; text = text_value t.text }))
 
+-- Description?, by the kind of the next token
 abbrev pub description_by : Kind → Part (Option Description)
 description_by k.StringValue = relaxed string
 description_by k.BlockString = relaxed block_string
@@ -28,7 +29,7 @@ description_by _ = pure None
 abbrev pub optional_description : Part (Option Description)
 optional_description = by_kind description_by
 
--- its text, if there is one
+-- the text of a description, if there is one
 abbrev pub text_of : Option Description → Option (List ℕ)
 text_of (Some described) = Some described.text
 text_of None = None

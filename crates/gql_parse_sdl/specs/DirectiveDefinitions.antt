@@ -13,7 +13,7 @@ use Rattle.gql_parse_sdl.specs.Descriptions.{start, text_of}
 use Rattle.gql_parse_sdl.specs.InputValues.{optional_argument_definitions}
 use Rattle.gql_parse_sdl.specs.Unions.{optional_pipe}
 
--- ExecutableDirectiveLocation
+-- the ExecutableDirectiveLocation of this name
 abbrev pub executable_location : List ℕ → Option DirectiveLocation
 executable_location text =
     if bytes_eq text (codes "QUERY") then Some l.Query
@@ -26,7 +26,7 @@ executable_location text =
     else if bytes_eq text (codes "VARIABLE_DEFINITION") then Some l.VariableDefinition
     else None
 
--- TypeSystemDirectiveLocation
+-- the TypeSystemDirectiveLocation of this name
 abbrev pub type_system_location : List ℕ → Option DirectiveLocation
 type_system_location text =
     if bytes_eq text (codes "SCHEMA") then Some l.Schema
@@ -42,20 +42,22 @@ type_system_location text =
     else if bytes_eq text (codes "INPUT_FIELD_DEFINITION") then Some l.InputFieldDefinition
     else None
 
+-- the first location if there is one, else the second
 abbrev pub or_else : Option DirectiveLocation → Option DirectiveLocation → Option DirectiveLocation
 or_else (Some found) other = Some found
 or_else None other = other
 
--- the location that a text names, of the nineteen
+-- the location of this name, of the nineteen
 abbrev pub location_named : List ℕ → Option DirectiveLocation
 location_named text = or_else (executable_location text) (type_system_location text)
 
--- the name of that location
+-- a name, read as this location
 unfoldable pub location_at : DirectiveLocation → Phrase DirectiveLocation
 location_at found = do
   token k.Name
   pure found
 
+-- a name, read as this location; a name of no location is refused
 abbrev pub location_by : Option DirectiveLocation → Phrase DirectiveLocation
 location_by (Some found) = location_at found
 location_by None = refuse
@@ -75,12 +77,13 @@ further_location = do
 abbrev pub location_names : Phrase (List DirectiveLocation)
 location_names = first_then (sees k.Pipe) location further_location
 
--- repeatable, or nothing
+-- the word repeatable
 unfoldable pub repeatable : Phrase Bool
 repeatable = do
   word (codes "repeatable")
   pure true
 
+-- repeatable?, as whether it is there
 abbrev pub optional_repeatable : Part Bool
 optional_repeatable = optional (sees_word (codes "repeatable")) false repeatable
 
@@ -92,7 +95,8 @@ locations = do
   found ← location_names
   pure found
 
--- DirectiveDefinition, after its description: directive @ Name ArgumentsDefinition? repeatable? DirectiveLocations (3.13)
+-- DirectiveDefinition, from the token after its description (3.13):
+-- directive @ Name ArgumentsDefinition? repeatable? DirectiveLocations
 unfoldable pub directive_definition : Option Description → Phrase DirectiveDefinition
 directive_definition described = do
   mark ← word (codes "directive")

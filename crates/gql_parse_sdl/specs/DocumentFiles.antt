@@ -1,4 +1,4 @@
--- Which texts are document files, with which trees, and where the others are refused.
+-- Document files: which texts are one, with which tree, and where the others are refused.
 use Rattle.std.specs.Prelude.{ℕ, List, Bool, ◌||◌, bytes_eq, codes}
 use Rattle.gql_text.specs.Lexeme.{Lexeme}
 use Rattle.gql_text.specs.declared.token.Kind.TheVariants as k
@@ -13,7 +13,7 @@ use Rattle.gql_parse.specs.Operations.{is_operation_type}
 use Rattle.gql_parse.specs.Documents as executable
 use Rattle.gql_parse_sdl.specs.TypeSystem.{type_system}
 
--- the words that an operation or a fragment begins with
+-- whether an operation or a fragment begins with this word
 abbrev pub is_executable_word : List ℕ → Bool
 is_executable_word text = bytes_eq text (codes "fragment") || is_operation_type text
 
@@ -21,27 +21,27 @@ is_executable_word text = bytes_eq text (codes "fragment") || is_operation_type 
 abbrev pub begins_executable : List Lexeme → Bool
 begins_executable ts = sees k.LeftBrace ts || sees_name is_executable_word ts
 
--- Definition: ExecutableDefinition or TypeSystemDefinitionOrExtension  (2.2)
+-- Definition: ExecutableDefinition or TypeSystemDefinitionOrExtension (2.2)
 abbrev pub any_definition : Phrase Tree
 any_definition = by_test begins_executable executable.definition type_system
 
--- a definition with the file that it is in
+-- Definition, with the file that it is in
 unfoldable pub definition : List ℕ → Phrase Definition
 definition file = do
   found ← any_definition
   pure (record { file = file; tree = found })
 
--- Definition+ up to the end of the text
+-- Definition+, up to the end of the text
 abbrev pub definitions : List ℕ → Phrase (List Definition)
 definitions file = some_while (before k.EndOfText) (definition file)
 
--- Document: Definition+  (2.2)
+-- Document: Definition+ (2.2)
 unfoldable pub document : List ℕ → Phrase Document
 document file = do
   found ← definitions file
   pure (record { definitions = found })
 
--- all of the text
+-- Document, up to the end of the text
 unfoldable pub document_file : List ℕ → Phrase Document
 document_file file = whole (document file)
 
@@ -49,6 +49,7 @@ document_file file = whole (document file)
 unfoldable pub IsDocumentFile : List ℕ → List ℕ → Document → Type 0
 IsDocumentFile file source document = IsSourceOf (document_file file) source document
 
--- the text is refused, as a document file of that name: by the lexer, or else where its tokens fail
+-- the text is refused with this fault, as a document file of that name: one of the lexer, or else
+-- of the grammar
 unfoldable pub IsDocumentFault : List ℕ → List ℕ → SyntaxFault → Type 0
 IsDocumentFault file source fault = IsFaultOf (document_file file) source fault

@@ -9,17 +9,18 @@ use Rattle.gql_parse.specs.Names.{name_of}
 use Rattle.gql_parse.specs.Directives.{directives}
 use Rattle.gql_parse_sdl.specs.Descriptions.{optional_description, text_of}
 
--- EnumValue: a name other than true, false and null (2.9.6)
+-- whether a name is an EnumValue: any but true, false and null (2.9.6)
 abbrev pub is_enum_value : List ℕ → Bool
 is_enum_value text = not (bytes_eq text (codes "true")
     || (bytes_eq text (codes "false") || bytes_eq text (codes "null")))
 
+-- EnumValue (2.9.6)
 unfoldable pub enum_name : Phrase Name
 enum_name = do
   t ← name_where is_enum_value
   pure (name_of t)
 
--- EnumValueDefinition: Description? EnumValue Directives?, these constant (3.9)
+-- EnumValueDefinition: Description? EnumValue Directives?, with constant directives (3.9)
 unfoldable pub enum_value : Phrase EnumValueDefinition
 enum_value = do
   described ← optional_description
@@ -35,5 +36,6 @@ enum_values = do
   token k.RightBrace
   pure found
 
+-- EnumValuesDefinition? (3.9)
 abbrev pub optional_enum_values : Part (List EnumValueDefinition)
 optional_enum_values = optional (sees k.LeftBrace) [] enum_values

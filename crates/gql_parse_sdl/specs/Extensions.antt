@@ -16,11 +16,11 @@ use Rattle.gql_parse_sdl.specs.Words.{by_text}
 use Rattle.gql_parse_sdl.specs.Types.{body, spelling, type_keyword}
 use Rattle.gql_parse_sdl.specs.Schemas.{optional_roots}
 
--- whether directives or a part in braces are next
+-- whether @ or { is next, which begin directives or a part in braces
 abbrev pub begins_braces : List Lexeme → Bool
 begins_braces ts = sees k.At ts || sees k.LeftBrace ts
 
--- whether a part of such a type is next
+-- whether a part that a type of this keyword may have is next
 abbrev pub begins_part : TypeKeyword → List Lexeme → Bool
 begins_part w.Scalar ts = sees k.At ts
 begins_part w.Object ts = begins_braces ts || sees_word (codes "implements") ts
@@ -29,11 +29,11 @@ begins_part w.Union ts = sees k.At ts || sees k.Equals ts
 begins_part w.Enum ts = begins_braces ts
 begins_part w.InputObject ts = begins_braces ts
 
--- that a part is next
+-- takes no token, but fails if no part is next
 abbrev pub some_part : (List Lexeme → Bool) → Part (Unit {0})
 some_part begins = by_test begins (pure tt) (relaxed refuse)
 
--- TypeExtension, after extend: its keyword, Name, and at least one part (3.4.3)
+-- TypeExtension, from the token after extend: its keyword, Name, and at least one part (3.4.3)
 unfoldable pub type_extension : Place → TypeKeyword → Phrase TypeExtension
 type_extension from keyword = do
   word (spelling keyword)
@@ -42,7 +42,8 @@ type_extension from keyword = do
   rest ← body keyword
   pure (record { place = from; name = found; directives = rest.directives; parts = rest.parts })
 
--- SchemaExtension, after extend: schema Directives? { RootOperationTypeDefinition+ }?, one of the two at least (3.3.2)
+-- SchemaExtension, from the token after extend: schema, and at least one part of
+-- Directives? { RootOperationTypeDefinition+ }? (3.3.2)
 unfoldable pub schema_extension : Place → Phrase SchemaExtension
 schema_extension from = do
   word (codes "schema")
@@ -51,11 +52,12 @@ schema_extension from = do
   found ← optional_roots
   pure (record { place = from; directives = applied; roots = found })
 
+-- TypeExtension, from the token after extend, if a keyword begins one
 abbrev pub typed : Place → Option TypeKeyword → Phrase Tree
 typed from (Some keyword) = do found ← type_extension from keyword; pure (t.TypeExtension found)
 typed from None = refuse
 
--- what follows extend
+-- TypeSystemExtension, from the token after extend (3.1)
 abbrev pub extended : Place → Phrase Tree
 extended from = by_test (sees_word (codes "schema"))
     (do found ← schema_extension from; pure (t.SchemaExtension found))

@@ -11,11 +11,13 @@ use Rattle.gql_parse.specs.Directives.{directives}
 use Rattle.gql_parse_sdl.specs.Descriptions.{optional_description, text_of}
 use Rattle.gql_parse_sdl.specs.InputValues.{optional_argument_definitions}
 
+-- the & before the first of several names
 unfoldable pub ampersand : Phrase (Unit {0})
 ampersand = do
   token k.Ampersand
   pure tt
 
+-- &?
 abbrev pub optional_ampersand : Part (Unit {0})
 optional_ampersand = optional (sees k.Ampersand) tt ampersand
 
@@ -38,10 +40,12 @@ implements = do
   found ← interface_names
   pure found
 
+-- ImplementsInterfaces? (3.6)
 abbrev pub optional_interfaces : Part (List Name)
 optional_interfaces = optional (sees_word (codes "implements")) [] implements
 
--- FieldDefinition: Description? Name ArgumentsDefinition? : Type Directives?, these constant (3.6)
+-- FieldDefinition: Description? Name ArgumentsDefinition? : Type Directives?, with constant
+-- directives (3.6)
 unfoldable pub field : Phrase FieldDefinition
 field = do
   described ← optional_description
@@ -60,5 +64,6 @@ fields = do
   token k.RightBrace
   pure found
 
+-- FieldsDefinition? (3.6)
 abbrev pub optional_fields : Part (List FieldDefinition)
 optional_fields = optional (sees k.LeftBrace) [] fields

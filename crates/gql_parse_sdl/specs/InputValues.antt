@@ -11,7 +11,8 @@ use Rattle.gql_parse.specs.Operations.{optional_default}
 use Rattle.gql_parse.specs.Directives.{directives}
 use Rattle.gql_parse_sdl.specs.Descriptions.{optional_description, text_of}
 
--- InputValueDefinition: Description? Name : Type DefaultValue? Directives?, these constant (3.6.1)
+-- InputValueDefinition: Description? Name : Type DefaultValue? Directives?, with constant
+-- directives (3.6.1)
 unfoldable pub input_value : Phrase InputValueDefinition
 input_value = do
   described ← optional_description
@@ -22,7 +23,7 @@ input_value = do
   applied ← directives true
   pure (record { description = text_of described; name = found; of_type = of; default = given; directives = applied })
 
--- InputValueDefinition+, up to a mark that closes
+-- InputValueDefinition+, up to the closing mark
 abbrev pub input_values : Kind → Phrase (List InputValueDefinition)
 input_values close = some_while (before close) input_value
 
@@ -34,6 +35,7 @@ argument_definitions = do
   token k.RightParenthesis
   pure found
 
+-- ArgumentsDefinition? (3.6.1)
 abbrev pub optional_argument_definitions : Part (List InputValueDefinition)
 optional_argument_definitions = optional (sees k.LeftParenthesis) [] argument_definitions
 
@@ -45,5 +47,6 @@ input_fields = do
   token k.RightBrace
   pure found
 
+-- InputFieldsDefinition? (3.10)
 abbrev pub optional_input_fields : Part (List InputValueDefinition)
 optional_input_fields = optional (sees k.LeftBrace) [] input_fields

@@ -1,4 +1,4 @@
--- Which texts are schema files, with which trees, and where the others are refused.
+-- Schema files: which texts are one, with which tree, and where the others are refused.
 use Rattle.std.specs.Prelude.{ℕ, List}
 use Rattle.gql_text.specs.declared.token.Kind.TheVariants as k
 use Rattle.gql_grammar.specs.Symbol.{Phrase, before, pure, whole, ◌>>=◌}
@@ -9,23 +9,23 @@ use Rattle.gql_ast.specs.declared.definition.Definition.{Definition}
 use Rattle.gql_ast.specs.declared.definition.Document.{Document}
 use Rattle.gql_parse_sdl.specs.TypeSystem.{type_system}
 
--- a definition or extension, with the file that it is in  (3)
+-- TypeSystemDefinitionOrExtension, with the file that it is in (3)
 unfoldable pub definition : List ℕ → Phrase Definition
 definition file = do
   found ← type_system
   pure (record { file = file; tree = found })
 
--- Definition+ up to the end of the text
+-- TypeSystemDefinitionOrExtension+, up to the end of the text
 abbrev pub definitions : List ℕ → Phrase (List Definition)
 definitions file = some_while (before k.EndOfText) (definition file)
 
--- TypeSystemExtensionDocument: TypeSystemDefinitionOrExtension+  (3)
+-- TypeSystemExtensionDocument: TypeSystemDefinitionOrExtension+ (3)
 unfoldable pub document : List ℕ → Phrase Document
 document file = do
   found ← definitions file
   pure (record { definitions = found })
 
--- all of the text
+-- TypeSystemExtensionDocument, up to the end of the text
 unfoldable pub schema_file : List ℕ → Phrase Document
 schema_file file = whole (document file)
 
@@ -33,6 +33,7 @@ schema_file file = whole (document file)
 unfoldable pub IsSchemaFile : List ℕ → List ℕ → Document → Type 0
 IsSchemaFile file source document = IsSourceOf (schema_file file) source document
 
--- the text is refused, as a schema file of that name: by the lexer, or else where its tokens fail
+-- the text is refused with this fault, as a schema file of that name: one of the lexer, or else of
+-- the grammar
 unfoldable pub IsSchemaFault : List ℕ → List ℕ → SyntaxFault → Type 0
 IsSchemaFault file source fault = IsFaultOf (schema_file file) source fault

@@ -27,10 +27,12 @@ roots = do
   token k.RightBrace
   pure found
 
+-- { RootOperationTypeDefinition+ }?
 abbrev pub optional_roots : Part (List RootOperation)
 optional_roots = optional (sees k.LeftBrace) [] roots
 
--- SchemaDefinition, after its description: schema Directives? { RootOperationTypeDefinition+ } (3.3)
+-- SchemaDefinition, from the token after its description: schema Directives? {
+-- RootOperationTypeDefinition+ } (3.3)
 unfoldable pub schema : Option Description → Phrase SchemaDefinition
 schema described = do
   mark ← word (codes "schema")

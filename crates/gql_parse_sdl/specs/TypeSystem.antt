@@ -12,11 +12,12 @@ use Rattle.gql_parse_sdl.specs.Schemas.{schema}
 use Rattle.gql_parse_sdl.specs.DirectiveDefinitions.{directive_definition}
 use Rattle.gql_parse_sdl.specs.Extensions.{extension}
 
+-- TypeDefinition, if a keyword begins one
 abbrev pub typed : Option Description → Option TypeKeyword → Phrase Tree
 typed described (Some keyword) = do found ← type_definition described keyword; pure (t.Type found)
 typed described None = refuse
 
--- SchemaDefinition, DirectiveDefinition or TypeDefinition, after its description
+-- SchemaDefinition, DirectiveDefinition or TypeDefinition, from the token after its description
 abbrev pub defined : Option Description → Phrase Tree
 defined described =
     by_test (sees_word (codes "schema")) (do found ← schema described; pure (t.Schema found))
@@ -24,7 +25,7 @@ defined described =
     (do found ← directive_definition described; pure (t.Directive found))
     (by_text (λ text. typed described (type_keyword text))))
 
--- TypeSystemDefinition: a description, if there is one, and what it describes
+-- TypeSystemDefinition, with its description
 unfoldable pub definition : Phrase Tree
 definition = do
   described ← optional_description

@@ -15,7 +15,7 @@ use Rattle.gql_parse_sdl.specs.Fields.{optional_interfaces, optional_fields}
 use Rattle.gql_parse_sdl.specs.Unions.{optional_members}
 use Rattle.gql_parse_sdl.specs.Enums.{optional_enum_values}
 
--- the keyword that a text is, of those that begin the definition of a type
+-- the keyword of this text, if it begins the definition of a type
 abbrev pub type_keyword : List ℕ → Option TypeKeyword
 type_keyword text =
     if bytes_eq text (codes "scalar") then Some w.Scalar
@@ -26,6 +26,7 @@ type_keyword text =
     else if bytes_eq text (codes "input") then Some w.InputObject
     else None
 
+-- the text of a keyword
 abbrev pub spelling : TypeKeyword → List ℕ
 spelling w.Scalar = codes "scalar"
 spelling w.Object = codes "type"
@@ -34,13 +35,14 @@ spelling w.Union = codes "union"
 spelling w.Enum = codes "enum"
 spelling w.InputObject = codes "input"
 
--- ScalarTypeDefinition, after the name: Directives? (3.5)
+-- ScalarTypeDefinition, from the token after the name: Directives? (3.5)
 unfoldable pub scalar_body : Part TypeBody
 scalar_body = do
   applied ← directives true
   pure (record { directives = applied; parts = parts.Scalar })
 
--- ObjectTypeDefinition, after the name: ImplementsInterfaces? Directives? FieldsDefinition? (3.6)
+-- ObjectTypeDefinition, from the token after the name: ImplementsInterfaces? Directives?
+-- FieldsDefinition? (3.6)
 unfoldable pub object_body : Part TypeBody
 object_body = do
   kept ← optional_interfaces
@@ -48,7 +50,8 @@ object_body = do
   found ← optional_fields
   pure (record { directives = applied; parts = parts.Object kept found })
 
--- InterfaceTypeDefinition, after the name: ImplementsInterfaces? Directives? FieldsDefinition? (3.7)
+-- InterfaceTypeDefinition, from the token after the name: ImplementsInterfaces? Directives?
+-- FieldsDefinition? (3.7)
 unfoldable pub interface_body : Part TypeBody
 interface_body = do
   kept ← optional_interfaces
@@ -56,27 +59,29 @@ interface_body = do
   found ← optional_fields
   pure (record { directives = applied; parts = parts.Interface kept found })
 
--- UnionTypeDefinition, after the name: Directives? UnionMemberTypes? (3.8)
+-- UnionTypeDefinition, from the token after the name: Directives? UnionMemberTypes? (3.8)
 unfoldable pub union_body : Part TypeBody
 union_body = do
   applied ← directives true
   found ← optional_members
   pure (record { directives = applied; parts = parts.Union found })
 
--- EnumTypeDefinition, after the name: Directives? EnumValuesDefinition? (3.9)
+-- EnumTypeDefinition, from the token after the name: Directives? EnumValuesDefinition? (3.9)
 unfoldable pub enum_body : Part TypeBody
 enum_body = do
   applied ← directives true
   found ← optional_enum_values
   pure (record { directives = applied; parts = parts.Enum found })
 
--- InputObjectTypeDefinition, after the name: Directives? InputFieldsDefinition? (3.10)
+-- InputObjectTypeDefinition, from the token after the name: Directives? InputFieldsDefinition?
+-- (3.10)
 unfoldable pub input_object_body : Part TypeBody
 input_object_body = do
   applied ← directives true
   found ← optional_input_fields
   pure (record { directives = applied; parts = parts.InputObject found })
 
+-- TypeDefinition with this keyword, from the token after the name
 abbrev pub body : TypeKeyword → Part TypeBody
 body w.Scalar = scalar_body
 body w.Object = object_body
@@ -85,7 +90,7 @@ body w.Union = union_body
 body w.Enum = enum_body
 body w.InputObject = input_object_body
 
--- TypeDefinition, after its description: its keyword, Name, and what follows the name (3.4)
+-- TypeDefinition, from the token after its description: its keyword, Name, and the rest (3.4)
 unfoldable pub type_definition : Option Description → TypeKeyword → Phrase TypeDefinition
 type_definition described keyword = do
   mark ← word (spelling keyword)

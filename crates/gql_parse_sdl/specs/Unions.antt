@@ -6,11 +6,13 @@ use Rattle.gql_grammar.specs.Symbol.{Phrase, Part, ◌>>=◌, ◌>>◌, pure, to
 use Rattle.gql_grammar.specs.Repetition.{first_then}
 use Rattle.gql_parse.specs.Names.{name}
 
+-- the | before the first of several names
 unfoldable pub pipe : Phrase (Unit {0})
 pipe = do
   token k.Pipe
   pure tt
 
+-- |?
 abbrev pub optional_pipe : Part (Unit {0})
 optional_pipe = optional (sees k.Pipe) tt pipe
 
@@ -33,5 +35,6 @@ members = do
   found ← member_names
   pure found
 
+-- UnionMemberTypes? (3.8)
 abbrev pub optional_members : Part (List Name)
 optional_members = optional (sees k.Equals) [] members

@@ -1,7 +1,8 @@
--- A choice by the text of the next token.
+-- Symbols that depend on the text of the next token.
 use Rattle.std.specs.Prelude.{ℕ, List, Bool}
 use Rattle.gql_grammar.specs.Symbol.{Symbol, text_of}
 
+-- the symbol for the text of the next token
 abbrev pub by_text : {A : Type 0} {d : ℕ → ℕ} {s : Bool} → (List ℕ → Symbol d s A) → Symbol d s A
 by_text f = record {
   read = λ ts. (f (text_of ts)).read ts;

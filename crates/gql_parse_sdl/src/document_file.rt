@@ -18,7 +18,7 @@ use gql_parse::definition as executable;
 use gql_text::{Kind, Place, Token, end_place, lex};
 use std::alloc::Global;
 
-// Whether this text is a word that an operation or a fragment begins with.
+// Whether an operation or a fragment begins with this word.
 fn is_executable_word(text: &str) -> bool
     ensures { result ≡ spec.is_executable_word text.now }
 {
@@ -114,23 +114,24 @@ fn from_tokens(
     }
 }
 
-/// The tree of a document file: one or more definitions of any kind, operations and fragments or those of the type
-/// system (GraphQL specification, 2.2). A text that is none is refused at the first place where it cannot go on: by the
-/// lexer (101 to 106), or else by the grammar (111, and 112 for the 101st brace or bracket open at one time).
+/// The tree of a document file: one or more definitions of any kind, operations and fragments or
+/// those of the type system (GraphQL specification, 2.2). Any other text is refused at the first
+/// place where it cannot go on: by the lexer (101 to 106), or else by the grammar (111, and 112 for
+/// the 101st brace or bracket open at one time).
 pub fn parse_any(alloc: Global, file: FileName, source: &str) -> Result<Document, SyntaxFault>
-    // What is parsed is what the source's tokens derive, with at most 100 levels.
+    // A document that is returned derives from the source's tokens, with at most 100 levels.
     ensures accepted { IfOk result (spec.IsDocumentFile file source.now) }
-    // What the source's tokens derive is parsed.
+    // A document that derives from the source's tokens is returned.
     ensures complete { (d : TheDocument) → spec.IsDocumentFile file source.now d
         → OrMemory result (Ok d) }
-    // A fault is that of the source.
+    // A fault that is returned is that of the source.
     ensures refused { (number : TheRefusal) (place : ThePlace)
         → result ≡ Err (SyntaxFault.At number place)
         → spec.IsDocumentFault file source.now (SyntaxFault.At number place) }
-    // The fault of the source is reported.
+    // The fault of the source is returned.
     ensures faulty { (fault : TheFault) → spec.IsDocumentFault file source.now fault
         → OrMemory result (Err fault) }
-    // The definitions have the file's name, and stand at rising places.
+    // The definitions have the file's name, and their offsets rise.
     ensures placed { IfOk result (λ d. ArePlaced file d.definitions) }
 {
     match lex(alloc, source) {
@@ -139,7 +140,7 @@ pub fn parse_any(alloc: Global, file: FileName, source: &str) -> Result<Document
     }
 }
 
-/// A source is one document file, or has one fault, and never both.
+/// A source is one document file or has one fault, and never both.
 pub fn one_document_answer()
     ensures document { (file source : List ℕ) (a b : TheDocument)
         → spec.IsDocumentFile file source a → spec.IsDocumentFile file source b → a ≡ b }

@@ -18,7 +18,7 @@ fn begins_braces(cursor: &Cursor<'_>) -> bool
     cursor.sees(Kind::At) || cursor.sees(Kind::LeftBrace)
 }
 
-// Whether a part of such a type follows.
+// Whether a part that a type of this keyword may have follows.
 fn begins_part(cursor: &Cursor<'_>, keyword: TypeKeyword) -> bool
     ensures { result ≡ spec.begins_part keyword cursor.now }
 {

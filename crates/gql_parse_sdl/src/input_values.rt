@@ -35,7 +35,7 @@ fn input_value(
     Ok(Shared::new(alloc, definition)?)
 }
 
-// One or more input values, up to a mark that closes.
+// One or more input values, up to the closing mark.
 #[tactic(auto, using(gql_grammar::proofs::Rests::rests, gql_grammar::proofs::Loops::going_init, gql_grammar::proofs::Loops::going_on))]
 fn input_values(
     alloc: Global,

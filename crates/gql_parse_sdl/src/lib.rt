@@ -1,5 +1,5 @@
-//! Schema files and document files: the grammar of type-system definitions (GraphQL specification, 3), its parsers,
-//! and where files are refused.
+//! Schema files and document files: the grammar of type-system definitions (GraphQL specification,
+//! 3), its parsers, and where files are refused.
 #![tactic(auto)]
 
 mod description;

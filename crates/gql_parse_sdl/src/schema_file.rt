@@ -76,20 +76,21 @@ fn from_tokens(
     }
 }
 
-/// The tree of a schema file: one or more definitions and extensions of the type system (GraphQL specification, 3). A
-/// text that is none is refused at the first place where it cannot go on: by the lexer (101 to 106), or else by the grammar (111,
-/// and 112 for the 101st brace or bracket open at one time).
+/// The tree of a schema file: one or more definitions and extensions of the type system (GraphQL
+/// specification, 3). Any other text is refused at the first place where it cannot go on: by the
+/// lexer (101 to 106), or else by the grammar (111, and 112 for the 101st brace or bracket open at
+/// one time).
 pub fn parse_sdl(alloc: Global, file: FileName, source: &str) -> Result<Document, SyntaxFault>
-    // What is parsed is what the source's tokens derive, with at most 100 levels.
+    // A document that is returned derives from the source's tokens, with at most 100 levels.
     ensures accepted { IfOk result (spec.IsSchemaFile file source.now) }
-    // What the source's tokens derive is parsed.
+    // A document that derives from the source's tokens is returned.
     ensures complete { (d : TheDocument) → spec.IsSchemaFile file source.now d
         → OrMemory result (Ok d) }
-    // A fault is that of the source.
+    // A fault that is returned is that of the source.
     ensures refused { (number : TheRefusal) (place : ThePlace)
         → result ≡ Err (SyntaxFault.At number place)
         → spec.IsSchemaFault file source.now (SyntaxFault.At number place) }
-    // The fault of the source is reported.
+    // The fault of the source is returned.
     ensures faulty { (fault : TheFault) → spec.IsSchemaFault file source.now fault
         → OrMemory result (Err fault) }
 {
@@ -99,7 +100,7 @@ pub fn parse_sdl(alloc: Global, file: FileName, source: &str) -> Result<Document
     }
 }
 
-/// A source is one schema file, or has one fault, and never both.
+/// A source is one schema file or has one fault, and never both.
 pub fn one_answer()
     ensures document { (file source : List ℕ) (a b : TheDocument) → spec.IsSchemaFile file source a
         → spec.IsSchemaFile file source b → a ≡ b }

@@ -1,4 +1,5 @@
-//! What follows the name of a type, in its definition and in its extensions (GraphQL specification, 3.5 to 3.10).
+//! What follows the name of a type, in its definition and in its extensions (GraphQL specification,
+//! 3.5 to 3.10).
 ghost use Rattle.std.specs.Prelude.{◌≤◌, length, OnOk};
 ghost use Rattle.gql_grammar.specs.Symbol.{IsRest, Reads};
 ghost use Rattle.gql_parse_sdl.specs.Types as spec;

@@ -20,7 +20,7 @@ pub enum TypeKeyword {
 }
 
 impl TypeKeyword {
-    /// The keyword that a text is, if it is one.
+    /// The keyword of this text, if it is one.
     pub fn of(text: &str) -> Option<TypeKeyword>
         ensures { result ≡ spec.type_keyword text.now }
     {
@@ -41,7 +41,7 @@ impl TypeKeyword {
         }
     }
 
-    /// How it is written.
+    /// The text of the keyword.
     pub fn spelling(self) -> &'static str
         ensures { result.now ≡ spec.spelling self }
     {
