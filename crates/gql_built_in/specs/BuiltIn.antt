@@ -11,17 +11,19 @@ use Rattle.gql_ast.specs.declared.definition.Tree.{Tree}
 use Rattle.gql_built_in.specs.declared.sited.Sited.{Sited}
 use Rattle.gql_built_in.specs.BuiltInWords.{named, required, list_of, required_list_of, boolean_value, string_value, argument, field, field_with, scalar, object_type, enum_type, directive, a_type, a_directive}
 
--- the types that the tables below name
+-- the type String, which fields below have
 abbrev pub string : TypeRef
 string = named (codes "String")
 
+-- the type Boolean
 abbrev pub boolean : TypeRef
 boolean = named (codes "Boolean")
 
+-- the type __Type (4.2.2)
 abbrev pub type : TypeRef
 type = named (codes "__Type")
 
--- the scalars of every schema (3.5), but for Float, which this registry doesn't serve
+-- the scalars of every schema (3.5), without Float, which this registry doesn't serve
 unfoldable pub scalars : List TypeDefinition
 scalars = scalar (codes "Int")
     ∷ scalar (codes "String")
@@ -29,7 +31,7 @@ scalars = scalar (codes "Int")
     ∷ scalar (codes "ID")
     ∷ []
 
--- (4.2.1)
+-- the fields of __Schema (4.2.1)
 unfoldable pub fields_of_schema : List FieldDefinition
 fields_of_schema = field (codes "description") string
     ∷ field (codes "types") (required_list_of type)
@@ -39,11 +41,11 @@ fields_of_schema = field (codes "description") string
     ∷ field (codes "directives") (required_list_of (named (codes "__Directive")))
     ∷ []
 
--- (includeDeprecated: Boolean = false)
+-- the arguments (includeDeprecated: Boolean = false)
 unfoldable pub include_deprecated : List InputValueDefinition
 include_deprecated = argument (codes "includeDeprecated") boolean (Some (boolean_value false)) ∷ []
 
--- (4.2.2)
+-- the fields of __Type (4.2.2)
 unfoldable pub fields_of_type : List FieldDefinition
 fields_of_type = field (codes "kind") (required (named (codes "__TypeKind")))
     ∷ field (codes "name") string
@@ -57,7 +59,7 @@ fields_of_type = field (codes "kind") (required (named (codes "__TypeKind")))
     ∷ field (codes "specifiedByURL") string
     ∷ []
 
--- (4.2.3)
+-- the fields of __Field (4.2.3)
 unfoldable pub fields_of_field : List FieldDefinition
 fields_of_field = field (codes "name") (required string)
     ∷ field (codes "description") string
@@ -67,7 +69,7 @@ fields_of_field = field (codes "name") (required string)
     ∷ field (codes "deprecationReason") string
     ∷ []
 
--- (4.2.4)
+-- the fields of __InputValue (4.2.4)
 unfoldable pub fields_of_input_value : List FieldDefinition
 fields_of_input_value = field (codes "name") (required string)
     ∷ field (codes "description") string
@@ -75,7 +77,7 @@ fields_of_input_value = field (codes "name") (required string)
     ∷ field (codes "defaultValue") string
     ∷ []
 
--- (4.2.5)
+-- the fields of __EnumValue (4.2.5)
 unfoldable pub fields_of_enum_value : List FieldDefinition
 fields_of_enum_value = field (codes "name") (required string)
     ∷ field (codes "description") string
@@ -83,7 +85,7 @@ fields_of_enum_value = field (codes "name") (required string)
     ∷ field (codes "deprecationReason") string
     ∷ []
 
--- (4.2.6)
+-- the fields of __Directive (4.2.6)
 unfoldable pub fields_of_directive : List FieldDefinition
 fields_of_directive = field (codes "name") (required string)
     ∷ field (codes "description") string
@@ -92,7 +94,7 @@ fields_of_directive = field (codes "name") (required string)
     ∷ field (codes "isRepeatable") (required boolean)
     ∷ []
 
--- the kinds of types (4.2.2)
+-- the enum __TypeKind (4.2.2)
 unfoldable pub type_kinds : TypeDefinition
 type_kinds = enum_type (codes "__TypeKind")
     (codes "SCALAR"
@@ -105,7 +107,7 @@ type_kinds = enum_type (codes "__TypeKind")
     ∷ codes "NON_NULL"
     ∷ [])
 
--- the locations of directives (4.2.6)
+-- the enum __DirectiveLocation (4.2.6)
 unfoldable pub directive_locations : TypeDefinition
 directive_locations = enum_type (codes "__DirectiveLocation")
     (codes "QUERY"
@@ -141,11 +143,11 @@ introspection = object_type (codes "__Schema") fields_of_schema
     ∷ directive_locations
     ∷ []
 
--- FIELD | FRAGMENT_SPREAD | INLINE_FRAGMENT
+-- the locations FIELD | FRAGMENT_SPREAD | INLINE_FRAGMENT
 abbrev pub selections : List DirectiveLocation
 selections = l.Field ∷ l.FragmentSpread ∷ l.InlineFragment ∷ []
 
--- (if: Boolean!)
+-- the arguments (if: Boolean!)
 unfoldable pub condition : List InputValueDefinition
 condition = argument (codes "if") (required boolean) None ∷ []
 
@@ -157,7 +159,7 @@ skip = directive (codes "skip") condition selections
 unfoldable pub include : DirectiveDefinition
 include = directive (codes "include") condition selections
 
--- (reason: String = "No longer supported")
+-- the arguments (reason: String = "No longer supported")
 unfoldable pub reason : List InputValueDefinition
 reason = argument (codes "reason") string (Some (string_value (codes "No longer supported"))) ∷ []
 
@@ -166,7 +168,7 @@ reason = argument (codes "reason") string (Some (string_value (codes "No longer 
 unfoldable pub deprecated : DirectiveDefinition
 deprecated = directive (codes "deprecated") reason (l.FieldDefinition ∷ l.EnumValue ∷ [])
 
--- (url: String!)
+-- the arguments (url: String!)
 unfoldable pub url : List InputValueDefinition
 url = argument (codes "url") (required string) None ∷ []
 
@@ -178,6 +180,6 @@ specified_by = directive (codes "specifiedBy") url (l.Scalar ∷ [])
 unfoldable pub directives : List DirectiveDefinition
 directives = skip ∷ include ∷ deprecated ∷ specified_by ∷ []
 
--- all of them
+-- the definitions that every schema has
 unfoldable pub built_in : List (Sited Tree)
 built_in = map a_type scalars ++ map a_type introspection ++ map a_directive directives

@@ -1,4 +1,4 @@
--- The words in which the definitions that every schema has are said.
+-- Helper definitions for BuiltIn.antt: trees of definitions that are in no file.
 use Rattle.std.specs.Prelude.{ℕ, List, [], map, Option, None, Bool, false}
 use Rattle.gql_text.specs.declared.place.Place.{Place}
 use Rattle.gql_ast.specs.declared.text.Name.{Name}
@@ -18,7 +18,7 @@ use Rattle.gql_ast.specs.declared.definition.Tree.{Tree}
 use Rattle.gql_ast.specs.declared.definition.Tree.TheVariants as t
 use Rattle.gql_built_in.specs.declared.sited.Sited.{Sited}
 
--- no place of a file, since lines count from 1
+-- the place of what is in no file; places in files have lines from 1
 abbrev pub nowhere : Place
 nowhere = record { line = 0; column = 0; offset = 0 }
 
@@ -72,6 +72,7 @@ field name type = field_with name [] type
 unfoldable pub enum_value : List ℕ → EnumValueDefinition
 enum_value name = record { description = None; name = word name; directives = [] }
 
+-- TypeDefinition: name and parts (3.4)
 unfoldable pub type_of : List ℕ → TypeParts → TypeDefinition
 type_of name parts =
     record { place = nowhere; description = None; name = word name; directives = []; parts = parts }
@@ -88,17 +89,19 @@ object_type name fields = type_of name (p.Object [] fields)
 abbrev pub enum_type : List ℕ → List (List ℕ) → TypeDefinition
 enum_type name values = type_of name (p.Enum (map enum_value values))
 
--- DirectiveDefinition, not repeatable: name, arguments and locations (3.13)
+-- DirectiveDefinition of a directive that is not repeatable: name, arguments and locations (3.13)
 unfoldable pub directive : List ℕ → List InputValueDefinition → List DirectiveLocation
     → DirectiveDefinition
 directive name arguments locations = record { place = nowhere; description = None; name = word name; arguments = arguments; is_repeatable = false; locations = locations }
 
--- a definition of no file
+-- a definition that is in no file
 unfoldable pub of_no_file : Tree → Sited Tree
 of_no_file tree = record { file = None; node = tree }
 
+-- the definition of a type, in no file
 abbrev pub a_type : TypeDefinition → Sited Tree
 a_type definition = of_no_file (t.Type definition)
 
+-- the definition of a directive, in no file
 abbrev pub a_directive : DirectiveDefinition → Sited Tree
 a_directive definition = of_no_file (t.Directive definition)

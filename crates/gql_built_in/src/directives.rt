@@ -40,7 +40,7 @@ fn url(alloc: Global) -> Result<Items<Shared<InputValueDefinition>>, AllocError>
     one_argument(alloc, "url", required_named(alloc, "String")?, None)
 }
 
-// (GraphQL specification, 3.13.1)
+// `@skip` (GraphQL specification, 3.13.1)
 #[tactic(auto, unfolding(crate::specs::BuiltIn::skip))]
 fn skip(alloc: Global) -> Result<DirectiveDefinition, AllocError>
     ensures { IfOk result (λ x. x ≡ spec.skip) }
@@ -48,7 +48,7 @@ fn skip(alloc: Global) -> Result<DirectiveDefinition, AllocError>
     directive(alloc, "skip", condition(alloc)?, &SELECTIONS)
 }
 
-// (GraphQL specification, 3.13.2)
+// `@include` (GraphQL specification, 3.13.2)
 #[tactic(auto, unfolding(crate::specs::BuiltIn::include))]
 fn include(alloc: Global) -> Result<DirectiveDefinition, AllocError>
     ensures { IfOk result (λ x. x ≡ spec.include) }
@@ -56,7 +56,7 @@ fn include(alloc: Global) -> Result<DirectiveDefinition, AllocError>
     directive(alloc, "include", condition(alloc)?, &SELECTIONS)
 }
 
-// (GraphQL specification, 3.13.3)
+// `@deprecated` (GraphQL specification, 3.13.3)
 #[tactic(auto, unfolding(crate::specs::BuiltIn::deprecated))]
 fn deprecated(alloc: Global) -> Result<DirectiveDefinition, AllocError>
     ensures { IfOk result (λ x. x ≡ spec.deprecated) }
@@ -68,7 +68,7 @@ fn deprecated(alloc: Global) -> Result<DirectiveDefinition, AllocError>
     directive(alloc, "deprecated", reason(alloc)?, &locations)
 }
 
-// (GraphQL specification, 3.13.4)
+// `@specifiedBy` (GraphQL specification, 3.13.4)
 #[tactic(auto, unfolding(crate::specs::BuiltIn::specified_by))]
 fn specified_by(alloc: Global) -> Result<DirectiveDefinition, AllocError>
     ensures { IfOk result (λ x. x ≡ spec.specified_by) }

@@ -19,7 +19,7 @@ use gql_ast::{Items, Tree};
 pub use sited::Sited;
 use std::alloc::{AllocError, Global};
 
-/// The scalars of every schema (GraphQL specification, 3.5), but for Float, which this registry
+/// The scalars of every schema (GraphQL specification, 3.5), without Float, which this registry
 /// doesn't serve.
 #[tactic(auto, unfolding(crate::specs::BuiltIn::scalars))]
 fn scalars(alloc: Global) -> Result<Items<Sited<Tree>>, AllocError>

@@ -1,4 +1,4 @@
-//! Tables of fields: how the fields of the types of introspection are written.
+//! Tables of fields, from which the fields of the types of introspection are made.
 ghost use Rattle.std.specs.Prelude.{◌≡◌, map, IfOk, OnOk, [], ◌∷◌, ◌++◌};
 ghost use Rattle.gql_built_in.specs.BuiltInTables as spec;
 ghost use Rattle.gql_built_in.specs.BuiltIn.{include_deprecated as include_deprecated_of};
@@ -73,7 +73,7 @@ fn add_row(
     }
 }
 
-/// The fields that the rows of a table say, in their order.
+/// The fields that the rows of a table define, in their order.
 pub fn fields_of(
     alloc: Global,
     rows: &[FieldRow<'_>],

@@ -1,4 +1,4 @@
-//! The words in which the built-in definitions are said.
+//! Helpers that build the trees of the built-in definitions.
 ghost use Rattle.std.specs.Prelude.{◌≡◌, [], ◌∷◌, ◌++◌, map, IfOk, OnOk};
 ghost use Rattle.gql_built_in.specs.BuiltInWords as spec;
 
@@ -11,7 +11,7 @@ use gql_ast::{
 use gql_text::Place;
 use std::alloc::{AllocError, Global};
 
-/// No place of a file: lines count from 1.
+/// The place of what is in no file. Places in files have lines from 1.
 const NOWHERE: Place = Place {
     line: 0,
     column: 0,

@@ -1,5 +1,5 @@
 -- Faults of a schema: which rule, about which text, at which places of schema files. Built-in
--- definitions are in no file, so that no fault is found there.
+-- definitions are in no file, so that they have no faults.
 use Rattle.std.specs.Prelude.{ℕ, List, [], ◌∷◌, flat_map, Option, Some, None}
 use Rattle.std.specs.Option.{option_map_or}
 use Rattle.gql_text.specs.declared.place.Place.{Place}
@@ -18,16 +18,16 @@ in_file file place = record { side = Schema; file = file; place = place }
 abbrev pub fault : Rule → List ℕ → List FilePlace → Fault
 fault rule about places = record { rule = rule; about = about; places = places; owner = None }
 
--- a fault at a place
+-- a fault at a place, if it is in a file
 abbrev pub fault_in : Rule → List ℕ → Option (List ℕ) → Place → List Fault
 fault_in rule about None place = []
 fault_in rule about (Some file) place = fault rule about (in_file file place ∷ []) ∷ []
 
--- the same, at a place with its file
+-- a fault at a place with its file, if it is in one
 abbrev pub fault_at : Rule → List ℕ → Sited Place → List Fault
 fault_at rule about at = fault_in rule about at.file at.node
 
--- a fault at two places, both in files
+-- a fault at two places, if both are in files
 abbrev pub fault_in_both : Rule → List ℕ → Option (List ℕ) → Place → Option (List ℕ) → Place
     → List Fault
 fault_in_both rule about None place second_file second = []
@@ -35,7 +35,7 @@ fault_in_both rule about (Some file) place None second = []
 fault_in_both rule about (Some file) place (Some second_file) second =
     fault rule about (in_file file place ∷ in_file second_file second ∷ []) ∷ []
 
--- the same, at places with their files
+-- a fault at two places with their files, if both are in one
 abbrev pub fault_between : Rule → List ℕ → Sited Place → Sited Place → List Fault
 fault_between rule about first second =
     fault_in_both rule about first.file first.node second.file second.node
@@ -56,6 +56,6 @@ fault_of rule n = fault_at rule n.node.text (place_of n)
 abbrev pub faults_of : Rule → List (Sited Name) → List Fault
 faults_of rule names = flat_map (fault_of rule) names
 
--- the faults by a definition that is found by its name; none where no definition has the name
+-- the faults that depend on a definition found by its name; none if no definition has the name
 abbrev pub where_known : {A : Type 0} → Option A → (A → List Fault) → List Fault
 where_known known faults = option_map_or faults known []

@@ -6,11 +6,11 @@ use Rattle.gql_ast.specs.declared.rule.Rule.{Rule}
 use Rattle.gql_built_in.specs.declared.sited.Sited.{Sited}
 use Rattle.gql_faults.specs.Faults.{faults_of}
 
--- how many of these have the text
+-- how many of these names have this text
 abbrev pub count_of : List ℕ → List (Sited Name) → ℕ
 count_of text names = count_by (λ (n : Sited Name). bytes_eq text n.node.text) names
 
--- those whose text occurs more than once, each of them
+-- the names whose text occurs more than once, each of them
 abbrev pub repeated : List (Sited Name) → List (Sited Name)
 repeated names = filter (λ (n : Sited Name). nat_lt 1 (count_of n.node.text names)) names
 

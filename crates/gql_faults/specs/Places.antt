@@ -1,4 +1,4 @@
--- Helper definitions for contracts: names and places as the code borrows them.
+-- Helper definitions for contracts: borrowed names and places, as values.
 use Rattle.std.specs.Option.{option_copied}
 use Rattle.gql_text.specs.declared.place.Place.{Place}
 use Rattle.gql_ast.specs.declared.text.Name.{Name}

@@ -11,16 +11,17 @@ use Rattle.gql_ast.specs.declared.type_ref.TypeRef.TheVariants as t
 use Rattle.gql_ast.specs.declared.type_system.InputValueDefinition.{InputValueDefinition}
 use Rattle.gql_types.specs.Written.{Written, named, listed, required, written}
 
--- the name within lists and Non-Nulls
+-- the name within a type, from the name of the type in it
 abbrev pub name_at : TypeRef-F Name → Name
 name_at (TypeRef-F.Named n) = n
 name_at (TypeRef-F.List place item) = item
 name_at (TypeRef-F.NonNull item) = item
 
+-- the name within the lists and Non-Nulls of a type
 unfoldable pub name_in : TypeRef → Name
 name_in = fold-TypeRef Name name_at
 
--- its equations
+-- the equations of `name_in`
 pub name_in_named : (n : Name) → name_in (t.Named n) ≡ n
 unfolding name_in
 name_in_named n = ap name_in (sym (t.rolls-Named n))
@@ -36,12 +37,12 @@ unfolding name_in
 name_in_non_null x = ap name_in (sym (t.rolls-NonNull x))
     ∙ fold-roll-TypeRef Name name_at (TypeRef-F.NonNull x)
 
--- a Non-Null type
+-- whether a type is Non-Null
 abbrev pub is_non_null : Written → Bool
 is_non_null (required t) = true
 is_non_null (listed t) = false
 is_non_null (named n) = false
 
--- an argument or an input field is required where its type is Non-Null and it has no default
+-- whether an argument or an input field is required: its type is Non-Null, and it has no default
 abbrev pub is_required : InputValueDefinition → Bool
 is_required v = is_non_null (written v.of_type) && not (is_some v.default)

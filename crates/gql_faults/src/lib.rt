@@ -1,7 +1,7 @@
 //! What the rules on schemas have in common: faults at places of schema files, names that occur
 //! more than once, first definitions of directives, and the name within a type.
 //!
-//! A function that adds to a list may have added a part where it fails for memory.
+//! If a call that adds to a list fails, the list may hold a part of what is added.
 #![tactic(auto)]
 
 mod directives;

@@ -1,5 +1,6 @@
--- The definitions of a schema (GraphQL specification, 3.1): what is built in, then those of the schema files in the order of files
--- and places. Of some name the first counts, so that what is built in counts before any definition in a file.
+-- The definitions of a schema (GraphQL specification, 3.1): the built-in ones, then those of the
+-- schema files, by the order of files and places. The first of each name counts, so that built-in
+-- ones count before any in a file.
 use Rattle.std.specs.Prelude.{ℕ, List, [], ◌∷◌, ◌++◌, Bool, not, map, flat_map, Option, Some, codes, bytes_eq, if◌then◌else◌}
 use Rattle.gql_ast.specs.declared.definition.Definition.{Definition}
 use Rattle.gql_ast.specs.declared.definition.Document.{Document}
@@ -14,10 +15,11 @@ use Rattle.gql_ast.specs.declared.type_system.SchemaExtension.{SchemaExtension}
 use Rattle.gql_built_in.specs.BuiltIn.{built_in}
 use Rattle.gql_built_in.specs.declared.sited.Sited.{Sited}
 
--- a definition of a file
+-- a definition with its file
 abbrev pub of_file : Definition → Sited Tree
 of_file d = record { file = Some d.file; node = d.tree }
 
+-- these definitions, each with its file
 abbrev pub in_order_of : List Definition → List (Sited Tree)
 in_order_of = map of_file
 
@@ -33,7 +35,7 @@ definitions files = built_in ++ of_files files.schema
 abbrev pub names_a_type : List ℕ → Bool
 names_a_type name = not (bytes_eq name (codes "Float"))
 
--- a definition as that of a type, if it is one and not of Float
+-- the definition, if it is that of a type other than Float
 abbrev pub type_in : Option (List ℕ) → Tree → List (Sited TypeDefinition)
 type_in file (tree.Type definition) =
     if names_a_type definition.name.text then record { file = file; node = definition } ∷ [] else []
@@ -44,7 +46,7 @@ type_in file (tree.Directive definition) = []
 type_in file (tree.SchemaExtension extension) = []
 type_in file (tree.TypeExtension extension) = []
 
--- as an extension of a type
+-- the definition, if it is an extension of a type
 abbrev pub extension_in : Option (List ℕ) → Tree → List (Sited TypeExtension)
 extension_in file (tree.TypeExtension extension) = record { file = file; node = extension } ∷ []
 extension_in file (tree.Operation operation) = []
@@ -54,7 +56,7 @@ extension_in file (tree.Type definition) = []
 extension_in file (tree.Directive definition) = []
 extension_in file (tree.SchemaExtension extension) = []
 
--- as the definition of a directive
+-- the definition, if it is that of a directive
 abbrev pub directive_in : Option (List ℕ) → Tree → List (Sited DirectiveDefinition)
 directive_in file (tree.Directive definition) = record { file = file; node = definition } ∷ []
 directive_in file (tree.Operation operation) = []
@@ -64,7 +66,7 @@ directive_in file (tree.Type definition) = []
 directive_in file (tree.SchemaExtension extension) = []
 directive_in file (tree.TypeExtension extension) = []
 
--- as the definition of the schema
+-- the definition, if it is that of the schema
 abbrev pub schema_in : Option (List ℕ) → Tree → List (Sited SchemaDefinition)
 schema_in file (tree.Schema definition) = record { file = file; node = definition } ∷ []
 schema_in file (tree.Operation operation) = []
@@ -74,7 +76,7 @@ schema_in file (tree.Directive definition) = []
 schema_in file (tree.SchemaExtension extension) = []
 schema_in file (tree.TypeExtension extension) = []
 
--- as an extension of the schema
+-- the definition, if it is an extension of the schema
 abbrev pub schema_extension_in : Option (List ℕ) → Tree → List (Sited SchemaExtension)
 schema_extension_in file (tree.SchemaExtension extension) =
     record { file = file; node = extension } ∷ []
@@ -85,18 +87,22 @@ schema_extension_in file (tree.Type definition) = []
 schema_extension_in file (tree.Directive definition) = []
 schema_extension_in file (tree.TypeExtension extension) = []
 
--- the definitions of types, but of Float
+-- the definitions of types other than Float
 abbrev pub type_definitions : List (Sited Tree) → List (Sited TypeDefinition)
 type_definitions ds = flat_map (λ (d : Sited Tree). type_in d.file d.node) ds
 
+-- the extensions of types
 abbrev pub type_extensions : List (Sited Tree) → List (Sited TypeExtension)
 type_extensions ds = flat_map (λ (d : Sited Tree). extension_in d.file d.node) ds
 
+-- the definitions of directives
 abbrev pub directive_definitions : List (Sited Tree) → List (Sited DirectiveDefinition)
 directive_definitions ds = flat_map (λ (d : Sited Tree). directive_in d.file d.node) ds
 
+-- the definitions of the schema
 abbrev pub schema_definitions : List (Sited Tree) → List (Sited SchemaDefinition)
 schema_definitions ds = flat_map (λ (d : Sited Tree). schema_in d.file d.node) ds
 
+-- the extensions of the schema
 abbrev pub schema_extensions : List (Sited Tree) → List (Sited SchemaExtension)
 schema_extensions ds = flat_map (λ (d : Sited Tree). schema_extension_in d.file d.node) ds

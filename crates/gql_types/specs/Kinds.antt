@@ -1,4 +1,4 @@
--- Kinds of types, and whether two kinds are the same.
+-- Kinds of types and of operations: comparison, and what types of a kind are for.
 use Rattle.std.specs.Prelude.{Bool, true, false}
 use denote.Enum.Bare.{sameb}
 use Rattle.gql_ast.specs.declared.executable.OperationKind.{OperationKind}
@@ -7,17 +7,17 @@ use Rattle.gql_types.specs.declared.kind.TypeKind.{TypeKind}
 use Rattle.gql_types.specs.declared.kind.TypeKind.TheVariants as kind
 use Rattle.gql_types.specs.contracts.kind.TypeKind as of_type
 
--- of types
+-- whether two kinds of types are the same
 unfoldable pub same_kind : TypeKind → TypeKind → Bool
 same_kind = sameb of_type.the_type
 
--- of operations
+-- whether two kinds of operations are the same
 unfoldable pub same_operation : OperationKind → OperationKind → Bool
 same_operation = sameb operation.the_type
 
 -- ---- what types of a kind are for (GraphQL 3.4.2, 3.4)
 
--- arguments, input fields and variables have input types
+-- whether a kind is one of input types, which arguments, input fields and variables have
 abbrev pub is_input : TypeKind → Bool
 is_input kind.Scalar = true
 is_input kind.Enum = true
@@ -26,7 +26,7 @@ is_input kind.Object = false
 is_input kind.Interface = false
 is_input kind.Union = false
 
--- fields have output types
+-- whether a kind is one of output types, which fields have
 abbrev pub is_output : TypeKind → Bool
 is_output kind.Scalar = true
 is_output kind.Object = true
@@ -35,7 +35,7 @@ is_output kind.Union = true
 is_output kind.Enum = true
 is_output kind.InputObject = false
 
--- a selection set selects from a composite type
+-- whether a kind is composite: a selection set selects from such a type
 abbrev pub is_composite : TypeKind → Bool
 is_composite kind.Object = true
 is_composite kind.Interface = true
@@ -44,7 +44,7 @@ is_composite kind.Scalar = false
 is_composite kind.Enum = false
 is_composite kind.InputObject = false
 
--- nothing is selected from a leaf
+-- whether a kind is a leaf: nothing is selected from such a type
 abbrev pub is_leaf : TypeKind → Bool
 is_leaf kind.Scalar = true
 is_leaf kind.Enum = true

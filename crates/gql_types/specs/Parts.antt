@@ -1,4 +1,4 @@
--- What the definition of a type, or an extension, holds (GraphQL specification, 3.4).
+-- The parts of the definition of a type or of an extension (GraphQL specification, 3.4).
 use Rattle.std.specs.Prelude.{ℕ, List, [], map, flat_map, Option}
 use Rattle.gql_ast.specs.declared.text.Name.{Name}
 use Rattle.gql_ast.specs.declared.type_system.TypeParts.{TypeParts}
@@ -64,10 +64,10 @@ input_fields_of (parts.Interface interfaces fields) = []
 input_fields_of (parts.Union members) = []
 input_fields_of (parts.Enum values) = []
 
--- nodes of one file
+-- these nodes, each with this file
 abbrev pub sited : {A : Type 0} → Option (List ℕ) → List A → List (Sited A)
 sited file nodes = map (λ n. record { file = file; node = n }) nodes
 
--- what all of these hold, in their order
+-- the nodes of one form in all of these parts, in their order
 abbrev pub in_all : {A : Type 0} → (TypeParts → List A) → List (Sited TypeParts) → List (Sited A)
 in_all held ps = flat_map (λ (p : Sited TypeParts). sited p.file (held p.node)) ps

@@ -10,27 +10,27 @@ use Rattle.gql_types.specs.declared.roots.Root.{Root}
 use Rattle.gql_types.specs.declared.schema_type.SchemaType.{SchemaType}
 use Rattle.gql_built_in.specs.declared.sited.Sited.{Sited}
 
--- the entries of a definition or an extension of the schema
+-- the root operation types that a definition or an extension of the schema lists
 abbrev pub entries : Option (List ℕ) → List RootOperation → List Root
 entries file roots = map (λ (r : RootOperation). record { kind = r.kind; entry = Some r.place; name = record { file = file; node = r.name } }) roots
 
--- a type of this name is the root operation type of this kind, without an entry
+-- the root operation type of this kind, without an entry, if a type has this name
 abbrev pub implied : List SchemaType → OperationKind → List ℕ → List Root
 implied types kind text = option_map_or (λ (t : SchemaType). record { kind = kind; entry = None; name = record { file = t.definition.file; node = t.definition.node.name } } ∷ [])
     (find (λ (t : SchemaType). bytes_eq text t.definition.node.name.text) types) []
 
--- where no definition of the schema stands, the types of these names
+-- the root operation types of a schema without a definition: the types of these names
 abbrev pub all_implied : List SchemaType → List Root
 all_implied types = implied types Query (codes "Query")
     ++ (implied types Mutation (codes "Mutation")
     ++ implied types Subscription (codes "Subscription"))
 
--- the entries of the first definition of the schema, or else the implied ones
+-- those that the first definition of the schema lists; without a definition, the implied ones
 abbrev pub defined : List SchemaType → List (Sited SchemaDefinition) → List Root
 defined types [] = all_implied types
 defined types (s ∷ ss) = entries s.file s.node.roots
 
--- these, then the entries of the extensions of the schema (3.3.2)
+-- the root operation types: those, and then the ones that extensions of the schema list (3.3.2)
 abbrev pub roots_of : List SchemaType → List (Sited SchemaDefinition) → List (Sited SchemaExtension)
     → List Root
 roots_of types definitions extensions = defined types definitions

@@ -1,4 +1,4 @@
--- A schema as one, and what it says of a name (GraphQL specification, 3.3 and 3.4).
+-- The schema of all schema files, and its look-ups by name (GraphQL specification, 3.3 and 3.4).
 use Rattle.std.specs.Prelude.{ℕ, List, Option, Some, None, option_map, option_and_then, find, bytes_eq}
 use Rattle.gql_ast.specs.declared.definition.Tree.{Tree}
 use Rattle.gql_ast.specs.declared.files.Files.{Files}
@@ -20,11 +20,11 @@ use Rattle.gql_types.specs.declared.schema.Schema.{Schema}
 use Rattle.gql_types.specs.declared.schema_type.SchemaType.{SchemaType}
 use Rattle.gql_built_in.specs.declared.sited.Sited.{Sited}
 
--- the types that these definitions make
+-- the types of these definitions
 abbrev pub types_in : List (Sited Tree) → List SchemaType
 types_in ds = types_of (type_definitions ds) (type_extensions ds)
 
--- the root operation types that they name
+-- the root operation types of these definitions
 abbrev pub roots_in : List (Sited Tree) → List SchemaType → List Root
 roots_in ds types = roots_of types (schema_definitions ds) (schema_extensions ds)
 
@@ -45,23 +45,23 @@ schema_of files = schema_in (definitions files)
 abbrev pub type_named : Schema → List ℕ → Option SchemaType
 type_named s name = find (λ (t : SchemaType). bytes_eq name t.definition.node.name.text) s.types
 
--- its kind
+-- the kind of the type of this name
 abbrev pub kind_named : Schema → List ℕ → Option TypeKind
 kind_named s name = option_map (λ (t : SchemaType). t.kind) (type_named s name)
 
--- the first field of this name that an object or an interface has
+-- the first field of this name of an object or an interface
 abbrev pub field_named : Schema → List ℕ → List ℕ → Option (Sited FieldDefinition)
 field_named s of_type name = option_and_then
     (λ (t : SchemaType).
     find (λ (f : Sited FieldDefinition). bytes_eq name f.node.name.text) t.fields)
     (type_named s of_type)
 
--- the possible types of a composite type
+-- the possible types of the composite type of this name
 abbrev pub possible_named : Schema → List ℕ → Option (List (List ℕ))
 possible_named s name = option_map (λ (p : PossibleTypes). p.types)
     (find (λ (p : PossibleTypes). bytes_eq name p.of_type) s.possible)
 
--- the fields of an input object
+-- the fields of a type, if it is an input object
 abbrev pub inputs_by : TypeKind → SchemaType → Option (List (Sited InputValueDefinition))
 inputs_by kind.InputObject t = Some t.input_fields
 inputs_by kind.Scalar t = None
@@ -70,10 +70,11 @@ inputs_by kind.Interface t = None
 inputs_by kind.Union t = None
 inputs_by kind.Enum t = None
 
+-- the fields of the input object of this name
 abbrev pub input_named : Schema → List ℕ → Option (List (Sited InputValueDefinition))
 input_named s name = option_and_then (λ (t : SchemaType). inputs_by t.kind t) (type_named s name)
 
--- the values of an enum
+-- the values of a type, if it is an enum
 abbrev pub values_by : TypeKind → SchemaType → Option (List (Sited EnumValueDefinition))
 values_by kind.Enum t = Some t.values
 values_by kind.Scalar t = None
@@ -82,6 +83,7 @@ values_by kind.Interface t = None
 values_by kind.Union t = None
 values_by kind.InputObject t = None
 
+-- the values of the enum of this name
 abbrev pub enum_named : Schema → List ℕ → Option (List (Sited EnumValueDefinition))
 enum_named s name = option_and_then (λ (t : SchemaType). values_by t.kind t) (type_named s name)
 

@@ -1,4 +1,5 @@
--- The types of a schema, each as one: its first definition and the extensions of its kind (GraphQL specification, 3.4).
+-- The types of a schema, each with its first definition and all extensions of its kind (GraphQL
+-- specification, 3.4).
 use Rattle.std.specs.Prelude.{List, [], ◌∷◌, ◌&&◌, Bool, not, map, filter, bytes_eq}
 use Rattle.gql_ast.specs.declared.type_system.TypeParts.{TypeParts}
 use Rattle.gql_ast.specs.declared.type_system.TypeDefinition.{TypeDefinition}
@@ -15,11 +16,12 @@ first_definitions (d ∷ ds) = d
     ∷ filter (λ (e : Sited TypeDefinition). not (bytes_eq d.node.name.text e.node.name.text))
     (first_definitions ds)
 
--- an extension of the same name and kind (3.4.3)
+-- whether an extension has the name and kind of a definition (3.4.3)
 abbrev pub extends : Sited TypeDefinition → Sited TypeExtension → Bool
 extends d e = bytes_eq d.node.name.text e.node.name.text
     && same_kind (kind_of d.node.parts) (kind_of e.node.parts)
 
+-- the extensions of a definition, among these
 abbrev pub extensions_of : List (Sited TypeExtension) → Sited TypeDefinition
     → List (Sited TypeExtension)
 extensions_of extensions d = filter (extends d) extensions
@@ -29,7 +31,7 @@ abbrev pub parts_in : Sited TypeDefinition → List (Sited TypeExtension) → Li
 parts_in d extensions = record { file = d.file; node = d.node.parts }
     ∷ map (λ (e : Sited TypeExtension). record { file = e.file; node = e.node.parts }) extensions
 
--- a type as one, of its first definition and these extensions
+-- the type of its first definition and these extensions
 abbrev pub assembled : Sited TypeDefinition → List (Sited TypeExtension) → SchemaType
 assembled d extensions = record {
   definition = d;

@@ -8,20 +8,23 @@ use Rattle.gql_ast.specs.declared.type_ref.TypeRef.TheOpen.{TypeRef-F}
 use Rattle.gql_ast.specs.declared.type_ref.TypeRef.TheFolds.{fold-roll-TypeRef}
 use Rattle.gql_ast.specs.declared.type_ref.TypeRef.TheVariants as t
 
+-- a type: a name, a list of items, or a Non-Null type
 pub data Written : Type 0 where
   named : List ℕ → Written
   listed : Written → Written
   required : Written → Written
 
+-- a type reference without its places, from the type within it
 abbrev pub written_at : TypeRef-F Written → Written
 written_at (TypeRef-F.Named n) = named n.text
 written_at (TypeRef-F.List place item) = listed item
 written_at (TypeRef-F.NonNull item) = required item
 
+-- a type reference without its places
 unfoldable pub written : TypeRef → Written
 written = fold-TypeRef Written written_at
 
--- its equations
+-- the equations of `written`
 pub written_named : (n : Name) → written (t.Named n) ≡ named n.text
 unfolding written
 written_named n =

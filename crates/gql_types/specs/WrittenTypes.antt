@@ -1,5 +1,4 @@
--- Types as they are written, as the steps from the outside in and a name (GraphQL specification,
--- 2.11).
+-- Types as a list of wrappers, from the outside in, and a name (GraphQL specification, 2.11).
 use Rattle.std.specs.Prelude.{◌≡◌, ℕ, List, [], ◌∷◌, ◌++◌, refl}
 use Rattle.std.proofs.Common.{ap}
 use Rattle.gql_text.specs.declared.place.Place.{Place}
@@ -11,37 +10,37 @@ use Rattle.gql_types.specs.declared.written_type.Wrapper.{Wrapper}
 use Rattle.gql_types.specs.declared.written_type.Wrapper.TheVariants as wrapper
 use Rattle.gql_types.specs.declared.written_type.WrittenType.{WrittenType}
 
--- these steps, and then those of the type
+-- these wrappers, and then those of the type
 abbrev pub wrapped : List Wrapper → Written → WrittenType
 wrapped ws (named n) = record { wrappers = ws; name = n }
 wrapped ws (listed w) = wrapped (ws ++ wrapper.List ∷ []) w
 wrapped ws (required w) = wrapped (ws ++ wrapper.NonNull ∷ []) w
 
--- the steps and the name of a type
+-- the wrappers and the name of a type
 abbrev pub type_of : Written → WrittenType
 type_of w = wrapped [] w
 
--- the name that a type ends in
+-- the name within a type
 abbrev pub named_type : Written → List ℕ
 named_type w = (type_of w).name
 
--- a type with these steps around it, from the outside in
+-- a type within these wrappers, from the outside in
 abbrev pub typed : List Wrapper → Written → Written
 typed [] w = w
 typed (wrapper.List ∷ ws) w = listed (typed ws w)
 typed (wrapper.NonNull ∷ ws) w = required (typed ws w)
 
--- the type that steps and a name are of
+-- the type of wrappers and a name
 abbrev pub typed_of : WrittenType → Written
 typed_of t = typed t.wrappers (named t.name)
 
--- `[Int!]` ends in the first name of this example
+-- `[N!]` has the wrappers List and NonNull, and the name N
 example : (n : List ℕ)
     → type_of (listed (required (named n)))
     ≡ record { wrappers = wrapper.List ∷ wrapper.NonNull ∷ []; name = n }
 example n = refl
 
--- and its steps and its name are of that type alone
+-- these wrappers and this name make `[N!]`
 example_back : (n : List ℕ)
     → typed_of (record { wrappers = wrapper.List ∷ wrapper.NonNull ∷ []; name = n })
     ≡ listed (required (named n))

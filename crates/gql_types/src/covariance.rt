@@ -1,4 +1,5 @@
-//! Whether the type of a field may stand where another is expected (GraphQL specification, 3.6).
+//! Covariance: whether a field of one type may implement a field of another (GraphQL specification,
+//! 3.6).
 ghost use Rattle.std.specs.Prelude.{◌≡◌};
 ghost use Rattle.gql_types.specs.Covariance as spec;
 ghost use Rattle.gql_types.specs.Written.{written};
@@ -84,9 +85,10 @@ fn covariant(of_type: &TypeRef, base: &TypeRef, schema: &Schema) -> Option<bool>
 }
 
 impl Schema {
-    /// Whether a field of that type may stand where an interface has a field of the type `base`: the same type; an
-    /// object for a union of which it is a member; an object or an interface for an interface that it declares; lists
-    /// by their items; and Non-Null types for others. None where the answer rests on a name that is not known.
+    /// Whether a field of that type may implement a field of the type `base`: the same type; an
+    /// object that is a member of the union `base`; an object or an interface that declares the
+    /// interface `base`; lists by their items; and Non-Null types for nullable ones. `Some(false)`:
+    /// it may not. `None`: it depends on a name that no type has.
     pub fn is_covariant(&self, of_type: &TypeRef, base: &TypeRef) -> Option<bool>
         ensures { result ≡ spec.covariant self.now (written of_type.now) (written base.now) }
     {

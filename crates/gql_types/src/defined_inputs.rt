@@ -1,5 +1,5 @@
 //! Arguments and input fields as they are defined (GraphQL specification, 3.6.1 and 3.10): in their
-//! order, by their names, and those that have to be given.
+//! order, by their names, and the required ones.
 ghost use Rattle.std.specs.Prelude.{◌≡◌, ◌<◌, Bool, List, Some, IfOk, map, filter, find, length, bytes_eq, slice_get};
 ghost use Rattle.std.specs.Option.{option_copied};
 
@@ -11,13 +11,13 @@ use std::marker::Model;
 pub trait DefinedInput: HasName {
     ghost is_required: { Self → Bool };
 
-    /// Whether it has to be given: it is Non-Null and has no default value.
+    /// Whether it is required: it is Non-Null and has no default value.
     fn is_required(&self) -> bool
         ensures { result ≡ is_required self.now };
 }
 
-/// Arguments or input fields in their order, with look-up of the first of a name, and those that are
-/// required. Contracts see the list of all.
+/// Arguments or input fields in their order, with a look-up of the first of a name, and of the
+/// required ones. Contracts see the list of all.
 #[derive(Drop)]
 pub struct DefinedInputs<T: DefinedInput> {
     all: Named<T>,
@@ -38,7 +38,7 @@ impl<T: DefinedInput> Model for DefinedInputs<T> {
         ≡ map Some (filter T.is_required n.all) };
 }
 
-/// Where the inputs that are required are, in their order.
+/// The indices of the required inputs, in their order.
 fn required_places<T: DefinedInput>(alloc: Global, inputs: &[T]) -> Result<Vec<usize>, AllocError>
     ensures { IfOk result (λ places. map (λ i. slice_get inputs.now i) places.items
         ≡ map Some (filter T.is_required inputs.now)) }
@@ -85,7 +85,7 @@ impl<T: DefinedInput> DefinedInputs<T> {
         self.required.len()
     }
 
-    /// The one at an index of those that are required, in their order.
+    /// The required one at an index, in their order.
     pub fn required_at(&self, index: usize) -> &T
         requires { index < length (filter T.is_required self.now) }
         ensures { slice_get (filter T.is_required self.now) index ≡ Some result.now }

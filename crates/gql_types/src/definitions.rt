@@ -9,7 +9,7 @@ use gql_ast::{
 use gql_built_in::{Sited, built_in_definitions};
 use std::alloc::{AllocError, Global};
 
-/// A copy of the name of a file, where there is one.
+/// A copy of the name of a file, if there is one.
 pub fn copied(file: &Option<FileName>) -> Option<FileName>
     ensures { result ≡ file.now }
 {
@@ -37,7 +37,7 @@ fn add_file(definitions: &[Definition], found: &mut Items<Sited<Tree>>) -> Resul
     Ok(())
 }
 
-/// What is built in, then the definitions of the schema files.
+/// The built-in definitions, then those of the schema files.
 pub fn definitions(alloc: Global, files: &Files) -> Result<Items<Sited<Tree>>, AllocError>
     ensures { IfOk result (λ ds. ds ≡ spec.definitions files.now) }
 {
@@ -75,7 +75,7 @@ fn add_type(
     }
 }
 
-/// The definitions of types, but of Float.
+/// The definitions of types other than Float.
 pub fn type_definitions(
     alloc: Global,
     definitions: &[Sited<Tree>],

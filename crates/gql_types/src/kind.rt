@@ -10,17 +10,17 @@ use gql_ast::{OperationKind, TypeParts};
 /// The kinds of types (GraphQL specification, 3.4).
 #[derive(Clone, Copy, Debug, PartialEq, Eq)]
 pub enum TypeKind {
-    /// (3.5)
+    /// A scalar (3.5).
     Scalar,
-    /// (3.6)
+    /// An object (3.6).
     Object,
-    /// (3.7)
+    /// An interface (3.7).
     Interface,
-    /// (3.8)
+    /// A union (3.8).
     Union,
-    /// (3.9)
+    /// An enum (3.9).
     Enum,
-    /// (3.10)
+    /// An input object (3.10).
     InputObject,
 }
 

@@ -1,4 +1,4 @@
-//! The schema as one: the definitions of all schema files put together, with what every schema has built in.
+//! All schema files and the built-in definitions as one schema, with look-ups by name.
 #![tactic(auto)]
 
 mod by_name;

@@ -27,7 +27,8 @@ impl HasName for Text {
     }
 }
 
-/// Things in their order, with look-up of the first of a name. Contracts see the list of the things.
+/// Things in their order, with a look-up of the first of a name. Contracts see the list of the
+/// things.
 #[derive(Drop)]
 pub struct Named<T: HasName> {
     things: Vec<T>,
@@ -51,7 +52,7 @@ impl<T: HasName> Model for Named<T> {
         ≡ find (λ x. bytes_eq q (T.name x)) n.things.items };
 }
 
-/// Where the first of each name stands.
+/// The index of the first of each name.
 fn first_places<T: HasName>(
     alloc: Global,
     things: &[T],

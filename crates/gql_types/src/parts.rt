@@ -1,4 +1,4 @@
-//! What the definition of a type and its extensions hold (GraphQL specification, 3.4).
+//! The parts of the definition of a type and of its extensions (GraphQL specification, 3.4).
 ghost use Rattle.std.specs.Prelude.{◌≡◌, ◌++◌, ◌∷◌, [], ℕ, List, IfOk, OnOk, map, unwrap_or};
 ghost use Rattle.std.specs.Option.{option_copied};
 ghost use Rattle.gql_ast.specs.declared.type_system.TypeParts.{TypeParts as TheParts};
@@ -14,7 +14,7 @@ use gql_ast::{
 use gql_built_in::Sited;
 use std::alloc::{AllocError, Global};
 
-/// The parts of a definition or an extension, where they stand.
+/// The parts of a definition or an extension, with their file.
 #[derive(Clone, Copy)]
 pub struct Part<'s> {
     pub file: &'s Option<FileName>,
@@ -43,11 +43,11 @@ pub fn parts_in<'s>(
     Ok(parts)
 }
 
-/// A node that types hold.
+/// A kind of node that types have.
 pub trait Held {
     ghost held: { TheParts → List Self };
 
-    /// The nodes of this form, where the kind of type holds such.
+    /// The nodes of this form; none if types of this kind have no such nodes.
     fn held(parts: &TypeParts) -> Option<&Items<Shared<Self>>>
         ensures { unwrap_or (option_copied result) [] ≡ held parts.now };
 }

@@ -1,4 +1,5 @@
-//! Which objects a type may stand for (GraphQL specification, 3.7 and 3.8).
+//! Possible types: which objects a value of a composite type may be (GraphQL specification, 3.7 and
+//! 3.8).
 ghost use Rattle.std.specs.Prelude.{◌≡◌, ◌++◌, ◌∷◌, [], IfOk, OnOk, map, flat_map};
 ghost use Rattle.std.specs.Option.{option_map_or};
 ghost use Rattle.std.specs.HashMap as hash;
@@ -14,7 +15,8 @@ use gql_built_in::Sited;
 use std::alloc::{AllocError, Global};
 use std::collections::BTreeMap;
 
-/// A composite type and the objects that it may stand for, each once, in the order of their names' bytes.
+/// A composite type and the objects that its values may be, each once, in the order of the bytes of
+/// their names.
 #[derive(Drop)]
 pub struct PossibleTypes {
     pub of_type: Text,

@@ -12,9 +12,9 @@ use gql_built_in::Sited;
 use gql_text::Place;
 use std::alloc::{AllocError, Global};
 
-/// A root operation type: the kind of its operations, where its entry begins, and its name in the entry. Where no
-/// definition of the schema stands, a type named Query, Mutation or Subscription is one without an entry, and the
-/// name is that of the type's definition.
+/// A root operation type: the kind of its operations, where its entry begins, and its name in the
+/// entry. If the schema has no definition, a type named Query, Mutation or Subscription is one
+/// without an entry, and the name is that of the type's definition.
 #[derive(Drop)]
 pub struct Root {
     pub kind: OperationKind,
@@ -106,8 +106,8 @@ fn add_defined(
     }
 }
 
-/// The root operation types: those of the first definition of the schema, or else those that are implied, then those
-/// of the extensions.
+/// The root operation types: those of the first definition of the schema, or else those that are
+/// implied, then those of the extensions.
 pub fn roots_of(
     alloc: Global,
     types: &Named<SchemaType>,

@@ -1,4 +1,4 @@
-//! The schema as one (GraphQL specification, 3.3).
+//! The schema of all schema files (GraphQL specification, 3.3).
 ghost use Rattle.std.specs.Prelude.{◌≡◌, IfOk};
 ghost use Rattle.std.specs.Option.{option_copied};
 ghost use Rattle.gql_types.specs.Schemas as spec;
@@ -20,7 +20,7 @@ use gql_ast::{
 use gql_built_in::Sited;
 use std::alloc::{AllocError, Global};
 
-/// All schema files as one schema. Look-ups lend what `assemble` made, and take no memory.
+/// All schema files as one schema. Look-ups borrow what `assemble` made, and allocate nothing.
 #[derive(Drop)]
 pub struct Schema {
     types: Named<SchemaType>,
@@ -60,9 +60,9 @@ fn roots(
     roots_of(alloc, types, schemas.as_slice(), extensions.as_slice())
 }
 
-/// The schema of all schema files, with what every schema has built in. The first definition of a name counts, with the
-/// extensions of its kind in their order; what is built in comes before the files, and these come in the order of
-/// their names.
+/// The schema of all schema files, with the built-in definitions. The first definition of a name
+/// counts, with the extensions of its kind in their order. Built-in definitions come before the
+/// files, and these come in the order of their names.
 pub fn assemble(alloc: Global, files: &Files) -> Result<Schema, AllocError>
     ensures { IfOk result (λ schema. schema ≡ spec.schema_of files.now) }
 {
@@ -87,14 +87,14 @@ impl Schema {
         self.types.as_slice()
     }
 
-    /// The directives, in their order; of those of one name the first counts.
+    /// The directives, in their order. The first of each name counts.
     pub fn directives(&self) -> &[Sited<Shared<DirectiveDefinition>>]
         ensures { result.now ≡ self.now.directives }
     {
         self.directives.as_slice()
     }
 
-    /// The root operation types, in their order; of those of one kind the first counts.
+    /// The root operation types, in their order. The first of each kind counts.
     pub fn roots(&self) -> &[Root]
         ensures { result.now ≡ self.now.roots }
     {
@@ -128,7 +128,8 @@ impl Schema {
         }
     }
 
-    /// The names of the objects that a composite type may stand for, each once, in the order of their bytes (3.7, 3.8).
+    /// The names of the objects that a value of a composite type may be, each once, in the order of
+    /// their bytes (3.7, 3.8).
     pub fn possible(&self, name: &str) -> Option<&Items<Text>>
         ensures { option_copied result ≡ spec.possible_named self.now name.now }
     {

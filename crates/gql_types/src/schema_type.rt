@@ -1,4 +1,4 @@
-//! The types of a schema, each as one (GraphQL specification, 3.4).
+//! The types of a schema, each with all its extensions (GraphQL specification, 3.4).
 ghost use Rattle.std.specs.Prelude.{◌≡◌, ◌++◌, ◌∷◌, [], ℕ, List, IfOk, OnOk, map, filter, bytes_eq};
 ghost use Rattle.std.specs.Option.{option_map_or};
 ghost use Rattle.std.specs.HashMap as hash;
@@ -22,8 +22,8 @@ use gql_ast::{
 use gql_built_in::Sited;
 use std::alloc::{AllocError, Global};
 
-/// A type as one: its first definition, the extensions of its kind in their order, and what these hold together, the
-/// definition's first (GraphQL specification, 3.4).
+/// A type: its first definition, the extensions of its kind in their order, and the parts of all of
+/// these, those of the definition first (GraphQL specification, 3.4).
 #[derive(Drop)]
 pub struct SchemaType {
     pub definition: Sited<Shared<TypeDefinition>>,

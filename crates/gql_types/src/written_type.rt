@@ -7,17 +7,17 @@ ghost use Rattle.gql_types.specs.WrittenTypes.{type_of, typed_of, wrapped};
 use gql_ast::{Items, Same, Text, TypeRef, same_items};
 use std::alloc::{AllocError, Global};
 
-/// A step from a type to the type within it.
+/// A wrapper of a type.
 #[derive(Clone, Copy, Debug, PartialEq, Eq)]
 pub enum Wrapper {
-    /// From a list to its items.
+    /// A list of the type.
     List,
-    /// From a Non-Null type to the type without its `!`.
+    /// The type with `!` after it.
     NonNull,
 }
 
-/// A type as it is written: the steps from the outside in, and the name that they end in. `[Int!]`
-/// has the steps List and NonNull.
+/// A type as it is written: its wrappers from the outside in, and the name within them. `[Int!]`
+/// has the wrappers List and NonNull.
 #[derive(Drop)]
 pub struct WrittenType {
     pub wrappers: Items<Wrapper>,
