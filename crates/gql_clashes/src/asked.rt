@@ -1,4 +1,4 @@
-//! The items for which two classes ask, and two lists of classes, and an item.
+//! The items that two classes, two lists of classes, or an item ask for.
 ghost use Rattle.std.specs.Prelude.{◌≡◌, ◌<◌, ◌++◌, ℕ, map, flat_map, length, IfOk, OnOk, Contains};
 ghost use Rattle.gql_clashes.specs.Compared.{IsTable, asked_at, between, fields_in, item_of, items_among, items_below, items_of, lefts_of, other_in, plan_of, rights_of, selves, two_in};
 ghost use Rattle.gql_clashes.specs.Numbered.{IsWhole};
@@ -10,7 +10,7 @@ use crate::search::Item;
 use crate::sets::{Mode, Sets};
 use std::alloc::{AllocError, Global};
 
-// Two groups in their order.
+// The item of two groups, the lesser number first.
 fn in_order(left: usize, right: usize, mode: Mode) -> Item
     ensures { result ≡ item_of left right mode }
 {
@@ -25,7 +25,7 @@ fn in_order(left: usize, right: usize, mode: Mode) -> Item
     }
 }
 
-// Adds the item of two groups, if there are two.
+// Adds the item of two groups, if both are there.
 fn add_between(
     left: Option<usize>,
     right: Option<usize>,
@@ -80,7 +80,7 @@ fn add_below(
     Ok(())
 }
 
-// Whether one of some fields is another than this one.
+// Whether one of these fields is other than this one.
 fn has_other(sets: &Sets, left: usize, rights: &[usize]) -> bool
     requires left { left < length sets.now.fields.items }
     requires rights { (g : ℕ) → Contains rights.now g → g < length sets.now.fields.items }
@@ -94,7 +94,7 @@ fn has_other(sets: &Sets, left: usize, rights: &[usize]) -> bool
     false
 }
 
-// Whether two classes have two different fields.
+// Whether a field of one class differs from one of the other.
 fn have_two(sets: &Sets, lefts: &[usize], rights: &[usize]) -> bool
     requires lefts { (f : ℕ) → Contains lefts.now f → f < length sets.now.fields.items }
     requires rights { (g : ℕ) → Contains rights.now g → g < length sets.now.fields.items }

@@ -8,7 +8,7 @@ use crate::groups::Class;
 use crate::sets::{Mode, Pair, Sets};
 use std::alloc::AllocError;
 
-// Two fields in their order.
+// The pair of two fields, the lesser number first.
 fn in_order(left: usize, right: usize, mode: Mode) -> Pair
     ensures { result ≡ pair_of left right mode }
 {

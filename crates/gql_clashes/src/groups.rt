@@ -130,8 +130,8 @@ fn fields_over(alloc: Global, sets: &Sets, bodies: &[usize]) -> Result<Vec<usize
     Ok(fields)
 }
 
-/// The groups of all bodies. Fields with selections are joined where each field has one number, and
-/// up to so many groups.
+/// The groups of all bodies. Fields with selections are joined if each field has only one number,
+/// and up to so many groups.
 pub fn table_of(alloc: Global, sets: &Sets) -> Result<Table, AllocError>
     requires { IsWhole sets.now }
     ensures { IfOk result (IsTable sets.now) }

@@ -90,7 +90,7 @@ fn starts_of(alloc: Global, bodies: &[usize]) -> Result<Vec<Item>, AllocError>
     Ok(items)
 }
 
-/// The pairs of fields that clash where the selections of each of these bodies are merged.
+/// The pairs of fields that clash if the selections of each of these bodies are merged.
 pub fn clashes(alloc: Global, sets: &Sets, bodies: &[usize]) -> Result<Vec<Pair>, AllocError>
     requires whole { IsWhole sets.now }
     requires bodies { (s : ℕ) → Contains bodies.now s → s < length sets.now.bodies.items }
@@ -104,7 +104,7 @@ pub fn clashes(alloc: Global, sets: &Sets, bodies: &[usize]) -> Result<Vec<Pair>
     Ok(bad)
 }
 
-/// The pairs of fields that clash where the direct fields of one body are merged with those of
+/// The pairs of fields that clash if the direct fields of one body are merged with those of
 /// another. The order of the two bodies makes no difference.
 pub fn clashes_between(
     alloc: Global,

@@ -8,13 +8,13 @@ use crate::sets::Mode;
 use std::alloc::{AllocError, Global};
 use std::collections::HashMap;
 
-/// For each left group the places that were seen, of two for each right group.
+/// For each left group the columns that were seen, of two for each right group.
 #[derive(Drop)]
 pub struct Seen {
     pub rows: Vec<HashMap<usize, ()>>,
 }
 
-// The place of a mode.
+// The column of a mode, of the two for a right group.
 fn mode_place(mode: Mode) -> usize
     ensures value { result ≡ place_of mode }
     ensures bound { result ≤ 1 }
@@ -25,7 +25,7 @@ fn mode_place(mode: Mode) -> usize
     }
 }
 
-// The place of an item in its row.
+// The column of an item in the row of its left group.
 fn column_of(item: Item) -> usize
     requires { 2 * item.right + 1 < 2 ^ 64 }
     ensures { result ≡ column item }
@@ -33,7 +33,7 @@ fn column_of(item: Item) -> usize
     2 * item.right + mode_place(item.mode)
 }
 
-/// Nothing, for so many groups.
+/// No items, for so many groups.
 pub fn nothing_seen(alloc: Global, count: usize) -> Result<Seen, AllocError>
     requires { 2 * count < 2 ^ 64 }
     ensures { IfOk result (λ seen. rows_of seen ≡ replicate count (replicate (2 * count) false)) }
@@ -54,7 +54,7 @@ fn was_seen(seen: &Seen, item: Item) -> bool
     seen.rows[item.left].contains_key(&column_of(item))
 }
 
-// Sees an item.
+// Marks an item as seen.
 fn see_one(seen: &mut Seen, item: Item) -> Result<(), AllocError>
     requires square { IsSquare (length seen.old.rows.items) (rows_of seen.old) }
     requires inside { IsInside (length seen.old.rows.items) item }
@@ -66,7 +66,7 @@ fn see_one(seen: &mut Seen, item: Item) -> Result<(), AllocError>
     Ok(())
 }
 
-/// Sees these items; what is new goes to `todo`.
+/// Marks these items as seen. The new ones are added to `todo`.
 pub fn mark(items: &[Item], seen: &mut Seen, todo: &mut Vec<Item>) -> Result<(), AllocError>
     requires square { IsSquare (length seen.old.rows.items) (rows_of seen.old) }
     requires inside { (x : item.Item) → Contains items.now x

@@ -3,12 +3,12 @@ use Rattle.std.specs.Prelude.{ℕ, List, [], slice_index_or, Contains}
 use Rattle.gql_cycles.specs.Cover.{IsWithinAny}
 use Rattle.gql_cycles.specs.declared.cover.Range.{Range}
 
--- a node leads to another by a number that is within one of its ranges and leads there
+-- the node i leads to the node j by the number p, which is within a range of i and leads to j
 abbrev pub LeadsBy : List (List Range) → List (List ℕ) → ℕ → ℕ → ℕ → Type 0
 LeadsBy ranges ends i p j =
     IsWithinAny (slice_index_or ranges i []) p × Contains (slice_index_or ends p []) j
 
--- a node leads to another by some number
+-- the node i leads to the node j by some number
 abbrev pub IsRangeEdge : List (List Range) → List (List ℕ) → ℕ → ℕ → Type 0
 IsRangeEdge ranges ends i j = (p : ℕ) × LeadsBy ranges ends i p j
 

@@ -1,13 +1,13 @@
 //! A segment tree over numbers, and the segments that cover a range.
 //!
-//! Over `count` numbers the segment of the number n is `count + n`, and the segments 2 v and 2 v +
-//! 1 are below a segment v that is less than `count`.
+//! Over `count` numbers, the segment of the number n is `count + n`. Below a segment v that is less
+//! than `count` are the segments `2 * v` and `2 * v + 1`.
 ghost use Rattle.std.specs.Prelude.{◌≡◌, ◌<◌, ◌*◌, ◌^◌, ◌++◌, ◌↔◌, ◌⊎◌, ℕ, IfOk, OnOk, Contains};
 ghost use Rattle.gql_cycles.specs.Cover.{IsAbove, IsWithin, IsWithinAny, if_odd};
 
 use std::alloc::{AllocError, Global};
 
-/// The numbers from `start` on that are less than `end`.
+/// The numbers from `start` to before `end`.
 #[derive(Clone, Copy)]
 pub struct Range {
     pub start: usize,

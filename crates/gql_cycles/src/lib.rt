@@ -1,9 +1,10 @@
 //! Which names and which nodes of a graph lead back to themselves.
 //!
-//! Names: input objects that need themselves, directives whose definitions use them, fragments that
-//! spread themselves. Nodes: the same by number, and nodes that lead to ranges of numbers, where a
-//! segment tree over the numbers covers the ranges, so that a range costs a few edges however long
-//! it is. One walk with stacks of its own finds them, in time linear in the nodes and edges.
+//! Names are those of input objects that need themselves, of directives whose definitions use them,
+//! and of fragments that spread themselves. Nodes are numbers. They may lead to ranges of numbers:
+//! a segment tree over the numbers covers the ranges, so that a range costs a few edges however
+//! long it is. One walk with stacks of its own finds the cycles, in time linear in the nodes and
+//! edges.
 #![tactic(auto)]
 
 mod cover;

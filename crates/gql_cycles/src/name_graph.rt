@@ -10,7 +10,7 @@ use crate::names::Row;
 use std::alloc::{AllocError, Global};
 use std::collections::HashMap;
 
-/// A node for each name: that of one of its rows.
+/// The node of each name, which is the index of one of its rows.
 pub fn nodes_of<'n>(alloc: Global, rows: &[Row<'n>]) -> Result<HashMap<&'n str, usize>, AllocError>
     ensures { IfOk result
         (λ nodes. Nodes (names_of (map row_of rows.now))
@@ -23,7 +23,7 @@ pub fn nodes_of<'n>(alloc: Global, rows: &[Row<'n>]) -> Result<HashMap<&'n str, 
     Ok(nodes)
 }
 
-// As many nodes, with no edges.
+// A graph of so many nodes, without edges.
 fn no_edges(alloc: Global, count: usize) -> Result<Vec<Vec<usize>>, AllocError>
     ensures { IfOk result (λ edges. map (λ v. v.items) edges.items ≡ replicate count []) }
 {

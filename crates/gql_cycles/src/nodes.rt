@@ -1,4 +1,4 @@
-//! Nodes that lead to nodes.
+//! The nodes that lead back to themselves.
 ghost use Rattle.std.specs.Prelude.{◌≡◌, ◌++◌, ◌↔◌, ℕ, true, false, map, flat_map, IfOk, OnOk, slice_index_or, Contains};
 ghost use Rattle.gql_cycles.specs.Nodes.{MarksCycles, Trail};
 ghost use Rattle.gql_cycles.specs.Inside as spec;
@@ -45,7 +45,7 @@ fn edges_inside(
     Ok(found)
 }
 
-// The nodes that are marked, from the first to the last.
+// The marked nodes, from the first to the last.
 fn marked_nodes(alloc: Global, marks: &[bool]) -> Result<Vec<usize>, AllocError>
     ensures once { IfOk result (λ nodes. Rises nodes.items) }
     ensures marked { IfOk result
@@ -61,7 +61,7 @@ fn marked_nodes(alloc: Global, marks: &[bool]) -> Result<Vec<usize>, AllocError>
 }
 
 /// The nodes that lead back to themselves, each once, from the first to the last. `edges` has for
-/// each node those to which it leads; an edge to a number that is no node is ignored.
+/// each node those to which it leads; an edge to a number that is not a node is ignored.
 pub fn nodes_on_cycles(alloc: Global, edges: &[Vec<usize>]) -> Result<Vec<usize>, AllocError>
     ensures once { IfOk result (λ nodes. Rises nodes.items) }
     ensures sound { IfOk result

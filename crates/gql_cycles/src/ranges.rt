@@ -1,7 +1,7 @@
 //! Nodes that lead to ranges of numbers, and numbers that lead to nodes, as one graph.
 //!
-//! Over `count` numbers the segments of the tree come first, 2 * `count` of them, and then the
-//! nodes.
+//! In the graph the segments of the tree come first, twice as many as there are numbers, and then
+//! the nodes.
 ghost use Rattle.std.specs.Prelude.{◌≡◌, ◌<◌, ◌*◌, ◌+◌, ◌^◌, ◌++◌, ◌↔◌, ℕ, List, map, flat_map, length, IfOk, OnOk, Contains, slice_index_or, []};
 ghost use Rattle.gql_cycles.specs.Ranges.{RangeTrail};
 ghost use Rattle.gql_cycles.specs.SegmentTree.{IsCover, IsTree, node_row, node_rows, inner_rows, node_at};
@@ -10,7 +10,7 @@ use crate::cover::{Range, cover};
 use crate::nodes::nodes_on_cycles;
 use std::alloc::{AllocError, Global};
 
-// The two segments below each of the first segments.
+// The edges of the first segments: each leads to the two segments below it.
 fn inner_rows(alloc: Global, count: usize) -> Result<Vec<Vec<usize>>, AllocError>
     requires { 2 * count < 2 ^ 64 }
     ensures { IfOk result (λ rows. map (λ v. v.items) rows.items ≡ inner_rows count) }

@@ -6,25 +6,25 @@ ghost use Rattle.gql_cycles.specs.Path.{Ends, IsWalk, KeepsMet, KeepsUpTo, Meets
 
 use std::alloc::{AllocError, Global};
 
-/// What a walk knows of a node.
+/// What the walk knows of a node.
 #[derive(Clone, Copy)]
 pub enum State {
-    /// It was not met.
+    /// The walk has not met it.
     New,
     /// It is on the path, at that position.
     OnPath(usize),
-    /// All that it leads to is known, and whether it is on a cycle.
+    /// All edges from it were followed, and it is known whether it is on a cycle.
     Closed(bool),
 }
 
 /// A walk along the edges.
 ///
-/// The path is parted into components, whose nodes all lead to each other.
+/// The path is divided into components. The nodes of a component all lead to each other.
 #[derive(Drop)]
 pub struct Walk {
-    /// Of each node.
+    /// The state of each node.
     pub states: Vec<State>,
-    /// How many edges of each node were followed: the next one of each.
+    /// How many edges of each node were followed, which is the index of its next edge.
     pub next_edges: Vec<usize>,
     /// The nodes of the path.
     pub path: Vec<usize>,
@@ -67,7 +67,7 @@ fn is_among(nodes: &[usize], node: usize) -> bool
     nodes.iter().any(|p| *p == node)
 }
 
-// Whether a component of so many nodes is a cycle; where it is a single node, these are its edges.
+// Whether a component of so many nodes is a cycle. If it is a single node, these are its edges.
 fn is_cycle(size: usize, node: usize, ends: &[usize]) -> bool
     ensures { IsTrue result ↔ ((1 < size) ⊎ Contains ends.now node) }
 {
@@ -82,7 +82,7 @@ fn is_last(nodes: &[usize], node: usize) -> bool
     count > 0 && nodes[count - 1] == node
 }
 
-// A new node goes onto the path, as a component of its own.
+// Puts a new node onto the path, as a component of its own.
 fn enter(walk: &mut Walk, node: usize) -> Result<(), AllocError>
     requires { node < length walk.old.states.items }
     ensures states { OnOk result (walk.new.states.items
@@ -102,7 +102,7 @@ fn enter(walk: &mut Walk, node: usize) -> Result<(), AllocError>
     Ok(())
 }
 
-// Takes away the bounds above a position: the components that begin there become one with the
+// Removes the bounds above a position: the components that begin there are joined with the
 // component below.
 fn keep_up_to(bounds: &mut Vec<usize>, position: usize)
     requires { Rises bounds.old.items }
@@ -115,7 +115,7 @@ fn keep_up_to(bounds: &mut Vec<usize>, position: usize)
     bounds.truncate(keep);
 }
 
-// Goes on to the end of an edge: it is new, or leads back to the path, or is closed.
+// Goes to the end of an edge, which is new, on the path, or closed.
 fn meet(edges: &[Vec<usize>], walk: &mut Walk, at: usize, end: usize) -> Result<(), AllocError>
     requires walk { IsWalk (map (λ v. v.items) edges.now) walk.old }
     requires at { Ends walk.old.calls.items at }
@@ -172,7 +172,7 @@ fn ends_of(edges: &[Vec<usize>], node: usize) -> &[usize]
     &edges[node]
 }
 
-// Looks at the next edge of the node at the end of the path.
+// Follows the next edge of the node at the end of the path.
 fn follow_edge(edges: &[Vec<usize>], walk: &mut Walk, at: usize) -> Result<(), AllocError>
     requires graph { IsGraph (map (λ v. v.items) edges.now) }
     requires walk { IsWalk (map (λ v. v.items) edges.now) walk.old }
@@ -226,7 +226,7 @@ fn step(edges: &[Vec<usize>], walk: &mut Walk, at: usize) -> Result<(), AllocErr
     Ok(())
 }
 
-// Goes onto the path with a node that was not met.
+// Puts a node onto the path that was not met.
 fn begin(edges: &[Vec<usize>], walk: &mut Walk, root: usize) -> Result<(), AllocError>
     requires walk { IsWalk (map (λ v. v.items) edges.now) walk.old }
     requires empty { walk.old.calls.items ≡ [] }
@@ -245,7 +245,7 @@ fn begin(edges: &[Vec<usize>], walk: &mut Walk, root: usize) -> Result<(), Alloc
     }
 }
 
-// Walks to all that the node leads to.
+// Walks along all edges that can be reached from the node.
 fn walk_from(edges: &[Vec<usize>], walk: &mut Walk, root: usize) -> Result<(), AllocError>
     requires graph { IsGraph (map (λ v. v.items) edges.now) }
     requires walk { IsWalk (map (λ v. v.items) edges.now) walk.old }

@@ -1,7 +1,7 @@
-//! Laws of the order of reports. The functions do nothing; their contracts hold.
+//! The law of the order of reports: the contract of a function that does nothing.
 ghost use Rattle.gql_report.specs.Laws.{OneOrder};
 
-/// The same set of faults is the same list, in the order of reports.
+/// Two lists of the same faults, both in the order of reports, are equal.
 pub fn one_order()
     ensures { OneOrder }
 {}

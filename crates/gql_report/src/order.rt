@@ -67,7 +67,7 @@ fn first_and_rest(places: &[FilePlace]) -> (&[FilePlace], &[FilePlace])
     }
 }
 
-/// Whether a fault comes before another in a report.
+/// The order of two faults in a report.
 pub fn fault_cmp(fault: &Fault, other: &Fault) -> Ordering
     ensures { result ≡ spec.fault_order fault.now other.now }
 {
