@@ -1,4 +1,4 @@
--- What the words of a command line ask for, and how `read_command` answers them.
+-- What the words of a command line ask for, and what `read_command` returns for them.
 use Rattle.std.specs.Prelude.{◌≡◌, ◌⊎◌, ◌≤◌, ⊤, ℕ, List, [], ◌∷◌, ◌++◌, Result, Ok, Err, Some}
 use Rattle.std.specs.Prelude.{codes, decimal, drop, map, slice_get, String}
 use Rattle.std.proofs.Common.{Global}
@@ -52,7 +52,7 @@ Asks (Serve port connections) words =
 abbrev pub BeginsWithServe : List Text → Type 0
 BeginsWithServe words = (rest : List Text) × (arguments words ≡ codes "serve" ∷ rest)
 
--- a hyphen (45), and a text that begins with this character
+-- a short flag: a hyphen (45), and a text that begins with this character
 abbrev pub IsShortFlag : ℕ → Text → Type 0
 IsShortFlag character word =
     (flags : Text) × (word ≡ 45 ∷ flags) × (slice_get (chars flags) 0 ≡ Some character)
@@ -93,8 +93,8 @@ abbrev pub AsksNothing : List Text → Type 0
 AsksNothing words = ((command : Command) → Asks command words → ⊥)
     × (HasHelpFlag words → ⊥) × (HasVersionFlag words → ⊥)
 
--- a command comes only where the words ask for it, help and the version only where they ask for
--- them, and a refusal only where they ask for nothing
+-- `read_command` returns a command, help or the version only if the words ask for it, and a refusal
+-- only if they ask for nothing
 abbrev pub Answers : List Text → Result Command CommandFault → Type 0
 Answers words (Ok Pipe) = Asks Pipe words
 Answers words (Ok (Serve port connections)) = BeginsWithServe words
@@ -103,17 +103,17 @@ Answers words (Err (Version text)) = HasVersionFlag words
 Answers words (Err (Refused text)) = AsksNothing words
 Answers words (Err Memory) = ⊤
 
--- the command, or out of memory
+-- the result is the command, or `Memory`
 abbrev pub GivesOrMemory : Command → Result Command CommandFault → Type 0
 GivesOrMemory command result = (result ≡ Ok command) ⊎ (result ≡ Err Memory)
 
--- help, or out of memory
+-- the result is help, or `Memory`
 abbrev pub HelpOrMemory : Result Command CommandFault → Type 0
 HelpOrMemory (Err (Help text)) = ⊤
 HelpOrMemory (Err Memory) = ⊤
 HelpOrMemory _ = ⊥
 
--- the version, or out of memory
+-- the result is the version, or `Memory`
 abbrev pub VersionOrMemory : Result Command CommandFault → Type 0
 VersionOrMemory (Err (Version text)) = ⊤
 VersionOrMemory (Err Memory) = ⊤

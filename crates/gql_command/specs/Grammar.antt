@@ -1,4 +1,4 @@
--- clap's grammar of the command line, and the answers that follow from it.
+-- The grammar of the command line, as clap reads it, and the answers that follow from it.
 use Rattle.std.specs.Prelude.{◌≡◌, ◌≢◌, ⊤, ℕ, pos, true, false, List, [], ◌∷◌}
 use Rattle.std.specs.Prelude.{Result, Ok, Err, Some, codes}
 use Rattle.std.specs.Option.{option_map_or}
@@ -55,40 +55,40 @@ command_line = record {
   subs = new_shape (codes "pipe") ∷ serve ∷ [];
 }
 
--- the kinds of error that clap's grammar of the command gives the words; none where it takes them
+-- the kinds of error that clap reports for the words; none if it accepts them
 abbrev pub faults : List Text → Kinds
 faults words = fault_of command_line words
 
--- what clap's grammar finds for each option of the subcommand that the words name
+-- what clap finds for each option of the subcommand that the words name
 abbrev pub options : List Text → List Row
 options words = option_map_or (λ p. p.1) (subcommand_of command_line words) []
 
 -- ---- the numbers of `serve`
 
--- the option's text is a numeral, with or without a plus before it, and this is its number
+-- the text of the option is a numeral, which a plus may precede, and this is its number
 abbrev pub GivesNumber : Text → List Row → ℕ → Type 0
 GivesNumber name rows number = (text : Text) × (one_of name rows ≡ Some text)
     × IsNumeral 10 (without_leading_plus text)
     × (number ≡ digits_value 10 (without_leading_plus text))
 
--- the options give both numbers, in their ranges
+-- the options have both numbers, in their ranges
 abbrev pub GivesNumbers : List Row → ℕ → ℕ → Type 0
 GivesNumbers rows port connections = GivesNumber (codes "port") rows port
     × GivesNumber (codes "connections") rows connections
     × IsPort port × IsConnections connections
 
--- the options do not give both numbers in their ranges
+-- the options do not have both numbers in their ranges
 abbrev pub LacksNumbers : List Row → Type 0
 LacksNumbers rows = (port connections : ℕ) → GivesNumbers rows port connections → ⊥
 
--- `serve` with the numbers of its options, or a refusal where they lack them
+-- `serve` with the numbers of its options, or a refusal if they are missing
 abbrev pub ReadsNumbers : List Row → Result Command CommandFault → Type 0
 ReadsNumbers rows (Ok (Serve port connections)) = GivesNumbers rows port connections
 ReadsNumbers rows (Err (Refused text)) = LacksNumbers rows
 ReadsNumbers rows (Err Memory) = ⊤
 ReadsNumbers rows _ = ⊥
 
--- a refusal, or out of memory
+-- the fault is a refusal, or `Memory`
 abbrev pub IsRefusal : CommandFault → Type 0
 IsRefusal (Refused text) = ⊤
 IsRefusal Memory = ⊤
@@ -96,12 +96,13 @@ IsRefusal _ = ⊥
 
 -- ---- answers
 
--- an error of clap that is not answered with the text that was asked for
+-- an error of clap that is neither a call for help or the version nor out of memory
 abbrev pub IsRefusedKind : ErrorKind → Type 0
 IsRefusedKind kind = (kind ≢ DisplayHelp) × (kind ≢ DisplayVersion) × (kind ≢ OutOfMemory)
 
--- a command comes where the grammar takes the words, with the numbers of its options; help and the
--- version where an error is a call for them; and a refusal where another error is there
+-- The result follows the grammar: a command with the numbers of its options if clap accepts the
+-- words, help or the version if an error is a call for it, and a refusal only if there is another
+-- error.
 abbrev pub FollowsGrammar : List Text → Result Command CommandFault → Type 0
 FollowsGrammar words (Ok Pipe) = faults words ≡ []
 FollowsGrammar words (Ok (Serve port connections)) =

@@ -8,8 +8,8 @@ use crate::command::{Command, CommandFault};
 use clap::ArgMatches;
 use std::alloc::Global;
 
-/// The command `serve` with the numbers of its options. The grammar has tested their ranges; they
-/// are tested here again, so that the ranges need no trust in clap.
+/// The command `serve` with the numbers of its options. The grammar has tested their ranges. They
+/// are tested here again, so that the ranges do not depend on clap.
 pub fn serve(alloc: Global, options: &ArgMatches<'_>) -> Result<Command, CommandFault>
     ensures { ReadsNumbers (rows_of (found_of options.now)) result }
 {

@@ -1,5 +1,5 @@
--- What the directives of a definition say of it: whether it is deprecated and why (GraphQL 3.13.3),
--- and where a scalar is specified (3.13.4).
+-- Directives that introspection reports: `@deprecated` with its reason (GraphQL 3.13.3), and
+-- `@specifiedBy` with its URL (3.13.4).
 use Rattle.std.specs.Prelude.{◌≡◌, ℕ, List, ◌++◌, flat_map, find, bytes_eq, codes, Bool, is_some, Option, Some, None, option_and_then}
 use Rattle.std.proofs.Common.{ap, sym, ◌∙◌}
 use Rattle.std.specs.Option.{option_map_or}
@@ -17,15 +17,16 @@ use Rattle.gql_types.specs.declared.schema_type.SchemaType.{SchemaType}
 
 -- ---- strings
 
--- the value of a literal that is a string
+-- the value of a literal of this form, if it is a string
 abbrev pub string_at : Literal-F (Option (List ℕ)) (Option (List ℕ)) → Option (List ℕ)
 string_at (Literal-F.String place value) = Some value
 string_at _ = None
 
+-- the string of an object field, from that of its value
 abbrev pub string_in : ObjectField-F (Option (List ℕ)) (Option (List ℕ)) → Option (List ℕ)
 string_in f = f.value
 
--- the value of a string, or of a block string; another literal has none
+-- the value of a literal, if it is a string or a block string
 unfoldable pub string_of : Literal → Option (List ℕ)
 string_of = fold-Literal (Option (List ℕ)) (Option (List ℕ)) string_at string_in
 
@@ -45,16 +46,16 @@ argument_of name directive = find (λ (a : Argument). bytes_eq name a.name.text)
 abbrev pub deprecation : List Directive → Option Directive
 deprecation = directive_of (codes "deprecated")
 
--- a field or an enum value with these directives is deprecated
+-- whether a field or an enum value with these directives is deprecated
 abbrev pub is_deprecated : List Directive → Bool
 is_deprecated directives = is_some (deprecation directives)
 
--- the reason that a directive gives: its argument, which may be null, or else the default
+-- the reason of a directive: its argument, which may be null, or else the default
 abbrev pub reason_of : Directive → Option (List ℕ)
 reason_of directive = option_map_or (λ (a : Argument). string_of a.value)
     (argument_of (codes "reason") directive) (Some (codes "No longer supported"))
 
--- the reason why what has these directives is deprecated
+-- the deprecation reason of a field or an enum value with these directives
 abbrev pub deprecation_reason : List Directive → Option (List ℕ)
 deprecation_reason directives = option_and_then reason_of (deprecation directives)
 
@@ -69,12 +70,12 @@ abbrev pub type_directives : SchemaType → List Directive
 type_directives t = t.definition.node.directives
     ++ flat_map extension_directives t.extensions
 
--- the URL that a directive gives
+-- the URL of a directive
 abbrev pub url_of : Directive → Option (List ℕ)
 url_of directive =
     option_and_then (λ (a : Argument). string_of a.value) (argument_of (codes "url") directive)
 
--- where a type is specified, if its directives say so
+-- the URL that specifies a type, if its directives have one
 abbrev pub specified_by_url : SchemaType → Option (List ℕ)
 specified_by_url t =
     option_and_then url_of (directive_of (codes "specifiedBy") (type_directives t))

@@ -1,4 +1,4 @@
--- The nodes and answers that the code borrows from a schema, as those of the definitions.
+-- Nodes and answers of the code, which borrow a schema, as contracts see them.
 use Rattle.std.specs.Prelude.{ℕ, List, Option, Some, map, option_and_then, option_copied, slice_get}
 use Rattle.gql_ast.specs.LiteralTexts.{literal_text}
 use Rattle.gql_ast.specs.declared.text.Name.{Name}
@@ -17,7 +17,7 @@ use Rattle.gql_intro.specs.declared.nodes.IntroNodes.TheVariants as ns
 use Rattle.gql_intro.specs.Introspection.{Given, shown_field, shown_value, location_name}
 use Rattle.gql_intro.specs.Nodes.{Node, query_root, schema, named_type, list_type, non_null_type, field, input_value, enum_value, directive, Answer, null, text, truth, enum_name, enum_names, node, nodes_of, named_node}
 
--- a node
+-- a node of the code, as contracts see it
 abbrev pub node_of : IntroNode → Node
 node_of n.QueryRoot = query_root
 node_of n.Schema = schema
@@ -29,7 +29,7 @@ node_of (n.InputValue d) = input_value d.now
 node_of (n.EnumValue v) = enum_value v.now
 node_of (n.Directive d) = directive d.now
 
--- what a list of nodes has at each place: a node, or none where nothing is to be listed
+-- the elements of a list of nodes; an element may have no node, where nothing is listed
 abbrev pub elements : Schema → IntroNodes → List (Option Node)
 elements s (ns.Types names) = map (named_node s) names.now
 elements s (ns.Interfaces names) =
@@ -43,11 +43,11 @@ elements s (ns.Arguments arguments) =
 elements s (ns.Directives directives) =
     map (λ (d : Sited DirectiveDefinition). Some (directive d.node)) directives.now
 
--- what a list has at this place
+-- the node of the element at this index, if it has one
 abbrev pub element_at : Schema → IntroNodes → ℕ → Option Node
 element_at s list i = option_and_then (λ (e : Option Node). e) (slice_get (elements s list) i)
 
--- an answer
+-- an answer of the code, as contracts see it
 abbrev pub answer_of : Schema → IntroAnswer → Answer
 answer_of s a.Null = null
 answer_of s (a.Text t) = text t.now
@@ -58,7 +58,7 @@ answer_of s (a.Node x) = node (node_of x)
 answer_of s (a.Nodes list) = nodes_of (elements s list)
 answer_of s (a.Locations locations) = enum_names (map location_name locations.now)
 
--- the arguments of a field
+-- the arguments of a field, as contracts see them
 abbrev pub given_of : IntroArguments → Given
 given_of arguments = record {
   name = option_copied arguments.name;

@@ -22,15 +22,15 @@ use Rattle.gql_intro.specs.Made.{shown_types}
 use Rattle.gql_intro.specs.MetaFields.{meta_fields}
 use Rattle.gql_intro.specs.Nodes.{query_root, schema, named_type, list_type, non_null_type, field, null, text, enum_name, node, nodes}
 
--- a name, wherever it is written
+-- a name at a place
 abbrev name : Place → List ℕ → Name
 name p n = record { place = p; text = n }
 
--- `@deprecated`
+-- the directive `@deprecated`
 abbrev deprecated : Place → Directive
 deprecated p = record { place = p; name = name p (codes "deprecated"); arguments = [] }
 
--- `@deprecated(reason: null)`
+-- the directive `@deprecated(reason: null)`
 abbrev deprecated_by_null : Place → Directive
 deprecated_by_null p = record {
   place = p;
@@ -48,13 +48,15 @@ int_field p n directives = record {
   directives = directives;
 }
 
+-- the field `new: Int`
 abbrev new_field : Place → FieldDefinition
 new_field p = int_field p (codes "new") []
 
+-- the field `old: Int @deprecated`
 abbrev old_field : Place → FieldDefinition
 old_field p = int_field p (codes "old") (deprecated p ∷ [])
 
--- a type of this kind
+-- a type of this kind, with these parts and fields
 abbrev a_type : Place → TypeKind → TypeParts → List (Sited FieldDefinition) → List ℕ → SchemaType
 a_type p its_kind its_parts fields n = record {
   definition = record {
@@ -76,9 +78,11 @@ a_type p its_kind its_parts fields n = record {
   input_fields = [];
 }
 
+-- the scalar Int
 abbrev int : Place → SchemaType
 int p = a_type p kind.Scalar parts.Scalar [] (codes "Int")
 
+-- the type `Query { old: Int @deprecated new: Int }`
 abbrev query : Place → SchemaType
 query p = a_type p kind.Object (parts.Object [] (old_field p ∷ new_field p ∷ []))
     (record { file = None; node = old_field p } ∷ record { file = None; node = new_field p } ∷ [])
@@ -97,7 +101,7 @@ the_schema p = record {
   possible = [];
 }
 
--- Int is referred to, and ID is not
+-- what is made for that schema, whose files refer to Int and not to ID
 abbrev made : IntroSchema
 made = record {
   types = codes "Int" ∷ codes "Query" ∷ [];
@@ -107,14 +111,15 @@ made = record {
   meta = meta_fields;
 }
 
--- without arguments
+-- no arguments
 abbrev plain : Given
 plain = record { name = None; include_deprecated = None }
 
+-- the argument `name`
 abbrev by_name : List ℕ → Given
 by_name n = record { name = Some n; include_deprecated = None }
 
--- the types, in the order of their names, without ID
+-- the types in the order of their names, without ID
 types_in_order : (p : Place) → shown_types (the_schema p) true false
     ≡ codes "Int" ∷ codes "Query" ∷ []
 types_in_order p = refl
@@ -153,7 +158,8 @@ some_fields_of_query : (p : Place)
     ≡ Some (nodes (field (new_field p) ∷ []))
 some_fields_of_query p = refl
 
--- a scalar has no fields, a type of the schema no `ofType`, and no type has a field `size`
+-- `fields` of a scalar is null, `ofType` of a type of the schema too, and no type has a field
+-- `size`
 fields_of_int : (p : Place)
     → resolve (the_schema p) made plain (named_type (int p)) (codes "fields") ≡ Some null
 fields_of_int p = refl
@@ -166,7 +172,7 @@ no_such_field : (p : Place)
     → resolve (the_schema p) made plain (named_type (query p)) (codes "size") ≡ None
 no_such_field p = refl
 
--- `[Int!]`: its kind, it has no name, and what it is around
+-- the kind, the name and the `ofType` of `[Int!]`
 kind_of_list : (p : Place)
     → resolve (the_schema p) made plain (list_type (required (named (codes "Int"))))
     (codes "kind") ≡ Some (enum_name (codes "LIST"))

@@ -25,19 +25,19 @@ use Rattle.gql_intro.specs.Applied.{is_deprecated, deprecation_reason, specified
 use Rattle.gql_intro.specs.Made.{is_shown}
 use Rattle.gql_intro.specs.Nodes.{Node, query_root, schema, named_type, list_type, non_null_type, field, input_value, enum_value, directive, Answer, null, text, truth, enum_name, enum_names, node, Row, answer_in, optional_text, optional_node, nodes_of, named_node, type_node}
 
--- the arguments of a field, each none where it is null or not given: `name` of `__type`, and
--- `includeDeprecated` of `fields` and `enumValues`
+-- The arguments of a field: `name` of `__type`, and `includeDeprecated` of `fields` and
+-- `enumValues`. `None`: it is null or not given.
 pub record Given : Type 0 where
   pub name : Option (List ℕ)
   pub include_deprecated : Option Bool
 
--- deprecated fields and enum values are asked for; null counts as false
+-- whether deprecated fields and enum values are included; null counts as false
 abbrev pub includes_deprecated : Given → Bool
 includes_deprecated given = unwrap_or given.include_deprecated false
 
 -- ---- the query root (4.2)
 
--- the root operation type of a kind
+-- the root operation type of a kind of operations
 abbrev pub root_node : Schema → OperationKind → Option Node
 root_node s kind = option_and_then (λ (r : Root). named_node s r.name.node.text) (root_of s kind)
 
@@ -45,10 +45,11 @@ root_node s kind = option_and_then (λ (r : Root). named_node s r.name.node.text
 abbrev pub root_name : Schema → Option (List ℕ)
 root_name s = option_map_or (λ (r : Root). Some r.name.node.text) (root_of s operation.Query) None
 
--- the type of this name, if introspection knows it
+-- the type of this name, if introspection shows it
 abbrev pub type_called : Schema → IntroSchema → List ℕ → Option Node
 type_called s i name = if is_shown i.has_int i.has_id name then named_node s name else None
 
+-- the fields of the query root that introspection adds
 abbrev pub root_rows : Schema → IntroSchema → Given → List Row
 root_rows s i given =
     (codes "__typename", optional_text (root_name s))
@@ -58,6 +59,7 @@ root_rows s i given =
 
 -- ---- __Schema (4.2.1)
 
+-- the fields of __Schema
 abbrev pub schema_rows : Schema → IntroSchema → List Row
 schema_rows s i =
     (codes "__typename", text (codes "__Schema"))
@@ -74,7 +76,7 @@ schema_rows s i =
 
 -- ---- __Type (4.2.2)
 
--- a value of __TypeKind
+-- the value of __TypeKind for a kind
 abbrev pub kind_name : TypeKind → List ℕ
 kind_name kind.Scalar = codes "SCALAR"
 kind_name kind.Object = codes "OBJECT"
@@ -83,17 +85,17 @@ kind_name kind.Union = codes "UNION"
 kind_name kind.Enum = codes "ENUM"
 kind_name kind.InputObject = codes "INPUT_OBJECT"
 
--- a field, unless it is deprecated and deprecated ones are not asked for
+-- a field, unless it is deprecated and deprecated ones are not included
 abbrev pub shown_field : Bool → Sited FieldDefinition → Option Node
 shown_field deprecated f =
     if not deprecated && is_deprecated f.node.directives then None else Some (field f.node)
 
--- the same of an enum value
+-- an enum value, unless it is deprecated and deprecated ones are not included
 abbrev pub shown_value : Bool → Sited EnumValueDefinition → Option Node
 shown_value deprecated v =
     if not deprecated && is_deprecated v.node.directives then None else Some (enum_value v.node)
 
--- objects and interfaces have fields
+-- `fields`: those of an object or an interface, else null
 abbrev pub fields_of : TypeKind → Bool → SchemaType → Answer
 fields_of kind.Object deprecated t = nodes_of (map (shown_field deprecated) t.fields)
 fields_of kind.Interface deprecated t = nodes_of (map (shown_field deprecated) t.fields)
@@ -102,7 +104,7 @@ fields_of kind.Union deprecated t = null
 fields_of kind.Enum deprecated t = null
 fields_of kind.InputObject deprecated t = null
 
--- objects and interfaces have the interfaces that they implement
+-- `interfaces`: those that an object or an interface implements, else null
 abbrev pub interfaces_of : TypeKind → Schema → SchemaType → Answer
 interfaces_of kind.Object s t =
     nodes_of (map (λ (i : Sited Name). named_node s i.node.text) t.interfaces)
@@ -118,7 +120,7 @@ abbrev pub possible_nodes : Schema → SchemaType → Answer
 possible_nodes s t = option_map_or (λ (names : List (List ℕ)). nodes_of (map (named_node s) names))
     (possible_named s t.definition.node.name.text) null
 
--- interfaces and unions have possible types
+-- `possibleTypes`: those of an interface or a union, else null
 abbrev pub possible_of : TypeKind → Schema → SchemaType → Answer
 possible_of kind.Interface s t = possible_nodes s t
 possible_of kind.Union s t = possible_nodes s t
@@ -127,7 +129,7 @@ possible_of kind.Object s t = null
 possible_of kind.Enum s t = null
 possible_of kind.InputObject s t = null
 
--- enums have values
+-- `enumValues`: those of an enum, else null
 abbrev pub values_of : TypeKind → Bool → SchemaType → Answer
 values_of kind.Enum deprecated t = nodes_of (map (shown_value deprecated) t.values)
 values_of kind.Scalar deprecated t = null
@@ -136,7 +138,7 @@ values_of kind.Interface deprecated t = null
 values_of kind.Union deprecated t = null
 values_of kind.InputObject deprecated t = null
 
--- input objects have input fields
+-- `inputFields`: those of an input object, else null
 abbrev pub inputs_of : TypeKind → SchemaType → Answer
 inputs_of kind.InputObject t =
     nodes_of (map (λ (d : Sited InputValueDefinition). Some (input_value d.node)) t.input_fields)
@@ -146,7 +148,7 @@ inputs_of kind.Interface t = null
 inputs_of kind.Union t = null
 inputs_of kind.Enum t = null
 
--- what a type of the schema has by its kind
+-- the fields of __Type that depend on the kind of the type
 abbrev pub part_rows : Schema → SchemaType → Bool → List Row
 part_rows s t deprecated =
     (codes "fields", fields_of t.kind deprecated t)
@@ -156,7 +158,7 @@ part_rows s t deprecated =
     ∷ (codes "inputFields", inputs_of t.kind t)
     ∷ []
 
--- a type of the schema
+-- the fields of __Type, for a type of the schema
 abbrev pub type_rows : Schema → SchemaType → Bool → List Row
 type_rows s t deprecated =
     (codes "__typename", text (codes "__Type"))
@@ -167,7 +169,7 @@ type_rows s t deprecated =
     ∷ (codes "specifiedByURL", optional_text (specified_by_url t))
     ∷ part_rows s t deprecated
 
--- a list or a Non-Null type, of this kind, around another type
+-- the fields of __Type, for a list or a Non-Null type of another type
 abbrev pub wrapper_rows : Schema → List ℕ → Written → List Row
 wrapper_rows s its_kind of_type =
     (codes "__typename", text (codes "__Type"))
@@ -185,6 +187,7 @@ wrapper_rows s its_kind of_type =
 
 -- ---- __Field (4.2.3)
 
+-- the fields of __Field
 abbrev pub field_rows : Schema → FieldDefinition → List Row
 field_rows s f =
     (codes "__typename", text (codes "__Field"))
@@ -198,10 +201,11 @@ field_rows s f =
 
 -- ---- __InputValue (4.2.4)
 
--- a default, as it is written
+-- `defaultValue`: the text of a default value, or null
 abbrev pub default_text : Option Literal → Answer
 default_text d = option_map_or (λ (x : Literal). text (literal_text x)) d null
 
+-- the fields of __InputValue
 abbrev pub input_rows : Schema → InputValueDefinition → List Row
 input_rows s d =
     (codes "__typename", text (codes "__InputValue"))
@@ -213,6 +217,7 @@ input_rows s d =
 
 -- ---- __EnumValue (4.2.5)
 
+-- the fields of __EnumValue
 abbrev pub value_rows : EnumValueDefinition → List Row
 value_rows v =
     (codes "__typename", text (codes "__EnumValue"))
@@ -224,7 +229,7 @@ value_rows v =
 
 -- ---- __Directive (4.2.6)
 
--- a value of __DirectiveLocation
+-- the value of __DirectiveLocation for a location
 abbrev pub location_name : DirectiveLocation → List ℕ
 location_name location.Query = codes "QUERY"
 location_name location.Mutation = codes "MUTATION"
@@ -246,6 +251,7 @@ location_name location.EnumValue = codes "ENUM_VALUE"
 location_name location.InputObject = codes "INPUT_OBJECT"
 location_name location.InputFieldDefinition = codes "INPUT_FIELD_DEFINITION"
 
+-- the fields of __Directive
 abbrev pub directive_rows : DirectiveDefinition → List Row
 directive_rows d =
     (codes "__typename", text (codes "__Directive"))
@@ -270,6 +276,6 @@ rows s i given (input_value d) = input_rows s d
 rows s i given (enum_value v) = value_rows v
 rows s i given (directive d) = directive_rows d
 
--- what the field of this name of a node resolves to; none where the node has no such field
+-- what the field of this name of a node resolves to; `None` if the node has no such field
 abbrev pub resolve : Schema → IntroSchema → Given → Node → List ℕ → Option Answer
 resolve s i given n name = answer_in (rows s i given n) name

@@ -1,5 +1,5 @@
--- What introspection says of a schema as a whole (GraphQL 4.2.1): which types it has, in which order,
--- and its description.
+-- The schema as introspection shows it (GraphQL 4.2.1): which types it has, in which order, and its
+-- description.
 use Rattle.std.specs.Prelude.{ℕ, List, [], ◌∷◌, Bool, true, Option, Some, None, option_and_then, codes, map, filter, bytes_eq, if◌then◌else◌}
 use Rattle.std.specs.Option.{option_or}
 use Rattle.gql_ast.specs.declared.definition.Definition.{Definition}
@@ -14,19 +14,19 @@ use Rattle.gql_intro.specs.declared.made.IntroSchema.{IntroSchema}
 use Rattle.gql_intro.specs.MetaFields.{meta_fields}
 use Rattle.gql_intro.specs.References.{refer}
 
--- introspection knows a type of this name: Int and ID only if the schema files refer to them (GraphQL
--- 3.5.1 and 3.5.5 let a schema leave out a scalar that it does not use)
+-- whether introspection shows a type of this name: Int and ID only if the schema files refer to
+-- them (a schema may leave out a scalar that it does not use, GraphQL 3.5.1 and 3.5.5)
 abbrev pub is_shown : Bool → Bool → List ℕ → Bool
 is_shown has_int has_id name =
     if bytes_eq name (codes "Int") then has_int
     else if bytes_eq name (codes "ID") then has_id
     else true
 
--- the names of the types, in the order of their bytes
+-- the names of the types that introspection shows, in the order of their bytes
 abbrev pub shown_types : Schema → Bool → Bool → List (List ℕ)
 shown_types s has_int has_id = in_order (filter (is_shown has_int has_id) (map name_of s.types))
 
--- the definition of a schema, if this is one
+-- the schema definition, if this is one
 abbrev pub schema_of : Tree → Option SchemaDefinition
 schema_of (tree.Schema definition) = Some definition
 schema_of (tree.Operation operation) = None
@@ -36,17 +36,17 @@ schema_of (tree.Directive definition) = None
 schema_of (tree.SchemaExtension extension) = None
 schema_of (tree.TypeExtension extension) = None
 
--- the first definition of a schema among these
+-- the first schema definition among these
 abbrev pub schema_in : List Definition → Option SchemaDefinition
 schema_in [] = None
 schema_in (d ∷ ds) = option_or (schema_of d.tree) (schema_in ds)
 
--- the first definition of a schema in these files
+-- the first schema definition in these files
 abbrev pub first_schema : List (List ℕ × Document) → Option SchemaDefinition
 first_schema [] = None
 first_schema (file ∷ files) = option_or (schema_in file.1.definitions) (first_schema files)
 
--- the description of the schema: that of its definition
+-- the description of the schema, which is that of its definition
 abbrev pub description_of : List (List ℕ × Document) → Option (List ℕ)
 description_of files =
     option_and_then (λ (d : SchemaDefinition). d.description) (first_schema files)

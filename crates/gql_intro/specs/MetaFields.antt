@@ -1,4 +1,4 @@
--- The three fields that no type lists, as definitions of no file (GraphQL 4.1, 4.2):
+-- The three fields that no type lists, as definitions that are in no file (GraphQL 4.1, 4.2):
 -- `__typename: String!`, `__schema: __Schema!` and `__type(name: String!): __Type`.
 use Rattle.std.specs.Prelude.{ℕ, List, [], ◌∷◌, Option, Some, None, codes, bytes_eq, if◌then◌else◌}
 use Rattle.gql_text.specs.declared.place.Place.{Place}
@@ -9,7 +9,7 @@ use Rattle.gql_ast.specs.declared.type_system.FieldDefinition.{FieldDefinition}
 use Rattle.gql_ast.specs.declared.type_system.InputValueDefinition.{InputValueDefinition}
 use Rattle.gql_intro.specs.declared.meta_fields.MetaFields.{MetaFields}
 
--- no place of a file, since lines count from 1
+-- the place of what is in no file; places in files have lines from 1
 abbrev pub nowhere : Place
 nowhere = record { line = 0; column = 0; offset = 0 }
 
@@ -21,11 +21,11 @@ word text = record { place = nowhere; text = text }
 abbrev pub named : List ℕ → TypeRef
 named text = r.Named (word text)
 
--- NonNullType (2.11)
+-- NonNullType of a NamedType (2.11)
 abbrev pub required : List ℕ → TypeRef
 required text = r.NonNull (named text)
 
--- an argument without default
+-- an argument of this name and type, without default
 abbrev pub argument : List ℕ → TypeRef → InputValueDefinition
 argument name type = record {
   description = None;
@@ -35,7 +35,7 @@ argument name type = record {
   directives = [];
 }
 
--- a field
+-- a field of this name, with these arguments and this type
 abbrev pub field : List ℕ → List InputValueDefinition → TypeRef → FieldDefinition
 field name arguments type = record {
   description = None;

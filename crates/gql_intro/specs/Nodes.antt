@@ -13,7 +13,7 @@ use Rattle.gql_types.specs.declared.schema_type.SchemaType.{SchemaType}
 
 -- a node of introspection
 pub data Node : Type 0 where
-  -- the object of the query root, by its fields `__schema` and `__type`
+  -- the query root, with its fields `__schema` and `__type`
   query_root : Node
   -- __Schema
   schema : Node
@@ -56,23 +56,25 @@ answer_in (row ∷ rows) name = if bytes_eq name row.0 then Some row.1 else answ
 
 -- ---- answers
 
+-- a text, or null
 abbrev pub optional_text : Option (List ℕ) → Answer
 optional_text t = option_map_or text t null
 
+-- a node, or null
 abbrev pub optional_node : Option Node → Answer
 optional_node n = option_map_or node n null
 
--- the nodes that are there
+-- a list of the nodes that are there
 abbrev pub nodes_of : List (Option Node) → Answer
 nodes_of found = nodes (flat_map option_to_list found)
 
 -- ---- types
 
--- the type of this name
+-- the type of this name, if the schema has one
 abbrev pub named_node : Schema → List ℕ → Option Node
 named_node s name = option_map named_type (type_named s name)
 
--- a type as it is written
+-- the type that is written in this way, if the schema has it
 abbrev pub type_node : Schema → Written → Option Node
 type_node s (written.named name) = named_node s name
 type_node s (written.listed item) = Some (list_type item)

@@ -26,8 +26,8 @@ pub enum IntroAnswer<'s> {
     Locations(&'s [DirectiveLocation]),
 }
 
-/// The arguments of a field, as they were coerced. Each is none where the field has no such
-/// argument, or where it is null.
+/// The arguments of a field, as they were coerced. Each is `None` if the field has no such
+/// argument, or if it is null.
 #[derive(Clone, Copy)]
 pub struct IntroArguments<'a> {
     /// `name` of `__type`.
@@ -37,7 +37,7 @@ pub struct IntroArguments<'a> {
 }
 
 impl IntroArguments<'_> {
-    /// Whether deprecated fields and enum values are asked for.
+    /// Whether deprecated fields and enum values are included.
     pub(crate) fn includes_deprecated(self) -> bool
         ensures { result ≡ includes_deprecated (given_of self.entry) }
     {

@@ -1,4 +1,5 @@
-//! What the directives of a definition say of it (GraphQL specification, 3.13.3, 3.13.4).
+//! The directives that introspection reports: `@deprecated` and `@specifiedBy` (GraphQL
+//! specification, 3.13.3, 3.13.4).
 ghost use Rattle.std.specs.Prelude.{◌≡◌, flat_map};
 ghost use Rattle.std.specs.Option.{option_copied};
 ghost use Rattle.gql_intro.specs.Applied as spec;
@@ -6,7 +7,7 @@ ghost use Rattle.gql_intro.specs.Applied as spec;
 use gql_ast::{Argument, Directive, Literal, Shared, TypeExtension};
 use gql_types::{SchemaType, Sited};
 
-/// The value of a string; none of another literal.
+/// The value of a literal, if it is a string.
 #[tactic(auto, using(crate::specs::Applied::string_is, crate::specs::Applied::null_is_none, crate::specs::Applied::variable_is_none, crate::specs::Applied::int_is_none, crate::specs::Applied::float_is_none, crate::specs::Applied::boolean_is_none, crate::specs::Applied::enum_is_none, crate::specs::Applied::list_is_none, crate::specs::Applied::object_is_none))]
 fn string_of(literal: &Literal) -> Option<&str>
     ensures { option_copied result ≡ spec.string_of literal.now }
@@ -55,7 +56,7 @@ pub fn is_deprecated(directives: &[Directive]) -> bool
     directive_of("deprecated", directives).is_some()
 }
 
-/// The reason that a directive gives: its argument, which may be null, or else the default.
+/// The reason of a directive: its argument, which may be null, or else the default.
 fn reason_of(directive: &Directive) -> Option<&str>
     ensures { option_copied result ≡ spec.reason_of directive.now }
 {
@@ -65,7 +66,7 @@ fn reason_of(directive: &Directive) -> Option<&str>
     }
 }
 
-/// The reason why what has these directives is deprecated.
+/// The deprecation reason of a field or an enum value with these directives.
 pub fn deprecation_reason(directives: &[Directive]) -> Option<&str>
     ensures { option_copied result ≡ spec.deprecation_reason directives.now }
 {
@@ -75,7 +76,7 @@ pub fn deprecation_reason(directives: &[Directive]) -> Option<&str>
     }
 }
 
-/// The URL that a directive gives.
+/// The URL of a directive.
 fn url_of(directive: &Directive) -> Option<&str>
     ensures { option_copied result ≡ spec.url_of directive.now }
 {
@@ -114,7 +115,7 @@ fn type_directive<'t>(name: &str, of_type: &'t SchemaType) -> Option<&'t Directi
     }
 }
 
-/// Where a type is specified, if its directives say so.
+/// The URL that specifies a type, if its directives have one.
 pub fn specified_by_url(of_type: &SchemaType) -> Option<&str>
     ensures { option_copied result ≡ spec.specified_by_url of_type.now }
 {

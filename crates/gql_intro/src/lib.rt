@@ -1,5 +1,5 @@
-//! Introspection (GraphQL specification, 4): what each field of the schema's own description
-//! resolves to. Answers borrow the schema; nothing is copied to be answered.
+//! Introspection (GraphQL specification, 4): what each field of the introspection types resolves
+//! to. Answers borrow the schema, and copy nothing.
 #![tactic(auto)]
 
 mod answer;

@@ -15,8 +15,8 @@ use gql_types::{HasName, Schema, SchemaType};
 use std::alloc::{AllocError, Global};
 use std::collections::BTreeMap;
 
-/// What introspection says of a schema as a whole. It is made once for a schema, and is valid as long
-/// as the schema is.
+/// The schema as introspection shows it. It is made once for a schema, and is valid as long as the
+/// schema is.
 #[derive(Drop)]
 pub struct IntroSchema {
     /// The names of the types, in the order of their bytes.
@@ -28,7 +28,7 @@ pub struct IntroSchema {
     meta: MetaFields,
 }
 
-/// Whether introspection knows a type of that name.
+/// Whether introspection shows a type of that name.
 fn is_shown(has_int: bool, has_id: bool, name: &str) -> bool
     ensures { result ≡ spec.is_shown has_int has_id name.now }
 {
@@ -41,7 +41,7 @@ fn is_shown(has_int: bool, has_id: bool, name: &str) -> bool
     }
 }
 
-/// The names of the types that introspection knows.
+/// The names of the types that introspection shows.
 fn shown_names(
     alloc: Global,
     types: &[SchemaType],
@@ -90,7 +90,7 @@ fn in_order(alloc: Global, names: &[&str]) -> Result<Items<Text>, AllocError>
     Ok(found)
 }
 
-/// The names of the types that introspection knows, in the order of their bytes.
+/// The names of the types that introspection shows, in the order of their bytes.
 fn shown_types(
     alloc: Global,
     schema: &Schema,
@@ -104,7 +104,7 @@ fn shown_types(
     Ok(types)
 }
 
-/// The first definition of a schema in a file.
+/// The first schema definition in a file.
 fn schema_in(definitions: &[Definition]) -> Option<&SchemaDefinition>
     ensures { option_copied result ≡ spec.schema_in definitions.now }
 {
@@ -116,7 +116,7 @@ fn schema_in(definitions: &[Definition]) -> Option<&SchemaDefinition>
     None
 }
 
-/// The first definition of a schema in these files.
+/// The first schema definition in these files.
 fn first_schema(files: &FileMap<Shared<Document>>) -> Option<&SchemaDefinition>
     ensures { option_copied result ≡ spec.first_schema files.now }
 {
@@ -137,7 +137,7 @@ fn copied(text: &Option<Text>) -> Result<Option<Text>, AllocError>
     }
 }
 
-/// The description of the schema: that of its definition.
+/// The description of the schema, which is that of its definition.
 fn description(files: &FileMap<Shared<Document>>) -> Result<Option<Text>, AllocError>
     ensures { IfOk result (λ text. text ≡ spec.description_of files.now) }
 {
@@ -147,8 +147,8 @@ fn description(files: &FileMap<Shared<Document>>) -> Result<Option<Text>, AllocE
     }
 }
 
-/// What introspection says of the schema of these files as a whole: `schema` is what
-/// `gql_types::assemble` gives for them. It is made once for a schema.
+/// The schema of these files as introspection shows it. `schema` is what `gql_types::assemble`
+/// returns for them. It is made once for a schema.
 pub fn intro_schema(
     alloc: Global,
     files: &Files,
@@ -190,7 +190,7 @@ impl IntroSchema {
         &self.description
     }
 
-    /// Whether introspection knows a type of that name.
+    /// Whether introspection shows a type of that name.
     pub(crate) fn shows(&self, name: &str) -> bool
         ensures { result ≡ spec.is_shown self.now.has_int self.now.has_id name.now }
     {

@@ -7,7 +7,7 @@ use gql_ast::{Boxed, FieldDefinition, InputValueDefinition, Items, Name, Shared,
 use gql_text::Place;
 use std::alloc::{AllocError, Global};
 
-/// No place of a file: lines count from 1.
+/// The place of what is in no file. Places in files have lines from 1.
 const NOWHERE: Place = Place {
     line: 0,
     column: 0,

@@ -29,7 +29,7 @@ fn description_of(of_type: &SchemaType) -> IntroAnswer<'_>
     optional_text(&of_type.definition.node.get().description)
 }
 
-/// What a type of the schema has by its kind.
+/// What a field of `__Type` that depends on the kind of the type resolves to.
 fn part_of<'s>(
     schema: &'s Schema,
     of_type: &'s SchemaType,
@@ -70,7 +70,7 @@ pub fn of_named<'s>(
     })
 }
 
-/// What a field of a list or a Non-Null type resolves to: a type of this kind, around that type.
+/// What a field of a list or a Non-Null type, of another type, resolves to.
 pub fn of_wrapper<'s>(
     schema: &'s Schema,
     kind: &'s str,

@@ -12,9 +12,9 @@ use gql_types::{Schema, SchemaType};
 /// A node of introspection: an object whose fields `intro_resolve` resolves.
 #[derive(Clone, Copy)]
 pub enum IntroNode<'s> {
-    /// The object of the query root, as far as its fields `__schema` and `__type` go.
+    /// The query root, with its fields `__schema` and `__type`.
     QueryRoot,
-    /// `__Schema` (4.2.1)
+    /// `__Schema` (4.2.1).
     Schema,
     /// `__Type`: a type of the schema (4.2.2).
     Named(&'s SchemaType),
@@ -22,13 +22,13 @@ pub enum IntroNode<'s> {
     List(&'s TypeRef),
     /// `__Type`: the Non-Null type of this nullable type (4.2.2).
     NonNull(&'s TypeRef),
-    /// `__Field` (4.2.3)
+    /// `__Field` (4.2.3).
     Field(&'s FieldDefinition),
-    /// `__InputValue` (4.2.4)
+    /// `__InputValue` (4.2.4).
     InputValue(&'s InputValueDefinition),
-    /// `__EnumValue` (4.2.5)
+    /// `__EnumValue` (4.2.5).
     EnumValue(&'s EnumValueDefinition),
-    /// `__Directive` (4.2.6)
+    /// `__Directive` (4.2.6).
     Directive(&'s DirectiveDefinition),
 }
 
@@ -42,7 +42,7 @@ pub fn named_node<'s>(schema: &'s Schema, name: &str) -> Option<IntroNode<'s>>
     }
 }
 
-/// A type as it is written.
+/// The type that is written in this way, if the schema has it.
 #[tactic(auto, using(gql_types::specs::Written::written_named, gql_types::specs::Written::written_list, gql_types::specs::Written::written_non_null))]
 pub fn type_node<'s>(schema: &'s Schema, of_type: &'s TypeRef) -> Option<IntroNode<'s>>
     ensures { option_map node_of result ≡ spec.type_node schema.now (written of_type.now) }

@@ -1,4 +1,4 @@
-//! Lists of nodes, which are lent from the schema.
+//! Lists of nodes, which borrow the schema.
 ghost use Rattle.std.specs.Prelude.{◌≡◌, ◌&&◌, not, length, option_map};
 ghost use Rattle.gql_types.specs.declared.schema.Schema.{Schema as ASchema};
 ghost use Rattle.gql_intro.specs.Borrowed.{elements, element_at, node_of};
@@ -12,9 +12,9 @@ use gql_ast::{
 };
 use gql_types::{Schema, Sited};
 
-/// A list of nodes, as it is lent from the schema. At some places there may be no node: a name that
-/// names no type, and a deprecated field or enum value where these are not asked for (the second
-/// part of `Fields` and of `EnumValues` is whether they are).
+/// A list of nodes, which borrows the schema. An element may have no node: a name that is the name
+/// of no type, or a deprecated field or enum value if these are not included (the second part of
+/// `Fields` and of `EnumValues` says whether they are).
 #[derive(Clone, Copy)]
 pub enum IntroNodes<'s> {
     /// Types, by their names.
@@ -27,7 +27,7 @@ pub enum IntroNodes<'s> {
     Directives(&'s [Sited<Shared<DirectiveDefinition>>]),
 }
 
-/// A field, unless it is deprecated and deprecated ones are not asked for.
+/// A field, unless it is deprecated and deprecated ones are not included.
 fn field_node<'s>(
     field: &'s Sited<Shared<FieldDefinition>>,
     deprecated: bool,
@@ -42,7 +42,7 @@ fn field_node<'s>(
     }
 }
 
-/// An enum value, unless it is deprecated and deprecated ones are not asked for.
+/// An enum value, unless it is deprecated and deprecated ones are not included.
 fn value_node<'s>(
     value: &'s Sited<Shared<EnumValueDefinition>>,
     deprecated: bool,
@@ -58,7 +58,7 @@ fn value_node<'s>(
 }
 
 impl<'s> IntroNodes<'s> {
-    /// How many places the list has.
+    /// How many elements the list has.
     pub fn len(&self) -> usize
         ensures { (s : ASchema) → result ≡ length (elements s self.now) }
     {
@@ -73,7 +73,7 @@ impl<'s> IntroNodes<'s> {
         }
     }
 
-    /// The node at a place, if there is one.
+    /// The node of an element, if it has one.
     #[tactic(auto, using(crate::proofs::Listed::listed))]
     pub fn get(&self, schema: &'s Schema, index: usize) -> Option<IntroNode<'s>>
         ensures { option_map node_of result ≡ element_at schema.now self.now index }

@@ -10,7 +10,7 @@ use gql_ast::{
     Shared, Tree, TypeParts, TypeRef,
 };
 
-/// The name within lists and Non-Nulls.
+/// The name within the lists and Non-Nulls of a type.
 #[tactic(auto, using(crate::specs::References::name_in_named, crate::specs::References::name_in_list, crate::specs::References::name_in_non_null))]
 fn name_in(of_type: &TypeRef) -> &str
     ensures { result.now ≡ spec.name_in (written of_type.now) }

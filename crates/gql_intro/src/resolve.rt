@@ -110,7 +110,7 @@ fn of_field<'s>(
     })
 }
 
-/// A default, as it is written.
+/// The text of a default value, or null.
 fn default_of(default: &Option<Literal>) -> IntroAnswer<'_>
     ensures { (s : ASchema) → answer_of s result ≡ spec.default_text default.now }
 {
@@ -168,7 +168,7 @@ fn of_directive<'s>(definition: &'s DirectiveDefinition, field: &str) -> Option<
     })
 }
 
-/// What the field of that name of a node resolves to, called with these arguments; none where the
+/// What the field of that name of a node resolves to, called with these arguments; `None` if the
 /// type of the node has no such field. `made` is what `intro_schema` made for the schema.
 pub fn intro_resolve<'s>(
     schema: &'s Schema,

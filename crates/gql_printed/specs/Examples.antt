@@ -20,7 +20,7 @@ use Rattle.gql_parse.specs.Values as v
 abbrev some_string : Text
 some_string = codes "a\"\\" ++ 10 ∷ 31 ∷ 195 ∷ 169 ∷ []
 
--- its text, without the quotes, and the value of that text
+-- the text of that string, and the value of that text
 text_of_string : string_text some_string ≡ codes "\"a\\\"\\\\\\n\\u001f" ++ 195 ∷ 169 ∷ codes "\""
 unfolding escaped
 text_of_string = refl
@@ -34,14 +34,15 @@ string_again = refl
 abbrev list_text : Text
 list_text = codes "[\"\\n\", A]"
 
--- a place on its first line, and a token there
+-- a place on the first line
 abbrev at : ℕ → ℕ → Place
 at column offset = record { line = 1; column = column; offset = offset }
 
+-- a token of this kind and text, at a place
 abbrev one : Kind → Text → Place → Lexeme
 one kind text place = record { kind = kind; text = text; place = place }
 
--- its tokens
+-- the tokens of that text
 abbrev list_tokens : List Lexeme
 list_tokens =
     one k.LeftBracket (codes "[") (at 1 0)
@@ -60,7 +61,7 @@ tokens_of_list =
     (token (plain refl refl refl)
     (token (plain refl refl refl) at_end)))))
 
--- and the list that they derive
+-- the list that these tokens derive
 list_of_tokens : (v.value true).read list_tokens
     ≡ Ok (l.List (at 1 0) (l.String (at 2 1) (10 ∷ []) ∷ l.Enum (at 8 7) (codes "A") ∷ []), [])
 unfolding v.value recursive nested v.list_of v.string v.word_literal y.token y.sees y.before

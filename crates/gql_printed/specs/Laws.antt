@@ -1,4 +1,4 @@
--- What holds of the text of a literal.
+-- Laws of the text of a literal.
 use Rattle.std.specs.Prelude.{◌≡◌, ◌≤◌, ℕ, List, [], ◌++◌, length, Bool}
 use Rattle.gql_text.specs.Lexeme.{Lexeme}
 use Rattle.gql_text.specs.Lexis.{IsLexed, text_limit}
@@ -10,7 +10,7 @@ use Rattle.gql_parse.specs.Values.{value}
 use Rattle.gql_printed.specs.Same.{HaveSameValue}
 use Rattle.gql_printed.specs.Written.{IsWritten}
 
--- the whole text has tokens, and they derive a literal of the same value
+-- the tokens of the text, all of them, derive a literal of the same value
 pub record IsTextOf (constant : Bool) (text : List ℕ) (literal : Literal) : Type 0 where
   pub tokens : List Lexeme
   pub parsed : Literal
@@ -18,7 +18,7 @@ pub record IsTextOf (constant : Bool) (text : List ℕ) (literal : Literal) : Ty
   pub derived : Derives (value constant) tokens parsed []
   pub same_value : HaveSameValue parsed literal
 
--- tokens among those of a text derive the literal
+-- some tokens of the source, one after another, derive the literal
 pub record IsFound (constant : Bool) (source : List ℕ) (literal : Literal) : Type 0 where
   pub tokens : List Lexeme
   pub lexed : IsLexed source tokens
@@ -34,7 +34,7 @@ abbrev pub WrittenIsParsed : Type 0
 WrittenIsParsed = (constant : Bool) (literal : Literal) → IsWritten constant literal
     → length (literal_text literal) ≤ text_limit → IsTextOf constant (literal_text literal) literal
 
--- and it parses to no other value
+-- the text of a literal that a document can write parses to no other value
 abbrev pub OnlySameValue : Type 0
 OnlySameValue = (constant : Bool) (literal : Literal) → IsWritten constant literal
     → (tokens : List Lexeme) (parsed : Literal) → IsLexed (literal_text literal) tokens

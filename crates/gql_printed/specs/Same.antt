@@ -1,4 +1,4 @@
--- Literals of the same value: equal but for their places.
+-- Literals of the same value: they differ in their places at most.
 use Rattle.std.specs.Prelude.{◌≡◌}
 use Rattle.gql_text.specs.declared.place.Place.{Place}
 use Rattle.gql_ast.specs.declared.literal.Literal.{Literal, fold-Literal}
@@ -6,11 +6,11 @@ use Rattle.gql_ast.specs.declared.literal.Literal.TheOpen.{Literal-F, ObjectFiel
 use Rattle.gql_ast.specs.declared.literal.Literal.TheVariants as l
 use Rattle.gql_ast.specs.declared.literal.ObjectField.{ObjectField}
 
--- the place that each part gets
+-- the place that replaces each place
 abbrev pub no_place : Place
 no_place = record { line = 0; column = 0; offset = 0 }
 
--- a literal of this form, by its parts without places
+-- a literal of this form without places, from its parts without places
 abbrev pub unplaced : Literal-F Literal ObjectField → Literal
 unplaced (Literal-F.Variable place name) = l.Variable no_place name
 unplaced (Literal-F.Int place text) = l.Int no_place text
@@ -22,12 +22,12 @@ unplaced (Literal-F.Enum place name) = l.Enum no_place name
 unplaced (Literal-F.List place items) = l.List no_place items
 unplaced (Literal-F.Object place fields) = l.Object no_place fields
 
--- a field of an object, by its value without places
+-- a field of an object without places, from its value without places
 abbrev pub unplaced_field : ObjectField-F Literal ObjectField → ObjectField
 unplaced_field f =
     record { name = record { place = no_place; text = f.name.text }; value = f.value }
 
--- the literal with one and the same place in each of its parts
+-- the literal, with that place in each of its parts
 unfoldable pub without_places : Literal → Literal
 without_places = fold-Literal Literal ObjectField unplaced unplaced_field
 

@@ -6,15 +6,15 @@ use Rattle.gql_ast.specs.declared.literal.Literal.{Literal}
 use Rattle.gql_ast.specs.declared.literal.Literal.TheVariants as l
 use Rattle.gql_ast.specs.declared.literal.ObjectField.{ObjectField}
 
--- EnumValue: a name other than true, false and null (2.9.6)
+-- EnumValue: a Name other than true, false and null (2.9.6)
 pub record IsEnumName (name : List ℕ) : Type 0 where
   pub is_name : IsName name
   pub not_true : name ≢ codes "true"
   pub not_false : name ≢ codes "false"
   pub not_null : name ≢ codes "null"
 
--- Names are names (2.1.9), numbers are numbers (2.9.1, 2.9.2), strings have any bytes, and only a
--- value that need not be constant has variables.
+-- A literal that a document can write: each name is a Name (2.1.9), each number an IntValue or a
+-- FloatValue (2.9.1, 2.9.2), a string has any bytes, and a constant value has no variables.
 mutual
   pub data IsWritten (constant : Bool) : Literal → Type 0 where
     variable : {x : Literal} (p : Place) (name : List ℕ) → x ≡ l.Variable p name → constant ≡ false
@@ -36,13 +36,13 @@ mutual
     object : {x : Literal} (p : Place) (fields : List ObjectField) → x ≡ l.Object p fields
         → AreWrittenFields constant fields → IsWritten constant x
 
-  -- the items of a list
+  -- the same for the items of a list
   pub data AreWritten (constant : Bool) : List Literal → Type 0 where
     no_items : AreWritten constant []
     item : {x : Literal} {xs : List Literal} → IsWritten constant x → AreWritten constant xs
         → AreWritten constant (x ∷ xs)
 
-  -- the fields of an object
+  -- the same for the fields of an object
   pub data AreWrittenFields (constant : Bool) : List ObjectField → Type 0 where
     no_fields : AreWrittenFields constant []
     field : {f : ObjectField} {fs : List ObjectField} → IsName f.name.text

@@ -1,4 +1,4 @@
-//! What holds of the text of a literal. The functions do nothing: what they ensure is the law.
+//! Laws of the text of a literal: contracts of functions that do nothing.
 #![tactic(auto)]
 
 pub mod laws;

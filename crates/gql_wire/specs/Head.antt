@@ -9,7 +9,7 @@ use Rattle.gql_wire.specs.Number.{is_number, number_from}
 use Rattle.gql_wire.specs.declared.head.HeadRefusal.{HeadRefusal}
 use Rattle.gql_wire.specs.declared.head.HeadRefusal.TheVariants.{BadHead, LongHead, LongBody, TransferCoding, BadLength}
 
--- the number that a client sees for a refused head
+-- the error code of a refused head
 abbrev pub number_of : HeadRefusal → ℕ
 number_of BadHead = 301
 number_of LongHead = 302
@@ -28,7 +28,7 @@ pub record Parts : Type 0 where
   pub minor : ℕ
   pub fields : List NameAndValue
 
--- the parts of a head that the grammar describes
+-- the parts of a head, as the grammar reads them
 abbrev pub parts_of : RequestHead → Parts
 parts_of h = record {
   method = h.method;
@@ -37,8 +37,9 @@ parts_of h = record {
   fields = map name_and_value h.fields;
 }
 
--- The outcome of a head. `refuse`: why, and whether the method is HEAD, so that the answer has no
--- body. `expects`: method, target, the length of the body, and whether the connection closes.
+-- The outcome of a head. `refuse`: the refusal, and whether the method is HEAD, so that the answer
+-- has no body. `expects`: method, target, the length of the body, and whether the connection
+-- closes.
 pub data Outcome : Type 0 where
   refuse : HeadRefusal → Bool → Outcome
   expects : List ℕ → List ℕ → ℕ → Bool → Outcome
@@ -56,8 +57,8 @@ values_of name (f ∷ fs) = if is_named name f then f.1 ∷ values_of name fs el
 abbrev pub all_are : ℕ → List (List ℕ) → Bool
 all_are n values = list_all (λ v. is_number v && number_from 0 v == n) values
 
--- the body length that the values of the fields Content-Length give: 0 without a value, and `None`
--- if a value is not 1 to 18 digits or two are different numbers
+-- the body length by the values of the fields Content-Length: 0 without a value, and `None` if a
+-- value is not 1 to 18 digits, or two are different numbers
 abbrev pub content_length : List (List ℕ) → Option ℕ
 content_length [] = Some 0
 content_length (v ∷ vs) =
@@ -67,7 +68,7 @@ content_length (v ∷ vs) =
 abbrev pub is_item_byte : ℕ → Bool
 is_item_byte b = not (b == 44)
 
--- the items with this byte before the first one
+-- the items, with this byte at the front of the first
 abbrev pub put_first : ℕ → List (List ℕ) → List (List ℕ)
 put_first b [] = (b ∷ []) ∷ []
 put_first b (item ∷ items) = (b ∷ item) ∷ items
@@ -99,7 +100,7 @@ is_head method = bytes_eq method (codes "HEAD")
 abbrev pub body_limit : ℕ
 body_limit = 262144
 
--- the outcome of a head without Transfer-Encoding, by the body length that it gives
+-- the outcome of a head without Transfer-Encoding, by its body length
 abbrev pub with_length : Parts → Option ℕ → Outcome
 with_length p None = refuse BadLength (is_head p.method)
 with_length p (Some n) =

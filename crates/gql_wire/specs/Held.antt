@@ -1,5 +1,5 @@
--- Definitions for private contracts: what a framer holds of a request, and what it does with more
--- bytes of a head.
+-- Helper definitions for private contracts: what a framer holds of a request, and what it does with
+-- more bytes of a head.
 use Rattle.std.specs.Prelude.{ℕ, ◌≢◌, slice_index, ◌≡◌, ◌+◌, ◌<◌, ◌≤◌, List, [], length, take, map, Option, Some, None, ◌==◌, ◌&&◌, if◌then◌else◌}
 use Rattle.httparse.specs.Spans.{span_bytes, header_bytes, IsWithin, IsRequestAt}
 use Rattle.httparse.specs.Grammar.{RequestHead}
@@ -33,7 +33,7 @@ parts_at head headers spans = record {
   fields = map (header_bytes head) headers;
 }
 
--- the outcome that the code's value means, with the head's bytes in place of the spans
+-- an outcome of the code, with the bytes of the head in place of the spans
 abbrev pub outcome_from : List ℕ → HeadOutcome → Outcome
 outcome_from head (code.Refuse refusal bodiless) = refuse refusal bodiless
 outcome_from head (code.Expects method target length closing) =
@@ -49,7 +49,7 @@ AreSpansWithin n (code.Expects method target length closing) =
 abbrev pub AreWithin : Pending → Type 0
 AreWithin p = IsWithin p.head p.method × IsWithin p.head p.target × (p.length ≤ body_limit)
 
--- the outcome that these parts give a head
+-- the outcome of a head with these parts
 abbrev pub outcome_at : List ℕ → Pending → Outcome
 outcome_at head p =
     expects (span_bytes head p.method) (span_bytes head p.target) p.length p.closing
@@ -74,18 +74,18 @@ abbrev pub IsHeld : List ℕ → Option Pending → Type 0
 IsHeld bytes None = IsOpen bytes × (length bytes < head_limit)
 IsHeld bytes (Some p) = IsBodyOpen bytes p
 
--- after an unfinished head of n bytes came more bytes, with a line feed at their end at most
+-- more bytes came after an unfinished head of n bytes; they may have a line feed at their end only
 pub record IsGrown (n : ℕ) (bytes : List ℕ) : Type 0 where
   pub held : IsOpen (take n bytes)
   pub some : n < length bytes
   pub line : (k : ℕ) → n ≤ k → k + 1 < length bytes → slice_index bytes k ≢ 10
   pub within : length bytes ≤ head_limit
 
--- the same, of some unfinished head
+-- more bytes came in this way after some unfinished head
 abbrev pub GrowsByLine : List ℕ → Type 0
 GrowsByLine bytes = (n : ℕ) × IsGrown n bytes
 
--- what to do with these bytes of a head
+-- what a framer does with these bytes of a head
 abbrev pub Advances : List ℕ → Advance → Type 0
 Advances bytes advance.Blank = skip_blank bytes ≡ []
 Advances bytes advance.More = IsHeld bytes None × (skip_blank bytes ≡ bytes)

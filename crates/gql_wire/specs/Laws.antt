@@ -1,4 +1,4 @@
--- Laws on streams.
+-- Laws of streams.
 use Rattle.std.specs.Prelude.{ℕ, ◌≡◌, ◌+◌, ◌-◌, ◌<◌, ◌≤◌, List, [], ◌∷◌, ◌++◌, length, take, drop, true, false, All}
 use Rattle.std.specs.List.{flat_map}
 use Rattle.gql_wire.specs.Stream.{Req, IsRequest, closes, Placed, Splits, Requests, StaysOpen, IsUnfinished, skip_blank}
@@ -26,14 +26,14 @@ TakenNext = (at n : ℕ) (held piece : List ℕ) (r : Req) (rs : List Placed) (r
     → Splits at (held ++ piece)
     (record { request = r; end = at + length (held ++ take n piece) } ∷ rs) rest
 
--- and if it closes the connection, it is the last one
+-- if such a request closes the connection, it is the last one of the stream
 abbrev pub TakenLast : Type 0
 TakenLast = (at n : ℕ) (held piece : List ℕ) (r : Req)
     → IsRequest (held ++ take n piece) r → closes r ≡ true
     → Splits at (held ++ piece)
     (record { request = r; end = at + length (held ++ take n piece) } ∷ []) []
 
--- if a stream is open after its requests, more bytes give the requests of its rest and those bytes
+-- if a stream is open after its requests, more bytes add the requests of its rest and those bytes
 abbrev pub Feeding : Type 0
 Feeding = (at : ℕ) (a b : List ℕ) (rs qs : List Placed) (r q : List ℕ)
     → Splits at a rs r → StaysOpen rs
@@ -56,7 +56,7 @@ pub data Feeds : ℕ → List ℕ → List (List ℕ) → List Placed → List �
       → Splits at (held ++ piece) rs rest → (StaysOpen rs → ⊥)
       → Feeds at held (piece ∷ pieces) rs rest
 
--- pieces give the requests and the rest of all their bytes together
+-- pieces have the requests and the rest of all their bytes together
 abbrev pub AnyPieces : Type 0
 AnyPieces = (pieces : List (List ℕ)) (rs : List Placed) (r : List ℕ)
     → Feeds 0 [] pieces rs r → Requests (flat_map (λ piece. piece) pieces) rs r
@@ -78,8 +78,8 @@ EndsWithinFirst n p = p.end ≤ n
 abbrev pub EndsAfterFirst : ℕ → Placed → Type 0
 EndsAfterFirst n p = n < p.end
 
--- More bytes of an open stream keep the requests that were complete, and each further request is
--- complete in the further bytes.
+-- More bytes of an open stream keep the requests that were complete, and each new request is
+-- completed by the new bytes.
 abbrev pub MoreBytes : Type 0
 MoreBytes = (at : ℕ) (a b : List ℕ) (rs ps : List Placed) (r q : List ℕ)
     → Splits at a rs r → StaysOpen rs → Splits at (a ++ b) ps q

@@ -1,4 +1,4 @@
--- What passes between a program and the other end of its connection.
+-- The bytes that pass between a program and the other end of its connection.
 use Rattle.std.specs.Prelude.{◌≡◌, List, [], ◌∷◌, ◌++◌, map, Option, Some, None, ℕ}
 use Rattle.std.specs.List.{concat}
 
@@ -19,7 +19,7 @@ sent_in [] = []
 sent_in (received bytes ∷ passages) = sent_in passages
 sent_in (sent bytes ∷ passages) = bytes ++ sent_in passages
 
--- the peer reports these further passages, or reports nothing at all
+-- the peer reports these passages after the earlier ones, or reports nothing at all
 abbrev pub Adds : Option (List Passage) → Option (List Passage) → List Passage → Type 0
 Adds None new passages = new ≡ None
 Adds (Some old) new passages = new ≡ Some (old ++ passages)

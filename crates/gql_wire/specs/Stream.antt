@@ -7,18 +7,18 @@ use Rattle.gql_wire.specs.declared.head.HeadRefusal.TheVariants.{LongHead}
 use Rattle.gql_wire.specs.declared.stream.Framed.{Framed}
 use Rattle.gql_wire.specs.declared.stream.Framed.TheVariants as code
 
--- `request`: method, target, body, and whether the connection closes after it. `refused`: why the
--- head is refused, and whether its answer has no body.
+-- A request. `request`: method, target, body, and whether the connection closes after it.
+-- `refused`: why the head is refused, and whether its answer has no body.
 pub data Req : Type 0 where
   request : List ℕ → List ℕ → List ℕ → Bool → Req
   refused : HeadRefusal → Bool → Req
 
--- the request that the code's value means
+-- a request of the code, as contracts see it
 abbrev pub req : Framed → Req
 req (code.Request method target body closing) = request method.items target.items body.items closing
 req (code.Refused refusal bodiless) = refused refusal bodiless
 
--- whether the connection closes after it
+-- whether the connection closes after the request
 abbrev pub closes : Req → Bool
 closes (request method target body closing) = closing
 closes (refused refusal bodiless) = true
@@ -68,7 +68,7 @@ pub data IsRequest : List ℕ → Req → Type 0 where
       → HasOutcome head (expects method target (length body) closing)
       → IsRequest (head ++ body) (request method target body closing)
 
--- no front of the bytes is a request
+-- no first bytes of these are a request
 abbrev pub IsUnfinished : List ℕ → Type 0
 IsUnfinished bytes = (front more : List ℕ) (r : Req) → IsRequest front r → front ++ more ≡ bytes → ⊥
 

@@ -30,7 +30,7 @@ pub enum HeadRefusal {
 impl HeadRefusal {
     ghost use Rattle.gql_wire.specs.Head.{number_of};
 
-    /// The number that a client sees.
+    /// The error code of the refusal.
     pub fn number(self) -> u16
         ensures { result ≡ number_of self }
     {
@@ -44,7 +44,7 @@ impl HeadRefusal {
     }
 }
 
-/// What a head is: refused, or of a request with these parts. The spans lie in the head.
+/// The outcome of a head: a refusal, or a request with these parts. The spans lie in the head.
 #[derive(Clone, Copy, Debug)]
 pub enum HeadOutcome {
     Refuse {
@@ -73,7 +73,7 @@ fn are_blanks(bytes: &[u8]) -> bool
     bytes.iter().all(|byte| *byte == b' ' || *byte == b'\t')
 }
 
-/// The body length after one more value of Content-Length, where the values before gave `earlier`.
+/// The body length after one more value of Content-Length, after the earlier values gave `earlier`.
 /// `None`: the value is not a number, or differs from the earlier ones.
 fn next_length(earlier: Option<usize>, value: &[u8]) -> Option<usize>
     ensures { result ≡ next_length earlier value.now }
@@ -193,7 +193,7 @@ fn whole_head(head: &[u8], fields: &mut [HeaderSpan]) -> Option<RequestSpans>
     }
 }
 
-/// The outcome of a head whose parts are at these places.
+/// The outcome of a head whose parts are at these spans.
 fn outcome_of_parts(head: &[u8], spans: RequestSpans, fields: &[HeaderSpan]) -> HeadOutcome
     requires method { IsWithin (length head.now) spans.method }
     requires path { IsWithin (length head.now) spans.path }

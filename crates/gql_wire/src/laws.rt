@@ -1,4 +1,4 @@
-//! Laws on the requests of a stream. The functions do nothing: what each ensures is the law.
+//! Laws of the requests of a stream: contracts of functions that do nothing.
 ghost use Rattle.gql_wire.specs.Laws.{OneReading, OneSplit, SomeSplit, TakenNext, TakenLast, Feeding, Closed, AnyPieces, RestUnfinished, NothingUnfinished, MoreBytes, EndsWithin};
 
 /// Bytes begin with at most one request, so it does not matter how a stream is cut into pieces.
@@ -51,8 +51,8 @@ pub fn nothing_is_unfinished()
     ensures { NothingUnfinished }
 {}
 
-/// More bytes of an open stream keep the requests that were complete, and each further request is
-/// complete in the further bytes.
+/// More bytes of an open stream keep the requests that were complete, and each new request is
+/// completed by the new bytes.
 pub fn more_bytes()
     ensures { MoreBytes }
 {}

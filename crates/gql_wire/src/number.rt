@@ -11,7 +11,7 @@ fn are_digits(value: &[u8]) -> bool
     value.iter().all(|byte| byte.is_ascii_digit())
 }
 
-/// The number that 1 to 18 decimal digits write. `None`: the bytes are something else.
+/// The number of 1 to 18 decimal digits. `None`: the bytes are something else.
 pub fn number_in(value: &[u8]) -> Option<usize>
     ensures { result ≡ number_in value.now }
 {

@@ -16,7 +16,7 @@ pub struct WriteFailed;
 
 /// The other end of a connection: bytes come from it and go to it.
 pub trait Peer {
-    /// What passed so far, in order, where the peer reports it.
+    /// What passed so far, in order, if the peer reports it.
     ghost transcript: { Self → Option (List Passage) };
 
     /// How many reads were made, those that failed included, up to 2^64 - 1.
@@ -31,7 +31,7 @@ pub trait Peer {
     /// Whether the input is at its end.
     ghost ended: { Self → Bool };
 
-    /// Fills the front of the piece, and returns how many bytes came. Where the piece is not empty
+    /// Fills the front of the piece, and returns how many bytes came. If the piece is not empty
     /// and 0 bytes came, the input is at its end.
     fn read(&mut self, piece: &mut [u8]) -> Result<usize, ReadFailed>
         requires countable { read_failures self.old < 2 ^ 64 - 1 }
