@@ -25,13 +25,13 @@ use Rattle.gql_facts.specs.Nodes.{nodes_in, nodes_field, nodes_inline, nodes_spr
 use Rattle.gql_facts.specs.OwnReads.{own_reads}
 use Rattle.gql_facts.specs.Worlds.{Facts}
 
--- a name, wherever it is written
+-- a name at a place
 abbrev name : Place → List ℕ → Name
 name p n = record { place = p; text = n }
 
--- ---- what an operation asks
+-- ---- what an operation reads
 
--- a query root Query, whose fields are all of the object type User but for the scalar `id`
+-- a query root Query, where every field is of the object type User, except the scalar `id`
 abbrev answers : Facts
 answers (key.RootOf operation.Query) = fact.Root (codes "Query")
 answers (key.KindOf t) = fact.Kind (if bytes_eq t (codes "ID") then kind.Scalar else kind.Object)
@@ -44,6 +44,7 @@ answers (key.FieldOf t n) = fact.Field (record {
 })
 answers _ = fact.Absent
 
+-- the field `id`
 abbrev id_field : Place → Field
 id_field p = record {
   alias = None;
@@ -53,6 +54,7 @@ id_field p = record {
   selections = [];
 }
 
+-- `... on User { id }`
 abbrev on_user : Place → InlineFragment
 on_user p = record {
   place = p;
@@ -61,9 +63,11 @@ on_user p = record {
   selections = s.Field (id_field p) ∷ [];
 }
 
+-- `...Rest`
 abbrev rest : Place → Spread
 rest p = record { place = p; name = name p (codes "Rest"); directives = [] }
 
+-- `me { ... on User { id } ...Rest }`
 abbrev me_field : Place → Field
 me_field p = record {
   alias = None;
@@ -87,8 +91,8 @@ query p = record {
   });
 }
 
--- it asks for the root, for each field with the type of what it selects, for the condition, and for
--- the fragment; a key may be asked more than once
+-- it reads the root, each field with the type of what it selects, the condition, and the fragment;
+-- a key may be read more than once
 query_reads : (p : Place) → own_reads answers (query p) ≡
     key.RootOf operation.Query ∷ key.KindOf (codes "Query") ∷ key.PossibleOf (codes "Query")
     ∷ key.FieldOf (codes "Query") (codes "me")
@@ -105,9 +109,9 @@ query_reads p = rw (
   nodes_spread answers (rest p) (Some (codes "User")),
 ) refl
 
--- ---- what a schema answers
+-- ---- the answers of a schema
 
--- a type of this kind with these values, as it is without anything else
+-- a type of this kind with these values, and with no other parts
 abbrev with_values : TypeKind → TypeParts → List (Sited EnumValueDefinition) → Place → List ℕ
     → SchemaType
 with_values k its values p n = record {
@@ -130,6 +134,7 @@ with_values k its values p n = record {
   input_fields = [];
 }
 
+-- the enum value `OPEN`
 abbrev open_value : Place → EnumValueDefinition
 open_value p = record { description = None; name = name p (codes "OPEN"); directives = [] }
 
@@ -159,11 +164,11 @@ values_of_state : (p : Place)
     → fact_in (schema p) [] (key.EnumOf (codes "State")) ≡ fact.Enum (codes "OPEN" ∷ [])
 values_of_state p = refl
 
--- the values of a scalar: there are none, as a scalar is of another kind
+-- a scalar has no enum values
 values_of_date : (p : Place) → fact_in (schema p) [] (key.EnumOf (codes "Date")) ≡ fact.Absent
 values_of_date p = refl
 
--- an enum has no `__typename`, as it is not composite
+-- an enum is not composite, so it has no `__typename`
 no_typename : (p : Place)
     → fact_in (schema p) [] (key.FieldOf (codes "State") (codes "__typename")) ≡ fact.Absent
 no_typename p = refl
@@ -190,7 +195,7 @@ typename_of_union : (p : Place)
     ≡ fact.Field typename_field
 typename_of_union p = refl
 
--- the query root has `__type`, and another object has none
+-- the query root has `__type`, and another object does not
 type_of_root : (p : Place)
     → fact_in (rooted p) [] (key.FieldOf (codes "Query") (codes "__type")) ≡ fact.Field type_field
 unfolding same_operation
@@ -201,6 +206,6 @@ type_of_other : (p : Place)
 unfolding same_operation
 type_of_other p = refl
 
--- a fragment, where no document file has one
+-- no document file has a fragment
 no_fragment : (p : Place) → fact_in (schema p) [] (key.FragmentOf (codes "Rest")) ≡ fact.Absent
 no_fragment p = refl

@@ -29,9 +29,9 @@ use Rattle.gql_facts.specs.declared.key.Key.TheVariants as key
 use Rattle.gql_facts.specs.Worlds.{Facts}
 use Rattle.gql_types.specs.WrittenTypes.{type_of}
 
--- ---- what facts hold of definitions
+-- ---- facts of definitions
 
--- of an argument or an input field: its name, its type, and whether it has a default
+-- the fact of an argument or an input field: its name, its type, and whether it has a default
 abbrev pub input_fact : InputValueDefinition → InputFact
 input_fact d = record {
   name = d.name.text;
@@ -39,22 +39,22 @@ input_fact d = record {
   has_default = is_some d.default;
 }
 
--- of a field of an object or an interface
+-- the fact of a field of an object or an interface
 abbrev pub field_fact : Sited FieldDefinition → FieldFact
 field_fact d = record {
   of_type = type_of (written d.node.of_type);
   arguments = map input_fact d.node.arguments;
 }
 
--- of the fields of an input object
+-- the facts of the fields of an input object
 abbrev pub input_facts : List (Sited InputValueDefinition) → List InputFact
 input_facts = map (λ (d : Sited InputValueDefinition). input_fact d.node)
 
--- of the values of an enum
+-- the names of the values of an enum
 abbrev pub value_names : List (Sited EnumValueDefinition) → List (List ℕ)
 value_names = map (λ (v : Sited EnumValueDefinition). v.node.name.text)
 
--- of a directive
+-- the fact of a directive
 abbrev pub directive_fact : Sited DirectiveDefinition → DirectiveFact
 directive_fact d = record {
   locations = d.node.locations;
@@ -62,7 +62,7 @@ directive_fact d = record {
   arguments = map input_fact d.node.arguments;
 }
 
--- an answer, or none
+-- the fact of what was found, or absent
 abbrev pub answer : {A : Type 0} → (A → Fact) → Option A → Fact
 answer f o = option_map_or f o fact.Absent
 
@@ -93,11 +93,11 @@ type_field = record {
   } ∷ [];
 }
 
--- these three fields
+-- the three fields that no type lists
 abbrev pub meta_fields : MetaFields
 meta_fields = record { typename = typename_field; schema = schema_field; of_type = type_field }
 
--- a fact, under a condition
+-- the fact if the condition holds, else absent
 abbrev pub fact_if : Bool → Fact → Fact
 fact_if holds f = if holds then f else fact.Absent
 
@@ -111,29 +111,28 @@ field_by meta n composite query_root own =
     else if bytes_eq n (codes "__type") then fact_if query_root (fact.Field meta.of_type)
     else own
 
--- the type of this name is composite
+-- whether the type of this name is composite
 abbrev pub is_composite_type : Schema → List ℕ → Bool
 is_composite_type s t = option_map_or is_composite (kind_named s t) false
 
--- the query root has this name
+-- whether the query root has this name
 abbrev pub is_query_root : Schema → List ℕ → Bool
 is_query_root s t =
     option_map_or (λ (r : Root). bytes_eq t r.name.node.text) (root_of s operation.Query) false
 
--- the field of this name of the type of this name, where that is an object or an interface, or one
--- of the three fields above
+-- the fact of the field n of the type t: one that the type lists, or one of the three fields above
 abbrev pub field_answer : Schema → List ℕ → List ℕ → Fact
 field_answer s t n = field_by meta_fields n (is_composite_type s t) (is_query_root s t)
     (answer (λ d. fact.Field (field_fact d)) (field_named s t n))
 
--- the possible types of the type of this name, where it is composite
+-- the possible types of the type of this name, if it is composite
 abbrev pub possible_answer : Schema → List ℕ → Fact
 possible_answer s t =
     answer fact.Possible (option_and_then (λ (x : SchemaType). possible_named s t) (type_named s t))
 
 -- ---- the facts of document files
 
--- the fragments of a file, in their order
+-- the fragment of a definition, if it is one
 abbrev pub fragment_in : Definition → List FragmentFact
 fragment_in d = fragment_of d d.tree where
   fragment_of : Definition → Tree → List FragmentFact

@@ -1,4 +1,4 @@
--- Keys are one where they ask the same of the same names.
+-- Comparison of keys: two are equal if they ask the same question about the same names.
 use Rattle.std.specs.Prelude.{◌≡◌, ℕ, zero, suc, List, [], Bool, true, false, refl, nat_eq, bytes_eq, ◌&&◌}
 use Rattle.std.specs.Bool.{Decides}
 use Rattle.std.proofs.Common.{ap, sym, ◌∙◌, subst, true≢false}
@@ -8,7 +8,7 @@ use Rattle.gql_ast.specs.declared.executable.OperationKind.TheVariants as operat
 use Rattle.gql_facts.specs.declared.key.Key.{Key}
 use Rattle.gql_facts.specs.declared.key.Key.TheVariants as key
 
--- which question a key is
+-- the number of the question that a key asks
 abbrev pub number_of : Key → ℕ
 number_of (key.KindOf t) = 0
 number_of (key.FieldOf t n) = 1
@@ -21,7 +21,7 @@ number_of (key.RootOf operation.Query) = 7
 number_of (key.RootOf operation.Mutation) = 8
 number_of (key.RootOf operation.Subscription) = 9
 
--- the name that it asks of
+-- the name of what a key asks about
 abbrev pub first_name : Key → List ℕ
 first_name (key.KindOf t) = t
 first_name (key.FieldOf t n) = t
@@ -32,17 +32,17 @@ first_name (key.DirectiveOf n) = n
 first_name (key.FragmentOf n) = n
 first_name (key.RootOf k) = []
 
--- the name of the field that it asks of
+-- the name of the field that a key asks about
 abbrev pub second_name : Key → List ℕ
 second_name (key.FieldOf t n) = n
 second_name _ = []
 
--- whether two keys are one
+-- whether two keys are equal
 abbrev pub is_key : Key → Key → Bool
 is_key a b = nat_eq (number_of a) (number_of b)
     && (bytes_eq (first_name a) (first_name b) && bytes_eq (second_name a) (second_name b))
 
--- the key of a number and names
+-- the key of this number and these names
 abbrev key_at : ℕ → List ℕ → List ℕ → Key
 key_at zero t n = key.KindOf t
 key_at (suc zero) t n = key.FieldOf t n

@@ -1,6 +1,6 @@
 -- The nodes of a selection set, each with its parent type (GraphQL specification, 2.4 and 5.3). The
--- parent type is the type of the set that a node is in. It is none where the type is not known or
--- is not composite: rules that need it are silent there.
+-- parent type is the type of the set that a node is in. It is `None` if the type is unknown or
+-- not composite: rules that need it report nothing there.
 use Rattle.std.specs.Prelude.{◌≡◌, ℕ, List, [], ◌∷◌, ◌++◌, map, flat_map, refl, Bool, true, false, Option, Some, None, if◌then◌else◌}
 use Rattle.std.proofs.Common.{ap, sym, ◌∙◌}
 use Rattle.gql_text.specs.declared.place.Place.{Place}
@@ -22,22 +22,22 @@ use Rattle.gql_facts.specs.Worlds.{Facts}
 
 -- ---- parent types
 
--- the fact says that a type is composite
+-- whether the fact is the kind of a composite type
 abbrev pub is_composite_fact : Fact → Bool
 is_composite_fact (fact.Kind k) = is_composite k
 is_composite_fact _ = false
 
--- the named type of the field that a fact speaks of
+-- the named type of a field, from its fact
 abbrev pub field_type_in : Fact → Option (List ℕ)
 field_type_in (fact.Field f) = Some f.of_type.name
 field_type_in _ = None
 
--- the name of the root operation type that a fact speaks of
+-- the name of a root operation type, from its fact
 abbrev pub root_in : Fact → Option (List ℕ)
 root_in (fact.Root name) = Some name
 root_in _ = None
 
--- this type, where it is composite
+-- this type, if it is composite
 abbrev pub composite : Facts → Option (List ℕ) → Option (List ℕ)
 composite facts None = None
 composite facts (Some t) = if is_composite_fact (facts (key.KindOf t)) then Some t else None
@@ -51,15 +51,15 @@ field_type facts (Some t) n = field_type_in (facts (key.FieldOf t n))
 abbrev pub parent_below : Facts → Option (List ℕ) → List ℕ → Option (List ℕ)
 parent_below facts parent n = composite facts (field_type facts parent n)
 
--- the parent type within an inline fragment: its condition, or without one that of the set around
--- it
+-- the parent type within an inline fragment: its condition, or without one that of the set that it
+-- is in
 abbrev pub parent_within : Facts → Option (List ℕ) → Option Name → Option (List ℕ)
 parent_within facts parent None = parent
 parent_within facts parent (Some c) = composite facts (Some c.text)
 
 -- ---- nodes
 
--- a list has items
+-- whether a list has items
 abbrev pub has_any : {A : Type 0} → List A → Bool
 has_any [] = false
 has_any (x ∷ xs) = true
@@ -80,20 +80,23 @@ pub record InlineNode : Type 0 where
   pub condition : Option Name
   pub directives : List Directive
 
+-- a node of a selection set: a field, a spread with its parent type, or an inline fragment
 pub data Node : Type 0 where
   field : FieldNode → Node
   spread : Option (List ℕ) → Spread → Node
   inline : InlineNode → Node
 
--- the nodes of a selection, by the parent type
+-- the nodes of a selection, as a function of the parent type
 abbrev pub ByParent : Type 0
 ByParent = Option (List ℕ) → List Node
 
+-- the nodes of a selection of this form, from those of its parts
 abbrev pub nodes_at : Selection-F ByParent ByParent ByParent → ByParent
 nodes_at (Selection-F.Field below) parent = below parent
 nodes_at (Selection-F.Spread x) parent = spread parent x ∷ []
 nodes_at (Selection-F.InlineFragment below) parent = below parent
 
+-- the nodes of a field, from those of what it selects
 abbrev pub nodes_of_field : Facts → Field-F ByParent ByParent ByParent → ByParent
 nodes_of_field facts f parent =
     field (record {
@@ -106,6 +109,7 @@ nodes_of_field facts f parent =
     })
     ∷ flat_map (λ by. by (parent_below facts parent f.name.text)) f.selections
 
+-- the nodes of an inline fragment, from those of what it selects
 abbrev pub nodes_of_inline : Facts → InlineFragment-F ByParent ByParent ByParent → ByParent
 nodes_of_inline facts i parent =
     inline (record {
@@ -126,7 +130,7 @@ nodes_in facts =
 abbrev pub nodes : Facts → Option (List ℕ) → List Selection → List Node
 nodes facts parent = flat_map (λ x. nodes_in facts x parent)
 
--- ---- what the nodes of each selection are
+-- ---- the nodes of each form of a selection
 
 -- the node of a field
 abbrev pub field_node : Option (List ℕ) → Field → FieldNode

@@ -1,4 +1,4 @@
--- The keys that a definition asks by itself, without the fragments that it spreads.
+-- The keys that a definition reads by itself, without the fragments that it spreads.
 use Rattle.std.specs.Prelude.{flat_map, ℕ, List, [], ◌∷◌, ◌++◌, map, Option, Some, None}
 use Rattle.gql_ast.specs.declared.definition.Definition.{Definition}
 use Rattle.gql_ast.specs.declared.definition.Tree.{Tree}
@@ -22,49 +22,51 @@ use Rattle.gql_facts.specs.Worlds.{Facts}
 use Rattle.gql_types.specs.WrittenTypes.{named_type}
 use Rattle.gql_facts.specs.Nodes.{Node, field, spread, inline, nodes, nodes_in, composite, root_in, field_type, parent_below, parent_within}
 
--- a directive that is applied
+-- the keys that applied directives read
 abbrev pub directive_reads : List Directive → List Key
 directive_reads ds = map (λ (d : Directive). key.DirectiveOf d.name.text) ds
 
--- a type that may be composite
+-- the keys that a type that may be composite reads
 abbrev pub composite_reads : Option (List ℕ) → List Key
 composite_reads None = []
 composite_reads (Some t) = key.KindOf t ∷ key.PossibleOf t ∷ []
 
--- the field of a parent type, and the type of what it selects
+-- the keys that a field reads: that of the field of its parent type, and those of the type of what
+-- it selects
 abbrev pub field_reads : Facts → Option (List ℕ) → List ℕ → List Key
 field_reads facts None n = []
 field_reads facts (Some t) n = key.FieldOf t n ∷ composite_reads (field_type facts (Some t) n)
 
--- a type condition
+-- the keys that a type condition reads
 abbrev pub condition_reads : Option Name → List Key
 condition_reads None = []
 condition_reads (Some c) = composite_reads (Some c.text)
 
--- a node
+-- the keys that a node reads
 abbrev pub node_reads : Facts → Node → List Key
 node_reads facts (field f) = field_reads facts f.parent f.name.text ++ directive_reads f.directives
 node_reads facts (spread parent x) = key.FragmentOf x.name.text ∷ directive_reads x.directives
 node_reads facts (inline i) = condition_reads i.condition ++ directive_reads i.directives
 
--- the nodes of a selection set
+-- the keys that the nodes of a selection set read
 abbrev pub set_reads : Facts → List Node → List Key
 set_reads facts = flat_map (node_reads facts)
 
--- a variable: its type, and the directives that are applied to it
+-- the keys that a variable reads: those of its type, and of the directives that are applied to it
 abbrev pub variable_reads : VariableDefinition → List Key
 variable_reads v = key.KindOf (named_type (written v.of_type))
     ∷ key.InputOf (named_type (written v.of_type))
     ∷ key.EnumOf (named_type (written v.of_type))
     ∷ directive_reads v.directives
 
--- the name of the type that an operation selects from, by the answer for its kind; a subscription
--- has no parent type
+-- the type that an operation of this kind selects from, by the answer for the root; a subscription
+-- has none
 abbrev pub selected_by : OperationKind → Fact → Option (List ℕ)
 selected_by operation.Query f = root_in f
 selected_by operation.Mutation f = root_in f
 selected_by operation.Subscription f = None
 
+-- the type that an operation of this kind selects from
 abbrev pub selected_root : Facts → OperationKind → Option (List ℕ)
 selected_root facts k = selected_by k (facts (key.RootOf k))
 
@@ -80,44 +82,50 @@ operation_nodes facts o = nodes facts (root_parent facts o.kind) o.selections
 abbrev pub fragment_nodes : Facts → Fragment → List Node
 fragment_nodes facts f = nodes facts (composite facts (Some f.condition.text)) f.selections
 
--- an operation
+-- the keys that an operation reads by itself
 abbrev pub operation_reads : Facts → Operation → List Key
 operation_reads facts o = key.RootOf o.kind ∷ (composite_reads (selected_root facts o.kind)
     ++ (directive_reads o.directives
     ++ (flat_map variable_reads o.variables
     ++ set_reads facts (operation_nodes facts o))))
 
--- a fragment
+-- the keys that a fragment reads by itself
 abbrev pub fragment_reads : Facts → Fragment → List Key
 fragment_reads facts f = composite_reads (Some f.condition.text)
     ++ (directive_reads f.directives ++ set_reads facts (fragment_nodes facts f))
 
--- a definition; one of the type system asks nothing
+-- the keys that a tree reads by itself; one of the type system reads none
 abbrev pub tree_reads : Facts → Tree → List Key
 tree_reads facts (tree.Operation o) = operation_reads facts o
 tree_reads facts (tree.Fragment f) = fragment_reads facts f
 tree_reads facts _ = []
 
+-- the keys that a definition reads by itself
 abbrev pub own_reads : Facts → Definition → List Key
 own_reads facts d = tree_reads facts d.tree
 
--- ---- the parts of a scan
+-- ---- the parts of a definition, as the code scans them
 
+-- the keys that a selection set with this parent type reads
 abbrev pub set_scan : Facts → Option (List ℕ) → List Selection → List Key
 set_scan facts parent xs = set_reads facts (nodes facts parent xs)
 
+-- the keys that a selection in a set with this parent type reads
 abbrev pub selection_scan : Facts → Option (List ℕ) → Selection → List Key
 selection_scan facts parent x = set_reads facts (nodes_in facts x parent)
 
+-- the keys that a field and what it selects read
 abbrev pub field_scan : Facts → Option (List ℕ) → Field → List Key
 field_scan facts parent f = field_reads facts parent f.name.text
     ++ (directive_reads f.directives
     ++ set_scan facts (parent_below facts parent f.name.text) f.selections)
 
+-- the keys that an inline fragment and what it selects read
 abbrev pub inline_scan : Facts → Option (List ℕ) → InlineFragment → List Key
 inline_scan facts parent i = condition_reads i.condition
     ++ (directive_reads i.directives
     ++ set_scan facts (parent_within facts parent i.condition) i.selections)
 
+-- the keys that a spread reads
 abbrev pub spread_scan : Spread → List Key
 spread_scan x = key.FragmentOf x.name.text ∷ directive_reads x.directives

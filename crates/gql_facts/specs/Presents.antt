@@ -1,4 +1,4 @@
--- The answers of a schema's tables and of document files are a world.
+-- The world that is present: the answers of the tables of a schema and of document files.
 use Rattle.std.specs.Prelude.{◌≡◌, ◌≢◌, ℕ, List, ◌++◌, map, bytes_eq, codes, Bool, true, false, refl, Option, Some, None, Contains, option_and_then, if◌then◌else◌}
 use Rattle.std.proofs.Common.{sym, subst}
 use Rattle.std.proofs.lemmas.Slice.Eq.{bytes_eq-Decides}
@@ -23,13 +23,13 @@ use Rattle.gql_facts.specs.Worlds.{Facts, IsWorld, Answers}
 
 -- ---- the answers are a world
 
--- a key is answered by its kind, or not at all
+-- an answer is of the kind of its key, or absent
 answered : {A : Type 0} (k : Key) (f : A → Fact) → ((x : A) → Answers k (f x)) → (o : Option A)
     → Answers k (answer f o)
 answered k f each None = tt
 answered k f each (Some x) = each x
 
--- so is a field's, whichever of these it is
+-- if both facts answer a key for a field, so does either of them
 either : (t n : List ℕ) (b : Bool) (x y : Fact) → Answers (key.FieldOf t n) x
     → Answers (key.FieldOf t n) y → Answers (key.FieldOf t n) (if b then x else y)
 either t n true x y p q = p
@@ -80,7 +80,7 @@ kinds s fs (key.RootOf k) =
 kinds s fs (key.FragmentOf n) =
     answered (key.FragmentOf n) fact.Fragment (λ x. tt) (fragment_in fs n)
 
--- an answer that is there was found
+-- an answer that is not absent was found
 is_there : {A : Type 0} (f : A → Fact) (o : Option A) → answer f o ≢ fact.Absent
     → (x : A) × (o ≡ Some x)
 is_there f None no' = absurd (no' refl)
@@ -91,7 +91,7 @@ which_fragment : (o : Option FragmentFact) (f : FragmentFact)
 which_fragment None f e = cc e
 which_fragment (Some x) f e = cc e
 
--- of what follows from a value, the value was there
+-- if what follows from a value is there, so is the value
 first_of : {A B : Type 0} (g : A → Option B) (o : Option A) (y : B) → option_and_then g o ≡ Some y
     → (x : A) × (o ≡ Some x)
 first_of g None y e = absurd (cc e)
@@ -127,10 +127,11 @@ kept_is_world s fs = record {
 
 -- ---- a present world
 
+-- the facts of a present world
 abbrev pub facts_of_present : Present → Facts
 facts_of_present p = kept_fact p.schema.now p.fragments.now.all
 
--- the names of its fragments, and of its types
+-- the names of all fragments and types of a present world
 abbrev pub names_of_present : Present → List (List ℕ)
 names_of_present p =
     map (λ (f : FragmentFact). f.fragment.name.text) p.fragments.now.all

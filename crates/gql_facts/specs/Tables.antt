@@ -1,4 +1,4 @@
--- The facts of a schema as they are kept: a table of its types, its directives and its root
+-- Tables: the facts of a schema as the code stores them, for its types, its directives, its root
 -- operation types, and the three fields that no type lists.
 use Rattle.std.specs.Prelude.{ℕ, List, map, find, bytes_eq, Bool, false, Option, option_map, option_and_then}
 use Rattle.std.specs.Option.{option_map_or}
@@ -24,11 +24,13 @@ use Rattle.gql_facts.specs.declared.schema_facts.RootEntry.{RootEntry}
 use Rattle.gql_facts.specs.Facts.{field_fact, input_facts, value_names, directive_fact, meta_fields, field_by, answer}
 use Rattle.gql_facts.specs.Worlds.{Facts}
 
--- ---- what is kept
+-- ---- entries
 
+-- the entry of a field
 abbrev pub field_entry : Sited FieldDefinition → FieldEntry
 field_entry d = record { name = d.node.name.text; fact = field_fact d }
 
+-- the entry of a type
 abbrev pub type_entry : Schema → SchemaType → TypeEntry
 type_entry s t = record {
   name = t.definition.node.name.text;
@@ -39,9 +41,11 @@ type_entry s t = record {
   values = option_map value_names (values_by t.kind t);
 }
 
+-- the entry of a directive
 abbrev pub directive_entry : Sited DirectiveDefinition → DirectiveEntry
 directive_entry d = record { name = d.node.name.text; fact = directive_fact d }
 
+-- the entry of a root operation type
 abbrev pub root_entry : Root → RootEntry
 root_entry r = record { kind = r.kind; name = r.name.node.text }
 
@@ -54,34 +58,39 @@ tables_of s = record {
   meta = meta_fields;
 }
 
--- ---- what the tables answer
+-- ---- look-ups
 
+-- the first type of this name
 abbrev pub type_in : SchemaFacts → List ℕ → Option TypeEntry
 type_in f n = find (λ (t : TypeEntry). bytes_eq n t.name) f.types
 
+-- the first field n of the type t
 abbrev pub field_in : SchemaFacts → List ℕ → List ℕ → Option FieldEntry
 field_in f t n = option_and_then
     (λ (e : TypeEntry). find (λ (x : FieldEntry). bytes_eq n x.name) e.fields) (type_in f t)
 
+-- the first directive of this name
 abbrev pub directive_in : SchemaFacts → List ℕ → Option DirectiveEntry
 directive_in f n = find (λ (d : DirectiveEntry). bytes_eq n d.name) f.directives
 
+-- the first root operation type of this kind
 abbrev pub root_in : SchemaFacts → OperationKind → Option RootEntry
 root_in f k = find (λ (r : RootEntry). same_operation k r.kind) f.roots
 
+-- the first fragment of this name
 abbrev pub fragment_in : List FragmentFact → List ℕ → Option FragmentFact
 fragment_in fs n = find (λ (f : FragmentFact). bytes_eq n f.fragment.name.text) fs
 
--- the type of this name is composite
+-- whether the type of this name is composite
 abbrev pub is_composite_in : SchemaFacts → List ℕ → Bool
 is_composite_in f t = option_map_or (λ (e : TypeEntry). is_composite e.kind) (type_in f t) false
 
--- the query root has this name
+-- whether the query root has this name
 abbrev pub is_query_root_in : SchemaFacts → List ℕ → Bool
 is_query_root_in f t =
     option_map_or (λ (r : RootEntry). bytes_eq t r.name) (root_in f operation.Query) false
 
--- the field of this name of the type of this name
+-- the fact of the field n of the type t
 abbrev pub kept_field : SchemaFacts → List ℕ → List ℕ → Fact
 kept_field f t n = field_by f.meta n (is_composite_in f t) (is_query_root_in f t)
     (answer (λ (e : FieldEntry). fact.Field e.fact) (field_in f t n))

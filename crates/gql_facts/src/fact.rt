@@ -1,4 +1,4 @@
-//! The answers to what rules ask.
+//! The answers to the questions that rules ask.
 ghost use Rattle.std.specs.Prelude.{◌≡◌, ◌↔◌, IsTrue, IfOk};
 ghost use Rattle.gql_types.specs.RequiredInputs as required;
 ghost use Rattle.gql_types.specs.WrittenTypes.{typed_of};

@@ -17,8 +17,8 @@ impl HasName for FragmentFact {
     }
 }
 
-/// The fragments of all document files, in the order of the files' names; of those of one name the
-/// first counts.
+/// The fragments of all document files, in the order of the files' names. The first of each name
+/// counts.
 #[derive(Drop)]
 pub struct Fragments {
     pub all: Named<FragmentFact>,

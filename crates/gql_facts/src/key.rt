@@ -1,4 +1,4 @@
-//! The questions that rules ask of a schema and of fragments.
+//! The questions that rules ask about a schema and fragments.
 ghost use Rattle.std.specs.Prelude.{◌≡◌, ◌↔◌, ◌++◌, IsTrue, IfOk};
 ghost use Rattle.std.proofs.Common.{ap};
 ghost use Rattle.std.specs.Hash as fed;
@@ -16,7 +16,7 @@ pub enum Key {
     KindOf(Text),
     /// The type and the arguments of a field of an object or an interface (3.6, 3.7).
     FieldOf { of_type: Text, field: Text },
-    /// The objects that a composite type may stand for (3.7, 3.8).
+    /// The possible types of a composite type (3.7, 3.8).
     PossibleOf(Text),
     /// The fields of an input object (3.10).
     InputOf(Text),
@@ -50,7 +50,7 @@ impl Key {
         })
     }
 
-    /// Which question it is.
+    /// The number of the question.
     fn number(&self) -> u8
         ensures { result ≡ number_of self.now }
     {
@@ -68,7 +68,7 @@ impl Key {
         }
     }
 
-    /// The name that it asks of, or an empty text.
+    /// The name of what it asks about, or an empty text.
     fn first_name(&self) -> &str
         ensures { result.now ≡ first_name self.now }
     {
@@ -84,7 +84,7 @@ impl Key {
         }
     }
 
-    /// The name of the field that it asks of, or an empty text.
+    /// The name of the field that it asks about, or an empty text.
     fn second_name(&self) -> &str
         ensures { result.now ≡ second_name self.now }
     {

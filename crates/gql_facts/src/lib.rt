@@ -1,5 +1,5 @@
-//! What rules on operations may ask of a schema and of fragments, what a definition reads, and a
-//! record of it.
+//! The questions that rules on operations ask about a schema and fragments, the keys that a
+//! definition reads, and records of the answers.
 #![tactic(auto)]
 
 mod fact;

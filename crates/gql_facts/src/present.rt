@@ -79,7 +79,7 @@ fn is_query_root(schema: &SchemaFacts, of_type: &str) -> bool
     }
 }
 
-/// The fact of a field, under a condition.
+/// The fact of a field if the condition holds, else absent.
 fn fact_if(holds: bool, field: &Shared<FieldFact>) -> Result<Fact, AllocError>
     ensures { IfOk result (λ f. f ≡ spec.fact_if holds (fact.Field field.now)) }
 {
@@ -196,8 +196,8 @@ impl<'p> Present<'p> {
     ghost use Rattle.gql_types.specs.declared.schema.Schema.{Schema};
     ghost use Rattle.gql_facts.specs.Presents.{facts_of_present};
 
-    /// The world of these. Its answers are those of the schema and of the document files that the
-    /// tables were made of.
+    /// The world of this schema and these fragments. Its answers are those of the schema and of the
+    /// document files from which they were made.
     pub fn new(schema: &'p SchemaFacts, fragments: &'p Fragments) -> Present<'p>
         ensures schema { result.schema.now ≡ schema.now }
         ensures fragments { result.fragments.now ≡ fragments.now }

@@ -1,5 +1,5 @@
-//! The keys that a definition asks by itself. A fact that decides a parent type is asked of the
-//! world at once.
+//! The keys that a definition reads by itself. If a fact decides a parent type, the world is asked
+//! for it at once.
 ghost use Rattle.std.specs.Prelude.{◌≡◌, [], ◌∷◌, IfOk, OnOk, OnErr, flat_map, option_map};
 ghost use Rattle.gql_types.specs.Written.{written};
 ghost use Rattle.gql_facts.specs.Nodes as nodes;
@@ -18,7 +18,7 @@ use gql_types::WrittenType;
 use indexmap::IndexSet;
 use std::alloc::{AllocError, Global};
 
-/// Keeps a key, unless it is there.
+/// Adds a key, unless it is there.
 pub fn keep(key: Key, keys: &mut IndexSet<Key>) -> Result<(), AllocError>
     ensures { OnOk result (keys.new.keys ≡ add_keys keys.old.keys (key ∷ [])) }
 {
@@ -115,7 +115,7 @@ fn root_type(fact: &Fact) -> Result<Option<Text>, AllocError>
     }
 }
 
-/// Asks of a type that may be composite. The result is the type, if it is.
+/// Asks about a type that may be composite. The result is the type, if it is.
 fn enter<W: World>(
     alloc: Global,
     world: &mut W,
@@ -145,7 +145,7 @@ fn enter<W: World>(
     }
 }
 
-/// Asks of a field of a parent type. The result is the parent type of what the field selects.
+/// Asks about a field of a parent type. The result is the parent type of what the field selects.
 fn enter_field<W: World>(
     alloc: Global,
     world: &mut W,
@@ -178,7 +178,7 @@ fn enter_field<W: World>(
     Ok(below)
 }
 
-/// Asks of a type condition. The result is the parent type within the inline fragment.
+/// Asks about a type condition. The result is the parent type within the inline fragment.
 fn enter_condition<W: World>(
     alloc: Global,
     world: &mut W,
@@ -351,7 +351,7 @@ fn scan_operation<W: World>(
     Ok(())
 }
 
-/// Asks what a fragment asks by itself.
+/// Adds the keys that a fragment reads by itself.
 pub fn scan_fragment<W: World>(
     alloc: Global,
     world: &mut W,
@@ -375,7 +375,7 @@ pub fn scan_fragment<W: World>(
     Ok(())
 }
 
-/// Asks what a definition asks by itself.
+/// Adds the keys that a definition reads by itself.
 pub fn scan_tree<W: World>(
     alloc: Global,
     world: &mut W,

@@ -40,7 +40,7 @@ fn keep_inputs(inputs: &[InputFact], keys: &mut IndexSet<Key>) -> Result<(), All
     Ok(())
 }
 
-/// Keeps what is asked of the types that an answer names.
+/// Adds the keys about the types that an answer names.
 fn keep_types(fact: &Fact, keys: &mut IndexSet<Key>) -> Result<(), AllocError>
     ensures { OnOk result (keys.new.keys ≡ add_keys keys.old.keys (spec.types_led_to fact.now)) }
 {
@@ -57,7 +57,7 @@ fn keep_types(fact: &Fact, keys: &mut IndexSet<Key>) -> Result<(), AllocError>
     Ok(())
 }
 
-/// Follows an answer: keeps what it leads to.
+/// Follows an answer: adds the keys that it leads to.
 fn follow<W: World>(
     alloc: Global,
     world: &mut W,
@@ -85,7 +85,7 @@ fn follow<W: World>(
     Ok(())
 }
 
-/// Asks the key at a place, and follows the answer.
+/// Asks the key at an index, and follows the answer.
 fn visit<W: World>(
     alloc: Global,
     world: &mut W,
@@ -111,12 +111,12 @@ fn visit<W: World>(
     Ok(())
 }
 
-/// Asks a world for just the keys that a definition reads, and collects the fragments that it
+/// Asks a world for exactly the keys that a definition reads, and collects the fragments that it
 /// reaches.
 ///
 /// A world that keeps a record has recorded the answers to all these keys. If an allocation fails,
-/// it has recorded some of them or none, and nothing else; what it had recorded rightly is still
-/// there. Its facts are the same either way.
+/// it has recorded some of them or none, and nothing else; each right answer that it had recorded
+/// is still there. Its facts are the same either way.
 pub fn walk_reads<W: World>(
     alloc: Global,
     world: &mut W,

@@ -1,4 +1,4 @@
-//! What answers rules, and a record of its answers.
+//! Worlds, which answer the questions of rules, and a world that records its answers.
 ghost use Rattle.std.specs.Prelude.{◌≡◌, ℕ, List, Option, Some, IfOk, OnOk, OnErr, option_map};
 ghost use Rattle.gql_facts.specs.Worlds.{IsWorld, noted};
 ghost use Rattle.gql_facts.specs.declared.fact.Fact.{Fact};
@@ -9,20 +9,20 @@ use crate::key::Key;
 use indexmap::IndexMap;
 use std::alloc::{AllocError, Global};
 
-/// What answers the keys that rules ask. An answer is the same at every call.
+/// A world answers the keys that rules ask. The answer to a key is the same at every call.
 pub trait World {
     /// The fact for each key.
     ghost facts: { Self → Key → Fact };
 
-    /// Names that have all fragments and input objects among them.
+    /// Names, among which are those of all fragments and input objects.
     ghost names: { Self → List (List ℕ) };
 
-    /// The answers so far, each once, in the order in which they were first given, where the world
+    /// The answers so far, each once, in the order in which they were first given, if the world
     /// records them.
     ghost asked: { Self → Option (List (Key × Fact)) };
 
-    /// The borrows that the world holds, 0 for none. Each call keeps them, so that their lenders
-    /// have them again afterwards.
+    /// The borrows that the world holds, 0 for none. No call changes them, so that what
+    /// is borrowed can be used again once the world is gone.
     ghost lent: { Self → ℕ × ℕ };
 
     /// The answer to a key. A world that keeps a record has recorded it. If an allocation fails,
@@ -36,13 +36,13 @@ pub trait World {
             ≡ option_map (noted key.now (facts self.old key.now)) (asked self.old)) }
         ensures failed { OnErr result (asked self.new ≡ asked self.old) };
 
-    /// A key has an answer of its kind or none; a fragment has its own name; fragments and input
-    /// objects are finitely many.
+    /// The answer to a key is of its kind or absent, the answer for a fragment is one of that name,
+    /// and fragments and input objects are finitely many.
     ghost is_world: { (s : Self) → IsWorld (facts s) (names s) };
 }
 
 /// A world that records every answer of another, absences too, in the order in which keys were
-/// first asked. A call that fails records nothing, also where the other world had an answer.
+/// first asked. A call that fails records nothing, even if the other world had an answer.
 #[derive(Drop)]
 pub struct Recorder<'w, W: World> {
     pub inner: &'w mut W,
