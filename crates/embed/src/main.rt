@@ -1,5 +1,5 @@
 //! An example of a program over one crate, `gql_parse`: it lists the operations and the fragments
-//! of the document on standard input, or says why the text is no document.
+//! of the document on standard input, or says why the text is not a document.
 #![tactic(auto)]
 
 use anyhow::Result;

@@ -15,7 +15,7 @@ fn allow_in(methods: &str) -> Option<Allow> {
     }
 }
 
-/// These bytes, and then the head of an answer; `None` where the service answers with no such
+/// These bytes, and then the head of an answer; `None` if the service answers with no such
 /// status.
 pub fn answer_head_bytes(
     alloc: Global,

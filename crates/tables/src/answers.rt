@@ -1,5 +1,5 @@
 //! Answers as transcripts write them: `STATUS BODY`, with `allow METHODS` and `close` after the
-//! status where the head says so.
+//! status if the head says so.
 use crate::answer_heads::answer_head_bytes;
 use crate::bytes::characters;
 use crate::joined::join;
@@ -14,7 +14,7 @@ struct Head<'a> {
     closes: bool,
 }
 
-/// Reads the lines of a head; `None` where a field is none that answers have.
+/// Reads the lines of a head; `None` if a field is not one that answers have.
 fn head_in(text: &str) -> Option<Head<'_>> {
     let (status, fields) = text.split_once("\r\n")?;
     let (_, status) = status.split_once(" ")?;
@@ -37,7 +37,7 @@ fn head_in(text: &str) -> Option<Head<'_>> {
     Some(head)
 }
 
-/// The first answer of a text as a transcript writes it, and the text after it. `None` where the
+/// The first answer of a text as a transcript writes it, and the text after it. `None` if the
 /// bytes of the head are not those of such an answer.
 fn first_answer(alloc: Global, text: &str) -> Option<(String, &str)> {
     let (head, _) = text.split_once("\r\n\r\n")?;
@@ -70,7 +70,7 @@ fn first_answer(alloc: Global, text: &str) -> Option<(String, &str)> {
     Some((written, rest.get(length..)?))
 }
 
-/// The answers of a stream as a transcript writes them; `None` where its bytes are not those of
+/// The answers of a stream as a transcript writes them; `None` if its bytes are not those of
 /// answers.
 pub fn written_answers(alloc: Global, bytes: &[u8], between: &str) -> Option<String> {
     let text = characters(alloc, bytes).ok()?;

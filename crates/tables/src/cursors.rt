@@ -8,7 +8,7 @@ use gql_parse::{definition, directives, name, optional_default, set, type_ref, v
 use gql_text::{Kind, lex};
 use std::alloc::{AllocError, Global};
 
-/// The kind of a token's text, and that of the end where the text is empty.
+/// The kind of a token's text, and that of the end if the text is empty.
 fn kind_of(alloc: Global, text: &str) -> Option<Kind> {
     match lex(alloc, text).ok()?.first() {
         Some(token) => Some(token.kind),

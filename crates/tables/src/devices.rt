@@ -10,7 +10,7 @@ const PIECE_BYTES: usize = 4;
 /// How many reads are made at most.
 const MOST_READS: u64 = 1_000;
 
-/// What `MOST` or `MOST fails after COUNT` says; `None` where MOST is 0.
+/// What `MOST` or `MOST fails after COUNT` says; `None` if MOST is 0.
 pub fn moves_in(text: &str) -> Option<Moves> {
     let (most, failing) = match text.split_once(" fails after ") {
         Some((most, count)) => (most, Some(count.parse::<u64>().ok()?)),
@@ -23,7 +23,7 @@ pub fn moves_in(text: &str) -> Option<Moves> {
     Some(Moves { most, failing })
 }
 
-/// What a read brings, and whether more bytes may follow; `None` where too many reads were made.
+/// What a read brings, and whether more bytes may follow; `None` if too many reads were made.
 fn read_once(alloc: Global, peer: &mut MemPeer<'_>) -> Option<(String, bool)> {
     if peer.reads > MOST_READS || peer.read_failures > MOST_READS {
         return None;

@@ -41,7 +41,7 @@ pub fn copies_answer(alloc: Global, text: &str, parser: &str) -> Option<String> 
     Some(written)
 }
 
-/// The number of what a parser answers, which is 0 where a text is accepted.
+/// The number of what a parser answers, which is 0 if a text is accepted.
 fn number_of(parsed: &Result<Document, SyntaxFault>) -> u16 {
     match parsed {
         Ok(_) => 0,
@@ -51,7 +51,7 @@ fn number_of(parsed: &Result<Document, SyntaxFault>) -> u16 {
 }
 
 /// The numbers of the answers to a text that is cut after each character, the empty one first,
-/// each number where it is not that of the text before: `OFFSET NUMBER`.
+/// each number if it differs from that of the text before: `OFFSET NUMBER`.
 pub fn cuts_answer(alloc: Global, text: &str, parser: &str) -> Option<String> {
     let mut written = String::new(alloc);
     let mut last = None;

@@ -1,4 +1,5 @@
-//! Edits on one registry, one after the other: what each answers, and which definitions it examines.
+//! Edits on one registry, one after the other: what each answers, and which definitions it
+//! examines.
 use crate::faults::written_faults;
 use crate::joined::join;
 use crate::running::run_step;

@@ -23,7 +23,7 @@ pub fn kind_in(word: &str) -> Option<OperationKind> {
     }
 }
 
-/// A key: its word, and the names that it asks of.
+/// A key: its word, and the names that it asks about.
 pub fn written_key(alloc: Global, key: &Key) -> Option<String> {
     let (word, name) = match key {
         Key::KindOf(name) => ("kind-of", name.as_str()),
@@ -55,7 +55,7 @@ fn written_type(alloc: Global, of_type: &WrittenType) -> Option<String> {
     Some(written)
 }
 
-/// Arguments or input fields, `NAME:TYPE` each, with `=` where there is a default.
+/// Arguments or input fields, `NAME:TYPE` each, with `=` if there is a default.
 fn add_inputs(alloc: Global, inputs: &[InputFact], written: &mut String) -> Option<()> {
     for input in inputs {
         let name = input.name.as_str();

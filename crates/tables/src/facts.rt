@@ -1,4 +1,4 @@
-//! Questions about facts, and about what a definition reads. Each answer is `None` where the
+//! Questions about facts, and about what a definition reads. Each answer is `None` if the
 //! question is not well written.
 use crate::fact_words::{kind_in, written_fact, written_key};
 use crate::joined::join;

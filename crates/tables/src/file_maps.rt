@@ -1,4 +1,4 @@
-//! Files that are put, found and taken away, step after step.
+//! Files that are put, found and removed, step after step.
 use crate::steps::{Stepped, parts_of, steps_answer, yes_or_no};
 use gql_ast::{Document, FileName, Files, Items, Shared};
 use std::alloc::Global;
@@ -48,7 +48,7 @@ impl Stepped for Kept {
     }
 }
 
-/// What the steps of files answer, which begin with none.
+/// The answers to steps that begin without files.
 pub fn files_answer(alloc: Global, steps: &str) -> Option<String> {
     let mut kept = Kept {
         files: Files::new(alloc),

@@ -27,7 +27,7 @@ fn merged_faults(
     Some(faults)
 }
 
-/// The same, by a search through all pairs.
+/// The faults of the definitions of a document, by a search through all pairs.
 fn searched_faults(alloc: Global, schema: &Schema, document: &Document) -> Option<Vec<Fault>> {
     let mut faults = Vec::new(alloc);
     let source = Source { schema, document };

@@ -40,7 +40,7 @@ fn byte_by_byte(alloc: Global, bytes: &[u8]) -> Option<Vec<u8>> {
 }
 
 /// The answers to a stream, which are the same whole, byte by byte and cut at each place. `None`
-/// where they are not.
+/// if they are not.
 fn in_any_pieces(alloc: Global, bytes: &[u8]) -> Option<Vec<u8>> {
     let whole = answered(alloc, bytes, 0)?;
     for place in 1..bytes.len() {

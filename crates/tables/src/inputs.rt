@@ -9,7 +9,7 @@ use gql_text::{Kind, lex};
 use serde_json::Value;
 use std::alloc::Global;
 
-/// The type that a text is.
+/// The type that a text writes.
 pub fn type_in(alloc: Global, text: &str) -> Option<TypeRef> {
     let tokens = lex(alloc, text).ok()?;
     let mut cursor = Cursor::new(tokens.as_slice());
@@ -21,7 +21,7 @@ pub fn type_in(alloc: Global, text: &str) -> Option<TypeRef> {
     }
 }
 
-/// The literal that a text is.
+/// The literal that a text writes.
 pub fn literal_in(alloc: Global, text: &str) -> Option<Literal> {
     let tokens = lex(alloc, text).ok()?;
     let mut cursor = Cursor::new(tokens.as_slice());
@@ -33,12 +33,12 @@ pub fn literal_in(alloc: Global, text: &str) -> Option<Literal> {
     }
 }
 
-/// The value of JSON that a text is.
+/// The value of JSON that a text writes.
 pub fn json_in(alloc: Global, text: &str) -> Option<Value> {
     Value::from_str(alloc, text).ok()
 }
 
-/// The executable document that a text is.
+/// The executable document that a text writes.
 pub fn document_in(alloc: Global, text: &str) -> Option<Document> {
     parse(alloc, FileName::read("q")?, text).ok()
 }
@@ -59,7 +59,7 @@ pub fn field_of(operation: &Operation) -> Option<&Field> {
     }
 }
 
-/// Puts a schema file; `None` where its text is not one.
+/// Puts a schema file; `None` if its text is not one.
 pub fn put_file(alloc: Global, files: &mut Files, name: &FileName, text: &str) -> Option<()> {
     let document = parse_sdl(alloc, name.copy(), text).ok()?;
     let document = Shared::new(alloc, document).ok()?;

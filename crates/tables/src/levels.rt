@@ -5,7 +5,7 @@ use gql_grammar::{Cursor, ParseError, looked_at, placed};
 use gql_text::{end_place, lex};
 use std::alloc::Global;
 
-/// The error of that name, and how many tokens are left where it is met.
+/// The error of that name, and how many tokens are left when it occurs.
 fn error_named(name: &str) -> Option<(ParseError, usize)> {
     if name == "memory" {
         return Some((ParseError::Memory, 0));
@@ -20,7 +20,7 @@ pub fn visited_answer(alloc: Global, text: &str) -> Option<String> {
     format!(in alloc; "{count}").ok()
 }
 
-/// The refusal of a text where so many tokens are left, or where an allocation fails.
+/// The refusal of a text if so many tokens are left, or if an allocation fails.
 pub fn placed_answer(alloc: Global, text: &str, name: &str) -> Option<String> {
     if text.len() > 65_536 {
         return None;

@@ -1,4 +1,4 @@
-//! Look-ups in a schema (GraphQL specification, 3.3 to 3.13). Each answer is `None` where the
+//! Look-ups in a schema (GraphQL specification, 3.3 to 3.13). Each answer is `None` if the
 //! question is not well written.
 use crate::inputs::type_in;
 use crate::joined::join;
@@ -7,7 +7,7 @@ use gql_text::Place;
 use gql_types::{HasName, Root, Schema};
 use std::alloc::Global;
 
-/// That nothing is found.
+/// The answer if nothing is found.
 fn nothing(alloc: Global) -> Option<String> {
     String::from_str(alloc, "none").ok()
 }

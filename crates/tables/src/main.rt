@@ -63,7 +63,7 @@ fn read_tables(rt: &HostRuntime, table: &mut Table) -> Result<()> {
     Ok(())
 }
 
-/// Prints how many answers there were, and the differences before it where there are any.
+/// Prints how many answers there were, and the differences before it if there are any.
 fn tell(rt: &HostRuntime, answers: u64, differences: &str) -> Result<()> {
     if differences.is_empty() {
         println!(rt; "{answers} answers, all as expected")?;

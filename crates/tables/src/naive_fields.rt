@@ -10,7 +10,7 @@ use std::alloc::{AllocError, Global};
 #[derive(Clone, Copy)]
 pub struct NaiveField<'t> {
     pub field: &'t Field,
-    /// The type in whose selections it is.
+    /// Its parent type.
     pub parent: &'t str,
     /// Its type.
     pub of_type: &'t TypeRef,

@@ -49,7 +49,7 @@ fn all_faults(
 }
 
 /// The faults by these rules of the operations and fragments of a document file `d` with this
-/// text, in the order of a report; `None` where the text is not a document.
+/// text, in the order of a report; `None` if the text is not a document.
 pub fn operations_answer(
     alloc: Global,
     schema: &Schema,

@@ -1,4 +1,4 @@
-//! Pipes: the requests of a peer answered, where reads and writes fail.
+//! Pipes: the answers to the requests of a peer whose reads and writes may fail.
 use crate::bytes::bytes_in;
 use crate::devices::moves_in;
 use crate::hubs::answered;
@@ -7,7 +7,7 @@ use gql_registry::Registry;
 use gql_wire::MemPeer;
 use std::alloc::Global;
 
-/// How a pipe of a service on an empty registry ends, whose peer is new; `None` where it is not.
+/// How a pipe of a service on an empty registry ends, whose peer is new; `None` if it is not.
 fn piped(alloc: Global, peer: &mut MemPeer<'_>) -> Option<Result<PipeEnd, PipeFault>> {
     if peer.read_failures > 0 || peer.write_failures > 0 {
         return None;

@@ -8,7 +8,7 @@ pub fn quoted(alloc: Global, text: &str) -> Result<String, AllocError> {
     Value::String(String::from_str(alloc, text)?).to_string(alloc)
 }
 
-/// The text that a string of JSON is.
+/// The text of a string of JSON.
 pub fn unquoted(alloc: Global, text: &str) -> Option<String> {
     match Value::from_str(alloc, text).ok()? {
         Value::String(text) => Some(text),

@@ -236,7 +236,7 @@ impl Row {
         self.editing.run_step(question)
     }
 
-    /// The answer to a question of the table. The answers to a stream are `as above` where they are
+    /// The answer to a question of the table. The answers to a stream are `as above` if they are
     /// those that lines before expect.
     pub fn answer(&mut self, rt: &HostRuntime, question: &str) -> Result<String, AllocError> {
         let answer = self.given_answer(rt, question)?;

@@ -40,7 +40,8 @@ fn written_run(alloc: Global, ran: Result<Reply, Refusal>, most: usize) -> Optio
     }
 }
 
-/// A text in which `1 times COUNT`, if it is there, stands for so many ones with commas between.
+/// A text in which `1 times COUNT`, if it is there, is replaced by so many ones with commas
+/// between.
 fn with_times(alloc: Global, text: &str) -> Option<String> {
     let mut whole = String::new(alloc);
     let Some((before, rest)) = text.split_once("1 times ") else {
@@ -94,8 +95,8 @@ pub fn only_run(alloc: Global, registry: &mut Registry) -> Option<String> {
     written_run(alloc, registry.run(None, &Value::Null), usize::MAX)
 }
 
-/// A document with so many operations, each of which asks for the field `a` twice, once under a name
-/// of its own.
+/// A document with so many operations, each of which asks for the field `a` twice, once under a
+/// name of its own.
 fn many_operations(alloc: Global, count: u32) -> Option<String> {
     let mut text = String::new(alloc);
     for number in 0..count {

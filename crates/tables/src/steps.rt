@@ -5,7 +5,7 @@ use std::alloc::Global;
 
 /// What is asked step after step.
 pub trait Stepped {
-    /// What a step answers; `None` where there is no such step.
+    /// What a step answers; `None` if there is no such step.
     fn step(&mut self, alloc: Global, step: &str) -> Option<String>;
 }
 

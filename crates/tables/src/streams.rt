@@ -90,7 +90,7 @@ impl Stream {
         Ok(())
     }
 
-    /// Its requests, and `rest` where an unfinished one is held.
+    /// Its requests, and `rest` if an unfinished one is held.
     fn written(&self) -> Result<String, AllocError> {
         let mut written = String::new(self.alloc);
         for framed in self.found.as_slice() {

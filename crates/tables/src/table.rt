@@ -64,7 +64,7 @@ impl Table {
         self.differ(difference.as_str())
     }
 
-    /// Begins another row where a question was asked of the present one.
+    /// Begins another row if a question was asked of the present one.
     fn begin(&mut self) {
         if self.is_asked {
             self.row = Row::new(self.alloc);

@@ -19,7 +19,7 @@ fn name_answer(alloc: Global, text: &str) -> Option<String> {
     }
 }
 
-/// The answer to a question about a text, by its first word; `None` where there is no such
+/// The answer to a question about a text, by its first word; `None` if there is no such
 /// question, or where it is not well written.
 pub fn text_answer(alloc: Global, text: &str, question: &str) -> Option<String> {
     let (word, rest) = question.split_once(" ").unwrap_or((question, ""));

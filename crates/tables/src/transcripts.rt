@@ -49,7 +49,7 @@ impl Transcript {
     }
 
     /// Feeds bytes to a connection. Returns the answers that this gave or `nothing`, and `closes`
-    /// where a request closed the connection; `closed` where it was not open.
+    /// if a request closed the connection; `closed` if it was not open.
     fn feed(&mut self, connection: u8, piece: &[u8]) -> Option<String> {
         if !self.hub.is_open(connection) {
             return String::from_str(self.alloc, "closed").ok();

@@ -26,7 +26,7 @@ fn written_items<T: Written>(alloc: Global, items: &[T]) -> Result<String, Alloc
     Ok(written)
 }
 
-/// A text between two others, or nothing where it is empty.
+/// A text between two others, or nothing if it is empty.
 pub fn between(alloc: Global, before: &str, text: &str, after: &str) -> Result<String, AllocError> {
     if text.is_empty() {
         return Ok(String::new(alloc));
@@ -34,7 +34,7 @@ pub fn between(alloc: Global, before: &str, text: &str, after: &str) -> Result<S
     format!(in alloc; "{before}{text}{after}")
 }
 
-/// The items between two texts, or nothing where there are none.
+/// The items between two texts, or nothing if there are none.
 pub fn enclosed<T: Written>(
     alloc: Global,
     before: &str,

@@ -1,5 +1,5 @@
 //! Questions about values (GraphQL specification, 3.5 to 3.12, 5.6, 6.1.2, 6.4.1). Each answer is
-//! `None` where the question is not well written.
+//! `None` if the question is not well written.
 use crate::inputs::{document_in, field_of, json_in, literal_in, operation_of, type_in};
 use crate::written::{written_misfits, written_option, written_value};
 use gql_coerce::{coerce_arguments, coerce_json, coerce_literal, coerce_variables};
@@ -12,7 +12,7 @@ fn with_variables(question: &str) -> (&str, &str) {
     question.split_once(" with ").unwrap_or((question, "{}"))
 }
 
-/// What a literal comes to: `TYPE LITERAL`.
+/// The result of coercing a literal: `TYPE LITERAL`.
 fn literal_answer(alloc: Global, schema: &Schema, question: &str) -> Option<String> {
     let (question, variables) = with_variables(question);
     let (of_type, literal) = question.split_once(" ")?;
@@ -23,7 +23,7 @@ fn literal_answer(alloc: Global, schema: &Schema, question: &str) -> Option<Stri
     written_option(alloc, &coerced).ok()
 }
 
-/// What a value of JSON comes to: `TYPE JSON`.
+/// The result of coercing a value of JSON: `TYPE JSON`.
 fn json_answer(alloc: Global, schema: &Schema, question: &str) -> Option<String> {
     let (of_type, value) = question.split_once(" ")?;
     let of_type = type_in(alloc, of_type)?;
@@ -31,7 +31,7 @@ fn json_answer(alloc: Global, schema: &Schema, question: &str) -> Option<String>
     written_value(alloc, &coerce_json(alloc, schema, &value, &of_type)).ok()
 }
 
-/// What of a literal does not fit: `TYPE LITERAL`.
+/// The parts of a literal that do not fit: `TYPE LITERAL`.
 fn misfits_answer(alloc: Global, schema: &Schema, question: &str) -> Option<String> {
     let (of_type, literal) = question.split_once(" ")?;
     let of_type = type_in(alloc, of_type)?;

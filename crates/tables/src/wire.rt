@@ -9,7 +9,7 @@ use crate::streams::requests_answer;
 use crate::transcripts::connections_answer;
 use std::alloc::Global;
 
-/// The answer to a question about a stream of bytes, by its first word; `None` where there is no
+/// The answer to a question about a stream of bytes, by its first word; `None` if there is no
 /// such question, or where it is not well written.
 pub fn wire_answer(alloc: Global, text: &str, question: &str) -> Option<String> {
     let (word, rest) = question.split_once(" ").unwrap_or((question, ""));

@@ -1,10 +1,10 @@
-//! What the coercion of values comes to, as the table writes it.
+//! The results of the coercion of values, as the table writes them.
 use gql_coerce::{CoerceFault, Refusal, path_text};
 use gql_inputs::BadValue;
 use serde_json::Value;
 use std::alloc::{AllocError, Global};
 
-/// A refusal as its number, and its path where it is not the whole input.
+/// A refusal as its number, and its path if it is not the whole input.
 fn written_refusal(alloc: Global, refusal: &Refusal) -> Result<String, AllocError> {
     let number = refusal.reason.number();
     let path = refusal.path.as_slice();
@@ -35,7 +35,7 @@ pub fn written_value(
     }
 }
 
-/// A value as JSON, or `absent` where there is none, or its refusal.
+/// A value as JSON, or `absent` if there is none, or its refusal.
 pub fn written_option(
     alloc: Global,
     coerced: &Result<Option<Value>, CoerceFault>,
@@ -47,7 +47,8 @@ pub fn written_option(
     }
 }
 
-/// What of a value does not fit, each as its rule, what it is about, and its column; or `fits`.
+/// The parts of a value that do not fit, each as its rule, what it is about, and its column; or
+/// `fits`.
 pub fn written_misfits(alloc: Global, misfits: &[BadValue]) -> Result<String, AllocError> {
     if misfits.is_empty() {
         return String::from_str(alloc, "fits");

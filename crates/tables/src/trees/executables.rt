@@ -19,7 +19,7 @@ impl Written for Selection {
     }
 }
 
-/// A selection set, or nothing where none is written.
+/// A selection set, or nothing if none is written.
 #[cycle(selections)]
 fn written_set(alloc: Global, selections: &[Selection]) -> Result<String, AllocError> {
     let mut written = String::new(alloc);
