@@ -1,6 +1,6 @@
 //! Syntax trees of GraphQL documents, with the place of every node that a fault can name.
 //!
-//! Contracts see a tree as plain data: two trees are equal exactly where they are the same tree
+//! Contracts see a tree as plain data: two trees are equal exactly if they are the same tree
 //! with the same places.
 #![tactic(auto)]
 

@@ -25,12 +25,12 @@ is_seen rows x = slice_index_or (slice_index_or rows x.left []) (column x) false
 abbrev pub see : List (List Bool) → Item → List (List Bool)
 see rows x = slice_set rows x.left (slice_set (slice_index_or rows x.left []) (column x) true)
 
--- so many rows, each with two columns for each row
+-- there are `count` rows, each with two columns for each row
 pub record IsSquare (count : ℕ) (rows : List (List Bool)) : Type 0 where
   pub rows_are : length rows ≡ count
   pub row_is : (i : ℕ) → i < count → length (slice_index_or rows i []) ≡ 2 * count
 
--- the groups of the item are among so many
+-- both groups of the item are among `count` groups
 abbrev pub IsInside : ℕ → Item → Type 0
 IsInside count x = (x.left < count) × (x.right < count)
 

@@ -131,7 +131,7 @@ fn fields_over(alloc: Global, sets: &Sets, bodies: &[usize]) -> Result<Vec<usize
 }
 
 /// The groups of all bodies. Fields with selections are joined if each field has only one number,
-/// and up to so many groups.
+/// and only up to a limit of groups.
 pub fn table_of(alloc: Global, sets: &Sets) -> Result<Table, AllocError>
     requires { IsWhole sets.now }
     ensures { IfOk result (IsTable sets.now) }

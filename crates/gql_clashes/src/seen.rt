@@ -33,7 +33,7 @@ fn column_of(item: Item) -> usize
     2 * item.right + mode_place(item.mode)
 }
 
-/// No items, for so many groups.
+/// No items seen, for this many groups.
 pub fn nothing_seen(alloc: Global, count: usize) -> Result<Seen, AllocError>
     requires { 2 * count < 2 ^ 64 }
     ensures { IfOk result (λ seen. rows_of seen ≡ replicate count (replicate (2 * count) false)) }

@@ -23,7 +23,7 @@ pub fn nodes_of<'n>(alloc: Global, rows: &[Row<'n>]) -> Result<HashMap<&'n str, 
     Ok(nodes)
 }
 
-// A graph of so many nodes, without edges.
+// A graph of this many nodes, without edges.
 fn no_edges(alloc: Global, count: usize) -> Result<Vec<Vec<usize>>, AllocError>
     ensures { IfOk result (λ edges. map (λ v. v.items) edges.items ≡ replicate count []) }
 {

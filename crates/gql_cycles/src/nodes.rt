@@ -7,7 +7,7 @@ ghost use Rattle.gql_cycles.specs.Path.{Rises};
 use crate::walk::cycle_marks;
 use std::alloc::{AllocError, Global};
 
-// Adds the node where an edge ends, if it is one of so many.
+// Adds the end of an edge, if it is a node of the graph.
 fn add_inside(end: usize, count: usize, ends: &mut Vec<usize>) -> Result<(), AllocError>
     ensures { OnOk result (ends.new.items ≡ ends.old.items ++ spec.if_inside count end) }
 {
@@ -17,7 +17,7 @@ fn add_inside(end: usize, count: usize, ends: &mut Vec<usize>) -> Result<(), All
     Ok(())
 }
 
-// The ends that are one of so many nodes.
+// The ends that are nodes of the graph.
 fn ends_inside(alloc: Global, ends: &[usize], count: usize) -> Result<Vec<usize>, AllocError>
     ensures { IfOk result (λ found. found.items ≡ spec.ends_inside count ends.now) }
 {

@@ -25,7 +25,7 @@ fn inner_rows(alloc: Global, count: usize) -> Result<Vec<Vec<usize>>, AllocError
     Ok(rows)
 }
 
-// Adds a node, if it is one of so many.
+// Adds the node in the graph, if there is a node of this number.
 fn add_node(first: usize, nodes: usize, node: usize, row: &mut Vec<usize>) -> Result<(), AllocError>
     requires { first + nodes < 2 ^ 64 }
     ensures { OnOk result (row.new.items ≡ row.old.items ++ node_row first nodes node) }

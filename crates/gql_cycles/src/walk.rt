@@ -67,7 +67,7 @@ fn is_among(nodes: &[usize], node: usize) -> bool
     nodes.iter().any(|p| *p == node)
 }
 
-// Whether a component of so many nodes is a cycle. If it is a single node, these are its edges.
+// Whether a component of this many nodes is a cycle. If it is a single node, these are its edges.
 fn is_cycle(size: usize, node: usize, ends: &[usize]) -> bool
     ensures { IsTrue result ↔ ((1 < size) ⊎ Contains ends.now node) }
 {

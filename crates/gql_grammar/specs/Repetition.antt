@@ -182,13 +182,13 @@ further test item found = record {
 abbrev pub any_while : {A : Type 0} → (List Lexeme → Bool) → Phrase A → Part (List A)
 any_while test item = further test item []
 
--- one or more items: a first, and further ones for as long as the test holds
+-- one or more items: a first, and more for as long as the test holds
 abbrev pub some_while : {A : Type 0} → (List Lexeme → Bool) → Phrase A → Phrase (List A)
 some_while test item = do
   x ← item
   further test item (x ∷ [])
 
--- an item, and further ones, each of which another symbol reads
+-- an item, and more, each of which another symbol reads
 abbrev pub first_then : {A : Type 0} → (List Lexeme → Bool) → Phrase A → Phrase A → Phrase (List A)
 first_then test first item = do
   x ← first

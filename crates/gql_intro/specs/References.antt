@@ -1,6 +1,6 @@
 -- Whether the schema files refer to a type (GraphQL 2.11, 3.3): as the type of a field, of an
 -- argument or of an input field, as an interface that a type implements, as a member of a union, or
--- as a root operation type. An extension of a type is no reference to it.
+-- as a root operation type. An extension of a type is not a reference to it.
 use Rattle.std.specs.Prelude.{◌≡◌, ◌||◌, ℕ, List, Bool, false, bytes_eq}
 use Rattle.std.proofs.Common.{ap}
 use Rattle.std.specs.List.{list_any}

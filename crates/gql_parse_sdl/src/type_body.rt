@@ -106,7 +106,7 @@ fn input_object_body(alloc: Global, cursor: &mut Cursor<'_>) -> Result<TypeBody,
     })
 }
 
-/// What follows the name of a type of this kind, all of which may be absent.
+/// What follows the name of a type of this kind. Each part of it may be absent.
 #[tactic(auto, using(gql_grammar::proofs::Rests::rests))]
 pub fn body(
     alloc: Global,

@@ -145,7 +145,7 @@ fn shared_indent(lines: &[&str]) -> Option<usize>
     count
 }
 
-/// A line without its first tabs and spaces, at most so many.
+/// A line without its first tabs and spaces, at most this many.
 fn cut(line: &str, count: usize) -> &str
     ensures { result.now ≡ without_indent count line.now }
 {

@@ -14,20 +14,20 @@ use crate::token::{Kind, LexRefusal};
 /// What is at the front of a text.
 #[derive(Clone, Copy, Debug, PartialEq, Eq)]
 pub enum Part {
-    /// So many ignored bytes.
+    /// This many ignored bytes.
     Dropped(usize),
-    /// A token of so many bytes.
+    /// A token of this many bytes.
     Taken(Kind, usize),
-    /// A refusal, whose place is so many bytes ahead.
+    /// A refusal, whose place is this many bytes ahead.
     Refused(LexRefusal, usize),
 }
 
 /// What is at the front of the rest of a string or of a block string.
 #[derive(Clone, Copy, Debug, PartialEq, Eq)]
 pub enum Piece {
-    /// Its closing quotes, of so many bytes.
+    /// Its closing quotes, of this many bytes.
     Closes(usize),
-    /// So many bytes that belong to it.
+    /// This many bytes that belong to it.
     Goes(usize),
     Stops(LexRefusal),
 }
@@ -70,7 +70,7 @@ fn line_len(bytes: &[u8]) -> usize
         .count()
 }
 
-/// A comment of so many bytes, which ends at the end of its line.
+/// A comment of this many bytes, which ends at the end of its line.
 fn comment(len: usize, rest: &[u8]) -> Part
     ensures { result ≡ comment_part len rest.now }
 {

@@ -41,7 +41,7 @@ fn end(kind: Kind, len: usize, rest: &[u8]) -> Part
     }
 }
 
-/// The digits of an exponent, with so many bytes of the number before them.
+/// The digits of an exponent, with this many bytes of the number before them.
 #[tactic(auto, unfolding(crate::specs::Number::exponent_digits))]
 fn exponent_end(len: usize, bytes: &[u8]) -> Part
     requires { len + length bytes.now ≤ 65537 }
@@ -55,7 +55,7 @@ fn exponent_end(len: usize, bytes: &[u8]) -> Part
     }
 }
 
-/// The exponent that may follow a number, with so many bytes of the number before it.
+/// The exponent that may follow a number, with this many bytes of the number before it.
 #[tactic(auto, unfolding(crate::specs::Number::exponent_part))]
 fn exponent(kind: Kind, len: usize, bytes: &[u8]) -> Part
     requires { len + length bytes.now ≤ 65537 }
@@ -72,7 +72,7 @@ fn exponent(kind: Kind, len: usize, bytes: &[u8]) -> Part
     }
 }
 
-/// The digits of a fraction, with so many bytes of the number before them.
+/// The digits of a fraction, with this many bytes of the number before them.
 #[tactic(auto, unfolding(crate::specs::Number::fraction_digits))]
 fn fraction_end(len: usize, bytes: &[u8]) -> Part
     requires { len + length bytes.now ≤ 65537 }
@@ -86,7 +86,7 @@ fn fraction_end(len: usize, bytes: &[u8]) -> Part
     }
 }
 
-/// The fraction or exponent that may follow an integer part of so many bytes.
+/// The fraction or exponent that may follow an integer part of this many bytes.
 #[tactic(auto, unfolding(crate::specs::Number::fraction_part))]
 fn fraction(len: usize, bytes: &[u8]) -> Part
     requires { len + length bytes.now ≤ 65537 }
@@ -102,7 +102,7 @@ fn fraction(len: usize, bytes: &[u8]) -> Part
     }
 }
 
-/// The number whose digits these are, with so many bytes of it before them.
+/// The number whose digits these are, with this many bytes of it before them.
 #[tactic(auto, unfolding(crate::specs::Number::number_part))]
 pub fn number(len: usize, bytes: &[u8]) -> Part
     requires { len + length bytes.now ≤ 65537 }

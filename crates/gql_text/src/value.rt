@@ -120,7 +120,7 @@ fn is_quoted(text: &[u8], quotes: &[u8]) -> bool
     2 * quotes.len() <= text.len() && text.starts_with(quotes) && text.ends_with(quotes)
 }
 
-/// What is between quotes of so many bytes.
+/// What is between quotes of this many bytes.
 fn inside(text: &str, quotes: usize) -> &str
     requires room { 2 * quotes ≤ length text.now }
     requires start { IsCharBoundary text.now quotes }

@@ -24,7 +24,7 @@ pub struct DevicePeer<R: Read, W: Write> {
 }
 
 impl<R: Read, W: Write> DevicePeer<R, W> {
-    /// A peer over these, of which no read and no write was made.
+    /// A peer over this reader and this writer, before any read or write.
     pub fn new(reader: R, writer: W) -> DevicePeer<R, W>
         ensures reader { result.reader ≡ reader }
         ensures writer { result.writer ≡ writer }

@@ -63,7 +63,7 @@ fn compared(
     Some(Err(difference))
 }
 
-/// `COUNT documents, FAULTS faults` of so many documents, or the first document at which the
+/// `COUNT documents, FAULTS faults` of this many documents, or the first document at which the
 /// searches differ.
 pub fn generated_answer(alloc: Global, schema: &Schema, count: &str) -> Option<String> {
     let count = count.parse::<u64>().ok()?;

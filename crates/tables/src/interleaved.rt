@@ -80,8 +80,8 @@ fn byte_by_byte(alloc: Global, count: u8, streams: &[String]) -> Option<Session>
     Some(session)
 }
 
-/// Whether streams over so many connections get the same answers in turn, a byte at a time, as one
-/// after the other; and the answers on the last connection.
+/// Whether streams over this many connections get the same answers in turn, a byte at a time, as
+/// one after the other; and the answers on the last connection.
 pub fn interleaved_answer(alloc: Global, count: &str) -> Option<String> {
     let count = count.parse::<u8>().ok()?;
     let streams = streams(alloc, count).ok()?;

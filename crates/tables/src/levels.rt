@@ -20,7 +20,7 @@ pub fn visited_answer(alloc: Global, text: &str) -> Option<String> {
     format!(in alloc; "{count}").ok()
 }
 
-/// The refusal of a text if so many tokens are left, or if an allocation fails.
+/// The refusal of a text if this many tokens are left, or if an allocation fails.
 pub fn placed_answer(alloc: Global, text: &str, name: &str) -> Option<String> {
     if text.len() > 65_536 {
         return None;

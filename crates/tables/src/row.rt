@@ -128,7 +128,7 @@ impl Row {
         self.text.push_str(line)
     }
 
-    /// Adds a text so many times to the present file, with no line break, or else to a new one.
+    /// Adds a text this many times to the present file, with no line break, or else to a new one.
     pub fn add_text(&mut self, text: &str, times: u32) -> Result<(), AllocError> {
         if self.name.is_empty() {
             self.begin("s")?;

@@ -29,7 +29,7 @@ fn written_reply(alloc: Global, reply: &Reply, most: usize) -> Option<String> {
     String::from_str(alloc, text).ok()
 }
 
-/// What a run answers: its reply, of at most so many bytes, or why it is refused.
+/// What a run answers: its reply, of at most this many bytes, or why it is refused.
 fn written_run(alloc: Global, ran: Result<Reply, Refusal>, most: usize) -> Option<String> {
     match ran {
         Ok(reply) => written_reply(alloc, &reply, most),
@@ -40,7 +40,7 @@ fn written_run(alloc: Global, ran: Result<Reply, Refusal>, most: usize) -> Optio
     }
 }
 
-/// A text in which `1 times COUNT`, if it is there, is replaced by so many ones with commas
+/// A text in which `1 times COUNT`, if it is there, is replaced by as many ones with commas
 /// between.
 fn with_times(alloc: Global, text: &str) -> Option<String> {
     let mut whole = String::new(alloc);
@@ -95,7 +95,7 @@ pub fn only_run(alloc: Global, registry: &mut Registry) -> Option<String> {
     written_run(alloc, registry.run(None, &Value::Null), usize::MAX)
 }
 
-/// A document with so many operations, each of which asks for the field `a` twice, once under a
+/// A document with this many operations, each of which asks for the field `a` twice, once under a
 /// name of its own.
 fn many_operations(alloc: Global, count: u32) -> Option<String> {
     let mut text = String::new(alloc);
@@ -114,7 +114,7 @@ fn answers_one(alloc: Global, registry: &mut Registry, number: u32) -> Option<bo
     Some(written_run(alloc, ran, SHORT)?.as_str() == expected.as_str())
 }
 
-/// Puts a document with so many operations and runs each: how many bytes it has, and how many
+/// Puts a document with this many operations and runs each: how many bytes it has, and how many
 /// answers are as they should be.
 fn run_many(alloc: Global, registry: &mut Registry, count: &str) -> Option<String> {
     let count = count.parse::<u32>().ok()?;
