@@ -6,7 +6,7 @@ use Rattle.std.specs.declared.cmp.Ordering.{Ordering}
 use Rattle.std.specs.BTreeMap.{insert_entry, is_at}
 use Rattle.std.specs.Map.{lookup, remove_entry}
 
--- names are ordered by their bytes
+-- the order of names, by their bytes
 abbrev pub name_order : List ℕ → List ℕ → Ordering
 name_order = slice_cmp nat_cmp
 

@@ -11,7 +11,7 @@ use Rattle.gql_ast.specs.declared.definition.Tree.{Tree}
 use Rattle.gql_built_in.specs.declared.sited.Sited.{Sited}
 use Rattle.gql_built_in.specs.BuiltInWords.{named, required, list_of, required_list_of, boolean_value, string_value, argument, field, field_with, scalar, object_type, enum_type, directive, a_type, a_directive}
 
--- the type String, which fields below have
+-- the type String
 abbrev pub string : TypeRef
 string = named (codes "String")
 

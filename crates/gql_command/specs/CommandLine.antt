@@ -93,8 +93,9 @@ abbrev pub AsksNothing : List Text → Type 0
 AsksNothing words = ((command : Command) → Asks command words → ⊥)
     × (HasHelpFlag words → ⊥) × (HasVersionFlag words → ⊥)
 
--- `read_command` returns a command, help or the version only if the words ask for it, and a refusal
--- only if they ask for nothing
+-- `read_command` returns `Pipe` only if the words ask for it, `Serve` only if they begin with
+-- `serve`, help or the version only if they have a flag or a word for it, and a refusal only if
+-- they ask for nothing
 abbrev pub Answers : List Text → Result Command CommandFault → Type 0
 Answers words (Ok Pipe) = Asks Pipe words
 Answers words (Ok (Serve port connections)) = BeginsWithServe words

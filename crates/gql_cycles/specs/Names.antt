@@ -11,7 +11,7 @@ pub record Steps : Type 0 where
 abbrev pub IsStep : List Steps → List ℕ → List ℕ → Type 0
 IsStep rows a b = (r : Steps) × Contains rows r × (r.name ≡ a) × Contains r.leads b
 
--- the least transitive relation over the steps
+-- a name leads to another by one or more steps
 pub data Leads (rows : List Steps) : List ℕ → List ℕ → Type 0 where
   one : {a b : List ℕ} → IsStep rows a b → Leads rows a b
   more : {a b c : List ℕ} → IsStep rows a b → Leads rows b c → Leads rows a c

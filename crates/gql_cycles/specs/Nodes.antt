@@ -9,7 +9,7 @@ IsEdge graph i j = Contains (slice_index_or graph i []) j
 abbrev pub IsGraph : List (List ℕ) → Type 0
 IsGraph graph = (i j : ℕ) → IsEdge graph i j → j < length graph
 
--- the least transitive relation over the edges
+-- there is a trail from a node to another: one or more edges, one after another
 pub data Trail (graph : List (List ℕ)) : ℕ → ℕ → Type 0 where
   edge : {i j : ℕ} → IsEdge graph i j → Trail graph i j
   next : {i j k : ℕ} → IsEdge graph i j → Trail graph j k → Trail graph i k

@@ -12,7 +12,7 @@ LeadsBy ranges ends i p j =
 abbrev pub IsRangeEdge : List (List Range) → List (List ℕ) → ℕ → ℕ → Type 0
 IsRangeEdge ranges ends i j = (p : ℕ) × LeadsBy ranges ends i p j
 
--- the least transitive relation over these edges
+-- there is a trail from a node to another: one or more of these edges, one after another
 pub data RangeTrail (ranges : List (List Range)) (ends : List (List ℕ)) : ℕ → ℕ → Type 0 where
   range_edge : {i j : ℕ} → IsRangeEdge ranges ends i j → RangeTrail ranges ends i j
   range_next : {i j k : ℕ} → IsRangeEdge ranges ends i j → RangeTrail ranges ends j k

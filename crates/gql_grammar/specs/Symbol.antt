@@ -57,7 +57,7 @@ Phrase A = Symbol (λ n. n) true A
 abbrev pub Part : Type 0 → Type 1
 Part A = Symbol (λ n. n) false A
 
--- ---- the end of the tokens
+-- ---- no token
 
 pub takes_none : (ts : List Lexeme) → length ts ≤ length ts
 takes_none ts = omega arith

@@ -31,8 +31,8 @@ roots = do
 abbrev pub optional_roots : Part (List RootOperation)
 optional_roots = optional (sees k.LeftBrace) [] roots
 
--- SchemaDefinition, from the token after its description: schema Directives? {
--- RootOperationTypeDefinition+ } (3.3)
+-- SchemaDefinition, from the token after its description (3.3):
+-- schema Directives? { RootOperationTypeDefinition+ }
 unfoldable pub schema : Option Description → Phrase SchemaDefinition
 schema described = do
   mark ← word (codes "schema")

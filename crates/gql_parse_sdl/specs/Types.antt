@@ -35,14 +35,13 @@ spelling w.Union = codes "union"
 spelling w.Enum = codes "enum"
 spelling w.InputObject = codes "input"
 
--- ScalarTypeDefinition, from the token after the name: Directives? (3.5)
+-- ScalarTypeDefinition, after its name: Directives? (3.5)
 unfoldable pub scalar_body : Part TypeBody
 scalar_body = do
   applied ← directives true
   pure (record { directives = applied; parts = parts.Scalar })
 
--- ObjectTypeDefinition, from the token after the name: ImplementsInterfaces? Directives?
--- FieldsDefinition? (3.6)
+-- ObjectTypeDefinition, after its name: ImplementsInterfaces? Directives? FieldsDefinition? (3.6)
 unfoldable pub object_body : Part TypeBody
 object_body = do
   kept ← optional_interfaces
@@ -50,8 +49,8 @@ object_body = do
   found ← optional_fields
   pure (record { directives = applied; parts = parts.Object kept found })
 
--- InterfaceTypeDefinition, from the token after the name: ImplementsInterfaces? Directives?
--- FieldsDefinition? (3.7)
+-- InterfaceTypeDefinition, after its name: ImplementsInterfaces? Directives? FieldsDefinition?
+-- (3.7)
 unfoldable pub interface_body : Part TypeBody
 interface_body = do
   kept ← optional_interfaces
@@ -59,29 +58,28 @@ interface_body = do
   found ← optional_fields
   pure (record { directives = applied; parts = parts.Interface kept found })
 
--- UnionTypeDefinition, from the token after the name: Directives? UnionMemberTypes? (3.8)
+-- UnionTypeDefinition, after its name: Directives? UnionMemberTypes? (3.8)
 unfoldable pub union_body : Part TypeBody
 union_body = do
   applied ← directives true
   found ← optional_members
   pure (record { directives = applied; parts = parts.Union found })
 
--- EnumTypeDefinition, from the token after the name: Directives? EnumValuesDefinition? (3.9)
+-- EnumTypeDefinition, after its name: Directives? EnumValuesDefinition? (3.9)
 unfoldable pub enum_body : Part TypeBody
 enum_body = do
   applied ← directives true
   found ← optional_enum_values
   pure (record { directives = applied; parts = parts.Enum found })
 
--- InputObjectTypeDefinition, from the token after the name: Directives? InputFieldsDefinition?
--- (3.10)
+-- InputObjectTypeDefinition, after its name: Directives? InputFieldsDefinition? (3.10)
 unfoldable pub input_object_body : Part TypeBody
 input_object_body = do
   applied ← directives true
   found ← optional_input_fields
   pure (record { directives = applied; parts = parts.InputObject found })
 
--- TypeDefinition with this keyword, from the token after the name
+-- TypeDefinition with this keyword, after its name
 abbrev pub body : TypeKeyword → Part TypeBody
 body w.Scalar = scalar_body
 body w.Object = object_body

@@ -44,7 +44,7 @@ pub data Stands : List ℕ → Part → Type 0 where
   plain : {b : ℕ} {bs : List ℕ} {p : Part} → three_quotes (b ∷ bs) ≡ false
       → one_quote (b ∷ bs) ≡ false → p ≡ plain_part b bs → Stands (b ∷ bs) p
 
--- after the bytes before it, the rest of the text is these tokens
+-- the rest of a text, after the bytes before it, is these tokens
 pub data Tokens : List ℕ → List ℕ → List Lexeme → Type 0 where
   at_end : {before : List ℕ} → Tokens before [] []
   dropped : {before rest : List ℕ} {n : ℕ} {tokens : List Lexeme}
@@ -55,7 +55,7 @@ pub data Tokens : List ℕ → List ℕ → List Lexeme → Type 0 where
       → Tokens before rest (record { kind = kind; text = take n rest; place = place_after before }
       ∷ tokens)
 
--- after the bytes before it, the first fault of the rest of the text is this, at this place
+-- the rest of a text, after the bytes before it, has this fault first, at this place
 pub data Faulty : List ℕ → List ℕ → LexRefusal → Place → Type 0 where
   here : {before rest : List ℕ} {refusal : LexRefusal} {n : ℕ} {place : Place}
       → Stands rest (Refused refusal n) → place ≡ place_after (before ++ take n rest)

@@ -1,5 +1,5 @@
 -- The definitions of a schema (GraphQL specification, 3.1): the built-in ones, then those of the
--- schema files, by the order of files and places. The first of each name counts, so that built-in
+-- schema files, in the order of files and places. The first of each name counts, so that built-in
 -- ones count before any in a file.
 use Rattle.std.specs.Prelude.{ℕ, List, [], ◌∷◌, ◌++◌, Bool, not, map, flat_map, Option, Some, codes, bytes_eq, if◌then◌else◌}
 use Rattle.gql_ast.specs.declared.definition.Definition.{Definition}
@@ -31,7 +31,7 @@ of_files files = flat_map (λ (f : List ℕ × Document). in_order_of f.1.defini
 abbrev pub definitions : Files → List (Sited Tree)
 definitions files = built_in ++ of_files files.schema
 
--- Float names no type, even where a file defines it
+-- whether a type may have this name: Float is no type, even if a file defines it
 abbrev pub names_a_type : List ℕ → Bool
 names_a_type name = not (bytes_eq name (codes "Float"))
 

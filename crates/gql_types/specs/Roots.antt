@@ -25,12 +25,13 @@ all_implied types = implied types Query (codes "Query")
     ++ (implied types Mutation (codes "Mutation")
     ++ implied types Subscription (codes "Subscription"))
 
--- those that the first definition of the schema lists; without a definition, the implied ones
+-- the root operation types that the first definition of the schema lists; without one, the implied
+-- ones
 abbrev pub defined : List SchemaType → List (Sited SchemaDefinition) → List Root
 defined types [] = all_implied types
 defined types (s ∷ ss) = entries s.file s.node.roots
 
--- the root operation types: those, and then the ones that extensions of the schema list (3.3.2)
+-- the root operation types of a schema: of its definition, and then of its extensions (3.3.2)
 abbrev pub roots_of : List SchemaType → List (Sited SchemaDefinition) → List (Sited SchemaExtension)
     → List Root
 roots_of types definitions extensions = defined types definitions

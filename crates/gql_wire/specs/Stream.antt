@@ -68,7 +68,7 @@ pub data IsRequest : List ℕ → Req → Type 0 where
       → HasOutcome head (expects method target (length body) closing)
       → IsRequest (head ++ body) (request method target body closing)
 
--- no first bytes of these are a request
+-- no bytes at the front of these are a request
 abbrev pub IsUnfinished : List ℕ → Type 0
 IsUnfinished bytes = (front more : List ℕ) (r : Req) → IsRequest front r → front ++ more ≡ bytes → ⊥
 
