@@ -4,7 +4,7 @@ use Rattle.gql_coerce.specs.Coercion.{Expected, nothing, anything, this}
 use Rattle.gql_coerce.specs.declared.expected.Expected.{Expected as AnExpected}
 use Rattle.gql_coerce.specs.declared.expected.Expected.TheVariants as expected
 
--- what is expected
+-- what is expected, as specifications see it
 abbrev pub expected_of : AnExpected → Expected
 expected_of expected.Nothing = nothing
 expected_of expected.Anything = anything

@@ -1,3 +1,5 @@
+//! Why a call returns no value.
+
 ghost use Rattle.std.specs.Prelude.{◌≡◌, Option, Some, option_map, IfOk, IfErr};
 ghost use Rattle.serde_json.specs.Data.{Data};
 ghost use Rattle.serde_json.specs.View.{view};

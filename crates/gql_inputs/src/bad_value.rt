@@ -1,3 +1,5 @@
+//! What of a value does not fit.
+
 ghost use Rattle.std.specs.Prelude.{◌≡◌, ◌++◌, OnOk};
 ghost use Rattle.gql_inputs.specs.BadValues as spec;
 

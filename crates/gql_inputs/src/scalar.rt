@@ -1,3 +1,5 @@
+//! The scalars, by what they take.
+
 ghost use Rattle.std.specs.Prelude.{◌≡◌};
 ghost use Rattle.gql_inputs.specs.InputTypes as spec;
 

@@ -11,7 +11,7 @@ use Rattle.gql_ast.specs.declared.rule.Rule.TheVariants as rule
 use Rattle.gql_rules.specs.Faults.{fault_at}
 use Rattle.gql_rules.specs.Parts.{name_or_empty}
 
--- by the kind of the operation
+-- the fault of an operation of this kind
 abbrev pub faults_by : FilePlace → Operation → OperationKind → List Fault
 faults_by owner o operation.Subscription =
     fault_at owner rule.P03 (name_or_empty o.name) o.place ∷ []

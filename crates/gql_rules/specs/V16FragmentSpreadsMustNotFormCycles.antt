@@ -19,7 +19,7 @@ abbrev pub own_fragment : Tree → Option Fragment
 own_fragment (tree.Fragment f) = Some f
 own_fragment _ = None
 
--- the fragment, as the answer to its name has it
+-- the fragment, as a world answers with it
 abbrev pub own_fact : Definition → Fragment → FragmentFact
 own_fact d f = record { file = d.file; fragment = f }
 
@@ -27,6 +27,6 @@ own_fact d f = record { file = d.file; fragment = f }
 abbrev pub IsCyclic : Facts → Definition → Fragment → Type 0
 IsCyclic facts d f = Reaches facts d (own_fact d f)
 
--- the fault of such a fragment
+-- the fault of a fragment that reaches itself
 abbrev pub fault : FilePlace → Fragment → Fault
 fault owner f = fault_of owner rule.V16 f.name

@@ -35,38 +35,38 @@ use Rattle.gql_vars.specs.Usages.{Location, Usage, value_usages, item_usages, fi
 use Rattle.gql_vars.specs.V29AllVariableUsagesAreAllowed.{is_allowed, is_judged}
 use Rattle.gql_vars.specs.Variables.{variable_named}
 
--- a location, as definitions see it
+-- a location, as specifications see it
 abbrev pub location_at : ALocation → Location
 location_at l = record { expected = written_of l.expected; has_default = l.has_default }
 
--- a use at a location, as definitions see it
+-- a use at a location, as specifications see it
 abbrev pub usage_of : VariableUse → ALocation → Usage
 usage_of x l = record { used = use_of x; location = location_at l }
 
--- the variable of a name, by what usages are checked against
+-- the first variable of a name, as the check of usages keeps it
 abbrev pub first_named : UsageCheck → List ℕ → Option VariableDefinition
 first_named c name =
     option_map (λ v. v.now) (hash.get_by (λ k. bytes_eq name k.now) c.first.now)
 
--- V29 of a usage of this variable, if it is defined
+-- the fault of a usage of this variable by V29, if the variable is defined
 abbrev pub misuse_of : Facts → FilePlace → Usage → Option VariableDefinition → List Fault
 misuse_of facts owner x None = []
 misuse_of facts owner x (Some v) = if not (is_allowed v x.location) && is_judged facts v
     then fault_of_use owner rule.V29 x.used ∷ []
     else []
 
--- V29 of a usage, by the variables of each name
+-- the fault of a usage by V29; `variable` finds a variable by its name
 abbrev pub misuse_by : Facts → FilePlace → (List ℕ → Option VariableDefinition) → Usage
     → List Fault
 misuse_by facts owner variable x = misuse_of facts owner x (variable x.used.name)
 
--- V29 of usages
+-- the faults of usages by V29
 abbrev pub misuses : Facts → UsageCheck → List Usage → List Fault
 misuses facts c = flat_map (misuse_by facts c.owner.now (first_named c))
 
 -- ---- values
 
--- V29 in a value at a location
+-- the faults by V29 in a value at a location
 abbrev pub value_misuses : Facts → UsageCheck → Location → Value → List Fault
 value_misuses facts c at x =
     misuses facts c (value_usages (known_inputs facts) c.file.now at x)

@@ -9,6 +9,7 @@ use Rattle.gql_ast.specs.declared.rule.Rule.TheVariants as rule
 use Rattle.gql_rules.specs.Faults.{fault_of}
 use Rattle.gql_vars.specs.Variables.{type_name}
 
+-- whether a name is `Float`
 abbrev pub is_float : List ℕ → Bool
 is_float name = bytes_eq name (codes "Float")
 

@@ -37,33 +37,34 @@ pub record Usage : Type 0 where
 
 -- ---- values
 
--- an item of a list that is given has no default value
+-- the location of an item of a list that is given; it has no default value
 abbrev pub location_of_item : Written → Location
 location_of_item item = record { expected = item; has_default = false }
 
--- a field of an input object
+-- the location of a field of an input object
 abbrev pub location_of_field : FieldForm → Location
 location_of_field f = record { expected = f.of_type; has_default = f.has_default }
 
--- the fields of the input object that a type names; none where it names another type
+-- the fields of the input object that a type names, or none if it names another type
 abbrev pub fields_at : InputLookup → Written → List FieldForm
 fields_at look t = option_map_or fields_in (look (name_in t)) []
 
--- the usages in a list, by the type of its items, where a list is expected
+-- the usages in a list, by the type of its items, if a list is expected
 abbrev pub by_item : (Written → List Usage) → Option Written → List Usage
 by_item usages None = []
 by_item usages (Some item) = usages item
 
--- the usages in an item; none where it is refused as a whole, since a list is expected and it
--- is no list
+-- The usages in an item of a list. There are none in an item that V18 refuses as a whole: a list is
+-- expected, and the item is not one.
 abbrev pub if_item : Written → Value → List Usage → List Usage
 if_item item x usages = if is_list item && not (may_be_list x) then [] else usages
 
--- the usages in a field of an object, where the type has the field
+-- the usages in a field of an object, if its type has the field
 abbrev pub by_field : (Location → List Usage) → Option FieldForm → List Usage
 by_field usages None = []
 by_field usages (Some f) = usages (location_of_field f)
 
+-- the usages in a value, in its items and in its fields
 abbrev mutual
   -- in a value at a location
   pub value_usages : InputLookup → List ℕ → Location → Value → List Usage
@@ -96,7 +97,7 @@ abbrev mutual
 
 -- ---- arguments and directives
 
--- an argument
+-- the location of an argument
 abbrev pub location_of : InputFact → Location
 location_of i = record { expected = typed_of i.of_type; has_default = i.has_default }
 
@@ -139,9 +140,11 @@ abbrev pub part_usages : Facts → List ℕ → List Directive → List Node →
 part_usages facts file ds nodes =
     directive_usages facts file ds ++ flat_map (node_usages facts file) nodes
 
+-- in an operation, without the fragments that it reaches
 abbrev pub operation_usages : Facts → List ℕ → Operation → List Usage
 operation_usages facts file o = part_usages facts file o.directives (operation_nodes facts o)
 
+-- in a fragment, without those that it reaches
 abbrev pub fragment_usages : Facts → List ℕ → Fragment → List Usage
 fragment_usages facts file f = part_usages facts file f.directives (fragment_nodes facts f)
 

@@ -23,13 +23,13 @@ pub record Use : Type 0 where
   pub place : Place
   pub name : List ℕ
 
--- the uses of all parts
+-- the uses in all parts
 abbrev pub all : List (List Use) → List Use
 all = flat_map (λ uses. uses)
 
 -- ---- values
 
--- of a literal of this form, by the uses in its parts
+-- the uses in a literal of this form, from the uses in its parts
 abbrev pub uses_at : List ℕ → Literal-F (List Use) (List Use) → List Use
 uses_at file (Literal-F.Variable place name) =
     record { file = file; place = place; name = name } ∷ []
@@ -37,7 +37,7 @@ uses_at file (Literal-F.List place items) = all items
 uses_at file (Literal-F.Object place fields) = all fields
 uses_at file _ = []
 
--- of a field of an object literal: those in its value
+-- the uses in a field of an object literal: those in its value
 abbrev pub uses_of_value : ObjectField-F (List Use) (List Use) → List Use
 uses_of_value f = f.value
 
@@ -55,16 +55,18 @@ directive_uses file = flat_map (λ (d : Directive). argument_uses file d.argumen
 
 -- ---- selections
 
--- of a selection of this form, by the uses in what it selects
+-- the uses in a selection of this form, from those in a field or an inline fragment
 abbrev pub selected_at : List ℕ → Selection-F (List Use) (List Use) (List Use) → List Use
 selected_at file (Selection-F.Field uses) = uses
 selected_at file (Selection-F.Spread x) = directive_uses file x.directives
 selected_at file (Selection-F.InlineFragment uses) = uses
 
+-- in a field, from the uses in what it selects
 abbrev pub field_at : List ℕ → Field-F (List Use) (List Use) (List Use) → List Use
 field_at file f =
     argument_uses file f.arguments ++ (directive_uses file f.directives ++ all f.selections)
 
+-- in an inline fragment, from the uses in what it selects
 abbrev pub inline_at : List ℕ → InlineFragment-F (List Use) (List Use) (List Use) → List Use
 inline_at file i = directive_uses file i.directives ++ all i.selections
 
@@ -79,9 +81,11 @@ set_uses file = flat_map (selection_uses file)
 
 -- ---- definitions
 
+-- in an operation, without the fragments that it reaches
 abbrev pub operation_uses : List ℕ → Operation → List Use
 operation_uses file o = directive_uses file o.directives ++ set_uses file o.selections
 
+-- in a fragment, without those that it reaches
 abbrev pub fragment_uses : List ℕ → Fragment → List Use
 fragment_uses file f = directive_uses file f.directives ++ set_uses file f.selections
 
