@@ -20,15 +20,15 @@ use Rattle.gql_types.specs.Schemas.{directive_named}
 use Rattle.gql_types.specs.declared.schema.Schema.{Schema}
 use Rattle.gql_types.specs.declared.schema_type.SchemaType.{SchemaType}
 
--- a directive's name with `@` before it, so that no type has it
+-- a directive's name with `@` before it, so that it is not the name of a type
 abbrev pub at_sign : List ℕ → List ℕ
 at_sign name = codes "@" ++ name
 
--- the directives that are applied to a node
+-- the names of the directives that are applied to a node, with `@`
 abbrev pub applied : List Directive → List (List ℕ)
 applied directives = map (λ (d : Directive). at_sign d.name.text) directives
 
--- an argument of a directive, or an input field, leads to the directives on it and to its type
+-- an argument of a directive or an input field leads to the directives on it and to its type
 abbrev pub from_input : InputValueDefinition → List (List ℕ)
 from_input v = applied v.directives ++ (name_in v.of_type).text ∷ []
 
