@@ -1,5 +1,5 @@
--- Helper definitions: which field nodes are one is an equivalence, and one file and one start
--- decide it.
+-- Helper definitions: `is_same_field` is an equivalence, and depends on the file and the start
+-- alone.
 use Rattle.std.specs.Prelude.{◌≡◌, ◌++◌, ◌&&◌, Bool, true, false, refl}
 use Rattle.std.proofs.Common.{ap, sym, ◌∙◌, true≢false}
 use Rattle.std.proofs.lemmas.Cmp.{nat_eq_equiv}

@@ -1,3 +1,5 @@
+//! The faults that an operation answers for.
+
 ghost use Rattle.std.specs.Prelude.{◌≡◌, ◌↔◌, IsTrue, IfOk};
 ghost use Rattle.gql_ast.specs.declared.fault.FileSide.TheVariants.{Documents};
 ghost use Rattle.gql_rules.specs.LocalFaults.{owner_of};
