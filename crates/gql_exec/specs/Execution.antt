@@ -36,7 +36,7 @@ pub record PlannedField : Type 0 where
   pub arguments : Arguments
   pub of_type : Written
 
--- the execution of a plan on an object, and of each of its fields
+-- a plan, and the fields that it has for a type
 mutual
   -- for each type of an object, the fields of the answer
   pub data Plan : Type 0 where
@@ -198,12 +198,14 @@ abbrev pub members_of : List (List ℕ × Data) → Members
 members_of [] = no_members
 members_of (m ∷ ms) = member m.0 m.1 (members_of ms)
 
+-- the execution of a plan on an object, and of each of its fields
 abbrev mutual
   -- what is asked of an object of this type (ExecuteSelectionSet)
   pub execute : Types → Plan → Below
   execute types (plan fields) t p o =
       mapped (λ ms. json.object (members_of ms)) (all (each types (fields t) p o))
 
+  -- each of the fields
   pub each : Types → Fields → Path → Object → List (Reply (List ℕ × Data))
   each types no_fields p o = []
   each types (field f below rest) p o =

@@ -28,9 +28,9 @@ pub record IsAcceptedEdit (s : State) (r : Req) (e : Edit) : Type 0 where
   pub asks : AsksFor r expected e
   pub accepted : IsAccepted s expected e
 
--- What a name of a side holds after requests, by the accepted edits among them alone: the document of the
--- last that put one, nothing after one that removed it, and what it held before where there is
--- none.
+-- What a name of a side holds after requests, by the accepted edits among them alone: the document
+-- of the last edit that put one, nothing after an edit that removed it, and what it held before if
+-- there was no such edit.
 pub data Holds (side : FileSide) (name : List ℕ) : State → Option Document → List Req → Option Document → Type 0 where
   no_requests : {s : State} {held : Option Document} → Holds side name s held [] held
   by_edit : {s t : State} {before after last : Option Document} {e : Edit} {r : Req} {rs : List Req}

@@ -1,5 +1,5 @@
 -- What an edit answers, and the state that it leaves: the checks in their order, and the change of
--- one map of files or of the data.
+-- the files of one side or of the data.
 use Rattle.std.specs.Prelude.{ℕ, ◌≡◌, ◌≢◌, ◌<◌, ◌≤◌, List, length, Option, Some, None, Result, Ok, Err, IsUtf8}
 use Rattle.gql_text.specs.declared.place.Place.{Place}
 use Rattle.gql_grammar.specs.declared.fault.SyntaxFault.TheVariants.{At}
@@ -17,8 +17,8 @@ use Rattle.gql_registry.specs.declared.refusal.Refusal.TheVariants.{Syntax, NotT
 use Rattle.gql_registry.specs.declared.registry.Edited.{Edited}
 use Rattle.serde_json.specs.Data.{Data}
 
--- an edit: bytes put on a side as the file of a name, in place of any of that name; the file of a
--- name removed from a side; or bytes put as the data, in place of those before
+-- An edit: bytes put on a side as the file of a name, in place of any file of that name; the file
+-- of a name removed from a side; or bytes put as the data, in place of the data before.
 pub data Edit : Type 0 where
   put : FileSide → List ℕ → List ℕ → Edit
   remove : FileSide → List ℕ → Edit
@@ -101,9 +101,9 @@ abbrev pub Reports : State → Edited → Type 0
 Reports t edited = (edited.revision ≡ t.revision)
     × ((faults : List Fault) × IsReport t.files faults × (edited.faults ≡ length faults))
 
--- What an edit answers in the state s, and the state t that it leaves. It is accepted where it
--- fails no check, and else refused with the first, which changes nothing. If an allocation fails,
--- the answer is `Memory` and nothing is changed.
+-- What an edit answers in the state s, and the state t that it leaves. It is accepted if it fails
+-- no check. Otherwise it is refused with the first that it fails, and changes nothing. If an
+-- allocation fails, it returns `Memory` and changes nothing.
 abbrev pub Makes : State → Option ℕ → Edit → Result Edited Refusal → State → Type 0
 Makes s expected e (Ok edited) t = IsAccepted s expected e × Leaves s e t × Reports t edited
 Makes s expected e (Err Memory) t = t ≡ s

@@ -1,3 +1,5 @@
+//! Why the registry refuses a call.
+
 ghost use Rattle.std.specs.Prelude.{◌≡◌};
 ghost use Rattle.gql_registry.specs.Refusals.{refusal_of};
 ghost use Rattle.gql_registry.specs.declared.refusal.Refusal.TheVariants.{Memory};
