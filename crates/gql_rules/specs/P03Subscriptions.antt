@@ -1,5 +1,5 @@
--- P03, Subscriptions: an operation is a subscription, which this registry does not serve (a rule of
--- this registry's own).
+-- P03, Subscriptions: an operation is a subscription, which this registry does not serve (this
+-- registry's own rule).
 -- Reported at the operation's start, about its name, or empty.
 use Rattle.std.specs.Prelude.{List, [], ◌∷◌}
 use Rattle.gql_ast.specs.declared.executable.Operation.{Operation}

@@ -1,5 +1,5 @@
--- V16, Fragment Spreads Must Not Form Cycles: a fragment spreads itself (GraphQL 5.5.2.2), in its
--- own selection set or in a fragment that it reaches by its spreads.
+-- V16, Fragment Spreads Must Not Form Cycles: a fragment spreads itself (GraphQL 5.5.2.2). It does
+-- so in its own selection set, or in a fragment that it reaches by its spreads.
 -- Reported at the fragment's name, about the fragment.
 use Rattle.std.specs.Prelude.{Option, Some, None}
 use Rattle.gql_ast.specs.declared.definition.Definition.{Definition}

@@ -1,7 +1,11 @@
--- V18, Values of Correct Type (GraphQL 5.6.1), V19, Input Object Field Names (5.6.2), V20, Input
--- Object Field Uniqueness (5.6.3), and V21, Input Object Required Fields (5.6.4), of the values of
--- arguments and of the default values of variables. They are judged as a default value in a schema
--- is. Where the argument is not known, V20 alone is reported.
+-- V18, Values of Correct Type: a value does not fit the type that is expected of it (GraphQL
+-- 5.6.1).
+-- V19, Input Object Field Names: an object value has a field that is not defined (GraphQL 5.6.2).
+-- V20, Input Object Field Uniqueness: an object value has two fields of the same name (GraphQL
+-- 5.6.3).
+-- V21, Input Object Required Fields: a required input field is missing or null (GraphQL 5.6.4).
+-- They check the values of arguments and the default values of variables, in the way of default
+-- values in a schema. If the argument is not known, V20 alone is reported.
 -- Reported at the bad value, at a field's name, or at an object's start.
 use Rattle.std.specs.Prelude.{ℕ, List, [], ◌&&◌, map, flat_map, Option, Some, None, if◌then◌else◌}
 use Rattle.std.specs.Option.{option_and_then}

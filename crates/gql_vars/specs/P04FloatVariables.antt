@@ -1,4 +1,4 @@
--- P04, Float Variables: a variable's type is Float, which this registry does not serve (this
+-- P04, Float Variables: a variable is of type Float, which this registry does not serve (this
 -- registry's own rule).
 -- Reported at the type's name, about `Float`.
 use Rattle.std.specs.Prelude.{ℕ, List, [], ◌∷◌, Bool, codes, bytes_eq, if◌then◌else◌}

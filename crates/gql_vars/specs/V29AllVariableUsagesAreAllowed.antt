@@ -1,7 +1,7 @@
 -- V29, All Variable Usages Are Allowed: a variable is used where its type does not fit (GraphQL
--- 5.8.5). Of variables of one name, the first counts. A variable whose type is Float or is not
--- known is reported by P04 or V26 alone.
--- Reported at the use's `$`, about the variable, in each operation that reaches the use.
+-- 5.8.5). Of variables of one name, the first counts. If the type of a variable is unknown or
+-- Float, only V26 or P04 reports it.
+-- Reported at the `$` of the use, about the variable, in each operation that reaches the use.
 use Rattle.std.specs.Prelude.{◌≡◌, Bool, true, false, ◌&&◌, ◌||◌, not, bytes_eq, is_some, Option, Some, None, if◌then◌else◌}
 use Rattle.gql_ast.specs.declared.definition.Definition.{Definition}
 use Rattle.gql_ast.specs.declared.executable.Operation.{Operation}
