@@ -24,7 +24,7 @@ enum Form {
     DoublingFragments,
 }
 
-/// An operation of so many.
+/// An operation of a form, with that many fields.
 #[derive(Clone, Copy)]
 struct Case {
     form: Form,
@@ -117,7 +117,7 @@ fn title(form: Form) -> &'static str {
     }
 }
 
-/// A text so many times.
+/// A text, repeated that many times.
 fn repeated(alloc: Global, part: &str, count: u64) -> Result<String, AllocError> {
     let mut text = String::new(alloc);
     for _ in 0..count {

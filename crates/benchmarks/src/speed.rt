@@ -38,7 +38,7 @@ pub fn speed(bytes: u64, taken: Duration) -> u64 {
     if micros == 0 { 0 } else { bytes / micros }
 }
 
-/// Thousand-millionths of a second for each of so many, or 0 where there are none.
+/// Nanoseconds for each of that many, or 0 if there are none.
 pub fn nanos_each(taken: Duration, count: u64) -> u64 {
     let nanos = micros(taken).wrapping_mul(1_000);
     if count == 0 { 0 } else { nanos / count }

@@ -26,7 +26,7 @@ const LITERAL: &str =
 
 const ROUNDS: u64 = 10;
 
-/// A list of so many inputs, one or more.
+/// A list of that many inputs, one or more.
 fn list(alloc: Global, input: &str, count: u64) -> Result<String, AllocError> {
     let mut text = String::new(alloc);
     let mut before = "[";

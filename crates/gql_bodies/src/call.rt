@@ -12,7 +12,7 @@ use std::alloc::Global;
 use std::str;
 use thiserror::Error;
 
-/// Why a body is no call.
+/// Why a body is not a call.
 #[derive(Clone, Copy, Debug, Drop, Error, PartialEq, Eq)]
 pub enum CallFault {
     /// 310: the body is not what a call is.

@@ -16,7 +16,7 @@ use thiserror::Error;
 /// Why a text is not taken as data.
 #[derive(Clone, Copy, Debug, Drop, Error, PartialEq, Eq)]
 pub enum DataFault {
-    /// The text is no data.
+    /// The text is not data that operations can be executed on.
     #[error("data is not accepted")]
     Refused,
     /// An allocation failed.

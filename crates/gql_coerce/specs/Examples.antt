@@ -33,7 +33,7 @@ items : (inner : Input → Option Written → Reached (Option Data)) → inner (
     → array_of (item_at inner (Some (required (named (codes "Int"))))) (single (whole (pos 1)) ∷ null ∷ []) ≡ refused reason.NullForNonNull (segment.Index 1 ∷ [])
 items inner one none = rw (one, none) refl
 
--- an item that is no list where a list is expected
+-- an item that is not a list, where a list is expected
 no_list : (inner : Input → Option Written → Reached (Option Data)) → array_of (item_at inner (Some (listed (named (codes "Int"))))) (single (whole (pos 1)) ∷ []) ≡ refused reason.WrongKind (segment.Index 0 ∷ [])
 no_list inner = refl
 

@@ -88,7 +88,7 @@ pub data Reports : Literal → Reason → List Segment → BadValue → Type 0 w
   unknown : (p : Place) (fs : List ObjectField) (f : ObjectField) → Contains fs f
       → Reports (literals.Object p fs) reason.UnknownField (Key f.name.text ∷ [])
       (record { rule = rule.V19; place = f.name.place; about = f.name.text })
-  -- V21 at the object that lacks a required field
+  -- V21 at the object that does not give a required field
   missing : (p : Place) (fs : List ObjectField) (n : List ℕ)
       → Reports (literals.Object p fs) reason.MissingField (Key n ∷ [])
       (record { rule = rule.V21; place = p; about = n })

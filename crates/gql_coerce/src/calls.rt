@@ -14,9 +14,10 @@ use gql_types::Schema;
 use serde_json::Value;
 use std::alloc::Global;
 
-/// The value of a literal at a type (GraphQL specification, 3.5 to 3.12), or the first refusal: of items by their order, of the
-/// fields of an object first those that are not known, then those that the type defines, in their order. `variables` is an object
-/// with the values that the variables have; a variable without a value comes to none.
+/// The value of a literal at a type (GraphQL specification, 3.5 to 3.12), or the first refusal.
+/// Items are coerced in their order. Of an object, unknown fields are refused first; then come the
+/// fields that the type defines, in their order. The object `variables` has the values of the
+/// variables; a variable without a value comes to none.
 pub fn coerce_literal(
     alloc: Global,
     schema: &Schema,
@@ -32,8 +33,10 @@ pub fn coerce_literal(
     result_of(coerced)
 }
 
-/// The value of a value of JSON at a type (GraphQL specification, 3.5 to 3.12), or the first refusal: of items by their order, of the
-/// members of an object first those that are not known, by the bytes of their keys, then those that the type defines, in its order.
+/// The value of a value of JSON at a type (GraphQL specification, 3.5 to 3.12), or the first
+/// refusal. Items are coerced in their order. Of an object, unknown members are refused first, in
+/// the order of the bytes of their keys; then come the fields that the type defines, in their
+/// order.
 pub fn coerce_json(
     alloc: Global,
     schema: &Schema,

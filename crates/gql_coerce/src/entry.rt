@@ -1,4 +1,4 @@
-//! The members of an object to be.
+//! The members that an object is to have.
 ghost use Rattle.std.specs.Prelude.{◌≡◌, ◌<◌, ◌+◌, ◌^◌, OnSome, map, option_map, slice_get};
 ghost use Rattle.serde_json.specs.View.{view};
 ghost use Rattle.gql_coerce.specs.JsonEntries.{entry_of as json_entry};
@@ -12,8 +12,8 @@ use crate::part::Part;
 use gql_ast::InputValueDefinition;
 use serde_json::Value;
 
-/// A member of an object to be: its name, the definition of the field unless it is within a custom
-/// scalar, and the value if one is given.
+/// A member that an object is to have: its name, the definition of the field unless it is within a
+/// custom scalar, and the value if one is given.
 #[derive(Clone, Copy)]
 pub struct Entry<'v> {
     pub name: &'v str,
@@ -21,7 +21,7 @@ pub struct Entry<'v> {
     pub given: Option<Part<'v>>,
 }
 
-/// The members of an object to be.
+/// The members that an object is to have.
 #[derive(Drop)]
 pub enum Entries<'v> {
     /// Those of a literal, and the object with the values of the variables, if there may be some.

@@ -1,4 +1,5 @@
-//! What is expected of an input and of its parts (GraphQL specification, 3.11 and 3.12): a type, or none within a custom scalar.
+//! What is expected of an input and of its parts (GraphQL specification, 3.11 and 3.12): a type, or
+//! none within a custom scalar.
 ghost use Rattle.std.specs.Prelude.{◌≡◌, None, option_map, IfOk};
 ghost use Rattle.std.specs.Option.{option_copied};
 ghost use Rattle.gql_types.specs.Written.{written};
@@ -75,7 +76,7 @@ pub fn coerce_single(
     once(alloc, expected, coerced)
 }
 
-/// What the value of a variable comes to, which was coerced before.
+/// What the value of a variable comes to; it has been coerced already.
 pub fn coerce_given(
     alloc: Global,
     given: Option<&Value>,
@@ -108,7 +109,7 @@ pub fn expects_list(expected: Option<&TypeRef>) -> bool
 /// What is expected of the items of a list.
 #[derive(Clone, Copy)]
 pub enum Expected<'t> {
-    /// No list is taken here.
+    /// A list is not taken here.
     Nothing,
     /// The list is within a custom scalar.
     Anything,

@@ -14,7 +14,7 @@ use serde_json::Value;
 use std::alloc::AllocError;
 use thiserror::Error;
 
-/// Why there is no value.
+/// Why a call returns no value.
 #[derive(Debug, Drop, Error)]
 pub enum CoerceFault {
     /// The input is refused.

@@ -38,7 +38,7 @@ fn number(number: &Number) -> Single<'_>
     }
 }
 
-/// Whether a value may stand for a list within a list: a list or `null`.
+/// Whether a value may be an item where lists are expected: a list or `null`.
 #[tactic(auto, using(crate::proofs::JsonForms::may_null, crate::proofs::JsonForms::may_bool, crate::proofs::JsonForms::may_number, crate::proofs::JsonForms::may_string, crate::proofs::JsonForms::may_array, crate::proofs::JsonForms::may_object))]
 pub fn may_be_list(item: &Value) -> bool
     ensures { result ≡ input_may_be_list (json_input (view item.now)) }

@@ -1,4 +1,4 @@
-//! The members of an object to be that an object of JSON gives (GraphQL specification, 3.10).
+//! The members that an object is to have, from an object of JSON (GraphQL specification, 3.10).
 ghost use Rattle.std.specs.Prelude.{◌≡◌, IfOk, map, option_map};
 ghost use Rattle.std.specs.Option.{option_copied};
 ghost use Rattle.gql_types.specs.Written.{written};
@@ -14,8 +14,8 @@ use gql_types::{HasName, Schema, SchemaType, Sited, TypeKind};
 use serde_json::{Map, Value};
 use std::alloc::{AllocError, Global};
 
-/// A member of an object to be: its name, the definition of the field unless it stands within a custom scalar, and the value
-/// if one is given.
+/// A member that an object is to have: its name, the definition of the field unless it is within a
+/// custom scalar, and the value if one is given.
 #[derive(Drop)]
 pub struct JsonEntry<'v> {
     pub name: &'v str,
@@ -27,7 +27,7 @@ pub struct JsonEntry<'v> {
 #[derive(Drop)]
 pub enum JsonEntries<'v> {
     Are(Vec<JsonEntry<'v>>),
-    /// A field of that name is not known.
+    /// The type has no field of that name.
     Unknown(&'v str),
     /// No object is expected.
     NoObject,

@@ -20,7 +20,7 @@ use gql_types::Schema;
 use serde_json::Value;
 use std::alloc::{AllocError, Global};
 
-// An item: within a list it is not made a list of one.
+// An item. It is not made a list of one.
 fn item_focus<'v>(alloc: Global, item: Part<'v>, expected: Option<&'v TypeRef>) -> Focus<'v>
     ensures { (s : ASchema) (n : ℕ) → after (focus_at n s result) (spec.or_null (option_map written (option_copied expected.entry)))
         ≡ spec.item_at (levels_of n s) (option_map written (option_copied expected.entry)) (input_of item.entry) }
@@ -58,7 +58,7 @@ fn next_item<'v>(alloc: Global, list: ListFrame<'v>) -> Step<'v>
     }
 }
 
-/// A list, of which an item came to this.
+/// A list, an item of which came to this.
 pub fn resume_list<'v>(
     alloc: Global,
     list: ListFrame<'v>,

@@ -1,4 +1,4 @@
-//! The members of an object to be that a literal gives (GraphQL specification, 3.10).
+//! The members that an object is to have, from an object literal (GraphQL specification, 3.10).
 ghost use Rattle.std.specs.Prelude.{◌≡◌, ◌++◌, ◌∷◌, [], ◌||◌, ℕ, List, IfOk, OnOk, map, find, is_some, bytes_eq, option_map, if◌then◌else◌};
 ghost use Rattle.std.specs.HashMap as hash;
 ghost use Rattle.std.specs.Option.{option_copied};
@@ -14,8 +14,8 @@ use gql_types::{HasName, Named, Schema, SchemaType, Sited, TypeKind};
 use std::alloc::{AllocError, Global};
 use std::collections::HashMap;
 
-/// A member of an object to be: its name, the definition of the field unless it stands within a custom scalar, and the value
-/// if one is given.
+/// A member that an object is to have: its name, the definition of the field unless it is within a
+/// custom scalar, and the value if one is given.
 #[derive(Drop)]
 pub struct LiteralEntry<'v> {
     pub name: &'v str,
@@ -27,13 +27,13 @@ pub struct LiteralEntry<'v> {
 #[derive(Drop)]
 pub enum LiteralEntries<'v> {
     Are(Vec<LiteralEntry<'v>>),
-    /// A field of that name is not known.
+    /// The type has no field of that name.
     Unknown(&'v str),
     /// No object is expected.
     NoObject,
 }
 
-/// A field, to be looked up by its name.
+/// A field, which a look-up finds by its name.
 #[derive(Drop)]
 struct GivenField<'v> {
     field: &'v ObjectField,
@@ -111,7 +111,7 @@ fn unknown_field<'v>(fields: &[&'v ObjectField], of_type: &SchemaType) -> Option
     None
 }
 
-// Adds a field, unless its name was seen.
+// Adds a field, unless an earlier one has its name.
 fn add_first<'v>(
     seen: &mut HashMap<&'v str, ()>,
     field: &'v ObjectField,
@@ -231,7 +231,7 @@ fn entries_of_type<'v>(
     }
 }
 
-/// What an object of these fields is made of. Of fields of one name the first counts.
+/// What an object of these fields is made of. Of fields of one name, the first counts.
 pub fn literal_entries<'v>(
     alloc: Global,
     fields: &'v [ObjectField],

@@ -51,7 +51,7 @@ fn value_of<'v>(variables: Option<&'v Value>, name: &str) -> Option<&'v Value>
     }
 }
 
-/// Whether a literal may stand for a list within a list: a list, `null` or a variable.
+/// Whether a literal may be an item where lists are expected: a list, `null` or a variable.
 #[tactic(auto, using(crate::proofs::Reading::may_variable, crate::proofs::Reading::may_int, crate::proofs::Reading::may_float, crate::proofs::Reading::may_string, crate::proofs::Reading::may_boolean, crate::proofs::Reading::may_null, crate::proofs::Reading::may_enum, crate::proofs::Reading::may_list, crate::proofs::Reading::may_object))]
 pub fn may_be_list(item: &Literal, variables: Option<&Value>) -> bool
     ensures { result ≡ input_may_be_list (literal (values_in (option_map (λ v. view v.now) variables.entry)) item.now) }

@@ -87,7 +87,7 @@ pub fn next_entry<'v>(alloc: Global, object: ObjectFrame<'v>) -> Result<Step<'v>
     }
 }
 
-/// An object, of which the field of this name came to this, with its default.
+/// An object, whose field of this name came to this, with its default.
 pub fn resume_default<'v>(
     alloc: Global,
     object: ObjectFrame<'v>,
@@ -107,7 +107,7 @@ pub fn resume_default<'v>(
     }
 }
 
-/// An object, of which the value that is given for a field came to this.
+/// An object, where the value that is given for a field came to this.
 pub fn resume_given<'v>(
     alloc: Global,
     object: ObjectFrame<'v>,

@@ -18,7 +18,7 @@ pub enum Part<'v> {
 }
 
 impl<'v> Part<'v> {
-    /// Whether an input may stand for a list within a list.
+    /// Whether an input may be an item where lists are expected.
     pub fn may_be_list(&self) -> bool
         ensures { result ≡ input_may_be_list (input_of self.now) }
     {

@@ -130,10 +130,11 @@ fn of_object(coerced: Coerced) -> Result<Value, CoerceFault>
     }
 }
 
-/// The values of the variables that these definitions have, as an object (GraphQL specification, 6.1.2), where `values` is the
-/// object of those that a request gives: absent ones take their defaults, and those that are not defined are ignored. Or the first
-/// refusal, in the order of the definitions; its path begins with the variable's name. An absent variable of Non-Null type without
-/// default is 121.
+/// The values of the variables that these definitions have, as an object (GraphQL specification,
+/// 6.1.2), or the first refusal. The object `values` has those that a request gives: missing ones
+/// take their defaults, and undefined ones are ignored. Refusals come in the order of the
+/// definitions; the path begins with the variable's name. A missing variable of a Non-Null type
+/// without a default is 121.
 pub fn coerce_variables(
     alloc: Global,
     schema: &Schema,
@@ -147,7 +148,7 @@ pub fn coerce_variables(
     of_object(coerced)
 }
 
-/// An argument, to be looked up by its name.
+/// An argument, which a look-up finds by its name.
 #[derive(Drop)]
 struct GivenArgument<'v> {
     argument: &'v Argument,
@@ -253,10 +254,11 @@ fn all_arguments(
     Ok(coerced)
 }
 
-/// The values of the arguments that these definitions have, as an object (GraphQL specification, 6.4.1), where these are given and
-/// `variables` is the object of the variables' values: of arguments of one name the first counts, and those that are not defined are
-/// ignored. Or the first refusal, in the order of the definitions; its path begins with the argument's name. A missing argument of
-/// Non-Null type without default is 121.
+/// The values of the arguments that these definitions have, as an object (GraphQL specification,
+/// 6.4.1), or the first refusal. The object `variables` has the values of the variables. Of
+/// arguments of one name, the first counts; undefined ones are ignored. Refusals come in the order
+/// of the definitions; the path begins with the argument's name. A missing argument of a Non-Null
+/// type without a default is 121.
 pub fn coerce_arguments(
     alloc: Global,
     schema: &Schema,

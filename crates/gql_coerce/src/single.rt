@@ -21,7 +21,7 @@ use std::alloc::{AllocError, Global};
 pub enum Single<'v> {
     /// An integer of 64 bits.
     Whole(i64),
-    /// A literal integer of more bits.
+    /// An integer literal of more bits.
     OutOfRange,
     /// Another number.
     Fraction,

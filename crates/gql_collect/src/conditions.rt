@@ -99,7 +99,7 @@ fn has_name(names: &[Text], name: &str) -> bool
     false
 }
 
-/// Whether an object of a type may stand for the type of that name.
+/// Whether a type is a possible type of the type of that name.
 pub fn is_possible(schema: &Schema, of_type: &str, condition: &str) -> bool
     ensures { result ≡ spec.is_possible schema.now of_type.now condition.now }
 {

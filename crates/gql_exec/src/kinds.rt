@@ -46,7 +46,7 @@ fn has_name(names: &[Text], name: &str) -> bool
     false
 }
 
-/// Whether objects of the type of that name may stand for an abstract type.
+/// Whether the type of that name is a possible type of an abstract type.
 fn is_possible_name(schema: &Schema, of_type: &str, name: &str) -> bool
     ensures { result ≡ list_any (bytes_eq name.now) (plans.possible_in schema.now of_type.now) }
 {

@@ -25,8 +25,8 @@ pub struct FieldError<'d> {
     pub path: Vec<Step<'d>>,
 }
 
-/// The text written so far, the errors so far, the path of the value at hand, how many more values
-/// may be completed, and whether the field at hand has an error of its own.
+/// The text written so far, the errors so far, the path of the present value, how many more values
+/// may be completed, and whether the present field has an error of its own.
 #[derive(Drop)]
 pub struct Run<'d> {
     pub out: Vec<u8>,

@@ -108,7 +108,7 @@ fn message(alloc: Global, reason: Reason<'_>) -> Result<String, AllocError>
     }
 }
 
-/// Notes an error of the value at hand, if it is the first of its field.
+/// Notes an error of the present value, if it is the first of its field.
 pub fn raise(
     alloc: Global,
     run: &mut Run<'_>,

@@ -39,7 +39,7 @@ fn write_number(number: &Number, out: &mut Vec<u8>) -> Result<(), AllocError>
     }
 }
 
-/// Writes a comma, where something stands before.
+/// Writes a comma, if something comes before.
 fn write_comma(later: bool, out: &mut Vec<u8>) -> Result<(), AllocError>
     ensures { OnOk result (out.new.items ≡ out.old.items ++ comma_if later) }
 {

@@ -264,8 +264,8 @@ fn execute_request<'d>(
 /// completed, the execution is refused: each field of an answer counts as one, and each item of a
 /// list.
 ///
-/// Each fragment is looked up among these; a definition that is no operation has neither data nor
-/// errors.
+/// Each fragment is looked up among these; a definition that is not an operation has neither data
+/// nor errors.
 pub fn execute<'d>(
     alloc: Global,
     fragments: &'d Fragments,

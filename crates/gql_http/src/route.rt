@@ -10,7 +10,7 @@ use gql_ast::{FileName, FileSide};
 use gql_wire::Allow;
 use std::str;
 
-/// Why a request with a head that was read is no call.
+/// Why a request whose head was read is not a call.
 #[derive(Clone, Copy, Debug, PartialEq, Eq)]
 pub enum RouteRefusal {
     /// 305: no resource has the target.

@@ -84,7 +84,7 @@ fn put_end(end: &End, rows: &mut Vec<Vec<usize>>) -> Result<(), AllocError>
     Ok(())
 }
 
-/// At each of so many numbers the fields that have a default and that name.
+/// At each number, the fields that have a default and the name of the field of that number.
 pub fn end_rows(alloc: Global, count: usize, ends: &[End]) -> Result<Vec<Vec<usize>>, AllocError>
     ensures { IfOk result (λ rows. spec.Rows count ends.now (map (λ v. v.items) rows.items)) }
 {

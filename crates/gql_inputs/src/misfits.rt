@@ -1,4 +1,5 @@
-//! Values that do not fit the type that is expected (GraphQL specification, 5.6.1, 5.6.2 and 5.6.4).
+//! Values that do not fit the type that is expected (GraphQL specification, 5.6.1, 5.6.2 and
+//! 5.6.4).
 ghost use Rattle.std.specs.Prelude.{◌≡◌, ◌++◌, ℕ, List, is_some, map, flat_map, IfOk, OnOk};
 ghost use Rattle.gql_ast.specs.declared.literal.Literal.{Literal as AValue};
 ghost use Rattle.gql_types.specs.Written.{Written};
@@ -20,7 +21,7 @@ use gql_ast::{Literal, ObjectField, Rule};
 use gql_text::Place;
 use std::alloc::{AllocError, Global};
 
-// Adds a value that does not fit, where the type is known.
+// Adds a value that does not fit, if the type is known.
 fn add_if_known<A: InputTypes>(
     alloc: Global,
     place: Place,
@@ -39,7 +40,7 @@ fn add_if_known<A: InputTypes>(
     Ok(())
 }
 
-// Adds null, where the type is Non-Null.
+// Adds null, if the type is Non-Null.
 fn add_null<A: InputTypes>(
     alloc: Global,
     place: Place,
@@ -170,7 +171,7 @@ fn add_items<A: InputTypes>(
     Ok(())
 }
 
-// Adds what of one item does not fit. An item of a list that is given is not made a list of one.
+// Adds what of one item does not fit. An item is not made a list of one.
 #[cycle(misfits)]
 fn add_item<A: InputTypes>(
     alloc: Global,

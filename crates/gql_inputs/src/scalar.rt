@@ -14,7 +14,7 @@ pub enum Scalar {
     Custom,
 }
 
-/// Which scalar a name names.
+/// The scalar of a name.
 pub fn scalar_named(name: &str) -> Scalar
     ensures { result ≡ spec.scalar_named name.now }
 {

@@ -142,7 +142,7 @@ fn add_unless_taken<T: InputType>(
     Ok(())
 }
 
-/// Adds a value without parts, where the type is known and does not take it.
+/// Adds a value without parts, if the type is known and does not take it.
 pub fn add_single<A: InputTypes>(
     alloc: Global,
     value: &Literal,

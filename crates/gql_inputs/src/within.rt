@@ -1,6 +1,6 @@
-//! Values of a scalar of a schema file. It takes no number with a fraction or an exponent, and
-//! integers of 64 bits alone, wherever they are in the value (this registry's own rule, on scalars as
-//! in 3.5.5 of the GraphQL specification).
+//! Values of a scalar of a schema file. It takes no number with a fraction or an exponent, and no
+//! integer of more than 64 bits, wherever the number is in the value (this registry's own rule;
+//! GraphQL specification, 3.5.5, leaves it open).
 ghost use Rattle.std.specs.Prelude.{◌≡◌, ◌++◌, flat_map, OnOk};
 ghost use Rattle.gql_ast.specs.declared.literal.Literal.{Literal as AValue};
 ghost use Rattle.gql_ast.specs.declared.literal.ObjectField.{ObjectField as AField};

@@ -51,10 +51,10 @@ pub record IsResponse (files : Files) (stored : Data) (name : Option (List ℕ))
 -- a refusal.
 pub data Answers (files : Files) (stored : Data) (name : Option (List ℕ)) (variables : Data)
     : Result (List ℕ) Refusal → Type 0 where
-  -- 208: there is no operation of the name, or without a name there is not just one
+  -- 208: there is no operation of the name; or there is no name, and not exactly one operation
   no_operation : operations.chosen files.documents name ≡ None
       → Answers files stored name variables (Err NoOperation)
-  -- 209: faults stand against the operation, which are these
+  -- 209: these faults keep the operation from being executed
   faulty : {d : Definition} {faults : List Fault} → operations.chosen files.documents name ≡ Some d
       → AreAgainst files d faults → faults ≢ []
       → Answers files stored name variables (Err (Faulty faults))

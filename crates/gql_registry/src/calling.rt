@@ -18,7 +18,7 @@ use gql_serving::{laws, owned_faults};
 use serde_json::Value;
 use std::alloc::{AllocError, Global};
 
-/// The faults that stand against an operation.
+/// The faults that keep an operation from being executed.
 fn faults_against(
     alloc: Global,
     known: &Known,

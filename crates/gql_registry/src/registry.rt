@@ -340,11 +340,11 @@ impl Registry {
         self.remove(FileSide::Documents, name, expected, meter)
     }
 
-    /// Puts bytes as the data that operations are executed on, in place of those before, and returns
-    /// the new revision and how many faults the report has. The data are a JSON object whose numbers
-    /// are integers, and whose members `query` and `mutation` are objects. Refused, in this order, by
-    /// 206, 212, 202 and 207, and by 211 if an allocation fails; the registry is then as it was.
-    /// Nothing is examined.
+    /// Puts bytes as the data that operations are executed on, in place of those before, and
+    /// returns the new revision and how many faults the report has. The data are a JSON object
+    /// whose numbers are integers, and whose members `query` and `mutation` are objects. Refused,
+    /// in this order, by 206, 212, 202 and 207, and by 211 if an allocation fails; the registry is
+    /// then as it was. Nothing is examined.
     #[tactic(none)]
     pub fn put_data(
         &mut self,
@@ -366,11 +366,10 @@ impl Registry {
     }
 
     /// Runs the stored operation of a name, or without a name the only one, with the values of its
-    /// variables, which are an object or null, on the data that were put. Refused, in this order: by
-    /// 208 if there is no such operation; by 209 with the faults that stand against it, where these
-    /// are faults of the schema, of the operation or of fragments that it reaches; by 210 if more
-    /// than 100,000 values are to be completed; and by 211 if an allocation fails. Nothing is
-    /// changed.
+    /// variables, which are an object or null, on the data that was put. The refusals, in this
+    /// order: 208 if there is no such operation; 209 if the schema, the operation or a fragment
+    /// that it reaches has faults, with these faults; 210 if more than 100,000 values are to be
+    /// completed; and 211 if an allocation fails. Nothing is changed.
     #[tactic(none)]
     pub fn run(&mut self, name: Option<&str>, variables: &Value) -> Result<Reply, Refusal>
         ensures answers { Answers (state_of self.old).files (state_of self.old).stored

@@ -42,7 +42,7 @@ pub fn parse_on(
     }
 }
 
-/// Equal files but for this one, which stands in the place of any of its name.
+/// The files with this one, in place of any of its name.
 pub fn with_put(
     alloc: Global,
     files: &Files,

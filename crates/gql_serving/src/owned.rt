@@ -65,8 +65,9 @@ fn picked(
     Ok(owned)
 }
 
-/// Of these faults those that an operation answers for, in their order: those that it owns, and those
-/// that the fragments own which it reaches. Where there are no faults, the world is asked nothing.
+/// Those of these faults that an operation answers for, in their order: the faults that it owns,
+/// and those that the fragments own that it reaches. If there are no faults, the world is not
+/// called.
 pub fn owned_faults<W: World>(
     alloc: Global,
     world: &mut W,
