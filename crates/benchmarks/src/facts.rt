@@ -1,5 +1,5 @@
-//! How long a world of the files takes to answer a key, a million times for each kind of key, beside
-//! the look-up of gql_types by the same name; for fragments, beside their look-up by name.
+//! How long a world of the files takes to answer a key, a million times for each kind of key,
+//! beside the look-up of gql_types by the same name; for fragments, beside their look-up by name.
 use crate::speed::nanos_each;
 use anyhow::Result;
 use gql_ast::{FileName, Files, OperationKind, Shared, Text};

@@ -94,8 +94,10 @@ is_list_expected None = false
 is_list_expected (Some t) = is_list t
 
 -- what an item of a list comes to; it is not made a list of one
-abbrev pub item_at : (Input → Option Written → Reached (Option Data)) → Option Written → Input → Reached Data
-item_at inner e x = if is_list_expected e && not (may_be_list x) then wrong_kind else after (inner x e) (or_null e)
+abbrev pub item_at : (Input → Option Written → Reached (Option Data))
+    → Option Written → Input → Reached Data
+item_at inner e x = if is_list_expected e && not (may_be_list x)
+    then wrong_kind else after (inner x e) (or_null e)
 
 -- what the items of a list come to, each at its index, from n on
 abbrev pub items_from : (Input → Reached Data) → ℕ → List Input → List (Reached Data)
@@ -107,7 +109,8 @@ abbrev pub array_of : (Input → Reached Data) → List Input → Reached Data
 array_of f xs = after (all (items_from f 0 xs)) (λ ds. value (json.array (items_of ds)))
 
 -- what a list comes to, by what is expected of its items
-abbrev pub list_by : (Input → Option Written → Reached (Option Data)) → List Input → Expected → Reached Data
+abbrev pub list_by : (Input → Option Written → Reached (Option Data))
+    → List Input → Expected → Reached Data
 list_by inner xs nothing = wrong_kind
 list_by inner xs anything = array_of (item_at inner None) xs
 list_by inner xs (this t) = array_of (item_at inner (Some t)) xs
@@ -141,11 +144,13 @@ given_as n fs = option_map (λ (f : Field). f.value) (find (λ (f : Field). byte
 
 -- a member of an object at an input object type
 abbrev pub defined_entry : List Field → Sited InputValueDefinition → Entry
-defined_entry fs d = record { name = d.node.name.text; definition = Some d.node; given = given_as d.node.name.text fs }
+defined_entry fs d = record { name = d.node.name.text;
+    definition = Some d.node; given = given_as d.node.name.text fs }
 
 -- whether the type defines a field of this name
 abbrev pub is_defined : List (Sited InputValueDefinition) → Field → Bool
-is_defined ds f = is_some (find (λ (d : Sited InputValueDefinition). bytes_eq f.name d.node.name.text) ds)
+is_defined ds f =
+    is_some (find (λ (d : Sited InputValueDefinition). bytes_eq f.name d.node.name.text) ds)
 
 -- the unknown field, if there is one; else these entries
 abbrev pub unless_unknown : Option Field → Entries → Entries
@@ -154,7 +159,8 @@ unless_unknown None es = es
 
 -- what an object at an input object type is made of
 abbrev pub defined_entries : List Field → List (Sited InputValueDefinition) → Entries
-defined_entries fs ds = unless_unknown (find (λ (f : Field). not (is_defined ds f)) fs) (are (map (defined_entry fs) ds))
+defined_entries fs ds = unless_unknown (find (λ (f : Field). not (is_defined ds f)) fs)
+    (are (map (defined_entry fs) ds))
 
 -- what an object is made of, by the kind of its type
 abbrev pub entries_at_kind : List Field → SchemaType → TypeKind → Entries
@@ -177,31 +183,39 @@ entries_for s fs (Some t) = entries_by fs (input_type s t)
 
 -- The default value of a field that is not given; it contains no variable. A field without one has
 -- no value, if its type is not Non-Null.
-abbrev pub default_of : (Input → Option Written → Reached (Option Data)) → List ℕ → Written → Option Literal → Reached (Option Data)
-default_of inner n t None = if is_non_null t then refused reason.MissingField (segment.Key n ∷ []) else value None
+abbrev pub default_of : (Input → Option Written → Reached (Option Data))
+    → List ℕ → Written → Option Literal → Reached (Option Data)
+default_of inner n t None = if is_non_null t
+    then refused reason.MissingField (segment.Key n ∷ []) else value None
 default_of inner n t (Some x) = within (segment.Key n) (inner (literal json.null x) (Some t))
 
 -- what is given for a field, or else its default value
-abbrev pub or_default : (Input → Option Written → Reached (Option Data)) → List ℕ → Option InputValueDefinition → Option Data → Reached (Option Data)
+abbrev pub or_default : (Input → Option Written → Reached (Option Data))
+    → List ℕ → Option InputValueDefinition → Option Data → Reached (Option Data)
 or_default inner n None v = value v
 or_default inner n (Some d) (Some v) = value (Some v)
 or_default inner n (Some d) None = default_of inner n (written d.of_type) d.default
 
 -- what the input for a field comes to, at the field's type, if one is given
-abbrev pub if_given : (Input → Option Written → Reached (Option Data)) → List ℕ → Option InputValueDefinition → Option Input → Reached (Option Data)
+abbrev pub if_given : (Input → Option Written → Reached (Option Data))
+    → List ℕ → Option InputValueDefinition → Option Input → Reached (Option Data)
 if_given inner n d None = value None
-if_given inner n d (Some x) = within (segment.Key n) (inner x (option_map (λ (v : InputValueDefinition). written v.of_type) d))
+if_given inner n d (Some x) = within (segment.Key n)
+    (inner x (option_map (λ (v : InputValueDefinition). written v.of_type) d))
 
 -- the value of a member, which may have none
-abbrev pub entry_at : (Input → Option Written → Reached (Option Data)) → Entry → Reached (Option Data)
-entry_at inner e = after (if_given inner e.name e.definition e.given) (or_default inner e.name e.definition)
+abbrev pub entry_at : (Input → Option Written → Reached (Option Data))
+    → Entry → Reached (Option Data)
+entry_at inner e = after (if_given inner e.name e.definition e.given)
+    (or_default inner e.name e.definition)
 
 -- a value under its name
 abbrev pub under : List ℕ → Option Data → Option (List ℕ × Data)
 under n v = option_map (λ d. (n, d)) v
 
 -- the member of an object, by its name, if it has a value
-abbrev pub member_at : (Input → Option Written → Reached (Option Data)) → Entry → Reached (Option (List ℕ × Data))
+abbrev pub member_at : (Input → Option Written → Reached (Option Data))
+    → Entry → Reached (Option (List ℕ × Data))
 member_at inner e = after (entry_at inner e) (λ v. value (under e.name v))
 
 -- the members with one more, if it has a value
@@ -232,7 +246,8 @@ variable_at e None = value None
 variable_at e (Some d) = some (given_at e d)
 
 -- what an input comes to; `inner` gives what its parts come to
-abbrev pub at_level : (Input → Option Written → Reached (Option Data)) → Schema → Input → Option Written → Reached (Option Data)
+abbrev pub at_level : (Input → Option Written → Reached (Option Data))
+    → Schema → Input → Option Written → Reached (Option Data)
 at_level inner s absent e = variable_at e None
 at_level inner s (given d) e = variable_at e (Some d)
 at_level inner s null e = some (null_at e)

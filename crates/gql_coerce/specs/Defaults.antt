@@ -36,11 +36,13 @@ pub data Takes (s : Schema) : Input → Option Written → InputValueDefinition 
   here : {fs : Fields} {e : Option Written} {d : InputValueDefinition} (es : List Entry) (m : Entry)
       → entries_for s (all_fields fs) e ≡ are es → Contains es m → m.definition ≡ Some d
       → is_left_out m.given ≡ true → Takes s (object fs) e d
-  in_field : {fs : Fields} {e : Option Written} {d : InputValueDefinition} (es : List Entry) (m : Entry) (x : Input)
+  in_field : {fs : Fields} {e : Option Written} {d : InputValueDefinition}
+      (es : List Entry) (m : Entry) (x : Input)
       → entries_for s (all_fields fs) e ≡ are es → Contains es m → m.given ≡ Some x
       → Takes s x (option_map (λ (v : InputValueDefinition). written v.of_type) m.definition) d
       → Takes s (object fs) e d
-  in_item : {xs : Inputs} {e : Option Written} {d : InputValueDefinition} (item : Option Written) (x : Input)
+  in_item : {xs : Inputs} {e : Option Written} {d : InputValueDefinition}
+      (item : Option Written) (x : Input)
       → IsExpected (items_expected s e) item → Contains (all_inputs xs) x
       → (is_list_expected item && not (may_be_list x)) ≡ false → Takes s x item d
       → Takes s (list xs) e d

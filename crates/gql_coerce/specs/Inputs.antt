@@ -73,7 +73,8 @@ fields_of (f ∷ fs) = field f.name f.value (fields_of fs)
 -- the first of each name
 abbrev pub firsts_by : {A : Type 0} → (A → List ℕ) → List A → List A
 firsts_by called [] = []
-firsts_by called (x ∷ xs) = x ∷ filter (λ y. not (bytes_eq (called x) (called y))) (firsts_by called xs)
+firsts_by called (x ∷ xs) =
+    x ∷ filter (λ y. not (bytes_eq (called x) (called y))) (firsts_by called xs)
 
 -- the first field of each name; others of the name do not count
 abbrev pub firsts : List Field → List Field

@@ -33,7 +33,8 @@ AnyDepth = (s : Schema) (x : Input) (t : Written) (o : Outcome (Option Data)) (n
 -- the variables of a request come to at most one outcome
 abbrev pub OneOfVariables : Type 0
 OneOfVariables = (s : Schema) (definitions : List VariableDefinition) (values : Data)
-    (o p : Outcome Data) → VariablesCome s definitions values o → VariablesCome s definitions values p
+    (o p : Outcome Data) → VariablesCome s definitions values o
+    → VariablesCome s definitions values p
     → o ≡ p
 
 -- arguments come to at most one outcome

@@ -12,7 +12,8 @@ use Rattle.gql_coerce.specs.declared.literal_entries.LiteralEntries.TheVariants 
 
 -- a member that an object is to have
 abbrev pub entry_of : Data → LiteralEntry → Entry
-entry_of vs e = record { name = e.name.now; definition = option_map (λ d. d.now) e.definition; given = option_map (λ x. literal vs x.now) e.given }
+entry_of vs e = record { name = e.name.now; definition = option_map (λ d. d.now) e.definition;
+    given = option_map (λ x. literal vs x.now) e.given }
 
 -- what an object is made of
 abbrev pub entries_of : Data → LiteralEntries → Entries
@@ -26,4 +27,5 @@ name_of f = f.name.text
 
 -- the first field that is not defined
 abbrev pub first_unknown : List (Sited InputValueDefinition) → List ObjectField → Option ObjectField
-first_unknown ds fs = find (λ (f : ObjectField). not (is_some (find (λ (d : Sited InputValueDefinition). bytes_eq (name_of f) d.node.name.text) ds))) fs
+first_unknown ds fs = find (λ (f : ObjectField). not (is_some (find
+    (λ (d : Sited InputValueDefinition). bytes_eq (name_of f) d.node.name.text) ds))) fs

@@ -35,5 +35,6 @@ entry_of e = record {
 
 -- the members that an object is to have
 abbrev pub entries_in : Entries → List Entry
-entries_in (entries.Literals es vs) = map (of_literal.entry_of (values_in (option_map (λ v. view v.now) vs))) es.items
+entries_in (entries.Literals es vs) =
+    map (of_literal.entry_of (values_in (option_map (λ v. view v.now) vs))) es.items
 entries_in (entries.Json es) = map of_json.entry_of es.items

@@ -89,7 +89,8 @@ as_scalar scalar.Custom x = as_custom x
 
 -- whether an enum has a value of this name
 abbrev pub is_value_of : SchemaType → List ℕ → Bool
-is_value_of t n = is_some (find (λ (v : Sited EnumValueDefinition). bytes_eq n v.node.name.text) t.values)
+is_value_of t n =
+    is_some (find (λ (v : Sited EnumValueDefinition). bytes_eq n v.node.name.text) t.values)
 
 -- what an enum makes of a name
 abbrev pub of_enum : SchemaType → List ℕ → Reached Data

@@ -25,8 +25,10 @@ pub fn coerce_literal(
     of_type: &TypeRef,
     variables: &Value,
 ) -> Result<Option<Value>, CoerceFault>
-    ensures ok { IfOk result (λ v. Comes schema.now (literal (view variables.now) value.now) (written of_type.now) (comes_to (option_map view v))) }
-    ensures err { IfErr result (λ e. Tells e (Comes schema.now (literal (view variables.now) value.now) (written of_type.now))) }
+    ensures ok { IfOk result (λ v. Comes schema.now (literal (view variables.now) value.now)
+        (written of_type.now) (comes_to (option_map view v))) }
+    ensures err { IfErr result (λ e. Tells e
+        (Comes schema.now (literal (view variables.now) value.now) (written of_type.now))) }
 {
     let part = Part::Literal(value, Some(variables));
     let coerced = walk::coerce(alloc, schema, part, Some(of_type))?;
@@ -43,8 +45,10 @@ pub fn coerce_json(
     value: &Value,
     of_type: &TypeRef,
 ) -> Result<Value, CoerceFault>
-    ensures ok { IfOk result (λ v. Comes schema.now (json_input (view value.now)) (written of_type.now) (comes_to (Some (view v)))) }
-    ensures err { IfErr result (λ e. Tells e (Comes schema.now (json_input (view value.now)) (written of_type.now))) }
+    ensures ok { IfOk result (λ v. Comes schema.now
+        (json_input (view value.now)) (written of_type.now) (comes_to (Some (view v)))) }
+    ensures err { IfErr result
+        (λ e. Tells e (Comes schema.now (json_input (view value.now)) (written of_type.now))) }
 {
     let coerced = walk::coerce(alloc, schema, Part::Json(value), Some(of_type))?;
     match result_of(coerced)? {

@@ -49,7 +49,8 @@ pub fn refused(alloc: Global, reason: Reason) -> Coerced
 
 // The refusal of a part, under this segment.
 fn behind(segment: Segment, stop: Stop) -> Result<Stop, AllocError>
-    ensures { IfOk result (λ r. (r.reason ≡ stop.reason) × (reverse r.steps.items ≡ segment ∷ reverse stop.steps.items)) }
+    ensures { IfOk result (λ r. (r.reason ≡ stop.reason)
+        × (reverse r.steps.items ≡ segment ∷ reverse stop.steps.items)) }
 {
     let Stop { reason, mut steps } = stop;
     steps.push(segment)?;

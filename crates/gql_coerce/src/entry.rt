@@ -30,7 +30,8 @@ pub enum Entries<'v> {
 }
 
 fn of_literal<'v>(entry: &LiteralEntry<'v>, variables: Option<&'v Value>) -> Entry<'v>
-    ensures { entry_of result ≡ literal_entry (values_in (option_map (λ v. view v.now) variables.entry)) entry.now }
+    ensures { entry_of result
+        ≡ literal_entry (values_in (option_map (λ v. view v.now) variables.entry)) entry.now }
 {
     let given = match entry.given {
         Some(value) => Some(Part::Literal(value, variables)),
@@ -64,7 +65,8 @@ fn literal_entry_at<'v>(
     index: usize,
 ) -> Option<Entry<'v>>
     ensures entry { option_map entry_of result
-        ≡ slice_get (map (literal_entry (values_in (option_map (λ v. view v.now) variables.entry))) entries.now) index }
+        ≡ slice_get (map (literal_entry
+        (values_in (option_map (λ v. view v.now) variables.entry))) entries.now) index }
     ensures within { OnSome result (index + 1 < 2 ^ 64) }
 {
     if index < entries.len() {

@@ -36,7 +36,8 @@ impl From<AllocError> for CoerceFault {
 /// What an input comes to, as a result.
 pub fn result_of(coerced: Coerced) -> Result<Option<Value>, CoerceFault>
     ensures ok { IfOk result (λ v. said coerced ≡ value (option_map view v)) }
-    ensures err { IfErr result (λ e. Tells e (λ (o : AnOutcome (Option Data)). said coerced ≡ reached o)) }
+    ensures err { IfErr result
+        (λ e. Tells e (λ (o : AnOutcome (Option Data)). said coerced ≡ reached o)) }
 {
     match coerced {
         Coerced::Given(value) => Ok(Some(value)),

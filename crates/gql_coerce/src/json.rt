@@ -55,7 +55,8 @@ fn start_object<'v>(
     found: JsonEntries<'v>,
     expected: Option<&'v TypeRef>,
 ) -> Result<Step<'v>, AllocError>
-    ensures { IfOk result (λ step. (s : ASchema) (n : ℕ) → spec.once (option_map written (option_copied expected.entry))
+    ensures { IfOk result (λ step. (s : ASchema) (n : ℕ)
+        → spec.once (option_map written (option_copied expected.entry))
         (some (spec.object_at (levels_of n s) (entries_of found.entry))) ≡ step_at n s step) }
 {
     match found {
@@ -84,7 +85,9 @@ pub fn enter<'v>(
     schema: &'v Schema,
     expected: Option<&'v TypeRef>,
 ) -> Result<Step<'v>, AllocError>
-    ensures { IfOk result (λ step. (n : ℕ) → levels_of (suc n) schema.now (json_input (view value.now)) (option_map written (option_copied expected.entry)) ≡ step_at n schema.now step) }
+    ensures { IfOk result (λ step. (n : ℕ)
+        → levels_of (suc n) schema.now (json_input (view value.now))
+        (option_map written (option_copied expected.entry)) ≡ step_at n schema.now step) }
 {
     match value {
         Value::Null => Ok(Step::Answer(coerce_null(alloc, expected))),

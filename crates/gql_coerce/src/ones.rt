@@ -35,7 +35,8 @@ pub fn once(
     expected: Option<&TypeRef>,
     coerced: Coerced,
 ) -> Result<Coerced, AllocError>
-    ensures { IfOk result (λ c. said c ≡ spec.once (option_map written (option_copied expected.entry)) (said coerced)) }
+    ensures { IfOk result (λ c. said c
+        ≡ spec.once (option_map written (option_copied expected.entry)) (said coerced)) }
 {
     match (expected, coerced) {
         (Some(of_type), Coerced::Given(value)) => {

@@ -26,7 +26,8 @@ fn add_index(index: usize, text: &mut String) -> Result<(), AllocError>
 }
 
 fn add_segment(segment: &Segment, text: &mut String) -> Result<(), AllocError>
-    ensures { OnOk result (string_bytes text.new ≡ spec.with_segment (string_bytes text.old) segment.now) }
+    ensures { OnOk result (string_bytes text.new
+        ≡ spec.with_segment (string_bytes text.old) segment.now) }
 {
     match segment {
         Segment::Key(key) => add_key(key.as_str(), text)?,

@@ -174,7 +174,8 @@ pub fn as_type(
     of_type: &SchemaType,
     single: &Single<'_>,
 ) -> Result<Coerced, AllocError>
-    ensures { IfOk result (λ c. said c ≡ some (spec.as_kind of_type.now of_type.now.kind (single_of single.now))) }
+    ensures { IfOk result (λ c. said c
+        ≡ some (spec.as_kind of_type.now of_type.now.kind (single_of single.now))) }
 {
     match of_type.kind {
         TypeKind::Scalar => as_scalar(alloc, scalar_named(of_type.name()), single),

@@ -28,7 +28,8 @@ fn enter<'v>(
     part: Part<'v>,
     expected: Option<&'v TypeRef>,
 ) -> Result<Step<'v>, AllocError>
-    ensures { IfOk result (λ step. (n : ℕ) → levels_of (suc n) schema.now (input_of part.entry) (option_map written (option_copied expected.entry)) ≡ step_at n schema.now step) }
+    ensures { IfOk result (λ step. (n : ℕ) → levels_of (suc n) schema.now (input_of part.entry)
+        (option_map written (option_copied expected.entry)) ≡ step_at n schema.now step) }
 {
     match part {
         Part::Literal(value, variables) => {
@@ -40,7 +41,8 @@ fn enter<'v>(
 
 // A list or an object, a part of which came to this.
 fn resume<'v>(alloc: Global, frame: Frame<'v>, coerced: Coerced) -> Result<Step<'v>, AllocError>
-    ensures { IfOk result (λ step. (s : ASchema) (n : ℕ) → frame_by (levels_of n s) (frame_of frame.entry) (said coerced) ≡ step_at n s step) }
+    ensures { IfOk result (λ step. (s : ASchema) (n : ℕ)
+        → frame_by (levels_of n s) (frame_of frame.entry) (said coerced) ≡ step_at n s step) }
 {
     match frame {
         Frame::Item(list) => resume_list(alloc, list, coerced),
@@ -81,7 +83,8 @@ fn take_step<'v>(
     step: Step<'v>,
     stack: &mut Vec<Frame<'v>>,
 ) -> Result<Focus<'v>, AllocError>
-    ensures { IfOk result (λ focus. (s : ASchema) (whole : ℕ → Reached (Option Data)) → Inside s whole (frames_of stack.old.items) (λ n. step_at n s step.entry)
+    ensures { IfOk result (λ focus. (s : ASchema) (whole : ℕ → Reached (Option Data))
+        → Inside s whole (frames_of stack.old.items) (λ n. step_at n s step.entry)
         → Holds s whole (frames_of stack.new.items) (λ n. focus_at n s focus)) }
 {
     match step {
@@ -102,7 +105,8 @@ pub fn coerce<'v>(
     part: Part<'v>,
     expected: Option<&'v TypeRef>,
 ) -> Result<Coerced, AllocError>
-    ensures { IfOk result (λ c. Eventually (λ n. levels_of n schema.now (input_of part.entry) (option_map written (option_copied expected.entry)) ≡ said c)) }
+    ensures { IfOk result (λ c. Eventually (λ n. levels_of n schema.now
+        (input_of part.entry) (option_map written (option_copied expected.entry)) ≡ said c)) }
 {
     let mut stack = Vec::new(alloc);
     let mut focus = Focus::Input(part, expected);

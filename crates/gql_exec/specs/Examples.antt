@@ -361,7 +361,8 @@ type_name = refl
 
 -- `{ __schema { queryType { name } } }`
 abbrev query_type : Plan
-query_type = on_any (field (meta source.Root (codes "__schema") 3 (required (named (codes "__Schema"))))
+query_type =
+    on_any (field (meta source.Root (codes "__schema") 3 (required (named (codes "__Schema"))))
     (on_any (field (simple (codes "queryType") 14 (required (named (codes "__Type"))))
     (leaf (simple (codes "name") 26 (named (codes "String")))) no_fields))
     no_fields)
@@ -379,7 +380,8 @@ name_of_query = refl
 -- `{ mine { name } }`, where the type of `mine` is `__Type`: the data is read
 mine : answer types (on_any (field (simple (codes "mine") 3 (named (codes "__Type")))
     (leaf (simple (codes "name") 10 (named (codes "String")))) no_fields))
-    (codes "Query") (one_member (codes "mine") (one_member (codes "name") (json.string (codes "x"))))
+    (codes "Query") (one_member (codes "mine")
+    (one_member (codes "name") (json.string (codes "x"))))
     ≡ record {
       value = one_member (codes "mine") (one_member (codes "name") (json.string (codes "x")));
       errors = [];

@@ -61,7 +61,8 @@ intro_arguments arguments = record {
 -- name
 abbrev pub introspect_in : Basis → intro_nodes.Node → List ℕ → Data → intro_nodes.Answer
 introspect_in g n name arguments =
-    unwrap_or (intro.resolve g.given.schema g.made (intro_arguments arguments) n name) intro_nodes.null
+    unwrap_or (intro.resolve g.given.schema g.made
+    (intro_arguments arguments) n name) intro_nodes.null
 
 -- what execution needs to know of a schema
 abbrev pub types_of : Basis → Types

@@ -63,11 +63,15 @@ syntax_text number place = located_text (syntax_message number) place
 
 -- the body of the refusal of a stale edit, with the present revision
 unfoldable pub stale_text : ℕ → List ℕ
-stale_text revision = codes "{\"errors\":[{\"message\":\"stale revision\",\"extensions\":{\"code\":206,\"revision\":" ++ decimal revision ++ codes "}}]}"
+stale_text revision =
+    codes "{\"errors\":[{\"message\":\"stale revision\",\"extensions\":{\"code\":206,\"revision\":"
+    ++ decimal revision ++ codes "}}]}"
 
 -- the body of the refusal of a faulty operation, with its faults
 unfoldable pub faulty_text : List Fault → List ℕ
-faulty_text faults = codes "{\"errors\":[{\"message\":\"operation is faulty\",\"extensions\":{\"code\":209,\"faults\":[" ++ faults_text faults ++ codes "]}}]}"
+faulty_text faults =
+    codes "{\"errors\":[{\"message\":\"operation is faulty\",\"extensions\":{\"code\":209,\"faults\":["
+    ++ faults_text faults ++ codes "]}}]}"
 
 -- ---- which answer
 
@@ -118,7 +122,8 @@ no_route = said 404 (error_text (codes "no such route") 305)
 
 -- the answer if the resource doesn't serve the method
 abbrev pub not_allowed : Allow → Said
-not_allowed methods = record { status = 405; allow = Some methods; body = error_text (codes "method is not allowed") 306 }
+not_allowed methods = record { status = 405;
+    allow = Some methods; body = error_text (codes "method is not allowed") 306 }
 
 -- the answer if the query isn't served
 abbrev pub bad_query : Said

@@ -53,7 +53,8 @@ pub record FieldPair : Type 0 where
 -- a field of an interface with the type's field of that name, if it has one
 abbrev pub paired : List (Sited FieldDefinition) → Sited FieldDefinition → List FieldPair
 paired fields f = option_map_or
-    (λ (own : Sited FieldDefinition). record { own = own; expected = f } ∷ []) (field_in fields f.node.name.text) []
+    (λ (own : Sited FieldDefinition). record { own = own; expected = f } ∷ [])
+    (field_in fields f.node.name.text) []
 
 -- the pairs of a type and an interface that it implements
 abbrev pub pairs_of : Implements → List FieldPair

@@ -61,7 +61,9 @@ pub record NumberedObject : Type 0 where
 abbrev pub objects_from : ℕ → List SchemaType → List NumberedObject
 objects_from n [] = []
 objects_from n (t ∷ types) =
-    record { of_type = t; numbers = record { start = n; end = n + length t.input_fields }; inputs = numbered_from n t.input_fields } ∷ objects_from (n + length t.input_fields) types
+    record { of_type = t; numbers = record { start = n; end = n + length t.input_fields };
+        inputs = numbered_from n t.input_fields }
+    ∷ objects_from (n + length t.input_fields) types
 
 -- the input objects of a schema
 abbrev pub objects : Schema → List NumberedObject
@@ -134,7 +136,8 @@ list_at items t = option_map_or
 -- the objects within a value of this form, from those within its parts
 abbrev pub object_values_at : List NumberedObject → Literal-F Within Given → ObjectsAt
 object_values_at all (Literal-F.Object place fields) is_item t = object_at all fields is_item t
-object_values_at all (Literal-F.List place items) is_item t = list_at (map (λ (w : Within). w.objects) items) t
+object_values_at all (Literal-F.List place items) is_item t =
+    list_at (map (λ (w : Within). w.objects) items) t
 object_values_at all (Literal-F.Variable place name) is_item t = []
 object_values_at all (Literal-F.Int place text) is_item t = []
 object_values_at all (Literal-F.Float place text) is_item t = []
@@ -161,7 +164,8 @@ within_at all x = record { is_variable = is_variable_at x; objects = object_valu
 
 -- a field of an object literal, from what is within its value
 abbrev pub given_in : ObjectField-F Within Given → Given
-given_in f = record { name = f.name.text; is_variable = f.value.is_variable; value = f.value.objects }
+given_in f = record { name = f.name.text;
+    is_variable = f.value.is_variable; value = f.value.objects }
 
 -- what is within a value
 unfoldable pub within : List NumberedObject → Literal → Within
@@ -173,7 +177,8 @@ object_values all x = (within all x).objects
 
 -- a field of an object literal, with the objects within its value
 abbrev pub given : List NumberedObject → ObjectField → Given
-given all f = record { name = f.name.text; is_variable = is_variable f.value; value = object_values all f.value }
+given all f = record { name = f.name.text;
+    is_variable = is_variable f.value; value = object_values all f.value }
 
 -- the name of a field of an object literal, if it counts as given
 abbrev pub name_of_given : ObjectField → List (List ℕ)
@@ -185,7 +190,8 @@ is_among names name = list_any (λ n. bytes_eq name n) names
 
 -- the number of a field that has a default value and is not given
 abbrev pub missing_default : List (List ℕ) → Numbered → List ℕ
-missing_default names i = if is_some i.field.node.default && not (is_among names i.field.node.name.text) then i.number ∷ [] else []
+missing_default names i = if is_some i.field.node.default
+    && not (is_among names i.field.node.name.text) then i.number ∷ [] else []
 
 -- the numbers of the fields whose default values an object needs
 abbrev pub missing_defaults : ObjectValue → List ℕ

@@ -8,7 +8,8 @@ use Rattle.gql_iface_rules.specs.declared.s19_ends.End.{End}
 -- a field that has a default value, and the number of the first field of its name
 abbrev pub end_of : NumberedObject → Numbered → List End
 end_of o i = if is_some i.field.node.default
-    then map (λ n. record { first = n; number = i.number }) (first_number o.inputs i.field.node.name.text)
+    then map (λ n. record { first = n; number = i.number })
+    (first_number o.inputs i.field.node.name.text)
     else []
 
 -- the fields of an input object that have default values, each with the first field of its name

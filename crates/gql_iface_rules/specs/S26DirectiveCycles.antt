@@ -54,7 +54,8 @@ from_input_fields fields = flat_map (λ (f : Sited InputValueDefinition). from_i
 
 -- the directives on the extensions of a type
 abbrev pub on_extensions : List (Sited TypeExtension) → List (List ℕ)
-on_extensions extensions = flat_map (λ (e : Sited TypeExtension). applied e.node.directives) extensions
+on_extensions extensions =
+    flat_map (λ (e : Sited TypeExtension). applied e.node.directives) extensions
 
 -- a type leads to the directives on its definition and its extensions, and to the names to which
 -- its parts lead
@@ -68,7 +69,8 @@ type_row t = record { name = name_of t; leads = from_type t }
 
 -- the row of a directive: it leads to the names to which its arguments lead
 abbrev pub directive_row : Sited DirectiveDefinition → Steps
-directive_row d = record { name = at_sign d.node.name.text; leads = flat_map from_input d.node.arguments }
+directive_row d = record { name = at_sign d.node.name.text;
+    leads = flat_map from_input d.node.arguments }
 
 -- the rows of all types and directives
 abbrev pub definition_rows : Schema → List Steps

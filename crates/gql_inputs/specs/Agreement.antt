@@ -9,7 +9,8 @@ use Rattle.gql_inputs.specs.Lookups.{FieldForm, InputLookup, input_object}
 -- the types of its fields; and so on
 pub data LeadsTo (look : InputLookup) (t : Written) : List ℕ → Type 0 where
   itself : LeadsTo look t (name_in t)
-  by_field : {n : List ℕ} {fields : List FieldForm} {f : FieldForm} → LeadsTo look t n → look n ≡ Some (input_object fields)
+  by_field : {n : List ℕ} {fields : List FieldForm} {f : FieldForm}
+      → LeadsTo look t n → look n ≡ Some (input_object fields)
       → Contains fields f → LeadsTo look t (name_in f.of_type)
 
 -- two look-ups give the same answer for each name that the type leads to by the first

@@ -9,7 +9,8 @@ is_within bits negative n = if negative then nat_le n (2 ^ bits) else nat_lt n (
 
 -- a whole number of that many bits
 abbrev pub is_whole : ℕ → List ℕ → Bool
-is_whole bits text = nat_lt 0 (length (without_leading_sign text)) && (all_ascii_digits (without_leading_sign text)
+is_whole bits text = nat_lt 0 (length (without_leading_sign text))
+    && (all_ascii_digits (without_leading_sign text)
     && is_within bits (starts_with_minus text) (digits_value 10 (without_leading_sign text)))
 
 -- the whole number of 64 bits that is written

@@ -42,7 +42,8 @@ pub fn bad_values(
     value: &Literal,
     of_type: &TypeRef,
 ) -> Result<Vec<BadValue>, AllocError>
-    ensures { IfOk result (λ found. found.items ≡ spec.bad_values schema.now value.now (written of_type.now)) }
+    ensures { IfOk result (λ found. found.items
+        ≡ spec.bad_values schema.now value.now (written of_type.now)) }
 {
     let mut found = Vec::new(alloc);
     let mut types = OfSchema { schema };

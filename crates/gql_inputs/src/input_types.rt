@@ -80,7 +80,8 @@ pub trait InputTypes {
 
     /// The input type of that name, or `None` if it is not a known one.
     fn input_type(&mut self, alloc: Global, name: &Text) -> Result<Option<Self::Answer>, AllocError>
-        ensures answer { IfOk result (λ answer. option_map Self.Answer.form answer ≡ look self.old name.now) }
+        ensures answer { IfOk result
+            (λ answer. option_map Self.Answer.form answer ≡ look self.old name.now) }
         ensures look { look self.new ≡ look self.old }
         ensures kept { Self.kept self.new ≡ Self.kept self.old };
 }

@@ -33,7 +33,8 @@ pub fn is_list(steps: &[Wrapper]) -> bool
 
 /// The steps of the type of each item of a list that is given.
 pub fn item_of(steps: &[Wrapper]) -> Option<&[Wrapper]>
-    ensures { (n : List ℕ) → option_map (λ (ws : List AStep). typed ws (named n)) (option_copied result)
+    ensures { (n : List ℕ)
+        → option_map (λ (ws : List AStep). typed ws (named n)) (option_copied result)
         ≡ spec.item_of (typed steps.now (named n)) }
 {
     match steps.split_first() {

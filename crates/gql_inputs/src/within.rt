@@ -22,7 +22,8 @@ pub fn add_within(
     scalar: &str,
     found: &mut Vec<BadValue>,
 ) -> Result<(), AllocError>
-    ensures { OnOk result (found.new.items ≡ found.old.items ++ spec.within scalar.now (value_of value.now)) }
+    ensures { OnOk result (found.new.items
+        ≡ found.old.items ++ spec.within scalar.now (value_of value.now)) }
 {
     match value {
         Literal::Int { place, text } => {
@@ -54,7 +55,8 @@ pub fn add_within_all(
     scalar: &str,
     found: &mut Vec<BadValue>,
 ) -> Result<(), AllocError>
-    ensures { OnOk result (found.new.items ≡ found.old.items ++ flat_map (λ (x : AValue). spec.within scalar.now (value_of x)) items.now) }
+    ensures { OnOk result (found.new.items ≡ found.old.items
+        ++ flat_map (λ (x : AValue). spec.within scalar.now (value_of x)) items.now) }
 {
     for item in items {
         add_within(alloc, item, scalar, found)?;
@@ -70,7 +72,8 @@ pub fn add_within_fields(
     scalar: &str,
     found: &mut Vec<BadValue>,
 ) -> Result<(), AllocError>
-    ensures { OnOk result (found.new.items ≡ found.old.items ++ flat_map (λ (f : AField). spec.within scalar.now (value_of f.value)) fields.now) }
+    ensures { OnOk result (found.new.items ≡ found.old.items
+        ++ flat_map (λ (f : AField). spec.within scalar.now (value_of f.value)) fields.now) }
 {
     for field in fields {
         add_within(alloc, &field.value, scalar, found)?;

@@ -2,11 +2,12 @@
 -- results are merged (GraphQL 5.3.2): two have the same name and equal arguments exactly if their
 -- texts are equal.
 --
--- A text can be read back in one way: a number, a name and a variable end at a comma or a bracket, a
--- string has its length in front, and each item of a list, field of an object and argument ends in a
--- comma. Fields and arguments have no order, so they are in the order of their texts. Arguments are a
--- set: each text occurs once. A field of an object occurs as often as it is written. Numbers and
--- names are equal if they are written alike, and strings if their values are equal.
+-- A text can be read back in one way: a number, a name and a variable end at a comma or a bracket,
+-- a string has its length in front, and each item of a list, field of an object and argument ends
+-- in a comma. Fields and arguments have no order, so they are in the order of their texts.
+-- Arguments are a set: each text occurs once. A field of an object occurs as often as it is
+-- written. Numbers and names are equal if they are written alike, and strings if their values are
+-- equal.
 use Rattle.std.specs.Prelude.{◌≡◌, ◌+◌, ℕ, List, [], ◌∷◌, ◌++◌, map, flat_map, fold, length, decimal, codes, Bool, true, false, refl}
 use Rattle.std.proofs.Common.{ap, sym, ◌∙◌}
 use Rattle.std.specs.BTreeMap.{insert_entry}
@@ -184,8 +185,10 @@ without_order : (p : Place)
     ≡ value_text (l.Object p (one p (codes "b") (l.Int p (codes "2"))
     ∷ one p (codes "a") (l.Int p (codes "1")) ∷ []))
 without_order p = rw (
-  text_object p (one p (codes "a") (l.Int p (codes "1")) ∷ one p (codes "b") (l.Int p (codes "2")) ∷ []),
-  text_object p (one p (codes "b") (l.Int p (codes "2")) ∷ one p (codes "a") (l.Int p (codes "1")) ∷ []),
+  text_object p (one p (codes "a") (l.Int p (codes "1"))
+      ∷ one p (codes "b") (l.Int p (codes "2")) ∷ []),
+  text_object p (one p (codes "b") (l.Int p (codes "2"))
+      ∷ one p (codes "a") (l.Int p (codes "1")) ∷ []),
   text_int p (codes "1"),
   text_int p (codes "2"),
 ) refl
@@ -196,7 +199,8 @@ as_often : (p : Place)
     ∷ one p (codes "p") (l.Int p (codes "1")) ∷ []))
     ≡ codes "{p:1,p:1,}"
 as_often p = rw (
-  text_object p (one p (codes "p") (l.Int p (codes "1")) ∷ one p (codes "p") (l.Int p (codes "1")) ∷ []),
+  text_object p (one p (codes "p") (l.Int p (codes "1"))
+      ∷ one p (codes "p") (l.Int p (codes "1")) ∷ []),
   text_int p (codes "1"),
 ) refl
 

@@ -65,4 +65,5 @@ fields_with i (Some s) rest = refl
 -- a set of these fields has them
 pub fields_listed : (fs : List FieldNode) → fields_in (listed fs) ≡ fs
 fields_listed [] = refl
-fields_listed (f ∷ fs) = fields_with f.its f.below (listed fs) ∙ ap (λ rest. f ∷ rest) (fields_listed fs)
+fields_listed (f ∷ fs) = fields_with f.its f.below (listed fs)
+    ∙ ap (λ rest. f ∷ rest) (fields_listed fs)

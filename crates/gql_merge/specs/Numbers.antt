@@ -32,7 +32,8 @@ HasPlaces texts numbers = map Some numbers ≡ map (λ t. place_in t texts) text
 abbrev pub AddsText : (List ℕ → Option ℕ) → List ℕ → ℕ → (List ℕ → Option ℕ) → ℕ → Type 0
 AddsText number text place number_after result = (texts : List (List ℕ))
     → IsIndexed number texts → place ≡ length texts
-    → IsIndexed number_after (texts ++ text ∷ []) × (place_in text (texts ++ text ∷ []) ≡ Some result)
+    → IsIndexed number_after (texts ++ text ∷ [])
+    × (place_in text (texts ++ text ∷ []) ≡ Some result)
 
 -- ---- numbers of fields
 

@@ -39,7 +39,8 @@ fn add_operation(
     named: &mut Vec<NamedOperation>,
     all: &mut Vec<Definition>,
 ) -> Result<(), AllocError>
-    ensures named { OnOk result (named.new.items ≡ named.old.items ++ spec.named_in definition.now) }
+    ensures named { OnOk result (named.new.items
+        ≡ named.old.items ++ spec.named_in definition.now) }
     ensures all { OnOk result (all.new.items ≡ all.old.items ++ spec.operation_in definition.now) }
 {
     if let Tree::Operation(operation) = &definition.tree {

@@ -39,10 +39,12 @@ pub data Fails : State → Option ℕ → Edit → Refusal → Type 0 where
   spent : {s : State} {expected : Option ℕ} {e : Edit} → s.revision ≡ last_revision
       → Fails s expected e Spent
   -- 203: the file has too many bytes
-  too_long : {s : State} {expected : Option ℕ} {side : FileSide} {name bytes : List ℕ} → file_limit < length bytes
+  too_long : {s : State} {expected : Option ℕ} {side : FileSide} {name bytes : List ℕ}
+      → file_limit < length bytes
       → Fails s expected (put side name bytes) TooLong
   -- 202: the bytes are not UTF-8
-  not_text : {s : State} {expected : Option ℕ} {side : FileSide} {name bytes : List ℕ} → (IsUtf8 bytes → ⊥)
+  not_text : {s : State} {expected : Option ℕ} {side : FileSide} {name bytes : List ℕ}
+      → (IsUtf8 bytes → ⊥)
       → Fails s expected (put side name bytes) NotText
   data_not_text : {s : State} {expected : Option ℕ} {bytes : List ℕ} → (IsUtf8 bytes → ⊥)
       → Fails s expected (put_data bytes) NotText
@@ -50,7 +52,8 @@ pub data Fails : State → Option ℕ → Edit → Refusal → Type 0 where
   bad_data : {s : State} {expected : Option ℕ} {bytes : List ℕ}
       → ((d : Data) → IsDataText bytes d → ⊥) → Fails s expected (put_data bytes) BadData
   -- 201: the text is not a file of the side
-  syntax : {s : State} {expected : Option ℕ} {side : FileSide} {name bytes : List ℕ} {number : SyntaxRefusal}
+  syntax : {s : State} {expected : Option ℕ}
+      {side : FileSide} {name bytes : List ℕ} {number : SyntaxRefusal}
       {place : Place}
       → IsFaultOn side name bytes (At number place)
       → Fails s expected (put side name bytes) (Syntax number place)
@@ -61,7 +64,8 @@ pub data Fails : State → Option ℕ → Edit → Refusal → Type 0 where
   -- 205: the name is new, and the side has as many files as it may have
   files_full : {s : State} {expected : Option ℕ} {side : FileSide} {name bytes : List ℕ}
       → file_named (files_on side s.files) name ≡ None
-      → most_files ≤ length (files_on side s.files) → Fails s expected (put side name bytes) FilesFull
+      → most_files ≤ length (files_on side s.files)
+      → Fails s expected (put side name bytes) FilesFull
 
 -- the order in which the checks are made: 206, 212, 203, 202, 201 or 207, 204, 205
 abbrev pub rank : Refusal → ℕ

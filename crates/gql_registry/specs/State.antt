@@ -6,8 +6,8 @@ use Rattle.gql_verdict.specs.Verdicts.{Judgement}
 use Rattle.serde_json.specs.Data.{Data, object, no_members}
 use Rattle.serde_json.specs.View.{view}
 
--- the files that are present, the data that operations are executed on, and the number of edits that
--- were accepted
+-- the files that are present, the data that operations are executed on, and the number of edits
+-- that were accepted
 pub record State : Type 0 where
   pub files : Files
   pub stored : Data

@@ -161,7 +161,8 @@ pub data IsFault (facts : Facts) (d : Definition) : Fault → Type 0 where
       → IsFault facts d (v16.fault (owner_of d) g)
 
 -- the list before, and after it the fault of a fragment that reaches itself
-pub data AddsCycle (facts : Facts) (d : Definition) (before : List Fault) : List Fault → Type 0 where
+pub data AddsCycle (facts : Facts) (d : Definition) (before : List Fault) : List Fault
+    → Type 0 where
   cyclic : {g : Fragment} → v16.own_fragment d.tree ≡ Some g → v16.IsCyclic facts d g
       → AddsCycle facts d before (before ++ v16.fault (owner_of d) g ∷ [])
   other : ((g : Fragment) → v16.own_fragment d.tree ≡ Some g → v16.IsCyclic facts d g → ⊥)

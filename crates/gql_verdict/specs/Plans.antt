@@ -19,8 +19,8 @@ abbrev pub IsStep : Facts → List Slot → Definition → Slot → Type 0
 IsStep facts kept d (Here v) = Serves facts d v
 IsStep facts kept d (At j) = (v : Judgement) × IsAt kept j v × Serves facts d v
 
--- The steps that make a shelf current: for each definition, in file order, a verdict that holds, new
--- or kept on the shelf.
+-- The steps that make a shelf current: for each definition, in file order, a verdict that holds,
+-- new or kept on the shelf.
 pub record IsPlanned (facts : Facts) (definitions : List Definition) (shelf : List Judgement)
     (prepared : List Slot) : Type 0 where
   pub order : InFileOrder definitions
