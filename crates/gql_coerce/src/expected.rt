@@ -88,7 +88,8 @@ pub fn coerce_given(
     expected: Option<&TypeRef>,
 ) -> Result<Coerced, AllocError>
     ensures { IfOk result (λ c. said c ≡ spec.variable_at
-        (option_map written (option_copied expected.entry)) (option_map (λ v. view v.now) given.entry)) }
+        (option_map written (option_copied expected.entry))
+        (option_map (λ v. view v.now) given.entry)) }
 {
     match given {
         Some(value) => {

@@ -23,7 +23,8 @@ use std::alloc::{AllocError, Global};
 // An item. It is not made a list of one.
 fn item_focus<'v>(alloc: Global, item: Part<'v>, expected: Option<&'v TypeRef>) -> Focus<'v>
     ensures { (s : ASchema) (n : ℕ)
-        → after (focus_at n s result) (spec.or_null (option_map written (option_copied expected.entry)))
+        → after (focus_at n s result)
+        (spec.or_null (option_map written (option_copied expected.entry)))
         ≡ spec.item_at (levels_of n s) (option_map written (option_copied expected.entry))
         (input_of item.entry) }
 {

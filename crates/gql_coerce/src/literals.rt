@@ -79,7 +79,8 @@ fn start_object<'v>(
     ensures { IfOk result (λ step. (s : ASchema) (n : ℕ)
         → spec.once (option_map written (option_copied expected.entry))
         (some (spec.object_at (levels_of n s)
-        (entries_of (values_in (option_map (λ v. view v.now) variables.entry)) found.entry))) ≡ step_at n s step) }
+        (entries_of (values_in (option_map (λ v. view v.now) variables.entry)) found.entry)))
+        ≡ step_at n s step) }
 {
     match found {
         LiteralEntries::Are(entries) => {

@@ -75,8 +75,7 @@ fn exchange<P: Peer>(hub: &mut Hub, peer: &mut P) -> Result<PipeEnd, PipeFault>
     requires writable { P.write_failures peer.old < 2 ^ 64 - 1 }
     ensures exchange { (passed : List Passage)
         × Adds (P.transcript peer.old) (P.transcript peer.new) passed
-        × IsExchange (record { before = service_of hub.old;
-        after = service_of hub.new; passed = passed; ended = P.ended peer.new; result = result }) }
+        × IsExchange (record { before = service_of hub.old; after = service_of hub.new; passed = passed; ended = P.ended peer.new; result = result }) }
     ensures others { (c : ℕ) → c ≢ 0 → rests_of hub.new c ≡ rests_of hub.old c }
     ensures read_failures { P.read_failures peer.new
         ≡ P.read_failures peer.old + failed_reads result }
@@ -122,8 +121,7 @@ pub fn pipe<P: Peer>(hub: &mut Hub, peer: &mut P) -> Result<PipeEnd, PipeFault>
     requires writable { P.write_failures peer.old < 2 ^ 64 - 1 }
     ensures exchange { (passed : List Passage)
         × Adds (P.transcript peer.old) (P.transcript peer.new) passed
-        × IsExchange (record { before = service_of hub.old;
-        after = service_of hub.new; passed = passed; ended = P.ended peer.new; result = result }) }
+        × IsExchange (record { before = service_of hub.old; after = service_of hub.new; passed = passed; ended = P.ended peer.new; result = result }) }
     ensures connections { rests_of hub.new ≡ rests_of hub.old }
     ensures read_failures { P.read_failures peer.new
         ≡ P.read_failures peer.old + failed_reads result }

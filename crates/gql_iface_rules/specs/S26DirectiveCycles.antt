@@ -69,8 +69,8 @@ type_row t = record { name = name_of t; leads = from_type t }
 
 -- the row of a directive: it leads to the names to which its arguments lead
 abbrev pub directive_row : Sited DirectiveDefinition → Steps
-directive_row d = record { name = at_sign d.node.name.text;
-    leads = flat_map from_input d.node.arguments }
+directive_row d =
+    record { name = at_sign d.node.name.text; leads = flat_map from_input d.node.arguments }
 
 -- the rows of all types and directives
 abbrev pub definition_rows : Schema → List Steps

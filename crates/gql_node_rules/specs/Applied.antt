@@ -55,14 +55,14 @@ annotated_schemas n = all_at location.Schema (λ (d : SchemaDefinition). d.direc
 -- the annotations of definitions of types
 abbrev pub types_at : List (Sited TypeDefinition) → List Annotations
 types_at types = map (λ (d : Sited TypeDefinition).
-    record { location = location_of d.node.parts; file = d.file;
-        directives = d.node.directives }) types
+    record { location = location_of d.node.parts; file = d.file; directives = d.node.directives })
+    types
 
 -- the annotations of extensions of types
 abbrev pub type_extensions_at : List (Sited TypeExtension) → List Annotations
 type_extensions_at extensions = map (λ (e : Sited TypeExtension).
-    record { location = location_of e.node.parts; file = e.file;
-        directives = e.node.directives }) extensions
+    record { location = location_of e.node.parts; file = e.file; directives = e.node.directives })
+    extensions
 
 -- the annotations of all definitions and extensions of types
 abbrev pub annotated_types : AllNodes → List Annotations
@@ -92,8 +92,8 @@ schema_and_extensions n = all_at location.Schema (λ (d : SchemaDefinition). d.d
 
 -- the directives on a node
 abbrev pub applied_at : Annotations → List Application
-applied_at n = map (λ (d : Directive). record { location = n.location;
-    file = n.file; directive = d }) n.directives
+applied_at n = map (λ (d : Directive).
+    record { location = n.location; file = n.file; directive = d }) n.directives
 
 -- the directives on all nodes
 abbrev pub applied : AllNodes → List Application
