@@ -69,8 +69,8 @@ stale_text revision =
 
 -- the body of the refusal of a faulty operation, with its faults
 unfoldable pub faulty_text : List Fault → List ℕ
-faulty_text faults =
-    codes "{\"errors\":[{\"message\":\"operation is faulty\",\"extensions\":{\"code\":209,\"faults\":["
+faulty_text faults = codes
+    "{\"errors\":[{\"message\":\"operation is faulty\",\"extensions\":{\"code\":209,\"faults\":["
     ++ faults_text faults ++ codes "]}}]}"
 
 -- ---- which answer
