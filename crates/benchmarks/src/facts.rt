@@ -125,7 +125,7 @@ fn keys(alloc: Global, question: Question) -> Result<Vec<Key>, AllocError> {
     Ok(keys)
 }
 
-/// How many of the keys the world answers by something.
+/// How many of the keys the world has an answer to.
 #[inline(never)]
 fn answered(alloc: Global, world: &mut Present<'_>, keys: &[Key]) -> u64 {
     let mut found: u64 = 0;

@@ -156,7 +156,7 @@ fn fragments(alloc: Global, count: u64) -> Result<String> {
     Ok(text)
 }
 
-/// Two fields of one name whose selections are the same, that deep.
+/// Two fields of one name with the same selections, nested that deep.
 fn equal_selections(alloc: Global, levels: u64) -> Result<String> {
     let open = repeated(alloc, "q { ", levels)?;
     let close = repeated(alloc, "} ", levels)?;

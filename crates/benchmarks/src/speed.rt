@@ -15,7 +15,7 @@ pub fn document(alloc: Global) -> Result<String, AllocError> {
     Ok(text)
 }
 
-/// How many tokens a text has, or 0 where it is refused.
+/// How many tokens a text has, or 0 if it is refused.
 #[inline(never)]
 pub fn token_count(alloc: Global, text: &str) -> u64 {
     match lex(alloc, text) {
@@ -24,7 +24,7 @@ pub fn token_count(alloc: Global, text: &str) -> u64 {
     }
 }
 
-/// Millionths of a second.
+/// Microseconds.
 pub fn micros(taken: Duration) -> u64 {
     taken
         .as_secs()

@@ -1,4 +1,4 @@
-//! What a schema says of the values of enums, and of the types of objects.
+//! The values of enums, and the possible types of abstract types.
 ghost use Rattle.std.specs.Prelude.{◌≡◌, codes, bytes_eq, map, option_map};
 ghost use Rattle.gql_ast.specs.declared.type_system.EnumValueDefinition.{EnumValueDefinition as AValue};
 ghost use Rattle.gql_built_in.specs.declared.sited.Sited.{Sited as ASited};

@@ -9,7 +9,7 @@ pub enum Reason<'d> {
     NullForNonNull,
     NotAList,
     NotAnObject,
-    /// The value is none of this leaf type.
+    /// The value is not of this leaf type.
     NotOfType(&'d str),
     /// The value names no possible type of this abstract type.
     NoPossibleType(&'d str),

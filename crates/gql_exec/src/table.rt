@@ -137,7 +137,7 @@ impl<'d> Table<'d> {
         None
     }
 
-    /// Adds an entry, and says its number.
+    /// Adds an entry, and returns its number.
     fn add(&mut self, entry: Entry<'d>) -> Result<usize, AllocError>
         ensures entries { OnOk result (self.new.entries.items
             ≡ self.old.entries.items ++ entry.entry ∷ []) }

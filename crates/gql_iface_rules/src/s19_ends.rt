@@ -8,7 +8,7 @@ use crate::s19_inputs::{InputObject, NumberedInput};
 use gql_types::{HasName, Named};
 use std::alloc::{AllocError, Global};
 
-/// A field that has a default, at the first field of its name.
+/// A field that has a default, and the first field of its name.
 #[derive(Clone, Copy)]
 pub struct End {
     pub first: usize,
@@ -61,7 +61,7 @@ pub fn all_ends(alloc: Global, objects: &Named<InputObject<'_>>) -> Result<Vec<E
     Ok(ends)
 }
 
-/// So many empty rows.
+/// That many empty rows.
 fn empty_rows(alloc: Global, count: usize) -> Result<Vec<Vec<usize>>, AllocError>
     ensures { IfOk result (λ rows. map (λ v. v.items) rows.items ≡ replicate count []) }
 {

@@ -25,8 +25,8 @@ impl HasName for NamedOperation {
     }
 }
 
-/// The operations of all document files, in the order of the files' names; of those of one name the
-/// first counts.
+/// The operations of all document files, in the order of the files' names. Of those of one name,
+/// the first counts.
 #[derive(Drop)]
 pub struct Operations {
     named: Named<NamedOperation>,
@@ -114,8 +114,8 @@ impl Operations {
         }
     }
 
-    /// The operation that a call names: the first of that name, or without a name the only one that
-    /// there is (GraphQL specification, 6.1).
+    /// The operation that a call names: the first of that name, or, without a name, the only one
+    /// (GraphQL specification, 6.1).
     pub fn chosen(&self, name: Option<&str>) -> Option<&Definition>
         ensures { (documents : List (List ℕ × TheDocument)) → IsIndexOf documents self.now
             → option_copied result ≡ spec.chosen documents (option_copied name.entry) }

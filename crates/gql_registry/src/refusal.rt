@@ -34,7 +34,7 @@ pub enum Refusal {
     /// 207: the data is not a JSON object that the registry accepts.
     #[error("data is not accepted")]
     BadData,
-    /// 208: no such operation, or none is named and there isn't just one.
+    /// 208: no such operation, or none is named and there isn't exactly one.
     #[error("no such operation")]
     NoOperation,
     /// 209: the schema, the operation or a fragment that it reaches has faults, which are these.

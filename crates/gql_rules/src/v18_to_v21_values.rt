@@ -58,7 +58,7 @@ fn check_value<W: World>(
     Ok(())
 }
 
-/// Adds the faults of a value of which nothing is expected.
+/// Adds the faults of a value where no type is known.
 fn check_repeats(
     alloc: Global,
     owner: &FilePlace,

@@ -46,7 +46,7 @@ fn is_owned(fault: &Fault, definition: &Definition, members: &[FragmentFact]) ->
     }
 }
 
-/// Of these faults those that a definition, or one of the fragments that it reaches, owns.
+/// Those of these faults that a definition, or one of the fragments that it reaches, owns.
 fn picked(
     alloc: Global,
     definition: &Definition,

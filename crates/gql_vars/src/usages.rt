@@ -116,7 +116,7 @@ fn check_value<W: World>(
     }
 }
 
-/// Adds those in a list. Where no list is expected, there are none.
+/// Adds those in a list. If no list is expected, there are none.
 #[cycle(usages)]
 #[tactic(auto, using(crate::proofs::ValueUsages::no_list))]
 fn check_list<W: World>(
@@ -192,7 +192,7 @@ fn check_item<W: World>(
     }
 }
 
-/// Adds those in an object. Where no input object is expected, there are none.
+/// Adds those in an object. If no input object is expected, there are none.
 #[cycle(usages)]
 #[tactic(auto, using(crate::proofs::ValueUsages::in_known, crate::proofs::ValueUsages::in_unknown))]
 fn check_object<W: World>(
