@@ -1,5 +1,5 @@
--- Helper definitions for private contracts: what is expected of the items of a list, as code holds
--- it.
+-- Helper definitions for private contracts: what is expected of the items of a list, as Rust code
+-- has it.
 use Rattle.gql_types.specs.Written.{written}
 use Rattle.gql_coerce.specs.Coercion.{Expected, nothing, anything, this}
 use Rattle.gql_coerce.specs.declared.expected.Expected.{Expected as AnExpected}

@@ -27,7 +27,7 @@ abbrev pub Tells : {A : Type 0} → CoerceFault → (Outcome A → Type 0) → T
 Tells (fault.Refused r) Comes = Comes (comes.refused r.reason r.path)
 Tells fault.Memory Comes = ⊤
 
--- ---- with so many levels
+-- ---- with at most n levels
 
 -- the default value at a type; without one there is no value, if the type is not Non-Null
 abbrev pub default_at : ℕ → Schema → Written → Option Literal → Reached (Option Data)
@@ -92,7 +92,7 @@ abbrev pub arguments : ℕ → Schema → List InputValueDefinition → List Arg
 arguments n s definitions given values =
     object_of (map (named_argument n s values given) definitions) json.no_members
 
--- ---- however deep it nests
+-- ---- at any depth
 
 -- the variables of these definitions come to this object or this refusal; the object `values` has
 -- what a request gives

@@ -76,7 +76,7 @@ within before r after = followed_by (followed_by (plain before) r) (plain after)
 abbrev pub raise : Error → Part
 raise e = record { outcome = bubble; notes = own e ∷ []; weight = 0 }
 
--- whether the field has an error of its own, here or before
+-- whether the field has an error of its own, in these notes or before (`raised`)
 abbrev pub has_own : Bool → List Note → Bool
 has_own raised [] = raised
 has_own raised (own e ∷ ns) = has_own true ns

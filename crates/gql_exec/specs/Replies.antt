@@ -82,8 +82,8 @@ or_null None = json.null
 abbrev pub caught : Reply Data → Reply Data
 caught r = record { value = Some (or_null r.value); notes = r.notes; weight = r.weight }
 
--- the errors that are kept: all those of fields below; of a field's own the first alone, and none
--- if `raised`: there was one before
+-- the errors that are kept: all of the fields below, and of the field's own errors the first alone,
+-- or none if there was one before (`raised`)
 abbrev pub kept : Bool → List Note → List Error
 kept raised [] = []
 kept true (own e ∷ ns) = kept true ns

@@ -10,7 +10,7 @@ pub data Event : Type 0 where
   opens : ℕ → Event
   -- it is fed a piece of bytes
   feeds : ℕ → List ℕ → Event
-  -- it is fed a piece of bytes, and an allocation fails after so many of the requests that the
+  -- it is fed a piece of bytes, and an allocation fails after this many of the requests that the
   -- piece completes
   breaks : ℕ → List ℕ → ℕ → Event
   -- it is closed

@@ -24,7 +24,7 @@ abbrev pub OneRun : Type 0
 OneRun = (s t u : State) (rs : List Req) (ls ms : List (List ℕ)) → Run s rs ls t → Run s rs ms u
     → (ls ≡ ms) × (t ≡ u)
 
--- an event has at most one answer, and leaves at most one state and the same unfinished bytes
+-- an event has at most one answer, and leaves at most one state and one set of unfinished bytes
 abbrev pub OneDeed : Type 0
 OneDeed = (s t u : State) (rests p q : Connections) (e : Event) (a b : List ℕ)
     → Does s rests e a t p → Does s rests e b u q

@@ -40,7 +40,7 @@ pub data Order : Connections → List Event → List (List Req) → Connections 
       → Completes fed e group between → Order between events groups last
       → Order fed (e ∷ events) (group ∷ groups) last
 
--- those of the items, one for each event, that are of the events on this connection
+-- the items that belong to events on this connection; there is one item for each event
 abbrev pub on : {A : Type 0} → ℕ → List Event → List A → List A
 on c [] xs = []
 on c (e ∷ events) [] = []

@@ -15,7 +15,7 @@ pub fn one_run()
     gql_registry::laws::one_outcome();
 }
 
-/// An event has at most one answer, and leaves at most one state and the same unfinished bytes.
+/// An event has at most one answer, and leaves at most one state and one set of unfinished bytes.
 pub fn one_deed()
     ensures { OneDeed }
 {

@@ -47,8 +47,8 @@ use Rattle.gql_rules.specs.V22DirectivesAreDefined as v22
 use Rattle.gql_rules.specs.V23DirectivesInValidLocations as v23
 use Rattle.gql_rules.specs.V24DirectivesUniquePerLocation as v24
 
--- the faults of the arguments that are given to a field or a directive at this place, if its
--- definition is known; it defines these arguments
+-- the faults of the arguments `given` to a field or a directive at this place; it defines the
+-- arguments `known`, if it is known
 abbrev pub argument_faults : FilePlace → Place → Option (List InputFact) → List Argument
     → List Fault
 argument_faults owner at known given =
