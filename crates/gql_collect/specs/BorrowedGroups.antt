@@ -7,7 +7,7 @@ use Rattle.gql_collect.specs.Nodes.{FieldNode}
 use Rattle.gql_collect.specs.declared.group.Group.{Group}
 use Rattle.gql_collect.specs.declared.node.FieldNode.{FieldNode as Node}
 
--- those of these fields that are there
+-- the fields of this list, without the empty places
 abbrev pub others_of : List (Option Node) → List FieldNode
 others_of [] = []
 others_of (None ∷ ns) = others_of ns

@@ -123,7 +123,7 @@ null_object : answer types (box (codes "m") (required (listed (required (named (
     }
 null_object = refl
 
--- of two bad items of one list the first error is kept
+-- only the first error of a list with two bad items is kept
 first_error : answer types (leaf (simple (codes "a") 3 (listed (named (codes "Int")))))
     (codes "Query") (one_member (codes "a")
     (json.array (item (json.string (codes "x")) (item (json.string (codes "y")) no_items))))
@@ -292,7 +292,7 @@ schema = record {
   possible = [];
 }
 
--- this schema, with no fragments and no variables
+-- the schema `type Query { id: ID }`, with no fragments and no variables
 abbrev basis : Basis
 basis = record {
   given = record { schema = schema; fragments = []; values = json.object no_members };

@@ -38,7 +38,7 @@ pub record PlannedField : Type 0 where
 
 -- a plan, and the fields that it has for a type
 mutual
-  -- for each type of an object, the fields of the answer
+  -- the fields of the answer, for each type that an object may have
   pub data Plan : Type 0 where
     plan : (List ℕ → Fields) → Plan
 
@@ -200,12 +200,12 @@ members_of (m ∷ ms) = member m.0 m.1 (members_of ms)
 
 -- the execution of a plan on an object, and of each of its fields
 abbrev mutual
-  -- what is asked of an object of this type (ExecuteSelectionSet)
+  -- an object of this type, with the fields that the plan has for it (ExecuteSelectionSet)
   pub execute : Types → Plan → Below
   execute types (plan fields) t p o =
       mapped (λ ms. json.object (members_of ms)) (all (each types (fields t) p o))
 
-  -- each of the fields
+  -- each of these fields, under its response name
   pub each : Types → Fields → Path → Object → List (Reply (List ℕ × Data))
   each types no_fields p o = []
   each types (field f below rest) p o =

@@ -24,7 +24,7 @@ use Rattle.gql_exec.specs.declared.table.Table.{Table}
 
 -- ---- fields
 
--- what a field is called with, as specifications see it
+-- the arguments of a field, as specifications see them
 abbrev pub called_of : Called → Arguments
 called_of (called.Given v) = given (view v)
 called_of (called.Refused m) = refused (string_bytes m)

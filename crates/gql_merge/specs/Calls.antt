@@ -48,7 +48,7 @@ ordered_from entries n [] = entries
 ordered_from entries n (t ∷ texts) =
     ordered_from (insert_entry numbered_order entries (t, n) tt) (n + 1) texts
 
--- these texts in the order of their bytes, each as often as it is there
+-- these texts in the order of their bytes, each as often as it occurs
 abbrev pub in_order : List Text → List Text
 in_order texts = map (λ (e : (Text × ℕ) × Unit {0}). e.0.0) (ordered_from [] 0 texts)
 

@@ -14,7 +14,7 @@ pub record FieldInfo : Type 0 where
   pub of_object : Bool
   -- its name and its arguments (`Calls`)
   pub call : List ℕ
-  -- of its type (`Shapes`)
+  -- the shape of its type (`Shapes`)
   pub shape : List ℕ
 
 mutual

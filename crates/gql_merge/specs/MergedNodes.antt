@@ -76,7 +76,7 @@ is_before_by Greater within = false
 abbrev pub is_before : FieldInfo → FieldInfo → Bool
 is_before i j = is_before_by (name_order i.file j.file) (nat_lt i.start.offset j.start.offset)
 
--- what the merging of fields asks of them
+-- what the merging of fields needs to know of them
 abbrev pub nodes : Facts → Nodes FieldNode SetNode
 nodes facts = record {
   direct = direct;

@@ -29,10 +29,10 @@ shape_text t k = flat_map step_text t.wrappers ++ leaf_text k t.name
 abbrev ints : WrittenType
 ints = record { wrappers = wrapper.List ∷ wrapper.NonNull ∷ []; name = codes "Int" }
 
--- of `[Int!]`, if Int is a scalar
+-- the shape of `[Int!]`, if Int is a scalar
 shape_of_scalars : shape_text ints (Some kind.Scalar) ≡ codes "[!Int"
 shape_of_scalars = refl
 
--- and if it were an object
+-- the shape of `[Int!]`, if Int were an object
 shape_of_objects : shape_text ints (Some kind.Object) ≡ codes "[!"
 shape_of_objects = refl

@@ -101,33 +101,33 @@ abbrev mutual
 abbrev pub location_of : InputFact → Location
 location_of i = record { expected = typed_of i.of_type; has_default = i.has_default }
 
--- in an argument, by its definition, if it is known
+-- the usages in an argument, by its definition, if it is known
 abbrev pub usages_by : InputLookup → List ℕ → Argument → Option InputFact → List Usage
 usages_by look file a None = []
 usages_by look file a (Some i) = value_usages look file (location_of i) (value_of a.value)
 
--- in an argument of a field or a directive that defines these, if it is known
+-- the usages in an argument of a field or a directive that defines these, if it is known
 abbrev pub usages_of_argument : InputLookup → List ℕ → Option (List InputFact) → Argument
     → List Usage
 usages_of_argument look file known a = usages_by look file a (definition_of known a.name.text)
 
--- in the arguments of a field or a directive that defines these, if it is known
+-- the usages in the arguments of a field or a directive that defines these, if it is known
 abbrev pub argument_usages : Facts → List ℕ → Option (List InputFact) → List Argument → List Usage
 argument_usages facts file known =
     flat_map (usages_of_argument (known_inputs facts) file known)
 
--- in a directive that is applied
+-- the usages in a directive that is applied
 abbrev pub usages_of_directive : Facts → List ℕ → Directive → List Usage
 usages_of_directive facts file d =
     argument_usages facts file (of_directive (directive_of facts d.name.text)) d.arguments
 
--- in directives that are applied
+-- the usages in directives that are applied
 abbrev pub directive_usages : Facts → List ℕ → List Directive → List Usage
 directive_usages facts file = flat_map (usages_of_directive facts file)
 
 -- ---- definitions
 
--- in a node of a selection set
+-- the usages in a node of a selection set
 abbrev pub node_usages : Facts → List ℕ → Node → List Usage
 node_usages facts file (field f) =
     argument_usages facts file (of_field (field_of facts f.parent f.name.text)) f.arguments
@@ -135,16 +135,16 @@ node_usages facts file (field f) =
 node_usages facts file (spread parent x) = directive_usages facts file x.directives
 node_usages facts file (inline i) = directive_usages facts file i.directives
 
--- in directives, and in the nodes of a selection set
+-- the usages in directives, and in the nodes of a selection set
 abbrev pub part_usages : Facts → List ℕ → List Directive → List Node → List Usage
 part_usages facts file ds nodes =
     directive_usages facts file ds ++ flat_map (node_usages facts file) nodes
 
--- in an operation, without the fragments that it reaches
+-- the usages in an operation, without the fragments that it reaches
 abbrev pub operation_usages : Facts → List ℕ → Operation → List Usage
 operation_usages facts file o = part_usages facts file o.directives (operation_nodes facts o)
 
--- in a fragment, without those that it reaches
+-- the usages in a fragment, without those that it reaches
 abbrev pub fragment_usages : Facts → List ℕ → Fragment → List Usage
 fragment_usages facts file f = part_usages facts file f.directives (fragment_nodes facts f)
 

@@ -28,20 +28,20 @@ below_field f = all f.selections
 abbrev pub within_inline : InlineFragment-F Names Names Names → Names
 within_inline i = all i.selections
 
--- in a selection, and in what it selects
+-- the names in a selection, and in what it selects
 unfoldable pub selection_spreads : Selection → Names
 selection_spreads = fold-Selection Names Names Names spreads_at below_field within_inline
 
--- in a selection set
+-- the names in a selection set
 abbrev pub set_spreads : List Selection → Names
 set_spreads = flat_map selection_spreads
 
--- in a definition; one of the type system has none
+-- the names in a definition; one of the type system has none
 abbrev pub tree_spreads : Tree → Names
 tree_spreads (tree.Operation o) = set_spreads o.selections
 tree_spreads (tree.Fragment f) = set_spreads f.selections
 tree_spreads _ = []
 
--- in all these definitions
+-- the names in all these definitions
 abbrev pub spreads_in : List Definition → Names
 spreads_in = flat_map (λ (d : Definition). tree_spreads d.tree)
