@@ -232,7 +232,7 @@ no_pet : answer types pet (codes "Query")
     }
 no_pet = refl
 
--- ---- fields that a type lacks
+-- ---- fields that a type does not have
 
 -- a name at this column of the first line
 abbrev word : ℕ → List ℕ → Name
