@@ -8,7 +8,7 @@ use std::time::Instant;
 
 const ROUNDS: u64 = 100;
 
-/// How many definitions a text has, or 0 where it is refused.
+/// How many definitions a text has, or 0 if it is refused.
 #[inline(never)]
 fn definition_count(alloc: Global, text: &str) -> u64 {
     let Some(file) = FileName::read("bench") else {

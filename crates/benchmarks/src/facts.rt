@@ -1,5 +1,5 @@
-//! How long a world of the files takes to answer a key, a million times for each kind of key, beside
-//! the look-up of gql_types by the same name; for fragments, beside their look-up by name.
+//! How long a world of the files takes to answer a key, a million times for each kind of key,
+//! beside the look-up of gql_types by the same name; for fragments, beside their look-up by name.
 use crate::speed::nanos_each;
 use anyhow::Result;
 use gql_ast::{FileName, Files, OperationKind, Shared, Text};
@@ -125,7 +125,7 @@ fn keys(alloc: Global, question: Question) -> Result<Vec<Key>, AllocError> {
     Ok(keys)
 }
 
-/// How many of the keys the world answers by something.
+/// How many of the keys the world has an answer to.
 #[inline(never)]
 fn answered(alloc: Global, world: &mut Present<'_>, keys: &[Key]) -> u64 {
     let mut found: u64 = 0;

@@ -7,7 +7,7 @@ use std::time::Instant;
 const ROUNDS: u64 = 400;
 
 /// A count, and one more for each byte that is a letter: a plain scan. Each round counts on from
-/// the one before, so that no compiler makes one of them all.
+/// the one before, so that a compiler cannot merge the rounds.
 #[inline(never)]
 fn letters(bytes: &[u8], before: u64) -> u64 {
     let mut count = before;

@@ -24,7 +24,7 @@ enum Form {
     DoublingFragments,
 }
 
-/// An operation of so many.
+/// An operation of a form, with that many fields.
 #[derive(Clone, Copy)]
 struct Case {
     form: Form,
@@ -117,7 +117,7 @@ fn title(form: Form) -> &'static str {
     }
 }
 
-/// A text so many times.
+/// A text, repeated that many times.
 fn repeated(alloc: Global, part: &str, count: u64) -> Result<String, AllocError> {
     let mut text = String::new(alloc);
     for _ in 0..count {
@@ -156,7 +156,7 @@ fn fragments(alloc: Global, count: u64) -> Result<String> {
     Ok(text)
 }
 
-/// Two fields of one name whose selections are the same, that deep.
+/// Two fields of one name with the same selections, nested that deep.
 fn equal_selections(alloc: Global, levels: u64) -> Result<String> {
     let open = repeated(alloc, "q { ", levels)?;
     let close = repeated(alloc, "} ", levels)?;

@@ -33,7 +33,7 @@ fn schema(alloc: Global) -> Result<String, AllocError> {
     Ok(text)
 }
 
-/// How many definitions a text has, or 0 where it is refused.
+/// How many definitions a text has, or 0 if it is refused.
 #[inline(never)]
 fn definition_count(alloc: Global, text: &str) -> u64 {
     let Some(file) = FileName::read("bench") else {

@@ -15,7 +15,7 @@ pub fn document(alloc: Global) -> Result<String, AllocError> {
     Ok(text)
 }
 
-/// How many tokens a text has, or 0 where it is refused.
+/// How many tokens a text has, or 0 if it is refused.
 #[inline(never)]
 pub fn token_count(alloc: Global, text: &str) -> u64 {
     match lex(alloc, text) {
@@ -24,7 +24,7 @@ pub fn token_count(alloc: Global, text: &str) -> u64 {
     }
 }
 
-/// Millionths of a second.
+/// Microseconds.
 pub fn micros(taken: Duration) -> u64 {
     taken
         .as_secs()
@@ -38,7 +38,7 @@ pub fn speed(bytes: u64, taken: Duration) -> u64 {
     if micros == 0 { 0 } else { bytes / micros }
 }
 
-/// Thousand-millionths of a second for each of so many, or 0 where there are none.
+/// Nanoseconds for each of that many, or 0 if there are none.
 pub fn nanos_each(taken: Duration, count: u64) -> u64 {
     let nanos = micros(taken).wrapping_mul(1_000);
     if count == 0 { 0 } else { nanos / count }

@@ -26,7 +26,7 @@ const LITERAL: &str =
 
 const ROUNDS: u64 = 10;
 
-/// A list of so many inputs, one or more.
+/// A list of that many inputs, one or more.
 fn list(alloc: Global, input: &str, count: u64) -> Result<String, AllocError> {
     let mut text = String::new(alloc);
     let mut before = "[";
@@ -73,7 +73,7 @@ fn variables(query: &Option<Document>) -> &[VariableDefinition] {
     }
 }
 
-/// How many items a list has, or 0 where there is none.
+/// How many items a list has, or 0 if there is none.
 fn length(value: Option<&Value>) -> u64 {
     match value {
         Some(Value::Array(items)) => items.len() as u64,
@@ -81,7 +81,7 @@ fn length(value: Option<&Value>) -> u64 {
     }
 }
 
-/// How many inputs the value of the variable has, or 0 where it is refused.
+/// How many inputs the value of the variable has, or 0 if it is refused.
 #[inline(never)]
 fn variable_inputs(
     alloc: Global,
@@ -95,7 +95,7 @@ fn variable_inputs(
     }
 }
 
-/// How many inputs the default of a variable has, or 0 where it is refused.
+/// How many inputs the default of a variable has, or 0 if it is refused.
 #[inline(never)]
 fn default_inputs(alloc: Global, schema: &Schema, variable: &VariableDefinition) -> u64 {
     let Some(default) = &variable.default else {

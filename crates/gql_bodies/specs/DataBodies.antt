@@ -1,10 +1,11 @@
 -- Which texts are data that operations are executed on. GraphQL leaves it to a service where its
--- values come from (6.4.2); these are this registry's own rules.
+-- values come from (6.4.2); this is this registry's own rule.
 use Rattle.std.specs.Prelude.{◌≡◌, ◌&&◌, ℕ, List, Bool, true, false, codes, is_some, Option, Some, None}
 use Rattle.serde_json.specs.Data.{Data, Items, Members, null, boolean, number, string, array, object, no_items, item, no_members, member}
 use Rattle.serde_json.specs.Find.{as_i64, get}
 use Rattle.serde_json.specs.Read.{read}
 
+-- every number within a value is an integer of 64 bits with a sign
 abbrev mutual
   -- every number is an integer of 64 bits with a sign
   pub has_integers : Data → Bool
@@ -23,22 +24,22 @@ abbrev mutual
   members_have_integers no_members = true
   members_have_integers (member k d ms) = has_integers d && members_have_integers ms
 
--- an object
+-- whether a value is an object
 abbrev pub is_object : Data → Bool
 is_object (object ms) = true
 is_object _ = false
 
--- an object, where it is there
+-- whether a value is an object, if there is one
 abbrev pub is_object_if_some : Option Data → Bool
 is_object_if_some None = true
 is_object_if_some (Some d) = is_object d
 
--- what operations are executed on: an object whose members for queries and for mutations are
--- objects, where they are there, and whose numbers are integers
+-- whether operations can be executed on a value: an object whose members for queries and for
+-- mutations are objects, if there are any, and whose numbers are integers
 abbrev pub is_data : Data → Bool
 is_data d = is_object d && (is_object_if_some (get (codes "query") d)
     && (is_object_if_some (get (codes "mutation") d) && has_integers d))
 
--- the text is read as this data
+-- the text is read as this data, on which operations can be executed
 abbrev pub IsDataText : List ℕ → Data → Type 0
 IsDataText text d = (read text ≡ Some d) × (is_data d ≡ true)

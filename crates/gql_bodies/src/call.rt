@@ -12,10 +12,10 @@ use std::alloc::Global;
 use std::str;
 use thiserror::Error;
 
-/// Why a body is no call.
+/// Why a body is not a call.
 #[derive(Clone, Copy, Debug, Drop, Error, PartialEq, Eq)]
 pub enum CallFault {
-    /// 310: the body is not what a call is.
+    /// 310: the body does not have the form of a call.
     #[error("bad run body")]
     BadCall,
     /// 311: an operation is given as a text.
@@ -63,7 +63,7 @@ impl Call {
     }
 }
 
-/// Whether a call's name is a string, or null or absent.
+/// Whether a call's name is a string, null or missing.
 fn has_name(body: &Value) -> bool
     ensures { result ≡ is_some (spec.name_in (get (codes "operationName") (view body.now))) }
 {
@@ -73,7 +73,7 @@ fn has_name(body: &Value) -> bool
     }
 }
 
-/// Whether a call's variables are an object, or null or absent.
+/// Whether a call's variables are an object, null or missing.
 fn has_variables(body: &Value) -> bool
     ensures { result ≡ is_some (spec.variables_in (get (codes "variables") (view body.now))) }
 {
@@ -83,7 +83,7 @@ fn has_variables(body: &Value) -> bool
     }
 }
 
-/// The call that a value is.
+/// The call in a value of JSON.
 fn call_by(alloc: Global, body: Value) -> Result<Call, CallFault>
     ensures ok { IfOk result (λ c. spec.asked_by (view body) ≡ call (name_of c) (variables_of c)) }
     ensures err { IfErr result (IsFault (spec.asked_by (view body))) }
@@ -104,7 +104,7 @@ fn call_by(alloc: Global, body: Value) -> Result<Call, CallFault>
 }
 
 /// Reads the body of a call: a JSON object whose `operationName` is a string and whose `variables`
-/// are an object; either may be null or absent, and other members do not count. A body with a
+/// are an object; either may be null or missing, and other members do not count. A body with a
 /// member `query` is refused, as only stored operations are served. A body that is not an object is
 /// refused before that, other bodies after it.
 pub fn call_in(alloc: Global, body: &[u8]) -> Result<Call, CallFault>

@@ -13,10 +13,10 @@ use serde_json::Value;
 use std::alloc::Global;
 use thiserror::Error;
 
-/// Why a text is not taken as data.
+/// Why a text is not accepted as data.
 #[derive(Clone, Copy, Debug, Drop, Error, PartialEq, Eq)]
 pub enum DataFault {
-    /// The text is no data.
+    /// The text is not data that operations can be executed on.
     #[error("data is not accepted")]
     Refused,
     /// An allocation failed.
@@ -24,7 +24,7 @@ pub enum DataFault {
     Memory,
 }
 
-/// Whether a member is an object, where it is there.
+/// Whether a member is an object, if there is one.
 fn is_root(value: &Value, key: &str) -> bool
     ensures { result ≡ spec.is_object_if_some (get key.now (view value.now)) }
 {
@@ -34,7 +34,7 @@ fn is_root(value: &Value, key: &str) -> bool
     }
 }
 
-/// Whether a value is one that operations are executed on.
+/// Whether operations can be executed on a value.
 fn is_data(value: &Value) -> bool
     ensures { result ≡ spec.is_data (view value.now) }
 {
@@ -45,8 +45,8 @@ fn is_data(value: &Value) -> bool
 }
 
 /// Reads a text as the data that operations are executed on: a JSON object whose members `query`
-/// and `mutation` are objects, where they are there, and whose numbers are integers of 64 bits with
-/// a sign.
+/// and `mutation`, if there are any, are objects, and whose numbers are integers of 64 bits with a
+/// sign.
 pub fn data_in(alloc: Global, text: &str) -> Result<Value, DataFault>
     ensures ok { IfOk result (λ v. IsDataText text.now (view v)) }
     ensures err { IfErr result (λ e. e ≡ Refused → (d : Data) → IsDataText text.now d → ⊥) }

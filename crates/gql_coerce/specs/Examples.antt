@@ -17,28 +17,40 @@ greatest_int = refl
 one_past_it : as_int (whole (pos 2147483648)) ≡ refused reason.OutOfRange []
 one_past_it = refl
 
-least_int : as_int (whole (negsuc 2147483647)) ≡ value (json.number (json.negative (negsuc 2147483647)))
+least_int : as_int (whole (negsuc 2147483647))
+    ≡ value (json.number (json.negative (negsuc 2147483647)))
 least_int = refl
 
 no_fraction : as_custom fraction ≡ refused reason.WrongKind []
 no_fraction = refl
 
 -- `1` at `[[Int!]!]`
-one_of_one : (n : Num) → one_in (listed (required (listed (required (named (codes "Int")))))) (json.number n)
+one_of_one : (n : Num)
+    → one_in (listed (required (listed (required (named (codes "Int")))))) (json.number n)
     ≡ json.array (json.item (json.array (json.item (json.number n) json.no_items)) json.no_items)
 one_of_one n = refl
 
 -- `[1, null]` at `[Int!]`, where the items come to this
-items : (inner : Input → Option Written → Reached (Option Data)) → inner (single (whole (pos 1))) (Some (required (named (codes "Int")))) ≡ value (Some json.null) → inner null (Some (required (named (codes "Int")))) ≡ some (null_at (Some (required (named (codes "Int")))))
-    → array_of (item_at inner (Some (required (named (codes "Int"))))) (single (whole (pos 1)) ∷ null ∷ []) ≡ refused reason.NullForNonNull (segment.Index 1 ∷ [])
+items : (inner : Input → Option Written → Reached (Option Data))
+    → inner (single (whole (pos 1))) (Some (required (named (codes "Int"))))
+    ≡ value (Some json.null)
+    → inner null (Some (required (named (codes "Int"))))
+    ≡ some (null_at (Some (required (named (codes "Int")))))
+    → array_of (item_at inner (Some (required (named (codes "Int")))))
+    (single (whole (pos 1)) ∷ null ∷ [])
+    ≡ refused reason.NullForNonNull (segment.Index 1 ∷ [])
 items inner one none = rw (one, none) refl
 
--- an item that is no list where a list is expected
-no_list : (inner : Input → Option Written → Reached (Option Data)) → array_of (item_at inner (Some (listed (named (codes "Int"))))) (single (whole (pos 1)) ∷ []) ≡ refused reason.WrongKind (segment.Index 0 ∷ [])
+-- an item that is not a list, where a list is expected
+no_list : (inner : Input → Option Written → Reached (Option Data))
+    → array_of (item_at inner (Some (listed (named (codes "Int"))))) (single (whole (pos 1)) ∷ [])
+    ≡ refused reason.WrongKind (segment.Index 0 ∷ [])
 no_list inner = refl
 
 -- a field that is not known
-not_known : (inner : Input → Option Written → Reached (Option Data)) → object_at inner (unknown (codes "z")) ≡ refused reason.UnknownField (segment.Key (codes "z") ∷ [])
+not_known : (inner : Input → Option Written → Reached (Option Data))
+    → object_at inner (unknown (codes "z"))
+    ≡ refused reason.UnknownField (segment.Key (codes "z") ∷ [])
 not_known inner = refl
 
 a_path : path_text (segment.Key (codes "point") ∷ segment.Key (codes "x") ∷ []) ≡ codes "point.x"

@@ -1,5 +1,5 @@
--- What joins the literals that fit a type (GraphQL specification, 5.6) and those that coercion
--- refuses (3.5 to 3.12): the terms of two laws.
+-- Terms for two laws that relate the literals that fit a type (GraphQL specification, 5.6) and
+-- those that coercion refuses (3.5 to 3.12).
 use Rattle.std.specs.Prelude.{◌≡◌, ◌||◌, ℕ, List, [], ◌∷◌, Bool, true, false, map, is_some, Some, Contains}
 use Rattle.std.specs.List.{slice_get}
 use Rattle.gql_text.specs.declared.place.Place.{Place}
@@ -55,8 +55,8 @@ IsConstant x = has_variable (value_of x) ≡ false
 abbrev pub IsKnown : Schema → Written → Type 0
 IsKnown s t = is_some (in_schema s (name_in t)) ≡ true
 
--- what is asked of a field of an input object: its type is a known input type, no field has its name
--- and another definition, and its default fits and holds no variable
+-- What coercion needs of a field of an input object: its type is a known input type, no field of
+-- the same name has another definition, and its default value fits and contains no variable.
 pub record IsGoodField (s : Schema) (t : SchemaType) (d : Sited InputValueDefinition) : Type 0 where
   pub known : IsKnown s (written d.node.of_type)
   pub alone : field_named (map field_of t.input_fields) d.node.name.text ≡ Some (field_of d)
@@ -64,12 +64,12 @@ pub record IsGoodField (s : Schema) (t : SchemaType) (d : Sited InputValueDefini
   pub default_fits : (x : Literal) → d.node.default ≡ Some x
       → fits s x (written d.node.of_type) ≡ true
 
--- every field of every input object is such; in a schema without faults it is
+-- every field of every input object is good, as in a schema without faults
 abbrev pub HasGoodFields : Schema → Type 0
 HasGoodFields s = (n : List ℕ) (t : SchemaType) → type_named s n ≡ Some t
     → (d : Sited InputValueDefinition) → Contains t.input_fields d → IsGoodField s t d
 
--- a refusal of a value itself, not of a field that is not known or not given
+-- whether a refusal is about a value itself, not about an unknown or a missing field
 abbrev pub is_of_value : Reason → Bool
 is_of_value reason.NullForNonNull = true
 is_of_value reason.WrongKind = true
@@ -78,8 +78,8 @@ is_of_value reason.NotInEnum = true
 is_of_value reason.UnknownField = false
 is_of_value reason.MissingField = false
 
--- A bad value reports a refusal of a literal: it has its place, by the path of the refusal, and the
--- rule on it.
+-- A bad value reports a refusal of a literal: it has the rule for the reason, and the place that
+-- the path leads to.
 pub data Reports : Literal → Reason → List Segment → BadValue → Type 0 where
   -- V18 at the value that is refused
   at_value : (x : Literal) {r : Reason} {about : List ℕ} → is_of_value r ≡ true
@@ -88,7 +88,7 @@ pub data Reports : Literal → Reason → List Segment → BadValue → Type 0 w
   unknown : (p : Place) (fs : List ObjectField) (f : ObjectField) → Contains fs f
       → Reports (literals.Object p fs) reason.UnknownField (Key f.name.text ∷ [])
       (record { rule = rule.V19; place = f.name.place; about = f.name.text })
-  -- V21 at the object that lacks a required field
+  -- V21 at the object that does not give a required field
   missing : (p : Place) (fs : List ObjectField) (n : List ℕ)
       → Reports (literals.Object p fs) reason.MissingField (Key n ∷ [])
       (record { rule = rule.V21; place = p; about = n })

@@ -22,32 +22,40 @@ use Rattle.gql_coerce.specs.declared.frame.Step.{Step}
 use Rattle.gql_coerce.specs.declared.frame.Step.TheVariants as step
 use Rattle.gql_coerce.specs.declared.refusal.Segment.TheVariants as segment
 
--- what parts come to, by what they are and what is expected of them
+-- what a part comes to, by the input and by what is expected of it
 abbrev pub Inner : Type 0
 Inner = Input → Option Written → Reached (Option Data)
 
 -- ---- lists
 
--- the list, with these values before the items that are left
+-- what a list comes to, from the values of its first items and the items that are left
 abbrev pub items_rest : Inner → Option Written → List Data → List Input → Reached (Option Data)
-items_rest inner e done rest = some (after (all (items_from (item_at inner e) (length done) rest)) (λ ds. value (json.array (items_of (done ++ ds)))))
+items_rest inner e done rest = some (after (all (items_from (item_at inner e) (length done) rest))
+    (λ ds. value (json.array (items_of (done ++ ds)))))
 
--- the list, where the item between these values and the items that are left comes to this
-abbrev pub items_then : Inner → Option Written → List Data → List Input → Reached (Option Data) → Reached (Option Data)
-items_then inner e done rest o = some (after (all (within (segment.Index (length done)) (after o (or_null e)) ∷ items_from (item_at inner e) (suc (length done)) rest)) (λ ds. value (json.array (items_of (done ++ ds)))))
+-- what a list comes to, if the item after the values `done` comes to `o`
+abbrev pub items_then : Inner → Option Written
+    → List Data → List Input → Reached (Option Data) → Reached (Option Data)
+items_then inner e done rest o =
+    some (after (all (within (segment.Index (length done)) (after o (or_null e))
+    ∷ items_from (item_at inner e) (suc (length done)) rest))
+    (λ ds. value (json.array (items_of (done ++ ds)))))
 
 -- ---- objects
 
--- the object, with these members before the entries that are left
+-- what an object comes to, from its first members and the entries that are left
 abbrev pub members_rest : Inner → Option Written → Members → List Entry → Reached (Option Data)
 members_rest inner t ms rest = once t (some (object_of (map (member_at inner) rest) ms))
 
--- the object, where the entry of this name comes to this
-abbrev pub members_then : Inner → Option Written → List ℕ → Members → List Entry → Reached (Option Data) → Reached (Option Data)
-members_then inner t n ms rest o = once t (some (object_of (after o (λ v. value (under n v)) ∷ map (member_at inner) rest) ms))
+-- what an object comes to, if the entry of this name comes to `o`
+abbrev pub members_then : Inner → Option Written
+    → List ℕ → Members → List Entry → Reached (Option Data) → Reached (Option Data)
+members_then inner t n ms rest o =
+    once t (some (object_of (after o (λ v. value (under n v)) ∷ map (member_at inner) rest) ms))
 
 -- ---- a list or an object in which a part is awaited
 
+-- a list or an object, one part of which is being coerced
 pub data Frame : Type 0 where
   -- an item: what is expected of items, the values before it, the items after it
   item : Option Written → List Data → List Input → Frame
@@ -57,38 +65,46 @@ pub data Frame : Type 0 where
   -- the default of a field, by its name
   default : Option Written → List ℕ → Members → List Entry → Frame
 
--- what the whole comes to, where the part comes to this
+-- what the list or object comes to, if that part comes to `o`
 abbrev pub frame_by : Inner → Frame → Reached (Option Data) → Reached (Option Data)
 frame_by inner (item e done rest) o = items_then inner e done rest o
-frame_by inner (given t e ms rest) o = members_then inner t e.name ms rest (after (within (segment.Key e.name) o) (or_default inner e.name e.definition))
+frame_by inner (given t e ms rest) o = members_then inner t e.name ms rest
+    (after (within (segment.Key e.name) o) (or_default inner e.name e.definition))
 frame_by inner (default t n ms rest) o = members_then inner t n ms rest (within (segment.Key n) o)
 
--- frames around frames
+-- what the outermost frame comes to, if the part in the innermost comes to `o`
 abbrev pub plug : ℕ → Schema → List Frame → Reached (Option Data) → Reached (Option Data)
 plug n s [] o = o
 plug n s (f ∷ fs) o = plug (suc n) s fs (frame_by (coerced n s) f o)
 
--- the whole comes to what the part comes to, within these frames
-abbrev pub Holds : Schema → (ℕ → Reached (Option Data)) → List Frame → (ℕ → Reached (Option Data)) → Type 0
-Holds s whole fs inner = (j : ℕ) × (k : ℕ) × ((n : ℕ) → whole (j + n) ≡ plug (k + n) s fs (inner (k + n)))
+-- the whole comes to what the part in the innermost of these frames makes of it
+abbrev pub Holds : Schema → (ℕ → Reached (Option Data))
+    → List Frame → (ℕ → Reached (Option Data)) → Type 0
+Holds s whole fs inner = (j : ℕ) × (k : ℕ)
+    × ((n : ℕ) → whole (j + n) ≡ plug (k + n) s fs (inner (k + n)))
 
--- the same, of what a list or an object comes to, a level further out than its parts
-abbrev pub Inside : Schema → (ℕ → Reached (Option Data)) → List Frame → (ℕ → Reached (Option Data)) → Type 0
-Inside s whole fs at = (j : ℕ) × (k : ℕ) × ((n : ℕ) → whole (j + n) ≡ plug (suc (k + n)) s fs (at (k + n)))
+-- the same for a list or an object, whose parts are one level further in
+abbrev pub Inside : Schema → (ℕ → Reached (Option Data))
+    → List Frame → (ℕ → Reached (Option Data)) → Type 0
+Inside s whole fs at = (j : ℕ) × (k : ℕ)
+    × ((n : ℕ) → whole (j + n) ≡ plug (suc (k + n)) s fs (at (k + n)))
 
--- ---- as the code holds them
+-- ---- as Rust code has them
 
 -- a frame of a list
 abbrev pub list_frame : ListFrame → Frame
-list_frame f = item (option_map written (option_copied f.expected)) (map view f.values.items) (drop f.next (items_in f.items))
+list_frame f = item (option_map written (option_copied f.expected))
+    (map view f.values.items) (drop f.next (items_in f.items))
 
--- a frame of an object, in which the default of this name is awaited
+-- a frame of an object, in which the default value of this field is being coerced
 abbrev pub object_frame : ObjectFrame → List ℕ → Frame
-object_frame f n = default (option_map written (option_copied f.expected)) n (members_view f.members.entries) (drop f.next (entries_in f.entries))
+object_frame f n = default (option_map written (option_copied f.expected)) n
+    (members_view f.members.entries) (drop f.next (entries_in f.entries))
 
--- a frame of an object, in which the value that this entry gives is awaited
+-- a frame of an object, in which the value that this entry gives is being coerced
 abbrev pub given_frame : ObjectFrame → AnEntry → Frame
-given_frame f e = given (option_map written (option_copied f.expected)) (entry_of e) (members_view f.members.entries) (drop f.next (entries_in f.entries))
+given_frame f e = given (option_map written (option_copied f.expected))
+    (entry_of e) (members_view f.members.entries) (drop f.next (entries_in f.entries))
 
 -- a frame
 abbrev pub frame_of : AFrame → Frame
@@ -96,7 +112,7 @@ frame_of (frame.Item f) = list_frame f
 frame_of (frame.Given f e) = given_frame f e
 frame_of (frame.Default f n) = object_frame f n.now
 
--- frames, the inmost first
+-- frames, the innermost first
 abbrev pub frames_of : List AFrame → List Frame
 frames_of fs = reverse (map frame_of fs)
 
@@ -105,7 +121,7 @@ abbrev pub focus_at : ℕ → Schema → Focus → Reached (Option Data)
 focus_at n s (focus.Input x e) = coerced n s (input_of x) (option_map written (option_copied e))
 focus_at n s (focus.Answer c) = said c
 
--- what a step leaves to do
+-- what a step comes to, once it is done
 abbrev pub step_at : ℕ → Schema → Step → Reached (Option Data)
 step_at n s (step.Within f x) = frame_by (coerced n s) (frame_of f) (focus_at n s x)
 step_at n s (step.Answer c) = said c

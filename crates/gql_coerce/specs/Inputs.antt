@@ -1,4 +1,5 @@
--- Inputs, as coercion sees them: the literals of a document (GraphQL specification, 2.9) and the values of JSON, side by side.
+-- Inputs, as coercion sees them: the literals of a document (GraphQL specification, 2.9) and the
+-- values of JSON, in one form.
 use Rattle.std.specs.Prelude.{ℕ, ℤ, List, [], ◌∷◌, Bool, true, false, not, filter, bytes_eq, Option, Some, None}
 use Rattle.gql_ast.specs.declared.literal.Literal.{Literal, fold-Literal}
 use Rattle.gql_ast.specs.declared.literal.ObjectField.{ObjectField}
@@ -72,9 +73,10 @@ fields_of (f ∷ fs) = field f.name f.value (fields_of fs)
 -- the first of each name
 abbrev pub firsts_by : {A : Type 0} → (A → List ℕ) → List A → List A
 firsts_by called [] = []
-firsts_by called (x ∷ xs) = x ∷ filter (λ y. not (bytes_eq (called x) (called y))) (firsts_by called xs)
+firsts_by called (x ∷ xs) =
+    x ∷ filter (λ y. not (bytes_eq (called x) (called y))) (firsts_by called xs)
 
--- of fields of one name the first counts
+-- the first field of each name; others of the name do not count
 abbrev pub firsts : List Field → List Field
 firsts fs = firsts_by (λ (f : Field). f.name) fs
 
@@ -88,7 +90,7 @@ abbrev pub of_whole : Option ℤ → Single
 of_whole None = out_of_range
 of_whole (Some z) = whole z
 
--- a literal, by its form and its parts as inputs
+-- a literal of this form, from its parts as inputs; `vs` has the values of the variables
 abbrev pub literal_at : Data → Literal-F Input Field → Input
 literal_at vs (Literal-F.Variable place n) = of_variable (get n vs)
 literal_at vs (Literal-F.Null place) = null
@@ -104,7 +106,7 @@ literal_at vs (Literal-F.Object place fs) = object (fields_of (firsts fs))
 abbrev pub field_in : ObjectField-F Input Field → Field
 field_in f = record { name = f.name.text; value = f.value }
 
--- a literal, where this object has the values of the variables
+-- a literal as an input; the object `vs` has the values of the variables
 unfoldable pub literal : Data → Literal → Input
 literal vs = fold-Literal Input Field (literal_at vs) field_in
 
@@ -137,7 +139,7 @@ abbrev mutual
   json_fields json.no_members = no_fields
   json_fields (json.member k d ms) = field k (json_input d) (json_fields ms)
 
--- a list, null or a variable, which may stand for a list within a list
+-- whether an input may be an item where lists are expected: a list, null or a variable
 abbrev pub may_be_list : Input → Bool
 may_be_list absent = true
 may_be_list (given d) = true

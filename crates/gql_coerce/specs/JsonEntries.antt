@@ -1,4 +1,4 @@
--- The members of an object to be that an object of JSON gives.
+-- The members that an object is to have, from an object of JSON.
 use Rattle.std.specs.Prelude.{List, String, map, find, not, Option, option_map}
 use Rattle.std.specs.Global.{Global}
 use Rattle.gql_ast.specs.declared.type_system.InputValueDefinition.{InputValueDefinition}
@@ -11,7 +11,7 @@ use Rattle.gql_coerce.specs.declared.json_entries.JsonEntry.{JsonEntry}
 use Rattle.gql_coerce.specs.declared.json_entries.JsonEntries.{JsonEntries}
 use Rattle.gql_coerce.specs.declared.json_entries.JsonEntries.TheVariants as entries
 
--- a member of an object to be
+-- a member that an object is to have
 abbrev pub entry_of : JsonEntry → Entry
 entry_of e = record { name = e.name.now; definition = option_map (λ d. d.now) e.definition; given = option_map (λ v. json_input (view v.now)) e.given }
 
@@ -21,7 +21,7 @@ entries_of (entries.Are es) = are (map entry_of es.items)
 entries_of (entries.Unknown n) = unknown n.now
 entries_of entries.NoObject = no_object
 
--- the fields that the members of an object of JSON are
+-- the fields that an object of JSON gives
 abbrev pub fields_in : List (String Global × Value) → List Field
 fields_in es = all_fields (json_fields (members_view es))
 

@@ -1,4 +1,4 @@
--- Laws of coercion.
+-- The laws of coercion. `src/laws.rt` has a function for each.
 use Rattle.std.specs.Prelude.{◌≡◌, ℕ, List, [], ◌∷◌, Bool, true, false, Option, Some, Contains}
 use Rattle.gql_ast.specs.declared.executable.VariableDefinition.{VariableDefinition}
 use Rattle.gql_ast.specs.declared.literal.Argument.{Argument}
@@ -20,60 +20,62 @@ use Rattle.gql_coerce.specs.declared.refusal.Reason.{Reason}
 use Rattle.gql_coerce.specs.declared.refusal.Segment.{Segment}
 use Rattle.gql_coerce.specs.declared.refusal.Segment.TheVariants.{Key}
 
--- two outcomes that an input comes to at a type are one
+-- an input comes to at most one outcome at a type
 abbrev pub OneOutcome : Type 0
 OneOutcome = (s : Schema) (x : Input) (t : Written) (o p : Outcome (Option Data)) → Comes s x t o
     → Comes s x t p → o ≡ p
 
--- what the recursion reaches with some number of levels, the input comes to
+-- an input comes to the outcome that is reached with some number of levels
 abbrev pub AnyDepth : Type 0
 AnyDepth = (s : Schema) (x : Input) (t : Written) (o : Outcome (Option Data)) (n : ℕ)
     → coerced n s x (Some t) ≡ reached o → Comes s x t o
 
--- two outcomes that the variables of a request come to are one
+-- the variables of a request come to at most one outcome
 abbrev pub OneOfVariables : Type 0
 OneOfVariables = (s : Schema) (definitions : List VariableDefinition) (values : Data)
-    (o p : Outcome Data) → VariablesCome s definitions values o → VariablesCome s definitions values p
+    (o p : Outcome Data) → VariablesCome s definitions values o
+    → VariablesCome s definitions values p
     → o ≡ p
 
--- two outcomes that arguments come to are one
+-- arguments come to at most one outcome
 abbrev pub OneOfArguments : Type 0
 OneOfArguments = (s : Schema) (definitions : List InputValueDefinition) (given : List Argument)
     (values : Data) (o p : Outcome Data) → ArgumentsCome s definitions given values o
     → ArgumentsCome s definitions given values p → o ≡ p
 
--- where no default leads back to itself, each input comes to something
+-- if no default value leads back to itself, each input comes to an outcome
 abbrev pub SomeOutcome : Type 0
 SomeOutcome = (s : Schema) → HasNoCycle s → (x : Input) (t : Written)
     → (o : Outcome (Option Data)) × Comes s x t o
 
--- Where the fields of input objects are good and the type is known: what is refused of a literal
--- without variables is among what does not fit, by its rule and at its place.
+-- If the fields of input objects are good and the type is known: when coercion refuses a literal
+-- without variables, that refusal is among the bad values of the literal, by its rule and at its
+-- place.
 abbrev pub RefusalIsReported : Type 0
 RefusalIsReported = (s : Schema) → HasGoodFields s → (t : Written) → IsKnown s t
     → (x : Literal) → IsConstant x → (values : Data) (r : Reason) (path : List Segment)
     → Comes s (literal values x) t (refused r path)
     → (b : BadValue) × Contains (bad_values s x t) b × Reports x r path b
 
--- whether there is a value
+-- whether an outcome is a value
 abbrev pub is_value : {A : Type 0} → Outcome A → Bool
 is_value (value x) = true
 is_value (refused r path) = false
 
--- Under the same premises, and where no object gives a field twice: a literal fits exactly where
--- coercion comes to a value. (Of a field that is given twice the first counts in coercion, and each
--- is a fault.)
+-- Under the same premises, and if no object gives a field twice: a literal fits exactly if it comes
+-- to a value. (If a field is given twice, coercion takes the first, but each of the two is a
+-- fault.)
 abbrev pub FitsWhereCoerced : Type 0
 FitsWhereCoerced = (s : Schema) → HasGoodFields s → (t : Written) → IsKnown s t
     → (x : Literal) → IsConstant x → repeats (value_of x) ≡ [] → (values : Data)
     → (o : Outcome (Option Data)) → Comes s (literal values x) t o → fits s x t ≡ is_value o
 
--- where no default leads back to itself, the variables of a request come to something
+-- if no default value leads back to itself, the variables of a request come to an outcome
 abbrev pub SomeOfVariables : Type 0
 SomeOfVariables = (s : Schema) → HasNoCycle s → (definitions : List VariableDefinition)
     → (values : Data) → (o : Outcome Data) × VariablesCome s definitions values o
 
--- and so do the arguments of a field
+-- if no default value leads back to itself, the arguments of a field come to an outcome
 abbrev pub SomeOfArguments : Type 0
 SomeOfArguments = (s : Schema) → HasNoCycle s → (definitions : List InputValueDefinition)
     → (given : List Argument) → (values : Data)

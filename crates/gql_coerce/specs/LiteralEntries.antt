@@ -1,4 +1,4 @@
--- The members of an object to be that a literal gives.
+-- The members that an object is to have, from an object literal.
 use Rattle.std.specs.Prelude.{ℕ, List, map, find, not, is_some, bytes_eq, Option, option_map}
 use Rattle.gql_ast.specs.declared.literal.ObjectField.{ObjectField}
 use Rattle.gql_ast.specs.declared.type_system.InputValueDefinition.{InputValueDefinition}
@@ -10,7 +10,7 @@ use Rattle.gql_coerce.specs.declared.literal_entries.LiteralEntry.{LiteralEntry}
 use Rattle.gql_coerce.specs.declared.literal_entries.LiteralEntries.{LiteralEntries}
 use Rattle.gql_coerce.specs.declared.literal_entries.LiteralEntries.TheVariants as entries
 
--- a member of an object to be
+-- a member that an object is to have
 abbrev pub entry_of : Data → LiteralEntry → Entry
 entry_of vs e = record { name = e.name.now; definition = option_map (λ d. d.now) e.definition; given = option_map (λ x. literal vs x.now) e.given }
 
@@ -26,4 +26,5 @@ name_of f = f.name.text
 
 -- the first field that is not defined
 abbrev pub first_unknown : List (Sited InputValueDefinition) → List ObjectField → Option ObjectField
-first_unknown ds fs = find (λ (f : ObjectField). not (is_some (find (λ (d : Sited InputValueDefinition). bytes_eq (name_of f) d.node.name.text) ds))) fs
+first_unknown ds fs = find (λ (f : ObjectField). not (is_some (find
+    (λ (d : Sited InputValueDefinition). bytes_eq (name_of f) d.node.name.text) ds))) fs

@@ -1,5 +1,5 @@
--- Helper definitions for private contracts: inputs, and the parts of lists and objects, as code holds
--- them.
+-- Helper definitions for private contracts: inputs, and the parts of lists and objects, as Rust
+-- code has them.
 use Rattle.std.specs.Prelude.{List, map, option_map}
 use Rattle.serde_json.specs.View.{view}
 use Rattle.gql_coerce.specs.Coercion.{Entry}
@@ -25,7 +25,7 @@ abbrev pub items_in : ListItems → List Input
 items_in (items.Literals xs vs) = map (literal (values_in (option_map (λ v. view v.now) vs))) xs.now
 items_in (items.Json vs) = map (λ v. json_input (view v)) vs.now
 
--- a member of an object to be
+-- a member that an object is to have
 abbrev pub entry_of : AnEntry → Entry
 entry_of e = record {
   name = e.name.now;
@@ -33,7 +33,8 @@ entry_of e = record {
   given = option_map input_of e.given;
 }
 
--- the members of an object to be
+-- the members that an object is to have
 abbrev pub entries_in : Entries → List Entry
-entries_in (entries.Literals es vs) = map (of_literal.entry_of (values_in (option_map (λ v. view v.now) vs))) es.items
+entries_in (entries.Literals es vs) =
+    map (of_literal.entry_of (values_in (option_map (λ v. view v.now) vs))) es.items
 entries_in (entries.Json es) = map of_json.entry_of es.items

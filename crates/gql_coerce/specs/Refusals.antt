@@ -12,7 +12,7 @@ number reason.NotInEnum = 124
 number reason.UnknownField = 125
 number reason.MissingField = 126
 
--- what is said of it
+-- the text that a user sees
 abbrev pub text : Reason → List ℕ
 text reason.NullForNonNull = codes "null for a Non-Null type"
 text reason.WrongKind = codes "wrong kind of value"

@@ -1,4 +1,4 @@
--- What the types of leaves make of a value without parts (GraphQL specification, 3.5 and 3.9).
+-- What a scalar or an enum makes of a value without parts (GraphQL specification, 3.5 and 3.9).
 use Rattle.std.specs.Prelude.{◌^◌, ◌&&◌, ℕ, ℤ, pos, neg_ℤ, int_le, int_lt, List, [], Bool, bytes_eq, find, is_some, if◌then◌else◌}
 use Rattle.std.specs.Fmt.{signed_decimal}
 use Rattle.gql_ast.specs.declared.type_system.EnumValueDefinition.{EnumValueDefinition}
@@ -16,15 +16,15 @@ use Rattle.gql_coerce.specs.declared.refusal.Reason.TheVariants as reason
 use Rattle.gql_coerce.specs.Inputs.{Single, whole, out_of_range, fraction, text, json_text, truth, name}
 use Rattle.gql_coerce.specs.Outcomes.{Reached, value, refused}
 
--- an input of another kind than the type takes
+-- the refusal of an input of another kind than the type takes
 abbrev pub wrong_kind : {A : Type 0} → Reached A
 wrong_kind = refused reason.WrongKind []
 
--- an integer of more bits than the type takes
+-- the refusal of an integer with more bits than the type takes
 abbrev pub past_range : {A : Type 0} → Reached A
 past_range = refused reason.OutOfRange []
 
--- from -2^31 to 2^31 - 1
+-- whether an integer is from -2^31 to 2^31 - 1
 abbrev pub is_of_32_bits : ℤ → Bool
 is_of_32_bits z = int_le (neg_ℤ (pos (2 ^ 31))) z && int_lt z (pos (2 ^ 31))
 
@@ -68,7 +68,8 @@ as_boolean (json_text t) = wrong_kind
 as_boolean (truth b) = value (json.boolean b)
 as_boolean (name n) = wrong_kind
 
--- a custom scalar takes all but numbers that are no integers of 64 bits, and enum literals as their text
+-- a custom scalar takes everything but numbers that are not integers of 64 bits; an enum literal
+-- becomes its text
 abbrev pub as_custom : Single → Reached Data
 as_custom (whole z) = value (json.number (of_integer z))
 as_custom out_of_range = past_range
@@ -78,7 +79,7 @@ as_custom (json_text t) = value (json.string t)
 as_custom (truth b) = value (json.boolean b)
 as_custom (name n) = value (json.string n)
 
--- a scalar, by which it is
+-- what a scalar makes of a value without parts
 abbrev pub as_scalar : Scalar → Single → Reached Data
 as_scalar scalar.Int x = as_int x
 as_scalar scalar.Id x = as_id x
@@ -88,9 +89,10 @@ as_scalar scalar.Custom x = as_custom x
 
 -- whether an enum has a value of this name
 abbrev pub is_value_of : SchemaType → List ℕ → Bool
-is_value_of t n = is_some (find (λ (v : Sited EnumValueDefinition). bytes_eq n v.node.name.text) t.values)
+is_value_of t n =
+    is_some (find (λ (v : Sited EnumValueDefinition). bytes_eq n v.node.name.text) t.values)
 
--- a name, where an enum is expected
+-- what an enum makes of a name
 abbrev pub of_enum : SchemaType → List ℕ → Reached Data
 of_enum t n = if is_value_of t n then value (json.string n) else refused reason.NotInEnum []
 
@@ -104,7 +106,7 @@ as_enum t (json_text n) = of_enum t n
 as_enum t (truth b) = wrong_kind
 as_enum t (name n) = of_enum t n
 
--- a value without parts, by the kind of its type
+-- what a type of this kind makes of a value without parts
 abbrev pub as_kind : SchemaType → TypeKind → Single → Reached Data
 as_kind t kind.Scalar x = as_scalar (scalar_named (name_of t)) x
 as_kind t kind.Enum x = as_enum t x

@@ -5,11 +5,11 @@ use Rattle.serde_json.specs.Data.{Data}
 use Rattle.serde_json.specs.View.{view}
 use Rattle.gql_coerce.specs.declared.requests.Scope.{Scope}
 
--- no variable has a value where there is no object of them
+-- the object of the variables' values, or null if there is none: then no variable has a value
 abbrev pub values_in : Option Data → Data
 values_in None = json.null
 values_in (Some d) = d
 
--- the values of variables
+-- the values of the variables of a scope
 abbrev pub variables_of : Scope → Data
 variables_of s = values_in (option_map (λ v. view v.now) s.variables)

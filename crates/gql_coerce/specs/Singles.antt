@@ -1,4 +1,4 @@
--- The values without parts that code has at hand.
+-- Values without parts, as Rust code has them.
 use Rattle.gql_coerce.specs.Inputs.{Single, whole, out_of_range, fraction, text, json_text, truth, name}
 use Rattle.gql_coerce.specs.declared.single.Single.{Single as ASingle}
 use Rattle.gql_coerce.specs.declared.single.Single.TheVariants as single

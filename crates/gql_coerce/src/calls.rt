@@ -14,9 +14,10 @@ use gql_types::Schema;
 use serde_json::Value;
 use std::alloc::Global;
 
-/// The value of a literal at a type (GraphQL specification, 3.5 to 3.12), or the first refusal: of items by their order, of the
-/// fields of an object first those that are not known, then those that the type defines, in their order. `variables` is an object
-/// with the values that the variables have; a variable without a value comes to none.
+/// The value of a literal at a type (GraphQL specification, 3.5 to 3.12), or the first refusal.
+/// Items are coerced in their order. Of an object, unknown fields are refused first; then come the
+/// fields that the type defines, in their order. The object `variables` has the values of the
+/// variables; a variable without a value comes to none.
 pub fn coerce_literal(
     alloc: Global,
     schema: &Schema,
@@ -24,24 +25,30 @@ pub fn coerce_literal(
     of_type: &TypeRef,
     variables: &Value,
 ) -> Result<Option<Value>, CoerceFault>
-    ensures ok { IfOk result (λ v. Comes schema.now (literal (view variables.now) value.now) (written of_type.now) (comes_to (option_map view v))) }
-    ensures err { IfErr result (λ e. Tells e (Comes schema.now (literal (view variables.now) value.now) (written of_type.now))) }
+    ensures ok { IfOk result (λ v. Comes schema.now (literal (view variables.now) value.now)
+        (written of_type.now) (comes_to (option_map view v))) }
+    ensures err { IfErr result (λ e. Tells e
+        (Comes schema.now (literal (view variables.now) value.now) (written of_type.now))) }
 {
     let part = Part::Literal(value, Some(variables));
     let coerced = walk::coerce(alloc, schema, part, Some(of_type))?;
     result_of(coerced)
 }
 
-/// The value of a value of JSON at a type (GraphQL specification, 3.5 to 3.12), or the first refusal: of items by their order, of the
-/// members of an object first those that are not known, by the bytes of their keys, then those that the type defines, in its order.
+/// The value of a value of JSON at a type (GraphQL specification, 3.5 to 3.12), or the first
+/// refusal. Items are coerced in their order. Of an object, unknown members are refused first, in
+/// the order of the bytes of their keys; then come the fields that the type defines, in their
+/// order.
 pub fn coerce_json(
     alloc: Global,
     schema: &Schema,
     value: &Value,
     of_type: &TypeRef,
 ) -> Result<Value, CoerceFault>
-    ensures ok { IfOk result (λ v. Comes schema.now (json_input (view value.now)) (written of_type.now) (comes_to (Some (view v)))) }
-    ensures err { IfErr result (λ e. Tells e (Comes schema.now (json_input (view value.now)) (written of_type.now))) }
+    ensures ok { IfOk result (λ v. Comes schema.now
+        (json_input (view value.now)) (written of_type.now) (comes_to (Some (view v)))) }
+    ensures err { IfErr result
+        (λ e. Tells e (Comes schema.now (json_input (view value.now)) (written of_type.now))) }
 {
     let coerced = walk::coerce(alloc, schema, Part::Json(value), Some(of_type))?;
     match result_of(coerced)? {

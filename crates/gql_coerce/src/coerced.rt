@@ -18,7 +18,7 @@ pub enum Coerced {
     Refused(Stop),
 }
 
-/// Why an input is refused, and the steps that lead to where, the last one first.
+/// Why an input is refused, and the steps that lead to the place, the last one first.
 #[derive(Drop)]
 pub struct Stop {
     pub reason: Reason,
@@ -47,16 +47,17 @@ pub fn refused(alloc: Global, reason: Reason) -> Coerced
     })
 }
 
-// The refusal, of a part at this segment.
+// The refusal of a part, under this segment.
 fn behind(segment: Segment, stop: Stop) -> Result<Stop, AllocError>
-    ensures { IfOk result (λ r. (r.reason ≡ stop.reason) × (reverse r.steps.items ≡ segment ∷ reverse stop.steps.items)) }
+    ensures { IfOk result (λ r. (r.reason ≡ stop.reason)
+        × (reverse r.steps.items ≡ segment ∷ reverse stop.steps.items)) }
 {
     let Stop { reason, mut steps } = stop;
     steps.push(segment)?;
     Ok(Stop { reason, steps })
 }
 
-/// What a field of that name comes to, where its value comes to this.
+/// What a field of that name comes to, if its value comes to this.
 pub fn at_key(alloc: Global, name: &str, coerced: Coerced) -> Result<Coerced, AllocError>
     ensures { IfOk result (λ c. said c ≡ within (Key name.now) (said coerced)) }
 {
@@ -69,7 +70,7 @@ pub fn at_key(alloc: Global, name: &str, coerced: Coerced) -> Result<Coerced, Al
     }
 }
 
-/// What the item at that index comes to, where its value comes to this.
+/// What the item at that index comes to, if its value comes to this.
 pub fn at_index(index: usize, coerced: Coerced) -> Result<Coerced, AllocError>
     ensures { IfOk result (λ c. said c ≡ within (Index index) (said coerced)) }
 {

@@ -1,4 +1,4 @@
-//! The members of an object to be.
+//! The members that an object is to have.
 ghost use Rattle.std.specs.Prelude.{◌≡◌, ◌<◌, ◌+◌, ◌^◌, OnSome, map, option_map, slice_get};
 ghost use Rattle.serde_json.specs.View.{view};
 ghost use Rattle.gql_coerce.specs.JsonEntries.{entry_of as json_entry};
@@ -12,8 +12,8 @@ use crate::part::Part;
 use gql_ast::InputValueDefinition;
 use serde_json::Value;
 
-/// A member of an object to be: its name, the definition of the field unless it is within a custom
-/// scalar, and the value if one is given.
+/// A member that an object is to have: its name, the definition of the field unless it is within a
+/// custom scalar, and the value if one is given.
 #[derive(Clone, Copy)]
 pub struct Entry<'v> {
     pub name: &'v str,
@@ -21,7 +21,7 @@ pub struct Entry<'v> {
     pub given: Option<Part<'v>>,
 }
 
-/// The members of an object to be.
+/// The members that an object is to have.
 #[derive(Drop)]
 pub enum Entries<'v> {
     /// Those of a literal, and the object with the values of the variables, if there may be some.
@@ -30,7 +30,8 @@ pub enum Entries<'v> {
 }
 
 fn of_literal<'v>(entry: &LiteralEntry<'v>, variables: Option<&'v Value>) -> Entry<'v>
-    ensures { entry_of result ≡ literal_entry (values_in (option_map (λ v. view v.now) variables.entry)) entry.now }
+    ensures { entry_of result
+        ≡ literal_entry (values_in (option_map (λ v. view v.now) variables.entry)) entry.now }
 {
     let given = match entry.given {
         Some(value) => Some(Part::Literal(value, variables)),
@@ -64,7 +65,8 @@ fn literal_entry_at<'v>(
     index: usize,
 ) -> Option<Entry<'v>>
     ensures entry { option_map entry_of result
-        ≡ slice_get (map (literal_entry (values_in (option_map (λ v. view v.now) variables.entry))) entries.now) index }
+        ≡ slice_get (map (literal_entry
+        (values_in (option_map (λ v. view v.now) variables.entry))) entries.now) index }
     ensures within { OnSome result (index + 1 < 2 ^ 64) }
 {
     if index < entries.len() {

@@ -1,4 +1,5 @@
-//! What is expected of an input and of its parts (GraphQL specification, 3.11 and 3.12): a type, or none within a custom scalar.
+//! What is expected of an input and of its parts (GraphQL specification, 3.11 and 3.12): a type, or
+//! none within a custom scalar.
 ghost use Rattle.std.specs.Prelude.{◌≡◌, None, option_map, IfOk};
 ghost use Rattle.std.specs.Option.{option_copied};
 ghost use Rattle.gql_types.specs.Written.{written};
@@ -20,7 +21,8 @@ use std::alloc::{AllocError, Global};
 
 /// What `null` comes to.
 pub fn coerce_null(alloc: Global, expected: Option<&TypeRef>) -> Coerced
-    ensures { said result ≡ some (spec.null_at (option_map written (option_copied expected.entry))) }
+    ensures { said result
+        ≡ some (spec.null_at (option_map written (option_copied expected.entry))) }
 {
     match expected {
         Some(of_type) => {
@@ -36,7 +38,8 @@ pub fn coerce_null(alloc: Global, expected: Option<&TypeRef>) -> Coerced
 
 /// What an item comes to: one that is not given is `null`.
 pub fn or_null(alloc: Global, expected: Option<&TypeRef>, coerced: Coerced) -> Coerced
-    ensures { said result ≡ some (after (said coerced) (spec.or_null (option_map written (option_copied expected.entry)))) }
+    ensures { said result ≡ some
+        (after (said coerced) (spec.or_null (option_map written (option_copied expected.entry)))) }
 {
     match coerced {
         Coerced::Absent => coerce_null(alloc, expected),
@@ -50,7 +53,8 @@ fn by_type(
     single: &Single<'_>,
     expected: Option<&TypeRef>,
 ) -> Result<Coerced, AllocError>
-    ensures { IfOk result (λ c. said c ≡ some (spec.single_at schema.now (option_map written (option_copied expected.entry)) (single_of single.now))) }
+    ensures { IfOk result (λ c. said c ≡ some (spec.single_at schema.now
+        (option_map written (option_copied expected.entry)) (single_of single.now))) }
 {
     match expected {
         None => as_custom(alloc, single),
@@ -68,20 +72,24 @@ pub fn coerce_single(
     single: &Single<'_>,
     expected: Option<&TypeRef>,
 ) -> Result<Coerced, AllocError>
-    ensures { IfOk result (λ c. said c ≡ spec.once (option_map written (option_copied expected.entry))
-        (some (spec.single_at schema.now (option_map written (option_copied expected.entry)) (single_of single.now)))) }
+    ensures { IfOk result (λ c. said c
+        ≡ spec.once (option_map written (option_copied expected.entry))
+        (some (spec.single_at schema.now
+        (option_map written (option_copied expected.entry)) (single_of single.now)))) }
 {
     let coerced = by_type(alloc, schema, single, expected)?;
     once(alloc, expected, coerced)
 }
 
-/// What the value of a variable comes to, which was coerced before.
+/// What the value of a variable comes to; it has been coerced already.
 pub fn coerce_given(
     alloc: Global,
     given: Option<&Value>,
     expected: Option<&TypeRef>,
 ) -> Result<Coerced, AllocError>
-    ensures { IfOk result (λ c. said c ≡ spec.variable_at (option_map written (option_copied expected.entry)) (option_map (λ v. view v.now) given.entry)) }
+    ensures { IfOk result (λ c. said c ≡ spec.variable_at
+        (option_map written (option_copied expected.entry))
+        (option_map (λ v. view v.now) given.entry)) }
 {
     match given {
         Some(value) => {
@@ -108,7 +116,7 @@ pub fn expects_list(expected: Option<&TypeRef>) -> bool
 /// What is expected of the items of a list.
 #[derive(Clone, Copy)]
 pub enum Expected<'t> {
-    /// No list is taken here.
+    /// A list is not taken here.
     Nothing,
     /// The list is within a custom scalar.
     Anything,
@@ -146,7 +154,8 @@ pub fn items_expected<'t>(schema: &Schema, expected: Option<&'t TypeRef>) -> Exp
 
 /// The type of a field that is defined.
 pub fn type_of<'t>(definition: Option<&'t InputValueDefinition>) -> Option<&'t TypeRef>
-    ensures { option_map written (option_copied result) ≡ option_map (λ d. written d.now.of_type) definition.entry }
+    ensures { option_map written (option_copied result)
+        ≡ option_map (λ d. written d.now.of_type) definition.entry }
 {
     match definition {
         Some(definition) => Some(&definition.of_type),

@@ -1,3 +1,5 @@
+//! Why a call returns no value.
+
 ghost use Rattle.std.specs.Prelude.{◌≡◌, Option, Some, option_map, IfOk, IfErr};
 ghost use Rattle.serde_json.specs.Data.{Data};
 ghost use Rattle.serde_json.specs.View.{view};
@@ -12,7 +14,7 @@ use serde_json::Value;
 use std::alloc::AllocError;
 use thiserror::Error;
 
-/// Why there is no value.
+/// Why a call returns no value.
 #[derive(Debug, Drop, Error)]
 pub enum CoerceFault {
     /// The input is refused.
@@ -34,7 +36,8 @@ impl From<AllocError> for CoerceFault {
 /// What an input comes to, as a result.
 pub fn result_of(coerced: Coerced) -> Result<Option<Value>, CoerceFault>
     ensures ok { IfOk result (λ v. said coerced ≡ value (option_map view v)) }
-    ensures err { IfErr result (λ e. Tells e (λ (o : AnOutcome (Option Data)). said coerced ≡ reached o)) }
+    ensures err { IfErr result
+        (λ e. Tells e (λ (o : AnOutcome (Option Data)). said coerced ≡ reached o)) }
 {
     match coerced {
         Coerced::Given(value) => Ok(Some(value)),

@@ -15,8 +15,8 @@ pub struct ListFrame<'v> {
     pub values: Vec<Value>,
 }
 
-/// An object: its entries, how many were coerced or are being coerced, what is expected of it, and the
-/// members so far.
+/// An object: its entries, how many were coerced or are being coerced, what is expected of it, and
+/// the members so far.
 #[derive(Drop)]
 pub struct ObjectFrame<'v> {
     pub entries: Entries<'v>,
@@ -32,11 +32,11 @@ pub enum Frame<'v> {
     Item(ListFrame<'v>),
     /// The value that this entry gives.
     Given(ObjectFrame<'v>, Entry<'v>),
-    /// The default of the field of this name, or what is known of it without one.
+    /// The default of the field of this name.
     Default(ObjectFrame<'v>, &'v str),
 }
 
-/// What the walk is at.
+/// Where the walk is.
 #[derive(Drop)]
 pub enum Focus<'v> {
     /// An input, and what is expected of it.

@@ -38,7 +38,7 @@ fn number(number: &Number) -> Single<'_>
     }
 }
 
-/// Whether a value may stand for a list within a list: a list or `null`.
+/// Whether a value may be an item where lists are expected: a list or `null`.
 #[tactic(auto, using(crate::proofs::JsonForms::may_null, crate::proofs::JsonForms::may_bool, crate::proofs::JsonForms::may_number, crate::proofs::JsonForms::may_string, crate::proofs::JsonForms::may_array, crate::proofs::JsonForms::may_object))]
 pub fn may_be_list(item: &Value) -> bool
     ensures { result ≡ input_may_be_list (json_input (view item.now)) }
@@ -55,7 +55,8 @@ fn start_object<'v>(
     found: JsonEntries<'v>,
     expected: Option<&'v TypeRef>,
 ) -> Result<Step<'v>, AllocError>
-    ensures { IfOk result (λ step. (s : ASchema) (n : ℕ) → spec.once (option_map written (option_copied expected.entry))
+    ensures { IfOk result (λ step. (s : ASchema) (n : ℕ)
+        → spec.once (option_map written (option_copied expected.entry))
         (some (spec.object_at (levels_of n s) (entries_of found.entry))) ≡ step_at n s step) }
 {
     match found {
@@ -84,7 +85,9 @@ pub fn enter<'v>(
     schema: &'v Schema,
     expected: Option<&'v TypeRef>,
 ) -> Result<Step<'v>, AllocError>
-    ensures { IfOk result (λ step. (n : ℕ) → levels_of (suc n) schema.now (json_input (view value.now)) (option_map written (option_copied expected.entry)) ≡ step_at n schema.now step) }
+    ensures { IfOk result (λ step. (n : ℕ)
+        → levels_of (suc n) schema.now (json_input (view value.now))
+        (option_map written (option_copied expected.entry)) ≡ step_at n schema.now step) }
 {
     match value {
         Value::Null => Ok(Step::Answer(coerce_null(alloc, expected))),

@@ -1,4 +1,4 @@
-//! The members of an object to be that an object of JSON gives (GraphQL specification, 3.10).
+//! The members that an object is to have, from an object of JSON (GraphQL specification, 3.10).
 ghost use Rattle.std.specs.Prelude.{◌≡◌, IfOk, map, option_map};
 ghost use Rattle.std.specs.Option.{option_copied};
 ghost use Rattle.gql_types.specs.Written.{written};
@@ -14,8 +14,8 @@ use gql_types::{HasName, Schema, SchemaType, Sited, TypeKind};
 use serde_json::{Map, Value};
 use std::alloc::{AllocError, Global};
 
-/// A member of an object to be: its name, the definition of the field unless it stands within a custom scalar, and the value
-/// if one is given.
+/// A member that an object is to have: its name, the definition of the field unless it is within a
+/// custom scalar, and the value if one is given.
 #[derive(Drop)]
 pub struct JsonEntry<'v> {
     pub name: &'v str,
@@ -27,14 +27,15 @@ pub struct JsonEntry<'v> {
 #[derive(Drop)]
 pub enum JsonEntries<'v> {
     Are(Vec<JsonEntry<'v>>),
-    /// A field of that name is not known.
+    /// The type has no field of that name.
     Unknown(&'v str),
     /// No object is expected.
     NoObject,
 }
 
 fn member<'v>(members: &'v Map<String, Value>, name: &str) -> Option<&'v Value>
-    ensures { option_map (λ v. view v.now) result ≡ get_member name.now (members_view members.now.entries) }
+    ensures { option_map (λ v. view v.now) result
+        ≡ get_member name.now (members_view members.now.entries) }
 {
     members.get(name)
 }
@@ -58,7 +59,8 @@ fn defined_entries<'v>(
     members: &'v Map<String, Value>,
     definitions: &'v [Sited<Shared<InputValueDefinition>>],
 ) -> Result<Vec<JsonEntry<'v>>, AllocError>
-    ensures { IfOk result (λ found. map entry_of found.items ≡ map (spec.defined_entry (fields_in members.now.entries)) definitions.now) }
+    ensures { IfOk result (λ found. map entry_of found.items
+        ≡ map (spec.defined_entry (fields_in members.now.entries)) definitions.now) }
 {
     let mut found = Vec::new(alloc);
     for definition in definitions {
@@ -68,7 +70,8 @@ fn defined_entries<'v>(
 }
 
 fn unknown_member<'v>(members: &'v Map<String, Value>, of_type: &SchemaType) -> Option<&'v str>
-    ensures { option_map (λ n. n.now) result ≡ option_map (λ (f : Field). f.name) (first_unknown of_type.now.input_fields (fields_in members.now.entries)) }
+    ensures { option_map (λ n. n.now) result ≡ option_map (λ (f : Field). f.name)
+        (first_unknown of_type.now.input_fields (fields_in members.now.entries)) }
 {
     for (name, _value) in members.iter() {
         if of_type.input_fields.get(name.as_str()).is_none() {
@@ -82,7 +85,8 @@ fn entries_in<'v>(
     alloc: Global,
     members: &'v Map<String, Value>,
 ) -> Result<Vec<JsonEntry<'v>>, AllocError>
-    ensures { IfOk result (λ found. map entry_of found.items ≡ map spec.any_entry (fields_in members.now.entries)) }
+    ensures { IfOk result (λ found. map entry_of found.items
+        ≡ map spec.any_entry (fields_in members.now.entries)) }
 {
     let mut found = Vec::new(alloc);
     for (name, value) in members.iter() {
@@ -110,7 +114,8 @@ fn entries_of_input<'v>(
     members: &'v Map<String, Value>,
     of_type: &'v SchemaType,
 ) -> Result<JsonEntries<'v>, AllocError>
-    ensures { IfOk result (λ es. entries_of es ≡ spec.defined_entries (fields_in members.now.entries) of_type.now.input_fields) }
+    ensures { IfOk result (λ es. entries_of es
+        ≡ spec.defined_entries (fields_in members.now.entries) of_type.now.input_fields) }
 {
     match unknown_member(members, of_type) {
         Some(name) => Ok(JsonEntries::Unknown(name)),
@@ -126,7 +131,8 @@ fn entries_at<'v>(
     members: &'v Map<String, Value>,
     of_type: &'v SchemaType,
 ) -> Result<JsonEntries<'v>, AllocError>
-    ensures { IfOk result (λ es. entries_of es ≡ spec.entries_at_kind (fields_in members.now.entries) of_type.now of_type.now.kind) }
+    ensures { IfOk result (λ es. entries_of es
+        ≡ spec.entries_at_kind (fields_in members.now.entries) of_type.now of_type.now.kind) }
 {
     match of_type.kind {
         TypeKind::InputObject => entries_of_input(alloc, members, of_type),
@@ -151,7 +157,8 @@ pub fn json_entries<'v>(
     expected: Option<&TypeRef>,
 ) -> Result<JsonEntries<'v>, AllocError>
     ensures { IfOk result (λ es. entries_of es
-        ≡ spec.entries_for schema.now (fields_in members.now.entries) (option_map written (option_copied expected.entry))) }
+        ≡ spec.entries_for schema.now (fields_in members.now.entries)
+        (option_map written (option_copied expected.entry))) }
 {
     match expected {
         None => any_entries(alloc, members),

@@ -21,8 +21,10 @@ pub fn enter_single<'v>(
     single: &Single<'_>,
     expected: Option<&'v TypeRef>,
 ) -> Result<Step<'v>, AllocError>
-    ensures { IfOk result (λ step. (n : ℕ) → spec.once (option_map written (option_copied expected.entry))
-        (some (spec.single_at schema.now (option_map written (option_copied expected.entry)) (single_of single.now))) ≡ step_at n schema.now step) }
+    ensures { IfOk result (λ step. (n : ℕ)
+        → spec.once (option_map written (option_copied expected.entry))
+        (some (spec.single_at schema.now (option_map written (option_copied expected.entry))
+        (single_of single.now))) ≡ step_at n schema.now step) }
 {
     let coerced = coerce_single(alloc, schema, single, expected)?;
     Ok(Step::Answer(coerced))

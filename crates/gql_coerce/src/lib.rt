@@ -1,5 +1,5 @@
-//! The values of inputs: literals, values of JSON, variables and arguments are coerced to their types (GraphQL specification,
-//! 3.5 to 3.12, 6.1.2, 6.4.1), or refused, and it is told where in them.
+//! The values of inputs: literals, values of JSON, variables and arguments are coerced to their
+//! types (GraphQL specification, 3.5 to 3.12, 6.1.2, 6.4.1). A refusal has its path into the input.
 #![tactic(auto)]
 
 mod calls;

@@ -20,10 +20,13 @@ use gql_types::Schema;
 use serde_json::Value;
 use std::alloc::{AllocError, Global};
 
-// An item: within a list it is not made a list of one.
+// An item. It is not made a list of one.
 fn item_focus<'v>(alloc: Global, item: Part<'v>, expected: Option<&'v TypeRef>) -> Focus<'v>
-    ensures { (s : ASchema) (n : ℕ) → after (focus_at n s result) (spec.or_null (option_map written (option_copied expected.entry)))
-        ≡ spec.item_at (levels_of n s) (option_map written (option_copied expected.entry)) (input_of item.entry) }
+    ensures { (s : ASchema) (n : ℕ)
+        → after (focus_at n s result)
+        (spec.or_null (option_map written (option_copied expected.entry)))
+        ≡ spec.item_at (levels_of n s) (option_map written (option_copied expected.entry))
+        (input_of item.entry) }
 {
     if expects_list(expected) && !item.may_be_list() {
         Focus::Answer(refused(alloc, Reason::WrongKind))
@@ -34,7 +37,8 @@ fn item_focus<'v>(alloc: Global, item: Part<'v>, expected: Option<&'v TypeRef>) 
 
 // The next item of a list, or the whole list.
 fn next_item<'v>(alloc: Global, list: ListFrame<'v>) -> Step<'v>
-    ensures { (s : ASchema) (n : ℕ) → items_rest (levels_of n s) (option_map written (option_copied list.entry.expected)) (map view list.entry.values.items)
+    ensures { (s : ASchema) (n : ℕ) → items_rest (levels_of n s)
+        (option_map written (option_copied list.entry.expected)) (map view list.entry.values.items)
         (drop list.entry.next (items_in list.entry.items)) ≡ step_at n s result }
 {
     let ListFrame {
@@ -58,13 +62,14 @@ fn next_item<'v>(alloc: Global, list: ListFrame<'v>) -> Step<'v>
     }
 }
 
-/// A list, of which an item came to this.
+/// A list, an item of which came to this.
 pub fn resume_list<'v>(
     alloc: Global,
     list: ListFrame<'v>,
     coerced: Coerced,
 ) -> Result<Step<'v>, AllocError>
-    ensures { IfOk result (λ step. (s : ASchema) (n : ℕ) → frame_by (levels_of n s) (list_frame list.entry) (said coerced) ≡ step_at n s step) }
+    ensures { IfOk result (λ step. (s : ASchema) (n : ℕ)
+        → frame_by (levels_of n s) (list_frame list.entry) (said coerced) ≡ step_at n s step) }
 {
     let index = list.values.len();
     match or_null(alloc, list.expected, coerced) {
@@ -79,7 +84,8 @@ pub fn resume_list<'v>(
 
 // A list whose items are these, each at this type or within a custom scalar.
 fn start_items<'v>(alloc: Global, items: ListItems<'v>, expected: Option<&'v TypeRef>) -> Step<'v>
-    ensures { (s : ASchema) (n : ℕ) → some (spec.array_of (spec.item_at (levels_of n s) (option_map written (option_copied expected.entry)))
+    ensures { (s : ASchema) (n : ℕ) → some (spec.array_of
+        (spec.item_at (levels_of n s) (option_map written (option_copied expected.entry)))
         (items_in items.entry)) ≡ step_at n s result }
 {
     let list = ListFrame {
@@ -99,7 +105,8 @@ pub fn start_list<'v>(
     expected: Option<&'v TypeRef>,
 ) -> Step<'v>
     ensures { (n : ℕ) → some (spec.list_by (levels_of n schema.now) (items_in items.entry)
-        (spec.items_expected schema.now (option_map written (option_copied expected.entry)))) ≡ step_at n schema.now result }
+        (spec.items_expected schema.now (option_map written (option_copied expected.entry))))
+        ≡ step_at n schema.now result }
 {
     match items_expected(schema, expected) {
         Expected::Type(item) => start_items(alloc, items, Some(item)),

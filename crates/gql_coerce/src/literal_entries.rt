@@ -1,4 +1,4 @@
-//! The members of an object to be that a literal gives (GraphQL specification, 3.10).
+//! The members that an object is to have, from an object literal (GraphQL specification, 3.10).
 ghost use Rattle.std.specs.Prelude.{◌≡◌, ◌++◌, ◌∷◌, [], ◌||◌, ℕ, List, IfOk, OnOk, map, find, is_some, bytes_eq, option_map, if◌then◌else◌};
 ghost use Rattle.std.specs.HashMap as hash;
 ghost use Rattle.std.specs.Option.{option_copied};
@@ -14,8 +14,8 @@ use gql_types::{HasName, Named, Schema, SchemaType, Sited, TypeKind};
 use std::alloc::{AllocError, Global};
 use std::collections::HashMap;
 
-/// A member of an object to be: its name, the definition of the field unless it stands within a custom scalar, and the value
-/// if one is given.
+/// A member that an object is to have: its name, the definition of the field unless it is within a
+/// custom scalar, and the value if one is given.
 #[derive(Drop)]
 pub struct LiteralEntry<'v> {
     pub name: &'v str,
@@ -27,13 +27,13 @@ pub struct LiteralEntry<'v> {
 #[derive(Drop)]
 pub enum LiteralEntries<'v> {
     Are(Vec<LiteralEntry<'v>>),
-    /// A field of that name is not known.
+    /// The type has no field of that name.
     Unknown(&'v str),
     /// No object is expected.
     NoObject,
 }
 
-/// A field, to be looked up by its name.
+/// A field, which a look-up finds by its name.
 #[derive(Drop)]
 struct GivenField<'v> {
     field: &'v ObjectField,
@@ -51,7 +51,8 @@ fn given_fields<'v>(
     alloc: Global,
     fields: &[&'v ObjectField],
 ) -> Result<Vec<GivenField<'v>>, AllocError>
-    ensures { IfOk result (λ found. map (λ g. g.field.now) found.items ≡ map (λ f. f.now) fields.now) }
+    ensures { IfOk result (λ found. map (λ g. g.field.now) found.items
+        ≡ map (λ f. f.now) fields.now) }
 {
     let mut found = Vec::new(alloc);
     for field in fields {
@@ -62,7 +63,8 @@ fn given_fields<'v>(
 
 fn value_of<'v>(given: &Named<GivenField<'v>>, name: &str) -> Option<&'v Literal>
     ensures { option_map (λ x. x.now) result
-        ≡ option_map (λ f. f.value) (find (λ f. bytes_eq name.now f.name.text) (map (λ g. g.field.now) given.now)) }
+        ≡ option_map (λ f. f.value)
+        (find (λ f. bytes_eq name.now f.name.text) (map (λ g. g.field.now) given.now)) }
 {
     match given.get(name) {
         Some(found) => Some(&found.field.value),
@@ -74,7 +76,8 @@ fn defined_entry<'v>(
     given: &Named<GivenField<'v>>,
     definition: &'v Sited<Shared<InputValueDefinition>>,
 ) -> LiteralEntry<'v>
-    ensures { (vs : Data) → entry_of vs result ≡ spec.defined_entry (map (literal_field vs) (map (λ g. g.field.now) given.now)) definition.now }
+    ensures { (vs : Data) → entry_of vs result ≡ spec.defined_entry
+        (map (literal_field vs) (map (λ g. g.field.now) given.now)) definition.now }
 {
     let name = definition.name();
     LiteralEntry {
@@ -90,7 +93,8 @@ fn defined_entries<'v>(
     definitions: &'v [Sited<Shared<InputValueDefinition>>],
 ) -> Result<Vec<LiteralEntry<'v>>, AllocError>
     ensures { IfOk result (λ found. (vs : Data) → map (entry_of vs) found.items
-        ≡ map (spec.defined_entry (map (literal_field vs) (map (λ f. f.now) fields.now))) definitions.now) }
+        ≡ map (spec.defined_entry (map (literal_field vs) (map (λ f. f.now) fields.now)))
+        definitions.now) }
 {
     let given = Named::new(alloc, given_fields(alloc, fields)?)?;
     let mut found = Vec::new(alloc);
@@ -101,7 +105,8 @@ fn defined_entries<'v>(
 }
 
 fn unknown_field<'v>(fields: &[&'v ObjectField], of_type: &SchemaType) -> Option<&'v str>
-    ensures { option_map (λ n. n.now) result ≡ option_map name_of (first_unknown of_type.now.input_fields (map (λ f. f.now) fields.now)) }
+    ensures { option_map (λ n. n.now) result ≡ option_map name_of
+        (first_unknown of_type.now.input_fields (map (λ f. f.now) fields.now)) }
 {
     for field in fields {
         if of_type.input_fields.get(field.name.as_str()).is_none() {
@@ -111,16 +116,20 @@ fn unknown_field<'v>(fields: &[&'v ObjectField], of_type: &SchemaType) -> Option
     None
 }
 
-// Adds a field, unless its name was seen.
+// Adds a field, unless an earlier one has its name.
 fn add_first<'v>(
     seen: &mut HashMap<&'v str, ()>,
     field: &'v ObjectField,
     firsts: &mut Vec<&'v ObjectField>,
 ) -> Result<(), AllocError>
-    ensures names { OnOk result ((q : List ℕ) → is_some (hash.get_by (λ k. bytes_eq q k.now) seen.new)
-        ≡ (is_some (hash.get_by (λ k. bytes_eq q k.now) seen.old) || bytes_eq q field.now.name.text)) }
-    ensures firsts { OnOk result (map (λ f. f.now) firsts.new.items ≡ map (λ f. f.now) firsts.old.items
-        ++ (if is_some (hash.get_by (λ k. bytes_eq field.now.name.text k.now) seen.old) then [] else field.now ∷ [])) }
+    ensures names { OnOk result ((q : List ℕ)
+        → is_some (hash.get_by (λ k. bytes_eq q k.now) seen.new)
+        ≡ (is_some (hash.get_by (λ k. bytes_eq q k.now) seen.old)
+        || bytes_eq q field.now.name.text)) }
+    ensures firsts { OnOk result (map (λ f. f.now) firsts.new.items
+        ≡ map (λ f. f.now) firsts.old.items
+        ++ (if is_some (hash.get_by (λ k. bytes_eq field.now.name.text k.now) seen.old)
+        then [] else field.now ∷ [])) }
 {
     let name = field.name.as_str();
     if !seen.contains_key(name) {
@@ -167,7 +176,8 @@ fn any_entries<'v>(
     alloc: Global,
     fields: &[&'v ObjectField],
 ) -> Result<LiteralEntries<'v>, AllocError>
-    ensures { IfOk result (λ es. (vs : Data) → entries_of vs es ≡ spec.any_entries (map (literal_field vs) (map (λ f. f.now) fields.now))) }
+    ensures { IfOk result (λ es. (vs : Data) → entries_of vs es
+        ≡ spec.any_entries (map (literal_field vs) (map (λ f. f.now) fields.now))) }
 {
     let found = entries_in(alloc, fields)?;
     Ok(LiteralEntries::Are(found))
@@ -179,7 +189,8 @@ fn entries_of_input<'v>(
     of_type: &'v SchemaType,
 ) -> Result<LiteralEntries<'v>, AllocError>
     ensures { IfOk result (λ es. (vs : Data) → entries_of vs es
-        ≡ spec.defined_entries (map (literal_field vs) (map (λ f. f.now) fields.now)) of_type.now.input_fields) }
+        ≡ spec.defined_entries
+        (map (literal_field vs) (map (λ f. f.now) fields.now)) of_type.now.input_fields) }
 {
     match unknown_field(fields, of_type) {
         Some(name) => Ok(LiteralEntries::Unknown(name)),
@@ -196,7 +207,8 @@ fn entries_at<'v>(
     of_type: &'v SchemaType,
 ) -> Result<LiteralEntries<'v>, AllocError>
     ensures { IfOk result (λ es. (vs : Data) → entries_of vs es
-        ≡ spec.entries_at_kind (map (literal_field vs) (map (λ f. f.now) fields.now)) of_type.now of_type.now.kind) }
+        ≡ spec.entries_at_kind
+        (map (literal_field vs) (map (λ f. f.now) fields.now)) of_type.now of_type.now.kind) }
 {
     match of_type.kind {
         TypeKind::InputObject => entries_of_input(alloc, fields, of_type),
@@ -220,7 +232,8 @@ fn entries_of_type<'v>(
     expected: Option<&TypeRef>,
 ) -> Result<LiteralEntries<'v>, AllocError>
     ensures { IfOk result (λ es. (vs : Data) → entries_of vs es
-        ≡ spec.entries_for schema.now (map (literal_field vs) (map (λ f. f.now) fields.now)) (option_map written (option_copied expected.entry))) }
+        ≡ spec.entries_for schema.now (map (literal_field vs) (map (λ f. f.now) fields.now))
+        (option_map written (option_copied expected.entry))) }
 {
     match expected {
         None => any_entries(alloc, fields),
@@ -231,7 +244,7 @@ fn entries_of_type<'v>(
     }
 }
 
-/// What an object of these fields is made of. Of fields of one name the first counts.
+/// What an object of these fields is made of. Of fields of one name, the first counts.
 pub fn literal_entries<'v>(
     alloc: Global,
     fields: &'v [ObjectField],
@@ -239,7 +252,8 @@ pub fn literal_entries<'v>(
     expected: Option<&TypeRef>,
 ) -> Result<LiteralEntries<'v>, AllocError>
     ensures { IfOk result (λ es. (vs : Data) → entries_of vs es
-        ≡ spec.entries_for schema.now (firsts (map (literal_field vs) fields.now)) (option_map written (option_copied expected.entry))) }
+        ≡ spec.entries_for schema.now (firsts (map (literal_field vs) fields.now))
+        (option_map written (option_copied expected.entry))) }
 {
     let firsts = first_fields(alloc, fields)?;
     let found = entries_of_type(alloc, firsts.as_slice(), schema, expected)?;

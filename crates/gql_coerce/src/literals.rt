@@ -43,7 +43,8 @@ fn whole(text: &str) -> Single<'_>
 
 // The value of a variable.
 fn value_of<'v>(variables: Option<&'v Value>, name: &str) -> Option<&'v Value>
-    ensures { option_map (λ v. view v.now) result ≡ get name.now (values_in (option_map (λ v. view v.now) variables.entry)) }
+    ensures { option_map (λ v. view v.now) result
+        ≡ get name.now (values_in (option_map (λ v. view v.now) variables.entry)) }
 {
     match variables {
         Some(values) => values.get(name),
@@ -51,10 +52,11 @@ fn value_of<'v>(variables: Option<&'v Value>, name: &str) -> Option<&'v Value>
     }
 }
 
-/// Whether a literal may stand for a list within a list: a list, `null` or a variable.
+/// Whether a literal may be an item where lists are expected: a list, `null` or a variable.
 #[tactic(auto, using(crate::proofs::Reading::may_variable, crate::proofs::Reading::may_int, crate::proofs::Reading::may_float, crate::proofs::Reading::may_string, crate::proofs::Reading::may_boolean, crate::proofs::Reading::may_null, crate::proofs::Reading::may_enum, crate::proofs::Reading::may_list, crate::proofs::Reading::may_object))]
 pub fn may_be_list(item: &Literal, variables: Option<&Value>) -> bool
-    ensures { result ≡ input_may_be_list (literal (values_in (option_map (λ v. view v.now) variables.entry)) item.now) }
+    ensures { result ≡ input_may_be_list
+        (literal (values_in (option_map (λ v. view v.now) variables.entry)) item.now) }
 {
     match item {
         Literal::List { .. } | Literal::Null { .. } | Literal::Variable { .. } => true,
@@ -74,8 +76,11 @@ fn start_object<'v>(
     variables: Option<&'v Value>,
     expected: Option<&'v TypeRef>,
 ) -> Result<Step<'v>, AllocError>
-    ensures { IfOk result (λ step. (s : ASchema) (n : ℕ) → spec.once (option_map written (option_copied expected.entry))
-        (some (spec.object_at (levels_of n s) (entries_of (values_in (option_map (λ v. view v.now) variables.entry)) found.entry))) ≡ step_at n s step) }
+    ensures { IfOk result (λ step. (s : ASchema) (n : ℕ)
+        → spec.once (option_map written (option_copied expected.entry))
+        (some (spec.object_at (levels_of n s)
+        (entries_of (values_in (option_map (λ v. view v.now) variables.entry)) found.entry)))
+        ≡ step_at n s step) }
 {
     match found {
         LiteralEntries::Are(entries) => {
@@ -104,7 +109,9 @@ pub fn enter<'v>(
     schema: &'v Schema,
     expected: Option<&'v TypeRef>,
 ) -> Result<Step<'v>, AllocError>
-    ensures { IfOk result (λ step. (n : ℕ) → levels_of (suc n) schema.now (literal (values_in (option_map (λ v. view v.now) variables.entry)) value.now) (option_map written (option_copied expected.entry)) ≡ step_at n schema.now step) }
+    ensures { IfOk result (λ step. (n : ℕ) → levels_of (suc n) schema.now
+        (literal (values_in (option_map (λ v. view v.now) variables.entry)) value.now)
+        (option_map written (option_copied expected.entry)) ≡ step_at n schema.now step) }
 {
     match value {
         Literal::Variable { name, .. } => {

@@ -14,7 +14,8 @@ pub fn add_member(
     value: Value,
     members: &mut Map<String, Value>,
 ) -> Result<(), AllocError>
-    ensures { OnOk result (members_view members.new.entries ≡ put name.now (view value) (members_view members.old.entries)) }
+    ensures { OnOk result (members_view members.new.entries
+        ≡ put name.now (view value) (members_view members.old.entries)) }
 {
     let name = String::from_str(alloc, name)?;
     members.insert(name, value)?;

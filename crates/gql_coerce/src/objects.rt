@@ -46,9 +46,12 @@ fn default_focus<'v>(alloc: Global, definition: Option<&'v InputValueDefinition>
 
 // The default of a field.
 fn start_default<'v>(alloc: Global, object: ObjectFrame<'v>, entry: Entry<'v>) -> Step<'v>
-    ensures { (s : ASchema) (n : ℕ) → members_then (levels_of n s) (option_map written (option_copied object.entry.expected)) entry.entry.name.now
-        (members_view object.entry.members.entries) (drop object.entry.next (entries_in object.entry.entries))
-        (spec.or_default (levels_of n s) entry.entry.name.now (option_copied entry.entry.definition) None) ≡ step_at n s result }
+    ensures { (s : ASchema) (n : ℕ) → members_then (levels_of n s)
+        (option_map written (option_copied object.entry.expected)) entry.entry.name.now
+        (members_view object.entry.members.entries)
+        (drop object.entry.next (entries_in object.entry.entries))
+        (spec.or_default (levels_of n s) entry.entry.name.now
+        (option_copied entry.entry.definition) None) ≡ step_at n s result }
 {
     let focus = default_focus(alloc, entry.definition);
     Step::Within(Frame::Default(object, entry.name), focus)
@@ -56,8 +59,10 @@ fn start_default<'v>(alloc: Global, object: ObjectFrame<'v>, entry: Entry<'v>) -
 
 // The value that an entry gives, or the default.
 fn start_entry<'v>(alloc: Global, object: ObjectFrame<'v>, entry: Entry<'v>) -> Step<'v>
-    ensures { (s : ASchema) (n : ℕ) → members_then (levels_of n s) (option_map written (option_copied object.entry.expected)) entry.entry.name.now
-        (members_view object.entry.members.entries) (drop object.entry.next (entries_in object.entry.entries))
+    ensures { (s : ASchema) (n : ℕ) → members_then (levels_of n s)
+        (option_map written (option_copied object.entry.expected)) entry.entry.name.now
+        (members_view object.entry.members.entries)
+        (drop object.entry.next (entries_in object.entry.entries))
         (spec.entry_at (levels_of n s) (entry_of entry.entry)) ≡ step_at n s result }
 {
     match entry.given {
@@ -71,8 +76,10 @@ fn start_entry<'v>(alloc: Global, object: ObjectFrame<'v>, entry: Entry<'v>) -> 
 
 /// The next field of an object, or the whole object.
 pub fn next_entry<'v>(alloc: Global, object: ObjectFrame<'v>) -> Result<Step<'v>, AllocError>
-    ensures { IfOk result (λ step. (s : ASchema) (n : ℕ) → members_rest (levels_of n s) (option_map written (option_copied object.entry.expected))
-        (members_view object.entry.members.entries) (drop object.entry.next (entries_in object.entry.entries)) ≡ step_at n s step) }
+    ensures { IfOk result (λ step. (s : ASchema) (n : ℕ)
+        → members_rest (levels_of n s) (option_map written (option_copied object.entry.expected))
+        (members_view object.entry.members.entries)
+        (drop object.entry.next (entries_in object.entry.entries)) ≡ step_at n s step) }
 {
     match object.entries.get(object.next) {
         Some(entry) => {
@@ -87,14 +94,15 @@ pub fn next_entry<'v>(alloc: Global, object: ObjectFrame<'v>) -> Result<Step<'v>
     }
 }
 
-/// An object, of which the field of this name came to this, with its default.
+/// An object, whose field of this name came to this, with its default.
 pub fn resume_default<'v>(
     alloc: Global,
     object: ObjectFrame<'v>,
     name: &'v str,
     coerced: Coerced,
 ) -> Result<Step<'v>, AllocError>
-    ensures { IfOk result (λ step. (s : ASchema) (n : ℕ) → frame_by (levels_of n s) (object_frame object.entry name.now) (said coerced) ≡ step_at n s step) }
+    ensures { IfOk result (λ step. (s : ASchema) (n : ℕ) → frame_by
+        (levels_of n s) (object_frame object.entry name.now) (said coerced) ≡ step_at n s step) }
 {
     match coerced {
         Coerced::Given(value) => {
@@ -107,14 +115,15 @@ pub fn resume_default<'v>(
     }
 }
 
-/// An object, of which the value that is given for a field came to this.
+/// An object, where the value that is given for a field came to this.
 pub fn resume_given<'v>(
     alloc: Global,
     object: ObjectFrame<'v>,
     entry: Entry<'v>,
     coerced: Coerced,
 ) -> Result<Step<'v>, AllocError>
-    ensures { IfOk result (λ step. (s : ASchema) (n : ℕ) → frame_by (levels_of n s) (given_frame object.entry entry.entry) (said coerced) ≡ step_at n s step) }
+    ensures { IfOk result (λ step. (s : ASchema) (n : ℕ) → frame_by
+        (levels_of n s) (given_frame object.entry entry.entry) (said coerced) ≡ step_at n s step) }
 {
     match coerced {
         Coerced::Absent => Ok(start_default(alloc, object, entry)),

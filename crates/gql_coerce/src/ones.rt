@@ -1,4 +1,5 @@
-//! Lists of one: what is no list, where a list is expected (GraphQL specification, 3.11).
+//! Lists of one: a value that is not a list, where a list is expected (GraphQL specification,
+//! 3.11).
 ghost use Rattle.std.specs.Prelude.{◌≡◌, IfOk, option_map};
 ghost use Rattle.std.specs.Option.{option_copied};
 ghost use Rattle.gql_types.specs.Written.{written};
@@ -27,13 +28,15 @@ fn one_in(alloc: Global, of_type: &TypeRef, value: Value) -> Result<Value, Alloc
     }
 }
 
-/// What is no list, as a list of one where the type that is expected is a list, and as one of one where that is a list of lists.
+/// A value that is not a list, as a list of one if the type that is expected is a list, and as a
+/// list of one list of one if that is a list of lists.
 pub fn once(
     alloc: Global,
     expected: Option<&TypeRef>,
     coerced: Coerced,
 ) -> Result<Coerced, AllocError>
-    ensures { IfOk result (λ c. said c ≡ spec.once (option_map written (option_copied expected.entry)) (said coerced)) }
+    ensures { IfOk result (λ c. said c
+        ≡ spec.once (option_map written (option_copied expected.entry)) (said coerced)) }
 {
     match (expected, coerced) {
         (Some(of_type), Coerced::Given(value)) => {

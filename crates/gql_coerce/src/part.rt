@@ -18,7 +18,7 @@ pub enum Part<'v> {
 }
 
 impl<'v> Part<'v> {
-    /// Whether an input may stand for a list within a list.
+    /// Whether an input may be an item where lists are expected.
     pub fn may_be_list(&self) -> bool
         ensures { result ≡ input_may_be_list (input_of self.now) }
     {
@@ -43,7 +43,8 @@ fn literal_at<'v>(
     index: usize,
 ) -> Option<Part<'v>>
     ensures item { option_map input_of result
-        ≡ slice_get (map (literal (values_in (option_map (λ v. view v.now) variables.entry))) items.now) index }
+        ≡ slice_get
+        (map (literal (values_in (option_map (λ v. view v.now) variables.entry))) items.now) index }
     ensures within { OnSome result (index + 1 < 2 ^ 64) }
 {
     if index < items.len() {
@@ -55,7 +56,8 @@ fn literal_at<'v>(
 
 #[tactic(auto, using(std::proofs::lemmas::Option::gets, crate::proofs::Found::get_map))]
 fn json_at<'v>(items: &'v [Value], index: usize) -> Option<Part<'v>>
-    ensures item { option_map input_of result ≡ slice_get (map (λ v. json_input (view v)) items.now) index }
+    ensures item { option_map input_of result
+        ≡ slice_get (map (λ v. json_input (view v)) items.now) index }
     ensures within { OnSome result (index + 1 < 2 ^ 64) }
 {
     if index < items.len() {

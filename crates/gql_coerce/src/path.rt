@@ -1,4 +1,4 @@
-//! How the path of a refusal is written.
+//! The text of the path of a refusal.
 ghost use Rattle.std.specs.Prelude.{◌≡◌, IfOk, OnOk, string_bytes};
 ghost use Rattle.gql_coerce.specs.Paths as spec;
 
@@ -26,7 +26,8 @@ fn add_index(index: usize, text: &mut String) -> Result<(), AllocError>
 }
 
 fn add_segment(segment: &Segment, text: &mut String) -> Result<(), AllocError>
-    ensures { OnOk result (string_bytes text.new ≡ spec.with_segment (string_bytes text.old) segment.now) }
+    ensures { OnOk result (string_bytes text.new
+        ≡ spec.with_segment (string_bytes text.old) segment.now) }
 {
     match segment {
         Segment::Key(key) => add_key(key.as_str(), text)?,
@@ -35,8 +36,8 @@ fn add_segment(segment: &Segment, text: &mut String) -> Result<(), AllocError>
     Ok(())
 }
 
-/// The text of a path: a field by its name, behind a point if it is not the first, and an item by its index in brackets, as in
-/// `points[2].x`.
+/// The text of a path: a field by its name, after a point unless it comes first, and an item by its
+/// index in brackets, as in `points[2].x`.
 pub fn path_text(alloc: Global, path: &[Segment]) -> Result<String, AllocError>
     ensures { IfOk result (λ text. string_bytes text ≡ spec.path_text path.now) }
 {

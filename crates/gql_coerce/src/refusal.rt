@@ -4,7 +4,8 @@ ghost use Rattle.gql_coerce.specs.Refusals as spec;
 
 use gql_ast::{Items, Text};
 
-/// Why an input has no value (GraphQL specification, 3.5 to 3.12). Each has a number that users see.
+/// Why an input has no value (GraphQL specification, 3.5 to 3.12). Each has a number that users
+/// see.
 #[derive(Clone, Copy, Debug, PartialEq, Eq)]
 pub enum Reason {
     /// 121: `null`, or no argument, where the type is Non-Null (3.12).
@@ -13,7 +14,7 @@ pub enum Reason {
     WrongKind,
     /// 123: an integer of more bits than the type takes (3.5.1).
     OutOfRange,
-    /// 124: a name that is no value of the enum (3.9).
+    /// 124: a name that is not a value of the enum (3.9).
     NotInEnum,
     /// 125: a field that the input object does not define (3.10).
     UnknownField,
@@ -36,7 +37,7 @@ impl Reason {
         }
     }
 
-    /// What is said of it.
+    /// The text that a user sees.
     pub fn text(self) -> &'static str
         ensures { result.now ≡ spec.text self }
     {
@@ -58,7 +59,8 @@ pub enum Segment {
     Index(usize),
 }
 
-/// Why an input is refused, and the steps that lead to where. Of 125 and 126 the path ends in the field.
+/// Why an input is refused, and the steps that lead to the place. For 125 and 126 the path ends in
+/// the field.
 #[derive(Debug, Drop)]
 pub struct Refusal {
     pub reason: Reason,

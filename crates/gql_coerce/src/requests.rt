@@ -36,7 +36,8 @@ fn default_at(
     of_type: &TypeRef,
     default: Option<&Literal>,
 ) -> Result<Coerced, AllocError>
-    ensures { IfOk result (λ c. Eventually (λ n. spec.default_at n schema.now (written of_type.now) (option_copied default.entry) ≡ said c)) }
+    ensures { IfOk result (λ c. Eventually (λ n. spec.default_at n schema.now
+        (written of_type.now) (option_copied default.entry) ≡ said c)) }
 {
     match default {
         Some(value) => { walk::coerce(alloc, schema, Part::Literal(value, None), Some(of_type)) }
@@ -57,7 +58,8 @@ fn or_default_at(
     default: Option<&Literal>,
     given: Coerced,
 ) -> Result<Coerced, AllocError>
-    ensures { IfOk result (λ c. Eventually (λ n. after (said given) (spec.or_default_at n schema.now (written of_type.now) (option_copied default.entry)) ≡ said c)) }
+    ensures { IfOk result (λ c. Eventually (λ n. after (said given) (spec.or_default_at n schema.now
+        (written of_type.now) (option_copied default.entry)) ≡ said c)) }
 {
     match given {
         Coerced::Absent => default_at(alloc, schema, of_type, default),
@@ -86,7 +88,8 @@ fn coerce_variable(
     definition: &VariableDefinition,
     values: &Value,
 ) -> Result<Coerced, AllocError>
-    ensures { IfOk result (λ c. Eventually (λ n. spec.variable_value n schema.now (view values.now) definition.now ≡ said c)) }
+    ensures { IfOk result (λ c. Eventually
+        (λ n. spec.variable_value n schema.now (view values.now) definition.now ≡ said c)) }
 {
     let of_type = &definition.of_type;
     let name = definition.name.as_str();
@@ -103,7 +106,8 @@ fn variables(
     definitions: &[VariableDefinition],
     values: &Value,
 ) -> Result<Coerced, AllocError>
-    ensures { IfOk result (λ c. Eventually (λ n. some (spec.variables n schema.now definitions.now (view values.now)) ≡ said c)) }
+    ensures { IfOk result (λ c. Eventually
+        (λ n. some (spec.variables n schema.now definitions.now (view values.now)) ≡ said c)) }
 {
     let mut members = Map::new(alloc);
     for definition in definitions {
@@ -120,8 +124,10 @@ fn variables(
 
 // What an object comes to, as a result.
 fn of_object(coerced: Coerced) -> Result<Value, CoerceFault>
-    ensures ok { IfOk result (λ v. (o : Reached Data) → some o ≡ said coerced → o ≡ reached (value (view v))) }
-    ensures err { IfErr result (λ e. (o : Reached Data) → some o ≡ said coerced → Tells e (λ (p : AnOutcome Data). o ≡ reached p)) }
+    ensures ok { IfOk result (λ v. (o : Reached Data)
+        → some o ≡ said coerced → o ≡ reached (value (view v))) }
+    ensures err { IfErr result (λ e. (o : Reached Data)
+        → some o ≡ said coerced → Tells e (λ (p : AnOutcome Data). o ≡ reached p)) }
 {
     match coerced {
         Coerced::Given(value) => Ok(value),
@@ -130,24 +136,27 @@ fn of_object(coerced: Coerced) -> Result<Value, CoerceFault>
     }
 }
 
-/// The values of the variables that these definitions have, as an object (GraphQL specification, 6.1.2), where `values` is the
-/// object of those that a request gives: absent ones take their defaults, and those that are not defined are ignored. Or the first
-/// refusal, in the order of the definitions; its path begins with the variable's name. An absent variable of Non-Null type without
-/// default is 121.
+/// The values of the variables that these definitions have, as an object (GraphQL specification,
+/// 6.1.2), or the first refusal. The object `values` has those that a request gives: missing ones
+/// take their defaults, and undefined ones are ignored. Refusals come in the order of the
+/// definitions; the path begins with the variable's name. A missing variable of a Non-Null type
+/// without a default is 121.
 pub fn coerce_variables(
     alloc: Global,
     schema: &Schema,
     definitions: &[VariableDefinition],
     values: &Value,
 ) -> Result<Value, CoerceFault>
-    ensures ok { IfOk result (λ v. spec.VariablesCome schema.now definitions.now (view values.now) (value (view v))) }
-    ensures err { IfErr result (λ e. Tells e (spec.VariablesCome schema.now definitions.now (view values.now))) }
+    ensures ok { IfOk result
+        (λ v. spec.VariablesCome schema.now definitions.now (view values.now) (value (view v))) }
+    ensures err { IfErr result
+        (λ e. Tells e (spec.VariablesCome schema.now definitions.now (view values.now))) }
 {
     let coerced = variables(alloc, schema, definitions, values)?;
     of_object(coerced)
 }
 
-/// An argument, to be looked up by its name.
+/// An argument, which a look-up finds by its name.
 #[derive(Drop)]
 struct GivenArgument<'v> {
     argument: &'v Argument,
@@ -175,7 +184,8 @@ fn given_arguments<'v>(
 }
 
 fn argument_named<'v>(given: &Named<GivenArgument<'v>>, name: &str) -> Option<&'v Argument>
-    ensures { option_copied result ≡ find (λ a. bytes_eq name.now a.name.text) (map (λ g. g.argument.now) given.now) }
+    ensures { option_copied result
+        ≡ find (λ a. bytes_eq name.now a.name.text) (map (λ g. g.argument.now) given.now) }
 {
     match given.get(name) {
         Some(found) => Some(found.argument),
@@ -189,8 +199,10 @@ fn coerce_given(
     of_type: &TypeRef,
     given: Option<&Argument>,
 ) -> Result<Coerced, AllocError>
-    ensures { IfOk result (λ c. Eventually (λ n. spec.given_at n scope.now.schema.now (written of_type.now)
-        (option_map (λ a. literal (variables_of scope.now) a.value) (option_copied given.entry)) ≡ said c)) }
+    ensures { IfOk result
+        (λ c. Eventually (λ n. spec.given_at n scope.now.schema.now (written of_type.now)
+        (option_map (λ a. literal (variables_of scope.now) a.value) (option_copied given.entry))
+        ≡ said c)) }
 {
     match given {
         Some(argument) => {
@@ -207,7 +219,8 @@ fn coerce_argument(
     definition: &InputValueDefinition,
     given: &Named<GivenArgument<'_>>,
 ) -> Result<Coerced, AllocError>
-    ensures { IfOk result (λ c. Eventually (λ n. spec.argument_value n scope.now.schema.now (variables_of scope.now) (map (λ g. g.argument.now) given.now) definition.now ≡ said c)) }
+    ensures { IfOk result (λ c. Eventually (λ n. spec.argument_value n scope.now.schema.now
+        (variables_of scope.now) (map (λ g. g.argument.now) given.now) definition.now ≡ said c)) }
 {
     let of_type = &definition.of_type;
     let name = definition.name.as_str();
@@ -224,7 +237,8 @@ fn arguments(
     definitions: &[Shared<InputValueDefinition>],
     given: &Named<GivenArgument<'_>>,
 ) -> Result<Coerced, AllocError>
-    ensures { IfOk result (λ c. Eventually (λ n. some (spec.arguments n scope.now.schema.now definitions.now (map (λ g. g.argument.now) given.now) (variables_of scope.now)) ≡ said c)) }
+    ensures { IfOk result (λ c. Eventually (λ n. some (spec.arguments n scope.now.schema.now
+        definitions.now (map (λ g. g.argument.now) given.now) (variables_of scope.now)) ≡ said c)) }
 {
     let mut members = Map::new(alloc);
     for definition in definitions {
@@ -246,17 +260,19 @@ fn all_arguments(
     definitions: &[Shared<InputValueDefinition>],
     given: &[Argument],
 ) -> Result<Coerced, AllocError>
-    ensures { IfOk result (λ c. Eventually (λ n. some (spec.arguments n scope.now.schema.now definitions.now given.now (variables_of scope.now)) ≡ said c)) }
+    ensures { IfOk result (λ c. Eventually (λ n. some (spec.arguments
+        n scope.now.schema.now definitions.now given.now (variables_of scope.now)) ≡ said c)) }
 {
     let found = Named::new(alloc, given_arguments(alloc, given)?)?;
     let coerced = arguments(alloc, scope, definitions, &found)?;
     Ok(coerced)
 }
 
-/// The values of the arguments that these definitions have, as an object (GraphQL specification, 6.4.1), where these are given and
-/// `variables` is the object of the variables' values: of arguments of one name the first counts, and those that are not defined are
-/// ignored. Or the first refusal, in the order of the definitions; its path begins with the argument's name. A missing argument of
-/// Non-Null type without default is 121.
+/// The values of the arguments that these definitions have, as an object (GraphQL specification,
+/// 6.4.1), or the first refusal. The object `variables` has the values of the variables. Of
+/// arguments of one name, the first counts; undefined ones are ignored. Refusals come in the order
+/// of the definitions; the path begins with the argument's name. A missing argument of a Non-Null
+/// type without a default is 121.
 pub fn coerce_arguments(
     alloc: Global,
     schema: &Schema,
@@ -264,8 +280,10 @@ pub fn coerce_arguments(
     given: &[Argument],
     values: &Value,
 ) -> Result<Value, CoerceFault>
-    ensures ok { IfOk result (λ v. spec.ArgumentsCome schema.now definitions.now given.now (view values.now) (value (view v))) }
-    ensures err { IfErr result (λ e. Tells e (spec.ArgumentsCome schema.now definitions.now given.now (view values.now))) }
+    ensures ok { IfOk result (λ v. spec.ArgumentsCome schema.now definitions.now given.now
+        (view values.now) (value (view v))) }
+    ensures err { IfErr result
+        (λ e. Tells e (spec.ArgumentsCome schema.now definitions.now given.now (view values.now))) }
 {
     let scope = Scope {
         schema,

@@ -21,7 +21,7 @@ use std::alloc::{AllocError, Global};
 pub enum Single<'v> {
     /// An integer of 64 bits.
     Whole(i64),
-    /// A literal integer of more bits.
+    /// An integer literal of more bits.
     OutOfRange,
     /// Another number.
     Fraction,
@@ -174,7 +174,8 @@ pub fn as_type(
     of_type: &SchemaType,
     single: &Single<'_>,
 ) -> Result<Coerced, AllocError>
-    ensures { IfOk result (λ c. said c ≡ some (spec.as_kind of_type.now of_type.now.kind (single_of single.now))) }
+    ensures { IfOk result (λ c. said c
+        ≡ some (spec.as_kind of_type.now of_type.now.kind (single_of single.now))) }
 {
     match of_type.kind {
         TypeKind::Scalar => as_scalar(alloc, scalar_named(of_type.name()), single),

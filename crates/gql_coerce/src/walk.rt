@@ -1,5 +1,5 @@
-//! The coercion of inputs (GraphQL specification, 3.5 to 3.12). The lists and objects around the input
-//! at hand are on a stack of its own, so that memory alone limits how deep they nest.
+//! The coercion of inputs (GraphQL specification, 3.5 to 3.12). The lists and objects around the
+//! present input are on a stack of its own, so that only memory limits how deep they nest.
 ghost use Rattle.std.specs.Prelude.{◌≡◌, ℕ, suc, Option, option_map, IfOk};
 ghost use Rattle.std.specs.Option.{option_copied};
 ghost use Rattle.gql_types.specs.Written.{written};
@@ -28,7 +28,8 @@ fn enter<'v>(
     part: Part<'v>,
     expected: Option<&'v TypeRef>,
 ) -> Result<Step<'v>, AllocError>
-    ensures { IfOk result (λ step. (n : ℕ) → levels_of (suc n) schema.now (input_of part.entry) (option_map written (option_copied expected.entry)) ≡ step_at n schema.now step) }
+    ensures { IfOk result (λ step. (n : ℕ) → levels_of (suc n) schema.now (input_of part.entry)
+        (option_map written (option_copied expected.entry)) ≡ step_at n schema.now step) }
 {
     match part {
         Part::Literal(value, variables) => {
@@ -38,9 +39,10 @@ fn enter<'v>(
     }
 }
 
-// A list or an object, of which a part came to this.
+// A list or an object, a part of which came to this.
 fn resume<'v>(alloc: Global, frame: Frame<'v>, coerced: Coerced) -> Result<Step<'v>, AllocError>
-    ensures { IfOk result (λ step. (s : ASchema) (n : ℕ) → frame_by (levels_of n s) (frame_of frame.entry) (said coerced) ≡ step_at n s step) }
+    ensures { IfOk result (λ step. (s : ASchema) (n : ℕ)
+        → frame_by (levels_of n s) (frame_of frame.entry) (said coerced) ≡ step_at n s step) }
 {
     match frame {
         Frame::Item(list) => resume_list(alloc, list, coerced),
@@ -49,8 +51,8 @@ fn resume<'v>(alloc: Global, frame: Frame<'v>, coerced: Coerced) -> Result<Step<
     }
 }
 
-// Whether more defaults are open within one another than the schema has input fields, so that one of
-// them is within itself.
+// Whether more defaults are open within one another than the schema has input fields, so that one
+// of them is within itself.
 fn has_cycle(schema: &Schema, stack: &[Frame<'_>]) -> bool {
     let mut open = 0_usize;
     for frame in stack {
@@ -61,12 +63,12 @@ fn has_cycle(schema: &Schema, stack: &[Frame<'_>]) -> bool {
     for of_type in schema.types() {
         open = open.saturating_sub(of_type.input_fields.as_slice().len());
     }
-    // the field at hand may have no default
+    // this field may have no default
     open > 1
 }
 
-// Where defaults lead back to themselves, an input may come to nothing: it is given up then. This is
-// looked for when the stack has doubled.
+// If defaults lead back to themselves, an input may come to nothing: the walk gives up. It checks
+// for this each time the stack has doubled.
 fn give_up(schema: &Schema, stack: &[Frame<'_>]) -> Result<(), AllocError> {
     let depth = stack.len();
     if depth >= 1024 && depth.is_power_of_two() && has_cycle(schema, stack) {
@@ -75,13 +77,14 @@ fn give_up(schema: &Schema, stack: &[Frame<'_>]) -> Result<(), AllocError> {
     Ok(())
 }
 
-// Goes into a list or an object, or takes the answer.
+// Enters a list or an object, or takes the answer.
 fn take_step<'v>(
     schema: &Schema,
     step: Step<'v>,
     stack: &mut Vec<Frame<'v>>,
 ) -> Result<Focus<'v>, AllocError>
-    ensures { IfOk result (λ focus. (s : ASchema) (whole : ℕ → Reached (Option Data)) → Inside s whole (frames_of stack.old.items) (λ n. step_at n s step.entry)
+    ensures { IfOk result (λ focus. (s : ASchema) (whole : ℕ → Reached (Option Data))
+        → Inside s whole (frames_of stack.old.items) (λ n. step_at n s step.entry)
         → Holds s whole (frames_of stack.new.items) (λ n. focus_at n s focus)) }
 {
     match step {
@@ -94,15 +97,16 @@ fn take_step<'v>(
     }
 }
 
-/// What an input comes to. It is given up where it takes a default within itself, and after 2^64 - 1
-/// steps, to which no run comes.
+/// What an input comes to. The walk gives up if the input takes a default within itself, and after
+/// 2^64 - 1 steps, which no run reaches.
 pub fn coerce<'v>(
     alloc: Global,
     schema: &'v Schema,
     part: Part<'v>,
     expected: Option<&'v TypeRef>,
 ) -> Result<Coerced, AllocError>
-    ensures { IfOk result (λ c. Eventually (λ n. levels_of n schema.now (input_of part.entry) (option_map written (option_copied expected.entry)) ≡ said c)) }
+    ensures { IfOk result (λ c. Eventually (λ n. levels_of n schema.now
+        (input_of part.entry) (option_map written (option_copied expected.entry)) ≡ said c)) }
 {
     let mut stack = Vec::new(alloc);
     let mut focus = Focus::Input(part, expected);

@@ -1,4 +1,4 @@
--- Helper definitions: what clauses see of groups of borrowed fields.
+-- Helper definitions for contracts: groups of borrowed fields, as specifications see them.
 use Rattle.std.specs.Prelude.{ℕ, List, [], ◌∷◌, map, Option, Some, None}
 use Rattle.std.specs.Borrow.{Bor}
 use Rattle.gql_collect.specs.Borrowed.{node_of}
@@ -7,7 +7,7 @@ use Rattle.gql_collect.specs.Nodes.{FieldNode}
 use Rattle.gql_collect.specs.declared.group.Group.{Group}
 use Rattle.gql_collect.specs.declared.node.FieldNode.{FieldNode as Node}
 
--- the fields that are there
+-- the fields of this list, without the empty places
 abbrev pub others_of : List (Option Node) → List FieldNode
 others_of [] = []
 others_of (None ∷ ns) = others_of ns
@@ -21,5 +21,6 @@ nodes_in g = node_of g.first ∷ others_of g.others.items
 abbrev pub group_of : Bor (List ℕ) × Group → spec.Group
 group_of e = record { key = e.0.now; nodes = nodes_in e.1 }
 
+-- all groups, in their order
 abbrev pub groups_in : List (Bor (List ℕ) × Group) → List spec.Group
 groups_in es = map group_of es

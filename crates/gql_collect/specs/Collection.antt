@@ -1,12 +1,12 @@
 -- The groups of fields of a selection set, for an object of some type (GraphQL 6.3.2,
--- CollectFields). A field that the set reaches twice counts where it is reached first, so that each
+-- CollectFields). A field that the set reaches twice counts at the first place only, so that each
 -- fragment counts once in a set.
 use Rattle.std.specs.Prelude.{◌≡◌, ℕ, List, flat_map}
 use Rattle.gql_collect.specs.Groups.{Group, firsts, groups_of, is_same_field}
 use Rattle.gql_collect.specs.Nodes.{FileSelection, FieldNode, in_file}
 use Rattle.gql_collect.specs.Unfolding.{Given, Unfolds}
 
--- the groups of what selections unfold into
+-- the groups of the fields that selections unfold into
 abbrev pub groups_from : List FieldNode → List Group
 groups_from ns = groups_of (firsts is_same_field ns)
 
@@ -17,7 +17,7 @@ pub record Collects (g : Given) (t : List ℕ) (xs : List FileSelection) (groups
   pub unfolds : Unfolds g t xs nodes
   pub are : groups ≡ groups_from nodes
 
--- these are the groups of the selections, if they have some
+-- these are the groups of the selections, if the selections have groups
 abbrev pub AreGroups : Given → List ℕ → List FileSelection → List Group → Type 0
 AreGroups g t xs groups = (others : List Group) → Collects g t xs others → groups ≡ others
 

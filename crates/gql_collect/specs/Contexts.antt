@@ -1,4 +1,4 @@
--- Helper definitions: what clauses see of what selections are collected with.
+-- Helper definitions for contracts: what selections are collected with, as specifications see it.
 use Rattle.serde_json.specs.View.{view}
 use Rattle.gql_collect.specs.Unfolding.{Given}
 use Rattle.gql_collect.specs.declared.context.Context.{Context}

@@ -11,9 +11,9 @@ use Rattle.gql_collect.specs.Nodes.{FileSelection}
 use Rattle.gql_collect.specs.Spreads.{own_selections}
 use Rattle.gql_collect.specs.Unfolding.{Given}
 
--- A selection nests at most so deep: what a field or an inline fragment selects, and what the
--- fragment of a spread selects, nests less deep. Selections that lead to a cycle of fragments nest at
--- no depth.
+-- A selection nests at most k deep: what a field, an inline fragment or the fragment of a spread
+-- selects nests at most one less deep. Selections that lead to a cycle of fragments nest at no
+-- depth.
 pub data Nests (g : Given) : ℕ → Selection → Type 0 where
   of_field : {k : ℕ} {x : Selection} (f : Field) → x ≡ s.Field f
       → ((y : Selection) → Contains f.selections y → Nests g k y) → Nests g (suc k) x
@@ -23,15 +23,15 @@ pub data Nests (g : Given) : ℕ → Selection → Type 0 where
       → ((y : Selection) → Contains (own_selections g r.name.text) y → Nests g k y)
       → Nests g (suc k) x
 
--- all of these do
+-- all of these selections nest at most k deep
 abbrev pub AllNest : Given → ℕ → List Selection → Type 0
 AllNest g k xs = (x : Selection) → Contains xs x → Nests g k x
 
--- the selections of these
+-- the selections, without their files
 abbrev pub selections_of : List FileSelection → List Selection
 selections_of xs = map (λ (x : FileSelection). x.selection) xs
 
--- the groups of selections, where what each group selects nests so deep
+-- the groups of selections, where what each group selects nests at most k deep
 pub record NestedGroups (g : Given) (t : List ℕ) (k : ℕ) (xs : List FileSelection) : Type 0 where
   pub groups : List Group
   pub collects : Collects g t xs groups

@@ -1,4 +1,4 @@
--- Selections and fields, where they are in the documents.
+-- Selections and fields, with the files that they are in.
 use Rattle.std.specs.Prelude.{ℕ, List, map}
 use Rattle.gql_ast.specs.declared.executable.Field.{Field}
 use Rattle.gql_ast.specs.declared.executable.Selection.{Selection}
@@ -17,7 +17,7 @@ pub record FieldNode : Type 0 where
 abbrev pub in_file : List ℕ → List Selection → List FileSelection
 in_file file xs = map (λ x. record { file = file; selection = x }) xs
 
--- what is in the place of a selection: a field, or other selections, which may be none
+-- what takes the place of a selection: a field, or other selections, or none
 pub data Part : Type 0 where
   node : FieldNode → Part
   selections : List FileSelection → Part

@@ -1,5 +1,5 @@
--- Helper definitions: which field nodes are one is an equivalence, and one file and one start
--- decide it.
+-- Helper definitions: `is_same_field` is an equivalence, and depends on the file and the start
+-- alone.
 use Rattle.std.specs.Prelude.{◌≡◌, ◌++◌, ◌&&◌, Bool, true, false, refl}
 use Rattle.std.proofs.Common.{ap, sym, ◌∙◌, true≢false}
 use Rattle.std.proofs.lemmas.Cmp.{nat_eq_equiv}
@@ -12,12 +12,12 @@ use Rattle.gql_collect.specs.Groups.{is_same_field, start_of}
 use Rattle.gql_collect.specs.Nodes.{FieldNode}
 use Rattle.gql_collect.specs.declared.node.FieldNode.{FieldNode as Node}
 
--- of field nodes
+-- `is_same_field` is an equivalence of fields
 pub same_field_laws : IsEquivalence is_same_field
 same_field_laws = and_equiv (on_equiv (λ (n : FieldNode). n.file) nat_list_eq_equiv)
     (on_equiv start_of nat_eq_equiv)
 
--- of borrowed ones
+-- `is_same_field` is an equivalence of borrowed fields
 pub same_field_equiv : IsEquivalence (λ (a b : Node). is_same_field (node_of a) (node_of b))
 same_field_equiv = on_equiv node_of same_field_laws
 

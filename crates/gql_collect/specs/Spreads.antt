@@ -1,5 +1,5 @@
--- The fragments that selections spread (GraphQL 2.8), anywhere in them, and those that these
--- spread.
+-- The fragments that selections spread (GraphQL 2.8), at any depth, and those that these spread in
+-- turn.
 use Rattle.std.specs.Prelude.{◌≡◌, ℕ, List, [], ◌∷◌, ◌++◌, map, flat_map, Option, Some, None, refl, Contains}
 use Rattle.std.proofs.Common.{ap, sym, ◌∙◌}
 use Rattle.gql_ast.specs.declared.executable.Field.{Field}
@@ -14,24 +14,29 @@ use Rattle.gql_collect.specs.Unfolding.{Given, fragment_named}
 
 -- ---- the names that a selection spreads
 
+-- names of fragments
 abbrev pub Names : Type 0
 Names = List (List ℕ)
 
+-- the names in a selection of this form, from those in a field or an inline fragment
 abbrev pub names_at : Selection-F Names Names Names → Names
 names_at (Selection-F.Field below) = below
 names_at (Selection-F.Spread x) = x.name.text ∷ []
 names_at (Selection-F.InlineFragment below) = below
 
+-- the names in what a field selects
 abbrev pub names_of_field : Field-F Names Names Names → Names
 names_of_field f = flat_map (λ names. names) f.selections
 
+-- the names in an inline fragment
 abbrev pub names_of_inline : InlineFragment-F Names Names Names → Names
 names_of_inline i = flat_map (λ names. names) i.selections
 
--- the fragments that a selection spreads, below its fields too
+-- the names of the fragments that a selection spreads, below its fields too
 unfoldable pub spreads : Selection → Names
 spreads = fold-Selection Names Names Names names_at names_of_field names_of_inline
 
+-- the names of the fragments that these selections spread
 abbrev pub spreads_of : List Selection → Names
 spreads_of xs = flat_map spreads xs
 
@@ -73,8 +78,7 @@ selections_in (Some f) = f.fragment.selections
 abbrev pub own_selections : Given → List ℕ → List Selection
 own_selections g n = selections_in (fragment_named g n)
 
--- The names that selections spread, and those that the fragments of these names spread, again and
--- again.
+-- The names that selections spread, those that the fragments of these names spread, and so on.
 pub data LeadsTo (g : Given) (xs : List Selection) : List ℕ → Type 0 where
   spread : {n : List ℕ} → Contains (spreads_of xs) n → LeadsTo g xs n
   further : {m n : List ℕ} → LeadsTo g xs m → Contains (spreads_of (own_selections g m)) n

@@ -15,33 +15,36 @@ use Rattle.gql_collect.specs.Nodes.{FileSelection, FieldNode, node, selections}
 use Rattle.gql_collect.specs.Unfolding.{Given, part, held}
 use Rattle.gql_collect.specs.declared.node.SelectionSet.{SelectionSet}
 
--- the name is among these
+-- whether a name is among these
 abbrev pub is_in : List ℕ → List (List ℕ) → Bool
 is_in name names = list_any (bytes_eq name) names
 
--- all of them together
+-- the sum of these numbers
 abbrev pub total : List ℕ → ℕ
 total [] = 0
 total (n ∷ ns) = n + total ns
 
 -- ---- how large selections are
 
--- two for each selection that is not below a field
+-- the size of a selection of this form: two for each selection that is not below a field
 abbrev pub size_at : Selection-F ℕ ℕ ℕ → ℕ
 size_at (Selection-F.Field below) = 2
 size_at (Selection-F.Spread x) = 2
 size_at (Selection-F.InlineFragment below) = below + 2
 
+-- the size of a field; what it selects does not count
 abbrev pub size_of_field : Field-F ℕ ℕ ℕ → ℕ
 size_of_field f = 2
 
+-- the size of what an inline fragment selects
 abbrev pub size_of_inline : InlineFragment-F ℕ ℕ ℕ → ℕ
 size_of_inline i = total i.selections
 
+-- the size of a selection, by which a walk ends
 unfoldable pub size : Selection → ℕ
 size = fold-Selection ℕ ℕ ℕ size_at size_of_field size_of_inline
 
--- of all of these
+-- the size of these selections together
 abbrev pub sizes : List Selection → ℕ
 sizes xs = total (map size xs)
 
@@ -61,27 +64,28 @@ size_inline i = ap size (sym (s.rolls-InlineFragment i))
     ∙ fold-roll-Selection ℕ ℕ ℕ size_at size_of_field size_of_inline (Selection-F.InlineFragment i)
     ∙ ap (λ n. n + 2) (fold_out-InlineFragment ℕ ℕ ℕ size_at size_of_field size_of_inline i)
 
--- the fragments whose names are not among these
+-- the size of the fragments whose names are not among these
 abbrev pub left : List FragmentFact → List (List ℕ) → ℕ
 left fragments names = total (map (λ (f : FragmentFact).
     if is_in f.fragment.name.text names then 0 else sizes f.fragment.selections) fragments)
 
--- of a set that is still to be visited
+-- the size of a set that is still to be visited
 abbrev pub set_size : SelectionSet → ℕ
 set_size s = sizes s.selections.now + 1
 
--- of the sets that are still to be visited, and of the fragments that may still be entered
+-- the size of all that is left of a walk: the sets that are still to be visited, and the fragments
+-- that it may still enter
 abbrev pub work : List FragmentFact → List SelectionSet → List (List ℕ) → ℕ
 work fragments pending names = total (map set_size pending) + left fragments names
 
 -- ---- one selection
 
--- of file selections
+-- the size of these selections together
 abbrev pub sizes_in : List FileSelection → ℕ
 sizes_in xs = total (map (λ (x : FileSelection). size x.selection) xs)
 
--- A walk has visited the selection x: it has the fields and the names of fragments that it has now,
--- and is to visit these next.
+-- A walk has visited the selection x: these are the names of the fragments that it has entered and
+-- the fields that it has met by then, and it is to visit these selections next.
 pub data Visits (g : Given) (t : List ℕ) (x : FileSelection)
     (names : List (List ℕ)) (fields : List FieldNode)
     : List (List ℕ) → List FieldNode → List FileSelection → Type 0 where

@@ -12,11 +12,11 @@ use crate::unfold::unfold;
 use std::alloc::{AllocError, Global};
 
 /// The groups of fields of these selection sets, taken as one, for an object of a type (GraphQL
-/// specification, 6.3.2): the response names by their first fields, each with all fields of that
-/// name. They borrow the documents.
+/// specification, 6.3.2): the response names in the order of their first fields, each with all
+/// fields of that name. They borrow the documents.
 ///
-/// Each fragment counts once, where it is spread first. Where a fragment that counts holds a spread
-/// of itself, the sets have no groups, and the result is some of their fields.
+/// Each fragment counts once, where it is spread first. If a fragment that counts spreads itself,
+/// the sets have no groups, and the result is some of their fields.
 pub fn collect<'a>(
     alloc: Global,
     context: &Context<'a, '_>,

@@ -12,7 +12,7 @@ use gql_ast::{Argument, Directive, Literal, Name, Text};
 use gql_types::Schema;
 use serde_json::Value;
 
-/// Whether a variable has the value true, where `values` is the object of the variables' values.
+/// Whether a variable has the value true; the object `values` has the values of the variables.
 fn is_true_variable(values: &Value, name: &str) -> bool
     ensures { result ≡ spec.is_true_variable (view values.now) name.now }
 {
@@ -42,7 +42,7 @@ fn is_true(values: &Value, literal: &Literal) -> bool
     }
 }
 
-/// The argument `if` of these; of several the first counts.
+/// The argument `if` of these; if there are several, the first.
 fn if_argument(arguments: &[Argument]) -> Option<&Argument>
     ensures { option_copied result
         ≡ find (λ a. bytes_eq a.name.text (codes "if")) arguments.now }
@@ -65,8 +65,8 @@ fn is_if_true(values: &Value, arguments: &[Argument]) -> bool
     }
 }
 
-/// Whether a directive leaves its selection out: `@skip` whose `if` is true, or `@include` whose
-/// `if` is not.
+/// Whether a directive leaves its selection out: `@skip` with an `if` that is true, or `@include`
+/// with an `if` that is not.
 fn leaves_out(values: &Value, directive: &Directive) -> bool
     ensures { result ≡ spec.leaves_out (view values.now) directive.now }
 {
@@ -99,7 +99,7 @@ fn has_name(names: &[Text], name: &str) -> bool
     false
 }
 
-/// Whether an object of a type may stand for the type of that name.
+/// Whether a type is a possible type of the type of that name.
 pub fn is_possible(schema: &Schema, of_type: &str, condition: &str) -> bool
     ensures { result ≡ spec.is_possible schema.now of_type.now condition.now }
 {
@@ -109,7 +109,7 @@ pub fn is_possible(schema: &Schema, of_type: &str, condition: &str) -> bool
     }
 }
 
-/// Whether an inline fragment applies to objects of a type: without a condition it always does.
+/// Whether an inline fragment applies to objects of a type; one without a condition always does.
 pub fn has_condition_met(context: &Context<'_, '_>, of_type: &str, condition: &Option<Name>) -> bool
     ensures { result ≡ applies (given context.now) of_type.now condition.now }
 {

@@ -1,3 +1,5 @@
+//! What selections are collected with.
+
 use gql_facts::Fragments;
 use gql_types::Schema;
 use serde_json::Value;

@@ -11,7 +11,7 @@ use indexmap::{IndexMap, IndexSet};
 use smallvec::SmallVec;
 use std::alloc::{AllocError, Global};
 
-/// The fields of one response name, in their order. A group of up to three takes no memory.
+/// The fields of one response name, in their order. A group of up to three allocates nothing.
 #[derive(Drop)]
 pub struct Group<'a> {
     pub first: FieldNode<'a>,

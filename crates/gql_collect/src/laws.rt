@@ -1,17 +1,17 @@
 //! Laws of collection. The functions do nothing; their contracts hold.
 ghost use Rattle.gql_collect.specs.Laws as laws;
 
-/// Selections have one list of groups.
+/// Selections have at most one list of groups.
 pub fn one_collection()
     ensures { laws.OneCollection }
 {}
 
-/// Selections that lead to no fragment which leads back to itself have groups.
+/// Selections have groups if no fragment that they lead to leads back to itself.
 pub fn some_collection()
     ensures { laws.SomeCollection }
 {}
 
-/// Selections that lead to no fragment which leads back to itself nest at some depth.
+/// Selections nest at some depth if no fragment that they lead to leads back to itself.
 pub fn some_depth()
     ensures { laws.SomeDepth }
 {}

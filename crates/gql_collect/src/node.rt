@@ -1,4 +1,4 @@
-//! Selection sets and fields, where they are in the documents.
+//! Selection sets and fields, with their places in the documents.
 ghost use Rattle.std.specs.Prelude.{◌≡◌, ◌++◌};
 ghost use Rattle.std.specs.Hash as fed;
 ghost use Rattle.gql_collect.specs.Borrowed.{node_of, selections_of};
@@ -17,8 +17,8 @@ pub struct SelectionSet<'a> {
     pub selections: &'a [Selection],
 }
 
-/// A field, and the file that it is in. Two are equal where they are one field of a document: they
-/// are in one file, and start at one place.
+/// A field, and the file that it is in. Two are equal if they are one field of a document: they are
+/// in one file, and start at one place.
 #[derive(Clone, Copy)]
 pub struct FieldNode<'a> {
     pub file: &'a FileName,

@@ -13,7 +13,7 @@ use gql_ast::Selection;
 use indexmap::IndexSet;
 use std::alloc::{AllocError, Global};
 
-/// These sets, the first as the last.
+/// These sets in reverse.
 fn stacked<'a>(
     alloc: Global,
     sets: &[SelectionSet<'a>],

@@ -33,7 +33,8 @@ fn nothing(file: &FileName) -> SelectionSet<'_>
     }
 }
 
-/// What a fragment holds for objects of a type: nothing where it is not defined, or does not apply.
+/// The selections of a fragment for objects of a type: none if it is not defined, or does not
+/// apply.
 fn held_by<'a>(
     context: &Context<'a, '_>,
     of_type: &str,
@@ -73,7 +74,7 @@ fn visit_field<'a>(
     Ok(nothing(file))
 }
 
-/// Visits a spread. A fragment that was entered before is passed by.
+/// Visits a spread. A fragment that was entered before is skipped.
 fn visit_spread<'a>(
     context: &Context<'a, '_>,
     of_type: &str,
@@ -96,7 +97,7 @@ fn visit_spread<'a>(
     }
 }
 
-/// What is in the place of an inline fragment.
+/// What takes the place of an inline fragment.
 fn held_inline<'a>(
     context: &Context<'a, '_>,
     of_type: &str,

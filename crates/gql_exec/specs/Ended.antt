@@ -1,7 +1,8 @@
--- How two parts of one value end together.
+-- How a part of a value ends, if it consists of two parts, one after the other.
 use Rattle.gql_exec.specs.declared.ended.Ended.{Ended}
 use Rattle.gql_exec.specs.declared.ended.Ended.TheVariants.{Written, Bubbled}
 
+-- how two parts end together: a null that bubbles from either bubbles on
 abbrev pub both : Ended → Ended → Ended
 both Written next = next
 both Bubbled next = Bubbled

@@ -1,4 +1,4 @@
--- Worked examples of the definitions.
+-- Worked examples of execution.
 use Rattle.std.specs.Fmt.{signed_decimal}
 use Rattle.std.specs.Prelude.{◌≡◌, ℕ, ◌-◌, pos, List, [], ◌∷◌, codes, refl, Option, Some, None, bytes_eq, false, true, if◌then◌else◌}
 use Rattle.gql_ast.specs.declared.executable.OperationKind.TheVariants as operation
@@ -26,6 +26,7 @@ use Rattle.gql_exec.specs.Replies.{Error, Path, key, index}
 
 -- ---- terms for the examples
 
+-- a place in the first line
 abbrev at : ℕ → Place
 at column = record { line = 1; column = column; offset = column - 1 }
 
@@ -40,13 +41,15 @@ called name column arguments t = record {
   of_type = t;
 }
 
--- one without arguments
+-- a field without an alias and without arguments
 abbrev simple : List ℕ → ℕ → Written → PlannedField
 simple name column t = called name column (given (json.object no_members)) t
 
+-- a number of the data
 abbrev number : ℕ → Data
 number n = json.number (json.unsigned n)
 
+-- the kind of the type of a name: three scalars and a union; every other type is an object
 abbrev kind_of : List ℕ → Option TypeKind
 kind_of n = if bytes_eq n (codes "Int") then Some kind.Scalar
     else if bytes_eq n (codes "ID") then Some kind.Scalar
@@ -54,6 +57,7 @@ kind_of n = if bytes_eq n (codes "Int") then Some kind.Scalar
     else if bytes_eq n (codes "Pet") then Some kind.Union
     else Some kind.Object
 
+-- the types of the examples: `Pet` has two possible types, and no type has enum values
 abbrev types : Types
 types = record {
   kind = kind_of;
@@ -66,12 +70,15 @@ types = record {
 abbrev on_any : Fields → Plan
 on_any fields = plan (λ t. fields)
 
+-- a plan of one field that selects nothing
 abbrev leaf : PlannedField → Plan
 leaf f = on_any (field f (on_any no_fields) no_fields)
 
+-- an error of a field at this column of the first line
 abbrev error_at : List ℕ → ℕ → Path → Error
 error_at message column path = record { message = message; place = at column; path = path }
 
+-- an object with one member
 abbrev one_member : List ℕ → Data → Data
 one_member name d = json.object (member name d no_members)
 
@@ -84,6 +91,7 @@ box name t = on_any (field (simple (codes "box") 11 (named (codes "Box")))
     (leaf (simple (codes "id") 21 (named (codes "Int")))) no_fields))
     no_fields)
 
+-- the data of `{ box { .. } }`, with one member in the box
 abbrev in_box : List ℕ → Data → Data
 in_box name d = one_member (codes "box") (one_member name d)
 
@@ -115,7 +123,7 @@ null_object : answer types (box (codes "m") (required (listed (required (named (
     }
 null_object = refl
 
--- of two bad items of one list the first error is kept
+-- only the first error of a list with two bad items is kept
 first_error : answer types (leaf (simple (codes "a") 3 (listed (named (codes "Int")))))
     (codes "Query") (one_member (codes "a")
     (json.array (item (json.string (codes "x")) (item (json.string (codes "y")) no_items))))
@@ -128,6 +136,7 @@ first_error = refl
 
 -- ---- leaves
 
+-- the plan of `{ put }`, where `put` is an `Int`
 abbrev put : Plan
 put = leaf (simple (codes "put") 11 (named (codes "Int")))
 
@@ -168,15 +177,17 @@ refused_arguments : answer types
     }
 refused_arguments = refl
 
+-- a user with an id and a name
 abbrev user : List ℕ → List ℕ → Data
 user i n = json.object (member (codes "id") (json.string i)
     (member (codes "name") (json.string n) no_members))
 
+-- the field `user(id: 2)`
 abbrev user_2 : PlannedField
 user_2 = called (codes "user") 3 (given (one_member (codes "id") (json.string (codes "2"))))
     (named (codes "User"))
 
--- `{ user(id: 2) { name } }`: the object of the list that has this member
+-- `{ user(id: 2) { name } }`: of the list, the object that has this member
 filtered_object : answer types
     (on_any (field user_2 (leaf (simple (codes "name") 17 (named (codes "String")))) no_fields))
     (codes "Query") (one_member (codes "user")
@@ -191,12 +202,13 @@ filtered_object = refl
 
 -- ---- types of objects
 
--- `{ pet { ... on Dog { name } ... on Cat { age } } }`
+-- the fields of each type of object in `{ pet { ... on Dog { name } ... on Cat { age } } }`
 abbrev of_pet : List ℕ → Fields
 of_pet t = if bytes_eq t (codes "Dog")
     then field (simple (codes "name") 22 (named (codes "String"))) (on_any no_fields) no_fields
     else field (simple (codes "age") 43 (named (codes "Int"))) (on_any no_fields) no_fields
 
+-- the plan of that operation
 abbrev pet : Plan
 pet = on_any (field (simple (codes "pet") 3 (named (codes "Pet"))) (plan of_pet) no_fields)
 
@@ -220,12 +232,13 @@ no_pet : answer types pet (codes "Query")
     }
 no_pet = refl
 
--- ---- fields that a type lacks
+-- ---- fields that a type does not have
 
+-- a name at this column of the first line
 abbrev word : ℕ → List ℕ → Name
 word column text = record { place = at column; text = text }
 
--- a field of a query, without anything else
+-- a field of a query, with nothing but its name
 abbrev node : ℕ → List ℕ → FieldNode
 node column name = record {
   file = codes "find";
@@ -238,6 +251,7 @@ node column name = record {
   };
 }
 
+-- the definition `id: ID`
 abbrev id_field : FieldDefinition
 id_field = record {
   description = None;
@@ -278,6 +292,7 @@ schema = record {
   possible = [];
 }
 
+-- the schema `type Query { id: ID }`, with no fragments and no variables
 abbrev basis : Basis
 basis = record {
   given = record { schema = schema; fragments = []; values = json.object no_members };
@@ -290,7 +305,8 @@ basis = record {
   };
 }
 
--- `{ age id age id }`: the group of `age` is left out, that of `id` has both of its fields
+-- `{ age id age id }`: the type has no field `age`, so that group is left out; the group of `id`
+-- has both of its fields
 left_out : defined basis (codes "Query") (groups_from (node 3 (codes "age")
     ∷ node 7 (codes "id") ∷ node 10 (codes "age") ∷ node 14 (codes "id") ∷ []))
     ≡ record {
@@ -305,7 +321,7 @@ no_type : defined basis (codes "Pet") (groups_from (node 3 (codes "id") ∷ []))
 unfolding same_operation
 no_type = refl
 
--- `{ __schema }` and `{ __typename }`: of these a type that is not the query root has the second
+-- `{ __schema __typename }`; a type that is not the query root has only the second
 abbrev meta_nodes : List FieldNode
 meta_nodes = node 3 (codes "__schema") ∷ node 12 (codes "__typename") ∷ []
 
@@ -345,7 +361,8 @@ type_name = refl
 
 -- `{ __schema { queryType { name } } }`
 abbrev query_type : Plan
-query_type = on_any (field (meta source.Root (codes "__schema") 3 (required (named (codes "__Schema"))))
+query_type =
+    on_any (field (meta source.Root (codes "__schema") 3 (required (named (codes "__Schema"))))
     (on_any (field (simple (codes "queryType") 14 (required (named (codes "__Type"))))
     (leaf (simple (codes "name") 26 (named (codes "String")))) no_fields))
     no_fields)
@@ -363,7 +380,8 @@ name_of_query = refl
 -- `{ mine { name } }`, where the type of `mine` is `__Type`: the data is read
 mine : answer types (on_any (field (simple (codes "mine") 3 (named (codes "__Type")))
     (leaf (simple (codes "name") 10 (named (codes "String")))) no_fields))
-    (codes "Query") (one_member (codes "mine") (one_member (codes "name") (json.string (codes "x"))))
+    (codes "Query") (one_member (codes "mine")
+    (one_member (codes "name") (json.string (codes "x"))))
     ≡ record {
       value = one_member (codes "mine") (one_member (codes "name") (json.string (codes "x")));
       errors = [];

@@ -1,5 +1,5 @@
 -- The execution of a plan on the data and on the nodes of introspection (GraphQL 4, 6.3, 6.4.3 and
--- 6.4.4). A plan is what the documents ask of an object, for each type that it may have.
+-- 6.4.4). A plan is what the documents ask of an object, for each type that the object may have.
 use Rattle.std.specs.Prelude.{ℕ, ◌+◌, List, [], ◌∷◌, ◌++◌, Bool, true, false, bytes_eq, codes, Option, Some, None, if◌then◌else◌}
 use Rattle.std.specs.List.{list_any}
 use Rattle.gql_inputs.specs.InputTypes.{is_non_null, name_in}
@@ -26,8 +26,8 @@ pub data Arguments : Type 0 where
   given : Data → Arguments
   refused : List ℕ → Arguments
 
--- a field of an answer: its response name, where its first node starts, its name, where objects have
--- its value, its arguments and its type
+-- a field of an answer: its response name, the place of its first node, its name, where objects
+-- have its value, its arguments and its type
 pub record PlannedField : Type 0 where
   pub response_name : List ℕ
   pub place : Place
@@ -36,20 +36,21 @@ pub record PlannedField : Type 0 where
   pub arguments : Arguments
   pub of_type : Written
 
+-- a plan, and the fields that it has for a type
 mutual
-  -- for each type of an object, the fields of the answer
+  -- the fields of the answer, for each type that an object may have
   pub data Plan : Type 0 where
     plan : (List ℕ → Fields) → Plan
 
-  -- each with the plan of what it selects
+  -- fields, each with the plan of what it selects
   pub data Fields : Type 0 where
     no_fields : Fields
     field : PlannedField → Plan → Fields → Fields
 
 -- ---- types
 
--- what execution asks of a schema: the kind of a type, the possible types of a composite one, the
--- values of an enum, and what the field of a name of a node of introspection resolves to
+-- What execution needs to know of a schema: the kind of a type, the possible types of a composite
+-- type, the values of an enum, and what a field of a node of introspection resolves to.
 pub record Types : Type 0 where
   pub kind : List ℕ → Option TypeKind
   pub possible : List ℕ → List (List ℕ)
@@ -73,6 +74,7 @@ pub record Site : Type 0 where
   pub place : Place
   pub below : Below
 
+-- whether a value is null
 abbrev pub is_null : Data → Bool
 is_null json.null = true
 is_null _ = false
@@ -81,28 +83,32 @@ is_null _ = false
 abbrev pub fault : Site → Path → List ℕ → Reply Data
 fault s p message = raise (record { message = message; place = s.place; path = p })
 
+-- the error that a value is not of the type of this name
 abbrev pub not_of_type : Site → List ℕ → Path → Reply Data
 not_of_type s name p = fault s p (codes "value is not of type " ++ name)
 
+-- the value of a leaf, or the error that there is none of its type
 abbrev pub leaf : Site → List ℕ → Path → Option Data → Reply Data
 leaf s name p (Some d) = returns d
 leaf s name p None = not_of_type s name p
 
--- an object
+-- a value where an object of the type of this name is expected
 abbrev pub on_object : Site → List ℕ → Path → Data → Reply Data
 on_object s name p (json.object ms) = s.below name p (stored (json.object ms))
 on_object s name p d = fault s p (codes "value is not an object")
 
--- the type that an object names, if it is among these
+-- the type that an object names, if it is one of these
 abbrev pub among : List (List ℕ) → Option Data → Option (List ℕ)
 among names (Some (json.string n)) = if list_any (bytes_eq n) names then Some n else None
 among names _ = None
 
--- an object of a type that an abstract type stands for (ResolveAbstractType), by its `__typename`
+-- a value where an abstract type is expected, as an object of the type that its `__typename` names
+-- (ResolveAbstractType)
 abbrev pub on_abstract : Site → List ℕ → Path → Data → Option (List ℕ) → Reply Data
 on_abstract s name p d (Some n) = s.below n p (stored d)
 on_abstract s name p d None = fault s p (codes "value names no possible type of " ++ name)
 
+-- a value where the type of this name and kind is expected
 abbrev pub of_kind : Site → List ℕ → Path → Data → Option TypeKind → Reply Data
 of_kind s name p d (Some kind.Scalar) = leaf s name p (scalar_value name d)
 of_kind s name p d (Some kind.Enum) = leaf s name p (as_enum (s.types.values name) d)
@@ -113,26 +119,27 @@ of_kind s name p d (Some kind.Union) =
     on_abstract s name p d (among (s.types.possible name) (get (codes "__typename") d))
 of_kind s name p d _ = not_of_type s name p
 
--- at a Non-Null place a null bubbles
+-- a value in a place of this type: a null bubbles on if the type is Non-Null, and else stays there
 abbrev pub placed : Written → Reply Data → Reply Data
 placed t r = if is_non_null t then r else caught r
 
--- the items of a list, from this index on
+-- the items of a list, from index i on
 abbrev pub items_from : {A : Type 0}
     → (Path → A → Reply Data) → ℕ → Path → List A → List (Reply Data)
 items_from each i p [] = []
 items_from each i p (x ∷ xs) = counted (each (p ++ index i ∷ []) x) ∷ items_from each (i + 1) p xs
 
--- a list with these items
+-- a list of these items
 abbrev pub list_reply : {A : Type 0} → (Path → A → Reply Data) → Path → List A → Reply Data
 list_reply each p xs =
     mapped (λ ds. json.array (items_of ds)) (all (items_from each 0 p xs))
 
+-- a value where a list is expected
 abbrev pub on_list : Site → (Path → Data → Reply Data) → Path → Data → Reply Data
 on_list s each p (json.array ds) = list_reply each p (list_of ds)
 on_list s each p d = fault s p (codes "value is not a list")
 
--- a value at a type
+-- a value where this type is expected (CompleteValue)
 abbrev pub complete : Site → Written → Path → Data → Reply Data
 complete s (named n) p d =
     if is_null d then returns json.null else of_kind s n p d (s.types.kind n)
@@ -151,8 +158,8 @@ name_item p n = returns (json.string n)
 abbrev pub on_node : Site → List ℕ → Path → Node → Reply Data
 on_node s name p n = s.below name p (described n)
 
--- What introspection answers, where the type of its nodes has this name. It is completed as it is:
--- what `resolve` gives for a field of a node is of the field's type, so no error arises here.
+-- What introspection answers, where its nodes have the type of this name. Nothing is checked: what
+-- `resolve` gives for a field of a node has the field's type, so no error arises here.
 abbrev pub on_answer : Site → List ℕ → Path → intro.Answer → Reply Data
 on_answer s name p intro.null = returns json.null
 on_answer s name p (intro.text t) = returns (json.string t)
@@ -164,7 +171,7 @@ on_answer s name p (intro.nodes ns) = list_reply (on_node s name) p ns
 
 -- ---- fields (ExecuteField)
 
--- the value of a field of an object of the data, by where it is
+-- the value of a field of an object of the data, by where the value is
 abbrev pub by_source : Site → PlannedField → Source → Data → Path → Data → Reply Data
 by_source s f source.Stored arguments p d =
     complete s f.of_type p (resolved f.name f.of_type arguments d)
@@ -186,17 +193,19 @@ executed types f below p o =
     mapped (λ v. (f.response_name, v)) (counted (settled
     (placed f.of_type (value_of s f f.arguments (p ++ key f.response_name ∷ []) o))))
 
--- the members of an object, in this order
+-- these members of an object, in their order
 abbrev pub members_of : List (List ℕ × Data) → Members
 members_of [] = no_members
 members_of (m ∷ ms) = member m.0 m.1 (members_of ms)
 
+-- the execution of a plan on an object, and of each of its fields
 abbrev mutual
-  -- what is asked of an object of this type (ExecuteSelectionSet)
+  -- an object of this type, with the fields that the plan has for it (ExecuteSelectionSet)
   pub execute : Types → Plan → Below
   execute types (plan fields) t p o =
       mapped (λ ms. json.object (members_of ms)) (all (each types (fields t) p o))
 
+  -- each of these fields, under its response name
   pub each : Types → Fields → Path → Object → List (Reply (List ℕ × Data))
   each types no_fields p o = []
   each types (field f below rest) p o =
@@ -210,10 +219,10 @@ pub record Answer : Type 0 where
   pub errors : List Error
   pub weight : ℕ
 
--- a null that comes up to the data stays there
+-- the answer of a reply; a null that bubbles to the top stays there
 abbrev pub answered : Reply Data → Answer
 answered r = record { value = or_null r.value; errors = kept false r.notes; weight = r.weight }
 
--- a plan for an object of the root type, executed on the initial value
+-- the answer of a plan for an object of the root type, executed on the initial value
 abbrev pub answer : Types → Plan → List ℕ → Data → Answer
 answer types x root initial = answered (execute types x root [] (stored initial))

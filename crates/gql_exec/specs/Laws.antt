@@ -1,4 +1,4 @@
--- Laws of execution.
+-- The laws of execution. `src/laws.rt` has a function for each.
 use Rattle.std.specs.Prelude.{◌≡◌, Some}
 use Rattle.gql_coerce.specs.Defaults.{HasNoCycle}
 use Rattle.gql_collect.specs.Spreads.{NoCycles}
@@ -8,12 +8,12 @@ use Rattle.gql_types.specs.declared.kind.TypeKind.TheVariants as kind
 use Rattle.gql_types.specs.declared.roots.Root.{Root}
 use Rattle.serde_json.specs.Data.{Data}
 
--- a request has one response
+-- a request has at most one response
 abbrev pub OneResponse : Type 0
 OneResponse = (r : Request) (p q : Response) → Executes r p → Executes r q → p ≡ q
 
--- A request has a response, where the root type of its operation is an object type, no default leads
--- back to itself, and the operation leads to no fragment that leads back to itself.
+-- A request has a response if the root type of its operation is an object type, no default value
+-- leads back to itself, and no fragment that the operation leads to leads back to itself.
 abbrev pub SomeResponse : Type 0
 SomeResponse = (r : Request) (root : Root) → HasNoCycle r.schema
     → root_of r.schema r.operation.kind ≡ Some root

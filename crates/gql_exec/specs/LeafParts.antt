@@ -7,7 +7,8 @@ use Rattle.gql_exec.specs.Parts.{Part, plain, raise}
 use Rattle.gql_exec.specs.Replies.{Path}
 use Rattle.gql_exec.specs.declared.leaves.Leaf.{Leaf}
 
--- the value, or the error that there is none of the type of this name
+-- what is written for the value of a leaf, or for the error that there is none of the type of this
+-- name
 abbrev pub leaf_at : List ℕ → Place → Path → Option Data → Part
 leaf_at name place path (Some d) = plain (compact_text d)
 leaf_at name place path None = raise (record {
@@ -16,5 +17,6 @@ leaf_at name place path None = raise (record {
   path = path;
 })
 
+-- what is written for a leaf
 abbrev pub leaf_part : Leaf → Path → Option Data → Part
 leaf_part leaf path o = leaf_at leaf.name.now leaf.place path o

@@ -13,10 +13,11 @@ use Rattle.serde_json.specs.Find.{as_bool, as_i64, as_number, as_str, of_integer
 abbrev pub whole_in : Data → Option ℤ
 whole_in d = option_and_then as_i64 (as_number d)
 
--- from -2^31 to 2^31 - 1
+-- whether an integer is from -2^31 to 2^31 - 1
 abbrev pub is_of_32_bits : ℤ → Bool
 is_of_32_bits z = int_le (neg_ℤ (pos (2 ^ 31))) z && int_lt z (pos (2 ^ 31))
 
+-- an integer, if it has 32 bits
 abbrev pub int_of : ℤ → Option Data
 int_of z = if is_of_32_bits z then Some (json.number (of_integer z)) else None
 
@@ -24,6 +25,7 @@ int_of z = if is_of_32_bits z then Some (json.number (of_integer z)) else None
 abbrev pub as_int : Data → Option Data
 as_int d = option_and_then int_of (whole_in d)
 
+-- a string, or an integer as its text
 abbrev pub id_of : Option (List ℕ) → Option ℤ → Option Data
 id_of (Some s) whole = Some (json.string s)
 id_of None (Some z) = Some (json.string (signed_decimal z))
@@ -33,13 +35,15 @@ id_of None None = None
 abbrev pub as_id : Data → Option Data
 as_id d = id_of (as_str d) (whole_in d)
 
+-- a String is a string
 abbrev pub as_string : Data → Option Data
 as_string d = option_map json.string (as_str d)
 
+-- a Boolean is true or false
 abbrev pub as_boolean : Data → Option Data
 as_boolean d = option_map json.boolean (as_bool d)
 
--- a custom scalar is any value
+-- a value of a scalar, if it is one; a custom scalar takes any value
 abbrev pub as_scalar : Scalar → Data → Option Data
 as_scalar scalar.Int d = as_int d
 as_scalar scalar.Id d = as_id d
@@ -47,10 +51,11 @@ as_scalar scalar.String d = as_string d
 as_scalar scalar.Boolean d = as_boolean d
 as_scalar scalar.Custom d = Some d
 
+-- a name, if it is one of these values
 abbrev pub enum_of : List (List ℕ) → List ℕ → Option Data
 enum_of names s = if list_any (bytes_eq s) names then Some (json.string s) else None
 
--- an enum is a string among its values
+-- an enum is a string that is one of its values
 abbrev pub as_enum : List (List ℕ) → Data → Option Data
 as_enum names d = option_and_then (enum_of names) (as_str d)
 

@@ -1,4 +1,4 @@
--- Helper definitions: what clauses see of what fields are executed with, and on.
+-- Helper definitions for contracts: what fields are executed with and on, as specifications see it.
 use Rattle.gql_collect.specs.Contexts.{given}
 use Rattle.gql_intro.specs.Borrowed.{node_of}
 use Rattle.serde_json.specs.View.{view}

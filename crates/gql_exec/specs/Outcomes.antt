@@ -1,5 +1,5 @@
--- What the execution of an operation comes to, as the crates above see it: the text of its data,
--- and its errors.
+-- What the execution of an operation comes to, for the crates above: the text of its data, and its
+-- errors.
 use Rattle.std.specs.Prelude.{ℕ, List, map, string_bytes, Option, option_map}
 use Rattle.gql_text.specs.declared.place.Place.{Place}
 use Rattle.gql_exec.specs.Replies.{Segment, key, index, Path}
@@ -14,18 +14,21 @@ pub record AnError : Type 0 where
   pub place : Place
   pub path : Option Path
 
--- the text of the data, which a request error has none of, and the errors in their order
+-- the text of the data, which a request error does not have, and the errors in their order
 pub record AnOutcome : Type 0 where
   pub text : Option (List ℕ)
   pub errors : List AnError
 
+-- a step of a path, as specifications see it
 abbrev pub segment_of : Step → Segment
 segment_of (step.Key k) = key k.now
 segment_of (step.Index i) = index i
 
+-- the path of these steps
 abbrev pub path_of : List Step → Path
 path_of steps = map segment_of steps
 
+-- an error, as specifications see it
 abbrev pub error_of : ResponseError → AnError
 error_of e = record {
   message = string_bytes e.message;
@@ -33,6 +36,7 @@ error_of e = record {
   path = option_map (λ p. path_of p.items) e.path;
 }
 
+-- an outcome, as specifications see it
 abbrev pub outcome_of : Outcome → AnOutcome
 outcome_of o = record {
   text = option_map (λ t. t.items) o.«data»;

@@ -10,6 +10,7 @@ pub data Segment : Type 0 where
   key : List ℕ → Segment
   index : ℕ → Segment
 
+-- a path to a value of the answer
 abbrev pub Path : Type 0
 Path = List Segment
 
@@ -19,13 +20,14 @@ pub record Error : Type 0 where
   pub place : Place
   pub path : Path
 
--- an error that was raised in completing the value of the field at hand, its list items included,
--- or an error of a field that it selects
+-- an error in completing the value of the present field, its list items included, or an error of a
+-- field that it selects
 pub data Note : Type 0 where
   own : Error → Note
   below : Error → Note
 
--- no value: a null bubbles
+-- a value, or none: then a null bubbles; with its errors and the number of values that were
+-- completed
 pub record Reply (A : Type 0) : Type 0 where
   pub value : Option A
   pub notes : List Note
@@ -33,18 +35,21 @@ pub record Reply (A : Type 0) : Type 0 where
 
 -- ---- one part, and another after it: each is executed, also after an error
 
+-- a value, without errors
 abbrev pub returns : {A : Type 0} → A → Reply A
 returns x = record { value = Some x; notes = []; weight = 0 }
 
+-- an error, for which a null bubbles
 abbrev pub raise : {A : Type 0} → Error → Reply A
 raise e = record { value = None; notes = own e ∷ []; weight = 0 }
 
+-- a value before others, if none of them is a null that bubbles
 abbrev pub joined : {A : Type 0} → Option A → Option (List A) → Option (List A)
 joined (Some x) (Some xs) = Some (x ∷ xs)
 joined (Some x) None = None
 joined None o = None
 
--- the values of all of them; a null of one bubbles
+-- the values of all of these; a null of any of them bubbles
 abbrev pub all : {A : Type 0} → List (Reply A) → Reply (List A)
 all [] = returns []
 all (r ∷ rs) = record {
@@ -53,35 +58,38 @@ all (r ∷ rs) = record {
   weight = r.weight + (all rs).weight;
 }
 
+-- a function of a value, if there is one
 abbrev pub in_option : {A B : Type 0} → (A → B) → Option A → Option B
 in_option f (Some x) = Some (f x)
 in_option f None = None
 
--- a value that is made of another
+-- a reply with a value that is made from its own
 abbrev pub mapped : {A B : Type 0} → (A → B) → Reply A → Reply B
 mapped f r = record { value = in_option f r.value; notes = r.notes; weight = r.weight }
 
--- one value more was completed
+-- a reply with one more completed value
 abbrev pub counted : {A : Type 0} → Reply A → Reply A
 counted r = record { value = r.value; notes = r.notes; weight = r.weight + 1 }
 
 -- ---- nulls and errors
 
+-- a value, or null
 abbrev pub or_null : Option Data → Data
 or_null (Some d) = d
 or_null None = json.null
 
--- a null that comes up to a nullable place stays there
+-- a null that bubbles to a nullable place stays there
 abbrev pub caught : Reply Data → Reply Data
 caught r = record { value = Some (or_null r.value); notes = r.notes; weight = r.weight }
 
--- the errors that are kept: of a field's own the first alone, and none where there was one before
+-- the errors that are kept: all of the fields below, and of the field's own errors the first alone,
+-- or none if there was one before (`raised`)
 abbrev pub kept : Bool → List Note → List Error
 kept raised [] = []
 kept true (own e ∷ ns) = kept true ns
 kept false (own e ∷ ns) = e ∷ kept true ns
 kept raised (below e ∷ ns) = e ∷ kept raised ns
 
--- the errors of a field, for the fields above it
+-- a field with its errors as those of the fields above it
 abbrev pub settled : {A : Type 0} → Reply A → Reply A
 settled r = record { value = r.value; notes = map below (kept false r.notes); weight = r.weight }

@@ -25,7 +25,7 @@ use Rattle.gql_exec.specs.Outcomes.{AnError, AnOutcome}
 use Rattle.gql_exec.specs.Plans.{Basis, IsPlan, refusal_text, types_of}
 use Rattle.gql_exec.specs.Replies.{Error}
 
--- what is executed: an operation of a file, with the schema, what introspection says of it, the
+-- what is executed: an operation of a file, with the schema, what introspection makes of it, the
 -- fragments of the documents, the values that the request gives its variables, and the data
 pub record Request : Type 0 where
   pub schema : Schema
@@ -36,23 +36,24 @@ pub record Request : Type 0 where
   pub variables : Data
   pub stored : Data
 
--- what it comes to, and how many values were completed
+-- what a request comes to, and how many values were completed
 pub record Response : Type 0 where
   pub outcome : AnOutcome
   pub weight : ℕ
 
 -- ---- errors
 
+-- a field error, as one that may have a path
 abbrev pub error_of : Error → AnError
 error_of e = record { message = e.message; place = e.place; path = Some e.path }
 
--- the definition of the variable that a path begins with
+-- the variable that a path begins with
 abbrev pub variable_at : List VariableDefinition → List Segment → Option VariableDefinition
 variable_at definitions (segment.Key name ∷ path) =
     find (λ (v : VariableDefinition). bytes_eq name v.name.text) definitions
 variable_at definitions path = None
 
--- a variable that is refused is a request error: there is no data, and nothing is executed
+-- the request error for a variable that is refused: there is no data, and nothing is executed
 abbrev pub request_error : VariableDefinition → Reason → List Segment → Response
 request_error v why path = record {
   outcome = record {
@@ -68,12 +69,13 @@ request_error v why path = record {
 
 -- ---- data
 
--- the member of the data that an operation begins with
+-- the member of the data on which an operation of this kind is executed
 abbrev pub root_member : OperationKind → List ℕ
 root_member operation.Query = codes "query"
 root_member operation.Mutation = codes "mutation"
 root_member operation.Subscription = codes "subscription"
 
+-- the value on which an operation of this kind is executed
 abbrev pub initial_value : OperationKind → Data → Data
 initial_value kind stored = unwrap_or (get (root_member kind) stored) (json.object json.no_members)
 
@@ -86,16 +88,16 @@ response_of a = record {
 
 -- ---- requests
 
--- what the fields of a request are executed with, where its variables have these values
+-- what the fields of a request are executed with, if its variables have these values
 abbrev pub basis_of : Request → Data → Basis
 basis_of r values = record {
   given = record { schema = r.schema; fragments = r.fragments; values = values };
   made = r.made;
 }
 
--- The variables are coerced first (CoerceVariableValues). The first that is refused is a request
--- error. Else the selections are executed on the initial value, for the root type, which is an object
--- type.
+-- The variables are coerced first (CoerceVariableValues); the first refusal is a request error. If
+-- there is none, the selections are executed on the initial value, for the root type, which is an
+-- object type.
 pub data Executes (r : Request) : Response → Type 0 where
   refused : {why : Reason} {path : List Segment} {v : VariableDefinition}
       → VariablesCome r.schema r.operation.variables r.variables (comes.refused why path)
@@ -110,14 +112,14 @@ pub data Executes (r : Request) : Response → Type 0 where
 
 -- ---- calls
 
--- the most values that are completed
+-- the greatest number of values that are completed
 abbrev pub most_values : ℕ
 most_values = 100000
 
--- the outcome of a request: that of each response, of which so many values are completed at most
+-- the outcome of a request, of which at most `most_values` values are completed
 abbrev pub IsOutcome : Request → AnOutcome → Type 0
 IsOutcome r o = (p : Response) → Executes r p → (p.weight ≤ most_values) × (o ≡ p.outcome)
 
--- more values than these are to be completed
+-- the request has more values to complete than `most_values`
 abbrev pub IsTooHeavy : Request → Type 0
 IsTooHeavy r = (p : Response) → Executes r p → most_values < p.weight

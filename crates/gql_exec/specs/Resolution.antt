@@ -12,11 +12,12 @@ use Rattle.serde_json.specs.View.{items_of}
 
 -- ---- values that are the same
 
+-- whether two integers are the same
 abbrev pub same_integer : Option ℤ → Option ℤ → Bool
 same_integer (Some a) (Some b) = int_eq a b
 same_integer _ _ = false
 
--- the same values; objects by their members, which are in the order of their keys
+-- whether two values are the same; the members of an object are in the order of their keys
 abbrev mutual
   pub same_data : Data → Data → Bool
   same_data json.null json.null = true
@@ -40,38 +41,42 @@ abbrev mutual
 
 -- ---- filters
 
--- a member of an object, or null
+-- a member of an object, or null if it is missing
 abbrev pub member_or_null : List ℕ → Data → Data
 member_or_null name d = unwrap_or (get name d) json.null
 
--- an item has each of these members, where null also equals absence
+-- whether a value has each of these members; a missing one equals null
 abbrev pub has_members : Members → Data → Bool
 has_members no_members d = true
 has_members (member k v rest) d = same_data v (member_or_null k d) && has_members rest d
 
--- an item of a list is an object that has each argument as a member
+-- whether an item of a list is an object that has each argument as a member
 abbrev pub meets : Members → Data → Bool
 meets arguments (json.object ms) = has_members arguments (json.object ms)
 meets arguments _ = false
 
+-- these items as a list
 abbrev pub list_of : Items → List Data
 list_of no_items = []
 list_of (item d ds) = d ∷ list_of ds
 
+-- the first of these values, or null
 abbrev pub first_or_null : List Data → Data
 first_or_null [] = json.null
 first_or_null (d ∷ ds) = d
 
--- what a field of this type takes of the items: a list all of them, another type the first
+-- the value of a field of this type, from these items: all of them, if it is a list, and else the
+-- first
 abbrev pub taken : Written → List Data → Data
 taken t ds = if is_list t then json.array (items_of ds) else first_or_null ds
 
--- the items that meet the arguments, where there are arguments
+-- a list is filtered by the arguments, if there are any; another value stays as it is
 abbrev pub filtered : Written → Members → Data → Data
 filtered t (member k v rest) (json.array ds) =
     taken t (filter (meets (member k v rest)) (list_of ds))
 filtered t arguments d = d
 
+-- the members of a value that is an object
 abbrev pub members_in : Data → Members
 members_in (json.object ms) = ms
 members_in _ = no_members

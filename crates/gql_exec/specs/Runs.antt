@@ -25,6 +25,7 @@ use Rattle.gql_exec.specs.declared.ended.Ended.{Ended}
 use Rattle.gql_exec.specs.declared.run.FieldError.{FieldError}
 use Rattle.gql_exec.specs.declared.run.Run.{Run}
 
+-- the request of these parts
 abbrev pub request : Schema → IntroSchema → List FragmentFact → List ℕ → Operation → Data → Data
     → Request
 request schema made fragments file operation variables stored = record {
@@ -37,7 +38,7 @@ request schema made fragments file operation variables stored = record {
   stored = stored;
 }
 
--- what holds of the answer of an operation, whichever plan it has
+-- `Holds` is true of the answer of an operation, for each plan that it has
 abbrev pub Answering : Basis → List ℕ → Operation → Data → (Answer → Type 0) → Type 0
 Answering g file operation stored Holds = (root : Root) → (x : Plan)
     → root_of g.given.schema operation.kind ≡ Some root
@@ -46,6 +47,7 @@ Answering g file operation stored Holds = (root : Root) → (x : Plan)
     → Holds (answer (types_of g) x root.name.node.text
     (initial_value operation.kind stored))
 
+-- the outcome of an answer, of which at most `most_values` values are completed
 abbrev pub IsOutcomeOf : AnOutcome → Answer → Type 0
 IsOutcomeOf o a = (a.weight ≤ most_values) × (o ≡ (response_of a).outcome)
 
@@ -64,14 +66,14 @@ pub record IsFresh (s : Run) : Type 0 where
   pub raised : s.raised ≡ false
   pub left : s.left ≡ most_values
 
--- the text and the errors of a run
+-- the text and the errors that a run has written
 abbrev pub came_to : Run → AnOutcome
 came_to u = record {
   text = Some u.out.items;
   errors = map (λ (e : FieldError). requests.error_of (states.error_of e)) u.errors.items;
 }
 
--- a run that was fresh, and has ended so, comes to this outcome
+-- a run that began fresh and has ended in this way comes to this outcome
 abbrev pub Finishes : Ended → Run → AnOutcome → Type 0
 Finishes ended u o = (r : Reply Data) → (s : Run) → IsFresh s → Done (value_part r) ended s u
     → IsOutcomeOf o (answered r)

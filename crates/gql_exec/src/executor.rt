@@ -64,7 +64,7 @@ pub fn execute_object<'d>(
     Ok(ended)
 }
 
-/// Executes the fields of an entry, one after another, whatever ends in an error.
+/// Executes the fields of an entry, one after another, also after an error.
 #[cycle(execute)]
 fn execute_fields<'d>(
     alloc: Global,
@@ -144,7 +144,7 @@ fn execute_content<'d>(
     Ok(ended)
 }
 
-/// The value of a field at its place: where a null comes up to a nullable place, the text is cut
+/// The value of a field at its place: if a null bubbles up to a nullable place, the text is cut
 /// back to the beginning of the value.
 #[cycle(execute)]
 fn place_field<'d>(
@@ -275,7 +275,7 @@ fn call_node<'d>(
     complete_answer(alloc, setting, table, site, name.as_str(), answer, run)
 }
 
-/// Completes what introspection answers, where its nodes are of the type of this name.
+/// Completes what introspection answers; its nodes have the type of this name.
 #[cycle(execute)]
 fn complete_answer<'d>(
     alloc: Global,
@@ -681,7 +681,7 @@ fn complete_items<'d>(
     Ok(ended)
 }
 
-/// Completes items, one after another, whatever ends in an error.
+/// Completes items, one after another, also after an error.
 #[cycle(execute)]
 fn list_items<'d>(
     alloc: Global,
@@ -760,7 +760,7 @@ fn item_content<'d>(
     Ok(ended)
 }
 
-/// The value of an item at its place: where a null comes up to a nullable place, the text is cut
+/// The value of an item at its place: if a null bubbles up to a nullable place, the text is cut
 /// back to the beginning of the item.
 #[cycle(execute)]
 fn place_item<'d>(

@@ -7,7 +7,7 @@ use crate::same::is_same;
 use serde_json::{Map, Value};
 use std::alloc::{AllocError, Global};
 
-/// Whether an argument equals a member, where null also equals absence.
+/// Whether an argument equals a member; a missing member equals null.
 #[tactic(auto, using(crate::proofs::Alike::same_as_null))]
 fn equals_member(argument: &Value, object: &Value, name: &str) -> bool
     ensures { result ≡ spec.same_data (view argument.now)

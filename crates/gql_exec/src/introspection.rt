@@ -57,7 +57,7 @@ fn intro_arguments(arguments: &Value) -> IntroArguments<'_>
     }
 }
 
-/// What the field of a name of a node resolves to; null where the node has no such field.
+/// What a field of a node resolves to; null if the node has no such field.
 pub fn introspect<'d>(
     setting: &Setting<'d, '_>,
     node: IntroNode<'d>,

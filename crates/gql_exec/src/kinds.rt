@@ -1,4 +1,4 @@
-//! What a schema says of the values of enums, and of the types of objects.
+//! The values of enums, and the possible types of abstract types.
 ghost use Rattle.std.specs.Prelude.{◌≡◌, codes, bytes_eq, map, option_map};
 ghost use Rattle.gql_ast.specs.declared.type_system.EnumValueDefinition.{EnumValueDefinition as AValue};
 ghost use Rattle.gql_built_in.specs.declared.sited.Sited.{Sited as ASited};
@@ -46,7 +46,7 @@ fn has_name(names: &[Text], name: &str) -> bool
     false
 }
 
-/// Whether objects of the type of that name may stand for an abstract type.
+/// Whether the type of that name is a possible type of an abstract type.
 fn is_possible_name(schema: &Schema, of_type: &str, name: &str) -> bool
     ensures { result ≡ list_any (bytes_eq name.now) (plans.possible_in schema.now of_type.now) }
 {

@@ -1,7 +1,7 @@
 //! Laws of execution. The functions do nothing; their contracts hold.
 ghost use Rattle.gql_exec.specs.Laws as laws;
 
-/// A request has one response.
+/// A request has at most one response.
 pub fn one_response()
     ensures { laws.OneResponse }
 {
@@ -10,8 +10,8 @@ pub fn one_response()
     gql_coerce::laws::one_of_variables();
 }
 
-/// A request has a response, where the root type of its operation is an object type, no default
-/// leads back to itself, and the operation leads to no fragment that leads back to itself.
+/// A request has a response if the root type of its operation is an object type, no default value
+/// leads back to itself, and no fragment that the operation leads to leads back to itself.
 pub fn some_response()
     ensures { laws.SomeResponse }
 {

@@ -27,7 +27,7 @@ pub struct Leaf<'d> {
     pub place: Place,
 }
 
-/// The value is none of the type.
+/// The error that the value is not of the type.
 fn not_of_type(alloc: Global, leaf: Leaf<'_>, run: &mut Run<'_>) -> Result<Ended, ExecRefusal>
     ensures { Executes (leaf_part leaf.entry (path_of run.old) None) result run.old run.new }
 {

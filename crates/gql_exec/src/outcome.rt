@@ -18,8 +18,8 @@ pub struct ResponseError<'d> {
     pub path: Option<Vec<Step<'d>>>,
 }
 
-/// What the execution of an operation comes to: the text of its data, which a request error has
-/// none of, and the errors in their order.
+/// What the execution of an operation comes to: the text of its data, which a request error does
+/// not have, and the errors in their order.
 #[derive(Drop)]
 pub struct Outcome<'d> {
     pub data: Option<Vec<u8>>,

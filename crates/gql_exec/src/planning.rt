@@ -65,7 +65,7 @@ pub struct FieldPlan<'d> {
     pub sets: Vec<SelectionSet<'d>>,
 }
 
-/// What is said of a refusal, after what was refused.
+/// The message of a refusal, after the text for what was refused.
 pub fn refusal_text(alloc: Global, what: &str, refusal: &Refusal) -> Result<String, AllocError>
     ensures { IfOk result (λ message. string_bytes message
         ≡ plans.refusal_text what.now refusal.now.reason refusal.now.path) }

@@ -9,7 +9,7 @@ use std::alloc::{AllocError, AllocFailed};
 pub enum ExecRefusal {
     /// An allocation failed.
     Memory,
-    /// More values are to be completed than may be.
+    /// More values are to be completed than the limit allows.
     TooHeavy,
 }
 

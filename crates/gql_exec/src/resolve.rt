@@ -15,7 +15,7 @@ use std::alloc::{AllocError, Global};
 /// The value of a field, which is borrowed from the data.
 #[derive(Drop)]
 pub enum Resolved<'v> {
-    /// No member, or null in place of it.
+    /// No member, or null.
     Null,
     Value(&'v Value),
     /// The items of a list that arguments keep.

@@ -9,7 +9,7 @@ pub enum Reason<'d> {
     NullForNonNull,
     NotAList,
     NotAnObject,
-    /// The value is none of this leaf type.
+    /// The value is not of this leaf type.
     NotOfType(&'d str),
     /// The value names no possible type of this abstract type.
     NoPossibleType(&'d str),
@@ -25,8 +25,8 @@ pub struct FieldError<'d> {
     pub path: Vec<Step<'d>>,
 }
 
-/// The text written so far, the errors so far, the path of the value at hand, how many more values
-/// may be completed, and whether the field at hand has an error of its own.
+/// The text written so far, the errors so far, the path of the present value, how many more values
+/// may be completed, and whether the present field has an error of its own.
 #[derive(Drop)]
 pub struct Run<'d> {
     pub out: Vec<u8>,

@@ -5,7 +5,7 @@ ghost use Rattle.gql_exec.specs.Resolution as spec;
 
 use serde_json::{Map, Value};
 
-/// Whether two integers are there and are the same.
+/// Whether both are integers, and the same.
 fn is_same_integer(whole: Option<i64>, other: Option<i64>) -> bool
     ensures { result ≡ spec.same_integer whole other }
 {

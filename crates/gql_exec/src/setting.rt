@@ -7,6 +7,6 @@ use gql_intro::IntroSchema;
 #[derive(Clone, Copy)]
 pub struct Setting<'d, 'v> {
     pub context: Context<'d, 'v>,
-    /// What introspection says of the schema as a whole.
+    /// What introspection makes once of the schema.
     pub made: &'d IntroSchema,
 }

@@ -73,7 +73,7 @@ pub fn write_any(run: &mut Run<'_>, value: &Value) -> Result<(), ExecRefusal>
     Ok(())
 }
 
-/// Counts one value, unless as many are completed as may be.
+/// Counts one value, unless the limit is reached.
 pub fn count(run: &mut Run<'_>) -> Result<(), ExecRefusal>
     ensures follows { OnOk result (Follows one run.old run.new) }
     ensures err { IfErr result (λ e. run.old.left ≡ 0) }
@@ -94,7 +94,7 @@ fn named(alloc: Global, text: &str, name: &str) -> Result<String, AllocError>
     Ok(message)
 }
 
-/// What is said of an error.
+/// The message of an error.
 fn message(alloc: Global, reason: Reason<'_>) -> Result<String, AllocError>
     ensures { IfOk result (λ m. string_bytes m ≡ message_of reason.entry) }
 {
@@ -108,7 +108,7 @@ fn message(alloc: Global, reason: Reason<'_>) -> Result<String, AllocError>
     }
 }
 
-/// Notes an error of the value at hand, if it is the first of its field.
+/// Notes an error of the present value, if it is the first of its field.
 pub fn raise(
     alloc: Global,
     run: &mut Run<'_>,

@@ -1,4 +1,4 @@
-//! Strings of JSON, written after what a vector holds: a text without escapes at once, another one
+//! Strings of JSON, written to the end of a vector: a text without escapes at once, another one
 //! byte by byte.
 ghost use Rattle.std.specs.Prelude.{◌≡◌, ◌<◌, ◌++◌, ◌∷◌, [], OnOk, IsTrue};
 ghost use Rattle.std.specs.Char.{digit_char};

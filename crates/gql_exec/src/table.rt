@@ -25,7 +25,7 @@ pub struct Entry<'d> {
     pub above: Option<Slot>,
     pub of_type: Text,
     pub fields: Vec<Shared<FieldPlan<'d>>>,
-    /// Where the first field stands among all fields.
+    /// Where the first field is among all fields.
     pub first: usize,
     /// How many entries there were with the one below the same field that was made before this; or
     /// 0.
@@ -85,7 +85,7 @@ impl<'d> Table<'d> {
         entry.fields[slot.field].clone()
     }
 
-    /// Where a field stands among all fields, if numbers suffice.
+    /// Where a field is among all fields, if numbers suffice.
     fn position(&self, slot: Slot) -> Option<usize>
         requires { InTable self.now slot }
     {
@@ -137,7 +137,7 @@ impl<'d> Table<'d> {
         None
     }
 
-    /// Adds an entry, and says its number.
+    /// Adds an entry, and returns its number.
     fn add(&mut self, entry: Entry<'d>) -> Result<usize, AllocError>
         ensures entries { OnOk result (self.new.entries.items
             ≡ self.old.entries.items ++ entry.entry ∷ []) }

@@ -26,7 +26,7 @@ pub fn write_unsigned(number: u64, out: &mut Vec<u8>) -> Result<(), AllocError>
     Ok(())
 }
 
-/// Writes a number that is an integer; for another one nothing.
+/// Writes a number, if it is an integer.
 fn write_number(number: &Number, out: &mut Vec<u8>) -> Result<(), AllocError>
     ensures { OnOk result (out.new.items ≡ out.old.items ++ number_text (number_view number.now)) }
 {
@@ -39,7 +39,7 @@ fn write_number(number: &Number, out: &mut Vec<u8>) -> Result<(), AllocError>
     }
 }
 
-/// Writes a comma, where something stands before.
+/// Writes a comma, if something comes before.
 fn write_comma(later: bool, out: &mut Vec<u8>) -> Result<(), AllocError>
     ensures { OnOk result (out.new.items ≡ out.old.items ++ comma_if later) }
 {
@@ -83,8 +83,8 @@ fn write_members(members: &Map<String, Value>, out: &mut Vec<u8>) -> Result<(), 
     Ok(())
 }
 
-/// Writes the text of a value, without blanks, after what the vector holds. A number that is no
-/// integer has no text: the data that is executed has none.
+/// Writes the text of a value, without blanks, to the end of the vector. A number that is not an
+/// integer has no text: the data that operations are executed on has none.
 #[cycle(writes)]
 pub fn write_value(value: &Value, out: &mut Vec<u8>) -> Result<(), AllocError>
     ensures { OnOk result (out.new.items ≡ out.old.items ++ compact_text (view value.now)) }

@@ -34,7 +34,7 @@ use gql_types::Schema;
 use serde_json::{Map, Value};
 use std::alloc::{AllocError, Global};
 
-/// The most values that an execution completes.
+/// The greatest number of values that an execution completes.
 const MOST_VALUES: usize = 100_000;
 
 /// The errors of fields, as errors of an answer.
@@ -79,7 +79,7 @@ fn outcome<'d>(alloc: Global, run: Run<'d>) -> Result<Outcome<'d>, ExecRefusal>
     })
 }
 
-/// What a run came to that ended so: a null that comes up to the data stays there.
+/// What a run came to that ended in this way: a null that bubbles up to the data stays there.
 #[tactic(auto, using(crate::proofs::Ending::finished_written, crate::proofs::Ending::finished_cut))]
 fn finish<'d>(alloc: Global, ended: Ended, run: Run<'d>) -> Result<Outcome<'d>, ExecRefusal>
     ensures outcome { IfOk result (λ o. Finishes ended run.entry (outcome_of o)) }
@@ -177,7 +177,7 @@ fn execute_operation<'d>(
     }
 }
 
-/// The place of the definition of a variable; of those of one name the first counts.
+/// The place of the definition of a variable. Of those of one name, the first counts.
 fn place_of_variable(definitions: &[VariableDefinition], name: &str) -> Option<Place>
     ensures { result ≡ option_map (λ (v : AVariable). v.place)
         (find (λ (v : AVariable). bytes_eq name.now v.name.text) definitions.now) }
@@ -256,16 +256,16 @@ fn execute_request<'d>(
     }
 }
 
-/// Executes an operation (GraphQL specification, 6.1, ExecuteRequest), where `variables` is the
-/// object of the values that a request gives its variables, and `stored` the data.
+/// Executes an operation (GraphQL specification, 6.1, ExecuteRequest). The object `variables` has
+/// the values that a request gives its variables, and `stored` is the data.
 ///
-/// First the variables are coerced; the first that is refused is a request error, and nothing is
-/// executed. Then the selections are executed on the data. Where more than 100,000 values are to be
-/// completed, the execution is refused: each field of an answer counts as one, and each item of a
+/// First the variables are coerced; the first refusal is a request error, and nothing is executed.
+/// Then the selections are executed on the data. If more than 100,000 values are to be completed,
+/// the execution is refused: each field of an answer counts as one, and so does each item of a
 /// list.
 ///
-/// Each fragment is looked up among these; a definition that is no operation has neither data nor
-/// errors.
+/// Each fragment is looked up among these; a definition that is not an operation has neither data
+/// nor errors.
 pub fn execute<'d>(
     alloc: Global,
     fragments: &'d Fragments,

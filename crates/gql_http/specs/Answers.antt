@@ -22,22 +22,23 @@ pub record Said : Type 0 where
   pub allow : Option Allow
   pub body : List ℕ
 
+-- an answer with this status and body
 abbrev pub said : ℕ → List ℕ → Said
 said status body = record { status = status; allow = None; body = body }
 
--- the bytes of an answer: its head, and its body unless it is left off
+-- the bytes of an answer: its head, and its body unless it is left out
 unfoldable pub answer_bytes : Bool → Bool → Said → List ℕ
 answer_bytes closing bodiless a = answer_head_of a.status a.allow (length a.body) closing
     ++ (if bodiless then [] else a.body)
 
 -- ---- the bodies of refusals
 
--- a refusal with its message and number
+-- the body of a refusal, with its message and number
 unfoldable pub error_text : List ℕ → ℕ → List ℕ
 error_text message number = codes "{\"errors\":[{\"message\":" ++ quoted message
     ++ codes ",\"extensions\":{\"code\":" ++ decimal number ++ codes "}}]}"
 
--- what a syntax refusal says
+-- the message of a syntax refusal
 abbrev pub syntax_message : SyntaxRefusal → List ℕ
 syntax_message syntax.BadCharacter = codes "syntax: bad character"
 syntax_message syntax.BadNumber = codes "syntax: bad number"
@@ -48,25 +49,29 @@ syntax_message syntax.TooLong = codes "syntax: too long"
 syntax_message syntax.Unexpected = codes "syntax: unexpected token"
 syntax_message syntax.TooDeep = codes "syntax: too deep"
 
--- what, and where
+-- the beginning of a refusal's body: its message and its place
 unfoldable pub located_text : List ℕ → Place → List ℕ
 located_text message place = codes "{\"errors\":[{\"message\":" ++ quoted message
     ++ codes ",\"locations\":[{\"line\":" ++ decimal place.line
     ++ codes ",\"column\":" ++ decimal place.column ++ codes "}]"
 
--- a syntax refusal with its place and its own number
+-- the body of a syntax refusal, with its place and its own number
 unfoldable pub syntax_text : SyntaxRefusal → Place → List ℕ
 syntax_text number place = located_text (syntax_message number) place
     ++ codes ",\"extensions\":{\"code\":201,\"syntax\":" ++ decimal (number_of number)
     ++ codes "}}]}"
 
--- a stale edit, with the present revision
+-- the body of the refusal of a stale edit, with the present revision
 unfoldable pub stale_text : ℕ → List ℕ
-stale_text revision = codes "{\"errors\":[{\"message\":\"stale revision\",\"extensions\":{\"code\":206,\"revision\":" ++ decimal revision ++ codes "}}]}"
+stale_text revision =
+    codes "{\"errors\":[{\"message\":\"stale revision\",\"extensions\":{\"code\":206,\"revision\":"
+    ++ decimal revision ++ codes "}}]}"
 
--- a faulty operation, with its faults
+-- the body of the refusal of a faulty operation, with its faults
 unfoldable pub faulty_text : List Fault → List ℕ
-faulty_text faults = codes "{\"errors\":[{\"message\":\"operation is faulty\",\"extensions\":{\"code\":209,\"faults\":[" ++ faults_text faults ++ codes "]}}]}"
+faulty_text faults = codes
+    "{\"errors\":[{\"message\":\"operation is faulty\",\"extensions\":{\"code\":209,\"faults\":["
+    ++ faults_text faults ++ codes "]}}]}"
 
 -- ---- which answer
 
@@ -98,7 +103,7 @@ head_status head.LongBody = 413
 head_status head.TransferCoding = 501
 head_status head.BadLength = 400
 
--- its message
+-- the message of the answer to a refused head
 abbrev pub head_message : HeadRefusal → List ℕ
 head_message head.BadHead = codes "bad head"
 head_message head.LongHead = codes "head is too long"
@@ -111,23 +116,24 @@ abbrev pub head_said : HeadRefusal → Said
 head_said refusal = said (head_status refusal)
     (error_text (head_message refusal) (head_number refusal))
 
--- no resource has the target
+-- the answer if no resource has the target
 abbrev pub no_route : Said
 no_route = said 404 (error_text (codes "no such route") 305)
 
--- the resource doesn't serve the method
+-- the answer if the resource doesn't serve the method
 abbrev pub not_allowed : Allow → Said
-not_allowed methods = record { status = 405; allow = Some methods; body = error_text (codes "method is not allowed") 306 }
+not_allowed methods =
+    record { status = 405; allow = Some methods; body = error_text (codes "method is not allowed") 306 }
 
--- the query isn't served
+-- the answer if the query isn't served
 abbrev pub bad_query : Said
 bad_query = said 400 (error_text (codes "bad query") 308)
 
--- the body of a run is not what it has to be
+-- the answer if the body of a run is not of the right form
 abbrev pub bad_run_body : Said
 bad_run_body = said 400 (error_text (codes "bad run body") 310)
 
--- the body of a run gives an operation as a text
+-- the answer if the body of a run gives an operation as a text
 abbrev pub stored_operations_only : Said
 stored_operations_only = said 400 (error_text (codes "stored operations only") 311)
 

@@ -1,4 +1,5 @@
--- Helper definitions for private contracts: what the code's calls, resources and refusals mean.
+-- Helper definitions for private contracts: calls, resources and refusals, as specifications see
+-- them.
 use Rattle.std.specs.Prelude.{Option, Some, None}
 use Rattle.gql_bodies.specs.declared.call.CallFault.{CallFault}
 use Rattle.gql_bodies.specs.declared.call.CallFault.TheVariants as fault
@@ -11,7 +12,7 @@ use Rattle.gql_http.specs.declared.route.Resource.TheVariants as resource
 use Rattle.gql_http.specs.declared.route.RouteRefusal.{RouteRefusal}
 use Rattle.gql_http.specs.declared.route.RouteRefusal.TheVariants as refusal
 
--- the answer to a request that is no call
+-- the answer to a request that is not a call
 abbrev pub route_said : RouteRefusal → Said
 route_said refusal.NoRoute = no_route
 route_said (refusal.NotAllowed methods) = not_allowed methods
@@ -23,6 +24,7 @@ body_said fault.BadCall = Some bad_run_body
 body_said fault.StoredOnly = Some stored_operations_only
 body_said fault.Memory = None
 
+-- a call, as specifications see it
 abbrev pub call_said : Call → spec.Call
 call_said call.Report = spec.report
 call_said (call.Put side name expected) = spec.put side name expected
@@ -31,6 +33,7 @@ call_said (call.PutData expected) = spec.put_data expected
 call_said call.Run = spec.run
 call_said (call.Refused r) = spec.refused (route_said r)
 
+-- a resource, as specifications see it
 abbrev pub resource_said : Resource → spec.Resource
 resource_said resource.Nothing = spec.nothing
 resource_said resource.Report = spec.the_report

@@ -13,18 +13,18 @@ requests_of = map (λ (p : Placed). p.request)
 abbrev pub joined : {A : Type 0} → List (List A) → List A
 joined = flat_map (λ xs. xs)
 
--- one of the requests closes the connection
+-- whether one of the requests closes the connection
 abbrev pub is_closed : List Req → Bool
 is_closed [] = false
 is_closed (r ∷ rs) = if closes r then true else is_closed rs
 
--- the bytes that a connection holds after these requests: none where a request closed it
+-- the bytes that a connection holds after these requests; none if a request closed it
 abbrev pub held_after : List Req → List ℕ → Option (List ℕ)
 held_after requests bytes = if is_closed requests then None else Some bytes
 
 -- The bytes are these requests and an unfinished rest. Made one after the other in the state s, the
--- requests are answered with these bytes and leave the state t. The rest is held unless a request
--- closes the connection.
+-- requests are answered with `out` and leave the state t. The rest is held unless a request closes
+-- the connection.
 pub record Serves (s : State) (bytes out : List ℕ) (t : State)
     (held : Option (List ℕ)) : Type 0 where
   pub requests : List Placed
@@ -35,8 +35,8 @@ pub record Serves (s : State) (bytes out : List ℕ) (t : State)
   pub written : out ≡ joined answers
   pub left : held ≡ held_after (requests_of requests) rest
 
--- An allocation failed: of the requests of the bytes, the first `made` were made and answered, and
--- no other.
+-- An allocation failed: of the requests of the bytes, the first `made` have been made and answered,
+-- and no other.
 pub record Breaks (s : State) (bytes out : List ℕ) (t : State) (made : ℕ) : Type 0 where
   pub requests : List Placed
   pub rest : List ℕ

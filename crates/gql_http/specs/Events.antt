@@ -10,7 +10,7 @@ pub data Event : Type 0 where
   opens : ℕ → Event
   -- it is fed a piece of bytes
   feeds : ℕ → List ℕ → Event
-  -- it is fed a piece of bytes, and an allocation fails after so many of the requests that the
+  -- it is fed a piece of bytes, and an allocation fails after this many of the requests that the
   -- piece completes
   breaks : ℕ → List ℕ → ℕ → Event
   -- it is closed
@@ -23,7 +23,7 @@ connection_of (feeds c piece) = c
 connection_of (breaks c piece made) = c
 connection_of (closes c) = c
 
--- bytes of each open connection, none of a closed one
+-- the bytes of each open connection; none for a closed one
 abbrev pub Connections : Type 0
 Connections = ℕ → Option (List ℕ)
 
@@ -31,12 +31,12 @@ Connections = ℕ → Option (List ℕ)
 abbrev pub all_closed : Connections
 all_closed c = None
 
--- the connections, of which one is changed
+-- the connections, one of which is changed
 abbrev pub with_connection : Connections → ℕ → Option (List ℕ) → Connections
 with_connection all c bytes = λ other. if other == c then bytes else all other
 
--- The event is allowed: a closed connection of a number below 16 may be opened, and an open one fed
--- and closed. Every other event does nothing.
+-- An event is allowed if it opens a closed connection with a number below 16, or feeds or closes an
+-- open one. Every other event does nothing.
 abbrev pub IsAllowed : Connections → Event → Type 0
 IsAllowed all (opens c) = (c < CONNECTIONS) × (all c ≡ None)
 IsAllowed all (feeds c piece) = IsSome (all c)
@@ -45,7 +45,7 @@ IsAllowed all (closes c) = IsSome (all c)
 
 -- What the hub does at one event in the state s, where the connections hold these unfinished bytes:
 -- the bytes that it answers on the event's connection, and the state and the unfinished bytes after
--- it. All other connections are as they were.
+-- it. All other connections stay as they were.
 pub data Does : State → Connections → Event → List ℕ → State → Connections → Type 0 where
   does_open : {s : State} {rests : Connections} {c : ℕ} → IsAllowed rests (opens c)
       → Does s rests (opens c) [] s (with_connection rests c (Some []))

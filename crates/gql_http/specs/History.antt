@@ -12,10 +12,12 @@ use Rattle.gql_http.specs.Service.{Step}
 
 -- the request asks for this edit, and expects this revision or any
 pub data AsksFor : Req → Option ℕ → Edit → Type 0 where
-  asks_to_put : {side : FileSide} {method target body name : List ℕ} {closing : Bool} {expected : Option ℕ}
+  asks_to_put : {side : FileSide} {method target body name : List ℕ}
+      {closing : Bool} {expected : Option ℕ}
       → call_of method target ≡ put side name expected
       → AsksFor (request method target body closing) expected (edit.put side name body)
-  asks_to_remove : {side : FileSide} {method target body name : List ℕ} {closing : Bool} {expected : Option ℕ}
+  asks_to_remove : {side : FileSide} {method target body name : List ℕ}
+      {closing : Bool} {expected : Option ℕ}
       → call_of method target ≡ remove side name expected
       → AsksFor (request method target body closing) expected (edit.remove side name)
   asks_to_put_data : {method target body : List ℕ} {closing : Bool} {expected : Option ℕ}
@@ -28,10 +30,11 @@ pub record IsAcceptedEdit (s : State) (r : Req) (e : Edit) : Type 0 where
   pub asks : AsksFor r expected e
   pub accepted : IsAccepted s expected e
 
--- What a name of a side holds after requests, by the accepted edits among them alone: the document of the
--- last that put one, nothing after one that removed it, and what it held before where there is
--- none.
-pub data Holds (side : FileSide) (name : List ℕ) : State → Option Document → List Req → Option Document → Type 0 where
+-- What a name of a side holds after requests, by the accepted edits among them alone: the document
+-- of the last edit that put one, nothing after an edit that removed it, and what it held before if
+-- there was no such edit.
+pub data Holds (side : FileSide) (name : List ℕ) : State
+    → Option Document → List Req → Option Document → Type 0 where
   no_requests : {s : State} {held : Option Document} → Holds side name s held [] held
   by_edit : {s t : State} {before after last : Option Document} {e : Edit} {r : Req} {rs : List Req}
       (bytes : List ℕ) → IsAcceptedEdit s r e

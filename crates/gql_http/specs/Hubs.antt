@@ -9,16 +9,16 @@ use Rattle.gql_http.specs.declared.hub.Hub.{Hub}
 abbrev pub service_of : Hub → State
 service_of hub = registry.state_of hub.registry
 
--- the unfinished bytes of each connection; none where it is closed
+-- the unfinished bytes of each connection; none for a closed one
 abbrev pub rests_of : Hub → Connections
 rests_of hub = λ c. get_or hub.framers c None
 
--- bytes of a request are held
+-- whether bytes of an unfinished request are held
 abbrev pub is_unfinished : Option (List ℕ) → Bool
 is_unfinished None = false
 is_unfinished (Some bytes) = nat_lt 0 (length bytes)
 
--- the event that a call of `feed` is, by whether it reports that an allocation failed
+-- the event of a call of `feed`, by whether the call reports that an allocation failed
 abbrev pub IsFeedOf : ℕ → List ℕ → Bool → Event → Type 0
 IsFeedOf c piece false e = e ≡ feeds c piece
 IsFeedOf c piece true e = (made : ℕ) × (e ≡ breaks c piece made)

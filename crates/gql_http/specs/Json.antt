@@ -8,12 +8,12 @@ use Rattle.gql_ast.specs.declared.fault.FileSide.{FileSide}
 use Rattle.gql_ast.specs.declared.fault.FileSide.TheVariants.{Schema, Documents}
 use Rattle.gql_ast.specs.Rules.{name_of}
 
--- the texts with commas between them
+-- texts with commas between them
 abbrev pub comma_list : {A : Type 0} → (A → List ℕ) → List A → List ℕ
 comma_list text [] = []
 comma_list text (x ∷ xs) = text x ++ flat_map (λ y. codes "," ++ text y) xs
 
--- which kind of file
+-- the side of a file
 abbrev pub side_text : FileSide → List ℕ
 side_text Schema = codes "schema/"
 side_text Documents = codes "documents/"
@@ -29,21 +29,24 @@ unfoldable pub owner_text : Option FilePlace → List ℕ
 owner_text None = codes "null"
 owner_text (Some p) = place_text p
 
+-- places in files
 unfoldable pub places_text : List FilePlace → List ℕ
 places_text = comma_list place_text
 
--- what a fault is
+-- the first half of a fault: its rule and what it is about
 unfoldable pub what_text : Fault → List ℕ
 what_text f = codes "{\"rule\":" ++ quoted (name_of f.rule) ++ codes ",\"about\":" ++ quoted f.about
 
--- where it is, and whose
+-- the second half of a fault: its places and its owner
 unfoldable pub where_text : Fault → List ℕ
 where_text f = codes ",\"places\":[" ++ places_text f.places ++ codes "],\"owner\":"
     ++ owner_text f.owner ++ codes "}"
 
+-- a fault
 unfoldable pub fault_text : Fault → List ℕ
 fault_text f = what_text f ++ where_text f
 
+-- faults
 unfoldable pub faults_text : List Fault → List ℕ
 faults_text = comma_list fault_text
 

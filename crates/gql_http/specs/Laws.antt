@@ -1,4 +1,4 @@
--- Laws of the service and its hub.
+-- The laws of the service and its hub. `src/laws.rt` has a function for each.
 use Rattle.std.specs.Prelude.{ℕ, ◌≡◌, List, [], ◌∷◌, ◌++◌, Bool, Some, None}
 use Rattle.gql_ast.specs.declared.fault.Fault.{Fault}
 use Rattle.gql_ast.specs.declared.fault.FileSide.{FileSide}
@@ -15,32 +15,33 @@ use Rattle.gql_http.specs.Order.{Order, Answers, on}
 use Rattle.gql_http.specs.Routes.{report, call_of}
 use Rattle.gql_http.specs.Service.{Step, Run}
 
--- a request has one answer, and leaves one state
+-- a request has at most one answer, and leaves at most one state
 abbrev pub OneStep : Type 0
 OneStep = (s t u : State) (r : Req) (a b : List ℕ) → Step s r a t → Step s r b u → (a ≡ b) × (t ≡ u)
 
--- requests one after the other have one list of answers, and leave one state
+-- requests one after the other have at most one list of answers, and leave at most one state
 abbrev pub OneRun : Type 0
 OneRun = (s t u : State) (rs : List Req) (ls ms : List (List ℕ)) → Run s rs ls t → Run s rs ms u
     → (ls ≡ ms) × (t ≡ u)
 
--- an event has one answer, and leaves one state and the same unfinished bytes
+-- an event has at most one answer, and leaves at most one state and one set of unfinished bytes
 abbrev pub OneDeed : Type 0
 OneDeed = (s t u : State) (rests p q : Connections) (e : Event) (a b : List ℕ)
     → Does s rests e a t p → Does s rests e b u q
     → (a ≡ b) × (t ≡ u) × (p ≡ q)
 
--- Every list of events has an order of requests, and one only.
+-- every list of events has an order of requests
 abbrev pub SomeOrder : Type 0
 SomeOrder = (fed : Connections) (events : List Event)
     → (groups : List (List Req)) × (last : Connections) × Order fed events groups last
 
+-- a list of events has at most one order of requests
 abbrev pub OneOrder : Type 0
 OneOrder = (fed p q : Connections) (events : List Event) (groups others : List (List Req))
     → Order fed events groups p
     → Order fed events others q → (groups ≡ others) × (p ≡ q)
 
--- Whatever the events on connections that are all closed at first, the hub answers each event with
+-- Whatever the events on connections that are all closed at first: the hub answers each event with
 -- the answers to the requests that it completes, and all requests are run one after the other, in
 -- the order in which they are complete.
 abbrev pub InOrder : Type 0
@@ -73,8 +74,8 @@ abbrev pub pieces_of : List Event → List (List ℕ)
 pieces_of [] = []
 pieces_of (e ∷ events) = piece_of e ∷ pieces_of events
 
--- In any pieces: the requests that the feeds after an opening complete are those of all bytes that
--- they feed, however these are cut.
+-- The requests that the feeds after an opening complete are those of all bytes that they feed,
+-- whatever the pieces are.
 abbrev pub AnyPieces : Type 0
 AnyPieces = (fed last : Connections) (c : ℕ) (events : List Event) (groups : List (List Req))
     (requests : List Placed) (rest : List ℕ)
@@ -82,7 +83,7 @@ AnyPieces = (fed last : Connections) (c : ℕ) (events : List Event) (groups : L
     → Requests (joined (on c events (pieces_of events))) requests rest
     → joined (on c events groups) ≡ requests_of requests
 
--- A piece that is fed in two parts, of which the first leaves the connection open, does what the
+-- A piece that is fed in two parts, the first of which leaves the connection open, does what the
 -- whole does.
 abbrev pub TwoParts : Type 0
 TwoParts = (s t u : State) (rests between last : Connections) (c : ℕ)
@@ -90,16 +91,16 @@ TwoParts = (s t u : State) (rests between last : Connections) (c : ℕ)
     → between c ≡ Some half → Does t between (feeds c second) b u last
     → Does s rests (feeds c (first ++ second)) (a ++ b) u last
 
--- Files then present: after requests that began with no files, a name of a side holds the document
--- of its last accepted edit, and no other name holds one.
+-- After requests that began with no files, a name of a side holds the document of its last accepted
+-- edit, and no other name holds one.
 abbrev pub FilesPresent : Type 0
 FilesPresent = (t : State) (rs : List Req) (answers : List (List ℕ)) (side : FileSide)
     (name : List ℕ)
     → Run empty rs answers t
     → Holds side name empty None rs (under side name t)
 
--- A request for the report among others is answered with the report of the files that are present
--- after those before it.
+-- A request for the report, among others, is answered with the report of the files that are present
+-- after the requests before it.
 abbrev pub ReportThen : Type 0
 ReportThen = (s u : State) (front rest : List Req) (method target body : List ℕ) (closing : Bool)
     (answers : List (List ℕ))

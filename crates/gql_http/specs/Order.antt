@@ -6,14 +6,14 @@ use Rattle.gql_http.specs.Connections.{requests_of, joined, held_after}
 use Rattle.gql_http.specs.Events.{Event, opens, feeds, breaks, closes, connection_of, Connections, with_connection, IsAllowed}
 use Rattle.gql_http.specs.Service.{Run}
 
--- of a connection's requests, those that are complete after this offset only
+-- the requests of a connection that are complete after this offset and not before
 abbrev pub completed_after : ℕ → List Placed → List Req
 completed_after offset requests =
     requests_of (filter (λ (p : Placed). nat_lt offset p.end) requests)
 
--- The requests that an event completes, where `fed` has all bytes that each open connection was fed
--- since it was opened. They are those of the whole bytes that end in the event's piece. If an
--- allocation fails, the first of them alone count. A connection is closed by a request that closes
+-- The requests that an event completes; `fed` has all bytes that each open connection was fed since
+-- it was opened. They are the requests of all these bytes that end in the event's piece; if an
+-- allocation fails, only the first of them count. A connection is closed by a request that closes
 -- it, by a failed allocation and by an event; an opening begins its bytes anew.
 pub data Completes : Connections → Event → List Req → Connections → Type 0 where
   by_open : {fed : Connections} {c : ℕ} → IsAllowed fed (opens c)
@@ -40,7 +40,7 @@ pub data Order : Connections → List Event → List (List Req) → Connections 
       → Completes fed e group between → Order between events groups last
       → Order fed (e ∷ events) (group ∷ groups) last
 
--- the items of the events on one connection
+-- the items that belong to events on this connection; there is one item for each event
 abbrev pub on : {A : Type 0} → ℕ → List Event → List A → List A
 on c [] xs = []
 on c (e ∷ events) [] = []
@@ -53,9 +53,9 @@ SameLengths [] (a ∷ answers) = ⊥
 SameLengths (g ∷ groups) [] = ⊥
 SameLengths (g ∷ groups) (a ∷ answers) = (length g ≡ length a) × SameLengths groups answers
 
--- The answers to the requests of these groups, which are run one after the other, and what of them
--- is given out: at each event the answers to the requests that it completes, so on each connection
--- the answers to its requests.
+-- The answers to the requests of these groups, which are run one after the other, and how they are
+-- given out: at each event the answers to the requests that it completes, and so on each connection
+-- the answers to its own requests.
 pub record Answers (s : State) (events : List Event) (groups : List (List Req))
     (outs : List (List ℕ)) (t : State) : Type 0 where
   pub answers : List (List (List ℕ))

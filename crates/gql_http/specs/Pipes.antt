@@ -14,7 +14,7 @@ abbrev pub most_reads : ℕ
 most_reads = 1048576
 
 -- What a pipe did: the state of the service before and after it, what passed between it and its
--- peer, whether the peer's input is at its end then, and how the pipe ended.
+-- peer, whether the peer's input was at its end then, and how the pipe ended.
 pub record Exchange : Type 0 where
   pub before : State
   pub after : State
@@ -22,23 +22,23 @@ pub record Exchange : Type 0 where
   pub ended : Bool
   pub result : Result PipeEnd PipeFault
 
--- Each read comes when everything due is written: what was sent before it are the answers to all
--- requests of what was received before it, and none of these closed the connection.
+-- Each read comes when all answers are written: what was sent before it are the answers to all
+-- requests of what was received before it, and none of these requests closed the connection.
 abbrev pub IsPrompt : State → List Passage → Type 0
 IsPrompt s passed = (front after : List Passage) (piece : List ℕ)
     → passed ≡ front ++ (received piece ∷ after)
     → (t : State) × (held : List ℕ) × Serves s (received_in front) (sent_in front) t (Some held)
 
--- All that was received is answered, and this is held then.
+-- all that was received is answered, and `held` is held then
 abbrev pub IsAnswered : Exchange → Option (List ℕ) → Type 0
 IsAnswered x held = Serves x.before (received_in x.passed) (sent_in x.passed) x.after held
 
--- nothing is left to be read: a request closed the connection, or the input is at its end
+-- nothing is left to read: a request closed the connection, or the input is at its end
 abbrev pub IsOver : Exchange → Option (List ℕ) → Type 0
 IsOver x held = (held ≡ None) ⊎ (x.ended ≡ true)
 
--- What was sent at the end: all answers; up to the request that was being made when an allocation
--- failed; or the first bytes of the answers, where a write failed.
+-- What had been sent at the end: all answers; if an allocation failed, the answers up to the
+-- request that was being made; if a write failed, the first bytes of the answers.
 abbrev pub Sends : Result PipeEnd PipeFault → Exchange → Type 0
 Sends (Ok Whole) x = (held : Option (List ℕ)) × IsAnswered x held × IsOver x held
     × (is_unfinished held ≡ false)
@@ -57,7 +57,7 @@ pub record IsExchange (x : Exchange) : Type 0 where
   pub prompt : IsPrompt x.before x.passed
   pub sends : Sends x.result x
 
--- how many reads, and how many writes, failed in a pipe that ended so
+-- how many reads failed in a pipe that ended in this way
 abbrev pub failed_reads : Result PipeEnd PipeFault → ℕ
 failed_reads (Err ReadFailed) = 1
 failed_reads (Err WriteFailed) = 0
@@ -65,6 +65,7 @@ failed_reads (Err TooManyReads) = 0
 failed_reads (Err Memory) = 0
 failed_reads (Ok end) = 0
 
+-- how many writes failed in a pipe that ended in this way
 abbrev pub failed_writes : Result PipeEnd PipeFault → ℕ
 failed_writes (Err WriteFailed) = 1
 failed_writes (Err ReadFailed) = 0

@@ -10,7 +10,8 @@ use Rattle.gql_http.specs.Answers.{Said, no_route, not_allowed, bad_query}
 use Rattle.gql_http.specs.declared.query.Query.{Query}
 use Rattle.gql_http.specs.declared.query.Query.TheVariants.{Absent, Revision, Other}
 
--- a call, of which an edit may expect a revision; a run is told by its body. Or a request that is refused with this answer
+-- A call; an edit may expect a revision, and the body says which operation a run calls. Or a
+-- request that is refused with this answer.
 pub data Call : Type 0 where
   report : Call
   put : FileSide → List ℕ → Option ℕ → Call
@@ -27,18 +28,19 @@ pub data Resource : Type 0 where
   the_run : Resource
   file : FileSide → List ℕ → Resource
 
+-- whether a byte is `?`
 abbrev pub is_question_mark : ℕ → Bool
 is_question_mark b = b == 63
 
--- the target up to its first `?`
+-- the target before its first `?`
 abbrev pub path_of : List ℕ → List ℕ
 path_of target = take (prefix_len (λ b. not (is_question_mark b)) target) target
 
--- the target has a query
+-- whether the target has a query
 abbrev pub has_query : List ℕ → Bool
 has_query target = list_any is_question_mark target
 
--- a number of a query: the present revision that an edit expects
+-- the query for a number: the present revision that an edit expects
 abbrev pub numbered : Option ℕ → Query
 numbered None = Other
 numbered (Some n) = Revision n
@@ -53,22 +55,26 @@ abbrev pub query_of : List ℕ → Query
 query_of target = if has_query target then query_in (drop (length (path_of target) + 1) target)
     else Absent
 
+-- how the path of a schema file begins
 abbrev pub schema_prefix : List ℕ
 schema_prefix = codes "/schema/"
 
+-- how the path of a document file begins
 abbrev pub documents_prefix : List ℕ
 documents_prefix = codes "/documents/"
 
+-- the file of a name on a side, if a file may have the name
 abbrev pub file_resource : FileSide → List ℕ → Resource
 file_resource side name = if is_file_name name then file side name else nothing
 
--- a file of a side
+-- the file that a path names, if it names one
 abbrev pub file_of : List ℕ → Resource
 file_of path =
     if starts_with nat_eq path schema_prefix then file_resource Schema (drop 8 path)
     else if starts_with nat_eq path documents_prefix then file_resource Documents (drop 11 path)
     else nothing
 
+-- what a path names
 abbrev pub resource_of : List ℕ → Resource
 resource_of path =
     if bytes_eq path (codes "/report") then the_report
@@ -82,18 +88,19 @@ without_query Absent call = call
 without_query (Revision n) call = refused bad_query
 without_query Other call = refused bad_query
 
--- a file that is put on a side, or removed from it, by an edit that may expect a revision
+-- a call that puts a file on a side; it may expect a revision
 abbrev pub putting : Query → FileSide → List ℕ → Call
 putting Absent side name = put side name None
 putting (Revision n) side name = put side name (Some n)
 putting Other side name = refused bad_query
 
+-- a call that removes a file from a side; it may expect a revision
 abbrev pub removing : Query → FileSide → List ℕ → Call
 removing Absent side name = remove side name None
 removing (Revision n) side name = remove side name (Some n)
 removing Other side name = refused bad_query
 
--- data that are put, by an edit that may expect a revision
+-- a call that puts the data; it may expect a revision
 abbrev pub putting_data : Query → Call
 putting_data Absent = put_data None
 putting_data (Revision n) = put_data (Some n)
@@ -113,7 +120,7 @@ call_on (file side name) method query =
     else if bytes_eq method (codes "DELETE") then removing query side name
     else refused (not_allowed PutDelete)
 
--- The call that a request's method and target are. The checks are made in this order: the path
--- (305), the method (306), the query (308).
+-- The call that a method and a target make. The checks are made in this order: the path (305), the
+-- method (306), the query (308).
 abbrev pub call_of : List ℕ → List ℕ → Call
 call_of method target = call_on (resource_of (path_of target)) method (query_of target)

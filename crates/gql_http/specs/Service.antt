@@ -1,4 +1,4 @@
--- The service as a machine: what each request answers, and the state that it leaves.
+-- The service: what each request answers, and the state that it leaves.
 use Rattle.std.specs.Prelude.{ℕ, ◌≡◌, List, [], ◌∷◌, true, Option, Some, Result}
 use Rattle.gql_ast.specs.declared.fault.Fault.{Fault}
 use Rattle.gql_bodies.specs.CallBodies.{Asks, call, stored_only, bad_call}
@@ -15,13 +15,13 @@ use Rattle.gql_wire.specs.Stream.{Req, request, refused as refused_head}
 use Rattle.gql_http.specs.Answers.{Said, answer_bytes, bad_run_body, edit_said, head_said, report_said, run_said, stored_operations_only}
 use Rattle.gql_http.specs.Routes.{Call, report, put, remove, put_data, run, refused, call_of}
 
--- what an edit is answered, and the state that it leaves; unless an allocation fails
+-- the answer to an edit, and the state that it leaves, unless an allocation fails
 abbrev pub Edits : State → Option ℕ → Edit → Said → State → Type 0
 Edits s expected e a t = (r : Result Edited Refusal) × (edit_said r ≡ Some a)
     × Makes s expected e r t
 
--- what a run with this body is answered in the state s: a call of an operation as the registry
--- answers it, unless an allocation fails
+-- the answer to a run with this body in the state s, unless an allocation fails: that of the
+-- registry to the call that the body asks for
 pub data Runs (s : State) (body : List ℕ) : Said → Type 0 where
   calls : {name : Option (List ℕ)} {variables : Data} {r : Result (List ℕ) Refusal} {a : Said}
       → Asks body (call name variables) → Answers s.files s.stored name variables r
@@ -29,7 +29,7 @@ pub data Runs (s : State) (body : List ℕ) : Said → Type 0 where
   gives_text : Asks body stored_only → Runs s body stored_operations_only
   bad_body : Asks body bad_call → Runs s body bad_run_body
 
--- what a call with this body is answered in the state s, and the state t that it leaves
+-- the answer to a call with this body in the state s, and the state t that it leaves
 abbrev pub Calls : State → Call → List ℕ → Said → State → Type 0
 Calls s report body a t = ((faults : List Fault) × IsReport s.files faults
     × (a ≡ report_said s.revision faults)) × (t ≡ s)
@@ -39,7 +39,7 @@ Calls s (put_data expected) body a t = Edits s expected (edit.put_data body) a t
 Calls s run body a t = Runs s body a × (t ≡ s)
 Calls s (refused said) body a t = (a ≡ said) × (t ≡ s)
 
--- one step: a request in the state s is answered with these bytes, and leaves the state t
+-- a request in the state s is answered with these bytes, and leaves the state t
 abbrev pub Step : State → Req → List ℕ → State → Type 0
 Step s (request method target body closing) bytes t =
     (a : Said) × Calls s (call_of method target) body a t

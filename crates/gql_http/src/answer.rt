@@ -7,7 +7,7 @@ use gql_wire::{ANSWER_HEAD_ROOM, Allow, answer_head};
 use http::StatusCode;
 use std::alloc::AllocError;
 
-/// An answer: its status, the methods of the route where that is 405, and its body.
+/// An answer: its status, the methods of the route if that is 405, and its body.
 #[derive(Drop)]
 pub struct Answer {
     pub status: StatusCode,
@@ -16,15 +16,15 @@ pub struct Answer {
     ghost answered: { IsTrue (is_answered status) },
 }
 
-/// How an answer ends: whether the connection closes after it, and whether its body is left off.
+/// How an answer ends: whether the connection closes after it, and whether its body is left out.
 #[derive(Clone, Copy)]
 pub struct Ending {
     pub closing: bool,
     pub bodiless: bool,
 }
 
-/// Writes an answer of these parts. If an allocation fails, nothing is written; where there is
-/// room, none fails.
+/// Writes an answer of these parts. If an allocation fails, nothing is written; if there is room,
+/// none fails.
 #[tactic(auto, unfolding(crate::specs::Answers::answer_bytes))]
 pub fn write_parts(
     out: &mut Vec<u8>,

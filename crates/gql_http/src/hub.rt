@@ -19,14 +19,14 @@ pub enum OpenRefusal {
     AlreadyOpen,
 }
 
-/// What feeding a piece of bytes gave.
+/// The result of feeding a piece of bytes.
 #[derive(Drop)]
 pub struct Fed {
     /// The answers to the requests that the piece completed, in their order.
     pub out: Vec<u8>,
     /// Whether the connection was closed, by a request or because an allocation failed.
     pub closed: bool,
-    /// Whether an allocation failed. The request that was being made then is not made.
+    /// Whether an allocation failed. The request that was being made changes nothing.
     pub memory: bool,
 }
 
@@ -80,7 +80,7 @@ impl Hub {
         }
     }
 
-    /// Opens a connection: its bytes begin anew. Every other connection is as it was.
+    /// Opens a connection: its bytes begin anew. Every other connection stays as it was.
     pub fn open(&mut self, connection: u8) -> Result<(), OpenRefusal>
         ensures does { Does (service_of self.old) (rests_of self.old) (opens connection) []
             (service_of self.new) (rests_of self.new) }

@@ -1,21 +1,21 @@
 //! Laws of the service and its hub. The functions do nothing: what they ensure is the law.
 ghost use Rattle.gql_http.specs.Laws.{AnyPieces, FilesPresent, InOrder, OneDeed, OneOrder, OneRun, OneStep, ReportThen, SomeOrder, TwoParts};
 
-/// A request has one answer, and leaves one state.
+/// A request has at most one answer, and leaves at most one state.
 pub fn one_step()
     ensures { OneStep }
 {
     gql_registry::laws::one_outcome();
 }
 
-/// Requests one after the other have one list of answers, and leave one state.
+/// Requests one after the other have at most one list of answers, and leave at most one state.
 pub fn one_run()
     ensures { OneRun }
 {
     gql_registry::laws::one_outcome();
 }
 
-/// An event has one answer, and leaves one state and the same unfinished bytes.
+/// An event has at most one answer, and leaves at most one state and one set of unfinished bytes.
 pub fn one_deed()
     ensures { OneDeed }
 {
@@ -43,8 +43,8 @@ pub fn in_order()
     gql_wire::laws::more_bytes();
 }
 
-/// In any pieces: what the feeds after an opening complete are the requests of all bytes that they
-/// feed.
+/// The requests that the feeds after an opening complete are those of all bytes that they feed,
+/// whatever the pieces are.
 pub fn any_pieces()
     ensures { AnyPieces }
 {
@@ -54,7 +54,7 @@ pub fn any_pieces()
     gql_wire::laws::closed_drops();
 }
 
-/// A piece that is fed in two parts, of which the first leaves the connection open, does what the
+/// A piece that is fed in two parts, the first of which leaves the connection open, does what the
 /// whole does.
 pub fn two_parts()
     ensures { TwoParts }
@@ -64,8 +64,8 @@ pub fn two_parts()
     gql_wire::laws::more_bytes();
 }
 
-/// Files then present: after requests that began with no files, each name of a side holds the
-/// document of its last accepted edit, and no other name holds one.
+/// After requests that began with no files, each name of a side holds the document of its last
+/// accepted edit, and no other name holds one.
 pub fn files_present()
     ensures { FilesPresent }
 {

@@ -10,13 +10,13 @@ use gql_wire::laws::{more_bytes, nothing_is_unfinished, one_split, some_split};
 use gql_wire::{Peer, write_all};
 use thiserror::Error;
 
-/// How many bytes a read brings at most.
+/// The greatest number of bytes that a read brings.
 const PIECE_BYTES: usize = 4096;
 
-/// How many reads a pipe makes at most.
+/// The greatest number of reads that a pipe makes.
 pub const MAX_READS: u64 = 1_048_576;
 
-/// How a pipe ended where nothing failed.
+/// How a pipe ended if nothing failed.
 #[derive(Clone, Copy, Debug, PartialEq, Eq)]
 pub enum PipeEnd {
     /// Every request was answered, or one closed the connection.
@@ -42,8 +42,8 @@ pub enum PipeFault {
     Memory,
 }
 
-/// The status of a program that runs a pipe: 0 where every request was answered or one closed the
-/// connection, 3 where the input ended within a request, 4 if an allocation failed, 1 for another
+/// The exit status of a program that runs a pipe: 0 if every request was answered or one closed the
+/// connection, 3 if the input ended within a request, 4 if an allocation failed, 1 for another
 /// fault.
 pub fn status_of(ended: &Result<PipeEnd, PipeFault>) -> u8
     ensures { result ≡ status ended.now }

@@ -46,7 +46,7 @@ pub fn head_answer(alloc: Global, refusal: HeadRefusal) -> Result<Answer, AllocE
     simple(alloc, head_status(refusal), head_message(refusal), number)
 }
 
-/// The answer to a request that is no call.
+/// The answer to a request that is not a call.
 pub fn route_answer(alloc: Global, refusal: RouteRefusal) -> Result<Answer, AllocError>
     ensures { IfOk result (λ a. answer_said a ≡ route_said refusal) }
 {

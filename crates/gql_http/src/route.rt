@@ -10,18 +10,18 @@ use gql_ast::{FileName, FileSide};
 use gql_wire::Allow;
 use std::str;
 
-/// Why a request with a head that was read is no call.
+/// Why a request whose head was read is not a call.
 #[derive(Clone, Copy, Debug, PartialEq, Eq)]
 pub enum RouteRefusal {
     /// 305: no resource has the target.
     NoRoute,
-    /// 306: the resource serves these methods alone.
+    /// 306: the resource serves only these methods.
     NotAllowed(Allow),
     /// 308: the query isn't served.
     BadQuery,
 }
 
-/// A call, or why the request is none. An edit may expect a revision.
+/// A call, or why the request is not one. An edit may expect a revision.
 #[derive(Drop)]
 pub enum Call {
     Report,
@@ -97,7 +97,7 @@ fn without_query(query: Query, served: Call) -> Call
     }
 }
 
-/// A file that is put.
+/// The call that puts a file.
 fn putting(query: Query, side: FileSide, name: FileName) -> Call
     ensures { call_said result ≡ putting query side name }
 {
@@ -108,7 +108,7 @@ fn putting(query: Query, side: FileSide, name: FileName) -> Call
     }
 }
 
-/// A file that is removed.
+/// The call that removes a file.
 fn removing(query: Query, side: FileSide, name: FileName) -> Call
     ensures { call_said result ≡ removing query side name }
 {
@@ -119,7 +119,7 @@ fn removing(query: Query, side: FileSide, name: FileName) -> Call
     }
 }
 
-/// Data that are put.
+/// The call that puts the data.
 fn putting_data(query: Query) -> Call
     ensures { call_said result ≡ putting_data query }
 {
@@ -149,7 +149,7 @@ fn call_on(resource: Resource, method: &[u8], query: Query) -> Call
     }
 }
 
-/// The call that a request's method and target are.
+/// The call that a request's method and target make.
 pub fn call_of(method: &[u8], target: &[u8]) -> Call
     ensures { call_said result ≡ call_of method.now target.now }
 {

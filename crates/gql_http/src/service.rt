@@ -40,7 +40,7 @@ fn report_answer(alloc: Global, registry: &Registry) -> Result<Answer, AllocErro
     })
 }
 
-/// Writes the answer to an edit. For an accepted one there is room.
+/// Writes the answer to an edit. There is room for that to an accepted one.
 fn write_edit(
     alloc: Global,
     out: &mut Vec<u8>,

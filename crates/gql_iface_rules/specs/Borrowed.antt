@@ -1,11 +1,11 @@
--- Helper definitions for contracts: what the code borrows.
+-- Helper definitions for private contracts: what Rust code borrows, as specifications see it.
 use Rattle.gql_cycles.specs.Names.{Steps}
 use Rattle.gql_iface_rules.specs.Implementing.{Implements, FieldPair as Pair}
 use Rattle.gql_iface_rules.specs.declared.implementing.FieldPair.{FieldPair}
 use Rattle.gql_iface_rules.specs.declared.implementing.Implementation.{Implementation}
 use Rattle.gql_iface_rules.specs.declared.s26_rows.OwnedRow.{OwnedRow}
 
--- what a type implements
+-- a type, and an interface that it implements
 abbrev pub implements : Implementation → Implements
 implements i =
     record { of_type = i.of_type.now; name = i.name.now; interface = i.interface.now }

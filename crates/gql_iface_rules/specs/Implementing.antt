@@ -13,11 +13,11 @@ use Rattle.gql_types.specs.declared.kind.TypeKind.TheVariants as kind
 use Rattle.gql_types.specs.declared.schema.Schema.{Schema}
 use Rattle.gql_types.specs.declared.schema_type.SchemaType.{SchemaType}
 
--- the type, if it is an interface
+-- a type, if it is an interface
 abbrev pub as_interface : SchemaType → Option SchemaType
 as_interface t = if same_kind t.kind kind.Interface then Some t else None
 
--- the interface of this name, if an interface has it
+-- the interface of this name, if there is one
 abbrev pub interface_named : Schema → List ℕ → Option SchemaType
 interface_named s name = option_and_then as_interface (type_named s name)
 
@@ -27,17 +27,17 @@ pub record Implements : Type 0 where
   pub name : Sited Name
   pub interface : SchemaType
 
--- a name in the list, if an interface has it
+-- a type and a name in its list of interfaces, if that is the name of an interface
 abbrev pub implemented_by : Schema → SchemaType → Sited Name → List Implements
 implemented_by s t n = option_map_or
     (λ (i : SchemaType). record { of_type = t; name = n; interface = i } ∷ [])
     (interface_named s n.node.text) []
 
--- the interfaces that a type implements, each as often as it lists them
+-- a type with each interface that it implements, as often as it lists it
 abbrev pub implementations_of : Schema → SchemaType → List Implements
 implementations_of s t = flat_map (implemented_by s t) t.interfaces
 
--- those of all types
+-- all types with the interfaces that they implement
 abbrev pub implementations : Schema → List Implements
 implementations s = flat_map (implementations_of s) s.types
 
@@ -45,15 +45,16 @@ implementations s = flat_map (implementations_of s) s.types
 abbrev pub field_in : List (Sited FieldDefinition) → List ℕ → Option (Sited FieldDefinition)
 field_in fields name = find (λ (f : Sited FieldDefinition). bytes_eq name f.node.name.text) fields
 
--- a type's own field, and the interface's field of that name
+-- a field of a type, and the field of the same name of an interface that the type implements
 pub record FieldPair : Type 0 where
   pub own : Sited FieldDefinition
   pub expected : Sited FieldDefinition
 
--- a field of the interface with the field of its name among the type's own, if there is one
+-- a field of an interface with the type's field of that name, if it has one
 abbrev pub paired : List (Sited FieldDefinition) → Sited FieldDefinition → List FieldPair
 paired fields f = option_map_or
-    (λ (own : Sited FieldDefinition). record { own = own; expected = f } ∷ []) (field_in fields f.node.name.text) []
+    (λ (own : Sited FieldDefinition). record { own = own; expected = f } ∷ [])
+    (field_in fields f.node.name.text) []
 
 -- the pairs of a type and an interface that it implements
 abbrev pub pairs_of : Implements → List FieldPair

@@ -13,12 +13,12 @@ use Rattle.gql_iface_rules.specs.S19DefaultValueCycles as s19
 use Rattle.gql_iface_rules.specs.S26DirectiveCycles as s26
 use Rattle.gql_types.specs.declared.schema.Schema.{Schema}
 
--- by the rules on interfaces alone, as the code joins them
+-- the faults by the rules on interfaces, as one list
 abbrev pub listed_faults : Schema → List Fault
 listed_faults s = s09.faults s ++ (s10.faults s ++ (s11.faults s ++ (s12.faults s
     ++ (s13.faults s ++ (s14.faults s ++ s15.faults s)))))
 
--- by one of these rules
+-- a fault by one of the rules on interfaces or on cycles
 pub data IsInterfaceFault (s : Schema) (f : Fault) : Type 0 where
   by_s09 : Contains (s09.faults s) f → IsInterfaceFault s f
   by_s10 : Contains (s10.faults s) f → IsInterfaceFault s f

@@ -15,7 +15,7 @@ use Rattle.gql_types.specs.declared.kind.TypeKind.TheVariants as kind
 use Rattle.gql_types.specs.declared.schema.Schema.{Schema}
 use Rattle.gql_types.specs.declared.schema_type.SchemaType.{SchemaType}
 
--- the fault at a name that is known and not that of an interface
+-- the fault at the name of a type that is not an interface
 abbrev pub unless_interface : Schema → Sited Name → List Fault
 unless_interface s n = where_known (kind_named s n.node.text) (λ (k : TypeKind).
     if same_kind k kind.Interface then [] else fault_of rule.S09 n)

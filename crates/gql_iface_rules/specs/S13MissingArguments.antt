@@ -25,7 +25,8 @@ is_same_type (required t) (required u) = is_same_type t u
 is_same_type (required t) (named n) = false
 is_same_type (required t) (listed u) = false
 
--- one of these arguments has the argument's name, and the first of them has its type
+-- whether a field with these arguments has the argument, by name and type; of arguments of one
+-- name, the first counts
 abbrev pub has_argument : List (Sited InputValueDefinition) → Sited InputValueDefinition → Bool
 has_argument own a = option_map_or
     (λ (b : Sited InputValueDefinition). is_same_type (written b.node.of_type)
@@ -40,7 +41,7 @@ missing_argument p own a = if has_argument own a then []
     (place_of (own_name_of (λ (f : FieldDefinition). f.name) p.own))
     (place_of (own_name_of (λ (f : FieldDefinition). f.name) p.expected))
 
--- the faults of two fields
+-- the faults of a field of the type, by the interface's field of that name
 abbrev pub missing_arguments : FieldPair → List Fault
 missing_arguments p = flat_map (missing_argument p (arguments_of p.own)) (arguments_of p.expected)
 

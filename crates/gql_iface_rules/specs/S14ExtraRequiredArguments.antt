@@ -13,11 +13,12 @@ use Rattle.gql_faults.specs.TypeNames.{is_required}
 use Rattle.gql_iface_rules.specs.Implementing.{FieldPair, arguments_of, argument_in, field_pairs}
 use Rattle.gql_types.specs.declared.schema.Schema.{Schema}
 
--- a required argument whose name none of these arguments has
+-- whether an argument is required and none of these has its name
 abbrev pub is_extra : List (Sited InputValueDefinition) → Sited InputValueDefinition → Bool
 is_extra expected a = not (is_some (argument_in expected a.node.name.text)) && is_required a.node
 
--- the fault of an argument of the type's field, if it is required and the interface's has none
+-- the fault of an argument of the type's field, if it is required and the interface's field does
+-- not have it
 abbrev pub extra_required_argument : FieldPair → List (Sited InputValueDefinition)
     → Sited InputValueDefinition → List Fault
 extra_required_argument p expected a = if is_extra expected a
@@ -25,7 +26,7 @@ extra_required_argument p expected a = if is_extra expected a
     (place_of (own_name_of (λ (v : InputValueDefinition). v.name) a))
     (place_of (own_name_of (λ (f : FieldDefinition). f.name) p.expected)) else []
 
--- the faults of two fields
+-- the faults of a field of the type, by the interface's field of that name
 abbrev pub extra_required_arguments : FieldPair → List Fault
 extra_required_arguments p =
     flat_map (extra_required_argument p (arguments_of p.expected)) (arguments_of p.own)

@@ -11,13 +11,13 @@ use Rattle.gql_types.specs.Covariance.{covariant}
 use Rattle.gql_types.specs.Written.{written}
 use Rattle.gql_types.specs.declared.schema.Schema.{Schema}
 
--- the answer is no; it is `None` if it depends on a name that no type has
+-- whether an answer is no; `None` is an answer that depends on a name of no type
 abbrev pub is_no : Option Bool → Bool
 is_no (Some true) = false
 is_no (Some false) = true
 is_no None = false
 
--- the fault of two fields, if the type's is not covariant with the interface's
+-- the fault of a field of the type, if its type is not covariant with that of the interface's field
 abbrev pub incompatible_field_type : Schema → FieldPair → List Fault
 incompatible_field_type s p =
     if is_no (covariant s (written p.own.node.of_type) (written p.expected.node.of_type))

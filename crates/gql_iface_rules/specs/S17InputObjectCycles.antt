@@ -18,7 +18,7 @@ use Rattle.gql_types.specs.declared.kind.TypeKind.TheVariants as kind
 use Rattle.gql_types.specs.declared.schema.Schema.{Schema}
 use Rattle.gql_types.specs.declared.schema_type.SchemaType.{SchemaType}
 
--- the name of a type, unless it is a list or Non-Null
+-- the name that a type is, unless it is a list or Non-Null
 abbrev pub name_itself : Written → Option (List ℕ)
 name_itself (named n) = Some n
 name_itself (listed t) = None
@@ -30,15 +30,15 @@ needed_name (required t) = name_itself t
 needed_name (named n) = None
 needed_name (listed t) = None
 
--- the name that a field needs, as a list
+-- the name of the type that a field needs, as a list
 abbrev pub needed_by : Sited InputValueDefinition → List (List ℕ)
 needed_by f = option_map_or (λ n. n ∷ []) (needed_name (written f.node.of_type)) []
 
--- the names that these fields need
+-- the names of the types that these fields need
 abbrev pub needs : List (Sited InputValueDefinition) → List (List ℕ)
 needs fields = flat_map needed_by fields
 
--- the row of a type: an input object leads to the names that it needs
+-- an input object and the names that it needs; no other type has a row
 abbrev pub input_row : TypeKind → SchemaType → List Steps
 input_row kind.InputObject t = record { name = name_of t; leads = needs t.input_fields } ∷ []
 input_row kind.Scalar t = []

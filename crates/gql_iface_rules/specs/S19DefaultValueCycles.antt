@@ -32,35 +32,37 @@ use Rattle.gql_types.specs.declared.schema_type.SchemaType.{SchemaType}
 abbrev pub input_objects : List SchemaType → List SchemaType
 input_objects types = filter (λ (t : SchemaType). same_kind t.kind InputObject) types
 
--- the fields of these
+-- the fields of these types
 abbrev pub fields_of : List SchemaType → List (Sited InputValueDefinition)
 fields_of types = flat_map (λ (t : SchemaType). t.input_fields) types
 
--- all input fields, type after type; the number of each is how many are before it here
+-- The fields of all input objects, type after type. The number of a field is its place in this
+-- list.
 abbrev pub all_inputs : Schema → List (Sited InputValueDefinition)
 all_inputs s = fields_of (input_objects s.types)
 
--- an input field, and its number
+-- an input field and its number
 pub record Numbered : Type 0 where
   pub number : ℕ
   pub field : Sited InputValueDefinition
 
--- input fields, numbered from a number on
+-- these input fields, numbered from n on
 abbrev pub numbered_from : ℕ → List (Sited InputValueDefinition) → List Numbered
 numbered_from n [] = []
 numbered_from n (f ∷ fields) = record { number = n; field = f } ∷ numbered_from (suc n) fields
 
--- an input object, and the numbers of its fields
+-- an input object and the numbers of its fields
 pub record NumberedObject : Type 0 where
   pub of_type : SchemaType
   pub numbers : Range
   pub inputs : List Numbered
 
--- input objects, their fields numbered from a number on
+-- these input objects, with their fields numbered from n on
 abbrev pub objects_from : ℕ → List SchemaType → List NumberedObject
 objects_from n [] = []
 objects_from n (t ∷ types) =
-    record { of_type = t; numbers = record { start = n; end = n + length t.input_fields }; inputs = numbered_from n t.input_fields } ∷ objects_from (n + length t.input_fields) types
+    record { of_type = t; numbers = record { start = n; end = n + length t.input_fields }; inputs = numbered_from n t.input_fields }
+    ∷ objects_from (n + length t.input_fields) types
 
 -- the input objects of a schema
 abbrev pub objects : Schema → List NumberedObject
@@ -72,64 +74,69 @@ object_named all name = find (λ (o : NumberedObject). bytes_eq name (name_of o.
 
 -- ---- which defaults a value needs
 
--- a variable
+-- whether a value is a variable
 abbrev pub is_variable_value : Value → Bool
 is_variable_value (variable place name) = true
 is_variable_value _ = false
 
+-- whether a literal is a variable
 abbrev pub is_variable : Literal → Bool
 is_variable x = is_variable_value (value_of x)
 
--- an object within a value: the input object of its type, and the names of the fields that it gives
+-- an object within a value: the input object that is its type, and the names of the fields that it
+-- gives
 pub record ObjectValue : Type 0 where
   pub input_object : NumberedObject
   pub names : List (List ℕ)
 
--- the objects within a value at a type, which may be that of the items of a list
+-- the objects within a value, by the type that is expected there, and by whether the value is an
+-- item of a list
 abbrev pub ObjectsAt : Type 0
 ObjectsAt = Bool → Written → List ObjectValue
 
--- what is within a value: the objects; and whether it is a variable
+-- whether a value is a variable, and the objects within it
 pub record Within : Type 0 where
   pub is_variable : Bool
   pub objects : ObjectsAt
 
--- a field that stands in an object
+-- a field of an object literal: its name, whether its value is a variable, and the objects within
+-- its value
 pub record Given : Type 0 where
   pub name : List ℕ
   pub is_variable : Bool
   pub value : ObjectsAt
 
--- its name, where the object gives it
+-- the name of a field that counts as given
 abbrev pub name_given : Given → List (List ℕ)
 name_given f = if f.is_variable then [] else f.name ∷ []
 
--- the objects within the value of a field, at the type of the field of its name
+-- the objects within the value of a field, by the type of the field of its name
 abbrev pub values_in_field : SchemaType → Given → List ObjectValue
 values_in_field t f = option_map_or
     (λ (d : Sited InputValueDefinition). f.value false (written d.node.of_type)) (find
     (λ (d : Sited InputValueDefinition). bytes_eq f.name d.node.name.text) t.input_fields) []
 
--- the objects within the fields of an object, and itself
+-- the objects within the fields of an object, and then the object itself
 abbrev pub values_of_object : List Given → NumberedObject → List ObjectValue
 values_of_object fields o = flat_map (values_in_field o.of_type) fields
     ++ record { input_object = o; names = flat_map name_given fields } ∷ []
 
--- the objects within an object, at the input object within lists and Non-Nulls, as a list of one;
--- but an item is not made a list of one
+-- The objects within an object literal, by the input object that the type names; where a list is
+-- expected, it is made a list of one. An item is not made a list of one.
 abbrev pub object_at : List NumberedObject → List Given → ObjectsAt
 object_at all fields is_item t = if is_item && is_list t then []
     else option_map_or (values_of_object fields) (object_named all (name_in t)) []
 
--- the objects within a list, whose items have the type of its items
+-- the objects within a list, by the type of its items
 abbrev pub list_at : List ObjectsAt → Written → List ObjectValue
 list_at items t = option_map_or
     (λ item. flat_map (λ (x : ObjectsAt). x true item) items) (item_of t) []
 
--- the objects within a value, by its form and the objects within its parts
+-- the objects within a value of this form, from those within its parts
 abbrev pub object_values_at : List NumberedObject → Literal-F Within Given → ObjectsAt
 object_values_at all (Literal-F.Object place fields) is_item t = object_at all fields is_item t
-object_values_at all (Literal-F.List place items) is_item t = list_at (map (λ (w : Within). w.objects) items) t
+object_values_at all (Literal-F.List place items) is_item t =
+    list_at (map (λ (w : Within). w.objects) items) t
 object_values_at all (Literal-F.Variable place name) is_item t = []
 object_values_at all (Literal-F.Int place text) is_item t = []
 object_values_at all (Literal-F.Float place text) is_item t = []
@@ -138,7 +145,7 @@ object_values_at all (Literal-F.Boolean place value) is_item t = []
 object_values_at all (Literal-F.Null place) is_item t = []
 object_values_at all (Literal-F.Enum place name) is_item t = []
 
--- a variable, by its form
+-- whether a value of this form is a variable
 abbrev pub is_variable_at : Literal-F Within Given → Bool
 is_variable_at (Literal-F.Variable place name) = true
 is_variable_at (Literal-F.Object place fields) = false
@@ -150,13 +157,14 @@ is_variable_at (Literal-F.Boolean place value) = false
 is_variable_at (Literal-F.Null place) = false
 is_variable_at (Literal-F.Enum place name) = false
 
--- what is within a value, by its form and what is within its parts
+-- what is within a value of this form, from what is within its parts
 abbrev pub within_at : List NumberedObject → Literal-F Within Given → Within
 within_at all x = record { is_variable = is_variable_at x; objects = object_values_at all x }
 
--- a field of an object
+-- a field of an object literal, from what is within its value
 abbrev pub given_in : ObjectField-F Within Given → Given
-given_in f = record { name = f.name.text; is_variable = f.value.is_variable; value = f.value.objects }
+given_in f =
+    record { name = f.name.text; is_variable = f.value.is_variable; value = f.value.objects }
 
 -- what is within a value
 unfoldable pub within : List NumberedObject → Literal → Within
@@ -166,38 +174,40 @@ within all = fold-Literal Within Given (within_at all) given_in
 unfoldable pub object_values : List NumberedObject → Literal → ObjectsAt
 object_values all x = (within all x).objects
 
--- a field that stands in an object, with the objects within its value
+-- a field of an object literal, with the objects within its value
 abbrev pub given : List NumberedObject → ObjectField → Given
-given all f = record { name = f.name.text; is_variable = is_variable f.value; value = object_values all f.value }
+given all f =
+    record { name = f.name.text; is_variable = is_variable f.value; value = object_values all f.value }
 
--- the name of a field that an object gives
+-- the name of a field of an object literal, if it counts as given
 abbrev pub name_of_given : ObjectField → List (List ℕ)
 name_of_given f = if is_variable f.value then [] else f.name.text ∷ []
 
--- the name is among these
+-- whether a name is among these
 abbrev pub is_among : List (List ℕ) → List ℕ → Bool
 is_among names name = list_any (λ n. bytes_eq name n) names
 
 -- the number of a field that has a default value and is not given
 abbrev pub missing_default : List (List ℕ) → Numbered → List ℕ
-missing_default names i = if is_some i.field.node.default && not (is_among names i.field.node.name.text) then i.number ∷ [] else []
+missing_default names i = if is_some i.field.node.default
+    && not (is_among names i.field.node.name.text) then i.number ∷ [] else []
 
--- the numbers of the fields whose defaults an object needs
+-- the numbers of the fields whose default values an object needs
 abbrev pub missing_defaults : ObjectValue → List ℕ
 missing_defaults x = flat_map (missing_default x.names) x.input_object.inputs
 
 -- ---- the rule
 
--- the objects within the default of an input field, at the type of the field
+-- the objects within the default value of an input field
 abbrev pub default_values : List NumberedObject → Sited InputValueDefinition → List ObjectValue
 default_values all d = option_map_or
     (λ (x : Literal). object_values all x false (written d.node.of_type)) d.node.default []
 
--- what the default of an input field needs
+-- the numbers of the fields whose default values that of an input field needs
 abbrev pub default_needs : List NumberedObject → Sited InputValueDefinition → List ℕ
 default_needs all d = flat_map missing_defaults (default_values all d)
 
--- at the number of each input field the numbers of those whose defaults its own needs
+-- at the number of each input field, the numbers of the fields whose default values its own needs
 abbrev pub default_graph : Schema → List (List ℕ)
 default_graph s = map (default_needs (objects s)) (all_inputs s)
 

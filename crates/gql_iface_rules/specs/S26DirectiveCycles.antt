@@ -20,15 +20,15 @@ use Rattle.gql_types.specs.Schemas.{directive_named}
 use Rattle.gql_types.specs.declared.schema.Schema.{Schema}
 use Rattle.gql_types.specs.declared.schema_type.SchemaType.{SchemaType}
 
--- a directive's name with `@` before it, so that no type has it
+-- a directive's name with `@` before it, so that it is not the name of a type
 abbrev pub at_sign : List ℕ → List ℕ
 at_sign name = codes "@" ++ name
 
--- the directives that are applied to a node
+-- the names of the directives that are applied to a node, with `@`
 abbrev pub applied : List Directive → List (List ℕ)
 applied directives = map (λ (d : Directive). at_sign d.name.text) directives
 
--- an argument of a directive, or an input field, leads to the directives on it and to its type
+-- an argument of a directive or an input field leads to the directives on it and to its type
 abbrev pub from_input : InputValueDefinition → List (List ℕ)
 from_input v = applied v.directives ++ (name_in v.of_type).text ∷ []
 
@@ -54,7 +54,8 @@ from_input_fields fields = flat_map (λ (f : Sited InputValueDefinition). from_i
 
 -- the directives on the extensions of a type
 abbrev pub on_extensions : List (Sited TypeExtension) → List (List ℕ)
-on_extensions extensions = flat_map (λ (e : Sited TypeExtension). applied e.node.directives) extensions
+on_extensions extensions =
+    flat_map (λ (e : Sited TypeExtension). applied e.node.directives) extensions
 
 -- a type leads to the directives on its definition and its extensions, and to the names to which
 -- its parts lead
@@ -68,7 +69,8 @@ type_row t = record { name = name_of t; leads = from_type t }
 
 -- the row of a directive: it leads to the names to which its arguments lead
 abbrev pub directive_row : Sited DirectiveDefinition → Steps
-directive_row d = record { name = at_sign d.node.name.text; leads = flat_map from_input d.node.arguments }
+directive_row d =
+    record { name = at_sign d.node.name.text; leads = flat_map from_input d.node.arguments }
 
 -- the rows of all types and directives
 abbrev pub definition_rows : Schema → List Steps

@@ -9,7 +9,7 @@ use gql_built_in::Sited;
 use gql_types::{HasName, Named, Schema, SchemaType, TypeKind};
 use std::alloc::{AllocError, Global};
 
-/// The interface of a name, if an interface has it.
+/// The interface of a name, if there is one.
 pub fn interface_named<'s>(schema: &'s Schema, name: &str) -> Option<&'s SchemaType>
     ensures { option_copied result ≡ spec.interface_named schema.now name.now }
 {

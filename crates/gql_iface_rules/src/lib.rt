@@ -2,7 +2,7 @@
 //! the three rules on cycles: of input objects and of their default values (3.10), and of
 //! directives (3.13).
 //!
-//! A function that adds to a list may have added a part where it fails for memory.
+//! A function that adds to a list may have added a part of it if an allocation fails.
 #![tactic(auto)]
 
 mod arguments;

@@ -8,7 +8,7 @@ use crate::s19_inputs::{InputObject, NumberedInput};
 use gql_types::{HasName, Named};
 use std::alloc::{AllocError, Global};
 
-/// A field that has a default, at the first field of its name.
+/// A field that has a default, and the first field of its name.
 #[derive(Clone, Copy)]
 pub struct End {
     pub first: usize,
@@ -61,7 +61,7 @@ pub fn all_ends(alloc: Global, objects: &Named<InputObject<'_>>) -> Result<Vec<E
     Ok(ends)
 }
 
-/// So many empty rows.
+/// That many empty rows.
 fn empty_rows(alloc: Global, count: usize) -> Result<Vec<Vec<usize>>, AllocError>
     ensures { IfOk result (λ rows. map (λ v. v.items) rows.items ≡ replicate count []) }
 {
@@ -84,7 +84,7 @@ fn put_end(end: &End, rows: &mut Vec<Vec<usize>>) -> Result<(), AllocError>
     Ok(())
 }
 
-/// At each of so many numbers the fields that have a default and that name.
+/// At each number, the fields that have a default and the name of the field of that number.
 pub fn end_rows(alloc: Global, count: usize, ends: &[End]) -> Result<Vec<Vec<usize>>, AllocError>
     ensures { IfOk result (λ rows. spec.Rows count ends.now (map (λ v. v.items) rows.items)) }
 {

@@ -54,7 +54,7 @@ pub struct AllInputs<'s> {
     pub objects: Named<InputObject<'s>>,
 }
 
-/// Adds the fields of a type to all, and gives them with their numbers.
+/// Adds the fields of a type to all fields, and returns them with their numbers.
 fn numbered_inputs<'s>(
     alloc: Global,
     of_type: &'s SchemaType,

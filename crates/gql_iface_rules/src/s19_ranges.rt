@@ -52,7 +52,7 @@ fn is_variable(value: &Literal) -> bool
     }
 }
 
-/// Adds the number of the first field of the name of a field, where the object gives it.
+/// Adds the number of the first field of the name of a field, if the object gives it.
 fn add_given(
     input_object: &InputObject<'_>,
     field: &ObjectField,
@@ -91,7 +91,7 @@ fn sorted_numbers(alloc: Global, at: &ObjectValue<'_, '_>) -> Result<Vec<usize>,
     Ok(numbers)
 }
 
-/// Adds what is left before a number, and answers where the rest starts.
+/// Adds the range before a number, and returns where the rest starts.
 fn add_gap(
     start: usize,
     number: usize,

@@ -5,13 +5,14 @@ use Rattle.gql_types.specs.Written.{Written}
 use Rattle.gql_inputs.specs.InputTypes.{name_in}
 use Rattle.gql_inputs.specs.Lookups.{FieldForm, InputLookup, input_object}
 
--- the name within a type, the names within the types of its fields where it is an input object, and
--- so on
+-- a name that a type leads to: the name within it; where that is an input object, the names within
+-- the types of its fields; and so on
 pub data LeadsTo (look : InputLookup) (t : Written) : List ℕ → Type 0 where
   itself : LeadsTo look t (name_in t)
-  by_field : {n : List ℕ} {fields : List FieldForm} {f : FieldForm} → LeadsTo look t n → look n ≡ Some (input_object fields)
+  by_field : {n : List ℕ} {fields : List FieldForm} {f : FieldForm}
+      → LeadsTo look t n → look n ≡ Some (input_object fields)
       → Contains fields f → LeadsTo look t (name_in f.of_type)
 
--- both say the same of each name that the type leads to in the first
+-- two look-ups give the same answer for each name that the type leads to by the first
 abbrev pub Agree : InputLookup → InputLookup → Written → Type 0
 Agree u v t = (n : List ℕ) → LeadsTo u t n → u n ≡ v n

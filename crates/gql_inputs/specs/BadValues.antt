@@ -1,6 +1,7 @@
 -- What of a value does not fit its type (GraphQL specification, 5.6): values of correct type (V18),
--- input object field names (V19), their uniqueness (V20), and required fields (V21). Types are
--- asked of a look-up, so that a schema and all else that knows input types judge alike.
+-- input object field names (V19), their uniqueness (V20), and required fields (V21). Types come
+-- from a look-up, so that the same definitions serve a schema and anything else that knows input
+-- types.
 use Rattle.std.specs.Prelude.{ℕ, List, [], ◌∷◌, ◌++◌, ◌&&◌, ◌||◌, Bool, true, false, not, map, flat_map, bytes_eq, Option, Some, None, nat_eq, length, if◌then◌else◌}
 use Rattle.std.specs.List.{list_any}
 use Rattle.gql_text.specs.declared.place.Place.{Place}
@@ -51,7 +52,7 @@ scalar_takes_boolean scalars.Int = false
 scalar_takes_boolean scalars.String = false
 scalar_takes_boolean scalars.Id = false
 
--- a scalar by this, and no other type
+-- whether a scalar takes a value, by this; an enum or an input object does not
 abbrev pub takes_as_scalar : (Scalar → Bool) → InputForm → Bool
 takes_as_scalar takes (scalar s) = takes s
 takes_as_scalar takes (enumeration values) = false
@@ -63,8 +64,8 @@ takes_name name (scalar s) = is_custom s
 takes_name name (enumeration values) = list_any (bytes_eq name) values
 takes_name name (input_object fields) = false
 
--- A value without parts. No type takes a number with a fraction or an exponent, since Float is not
--- built in (this registry's own rule).
+-- Whether an input type takes a value without parts. No type takes a number with a fraction or an
+-- exponent, since Float is not built in (this registry's own rule).
 abbrev pub takes : Value → InputForm → Bool
 takes (int p text) i = takes_as_scalar (scalar_takes_int text) i
 takes (float p) i = false
@@ -79,12 +80,12 @@ is_custom_form i = takes_as_scalar is_custom i
 
 -- ---- V18: values of correct type
 
--- what is found by the input type that a type names: nothing where that is not known
+-- what is found by an input type, or nothing if it is not known
 abbrev pub of_known : (InputForm → List BadValue) → Option InputForm → List BadValue
 of_known f None = []
 of_known f (Some i) = f i
 
--- the same, by a look-up
+-- what is found by the input type that a type names, or nothing if it is not known
 abbrev pub where_known : InputLookup → Written → (InputForm → List BadValue) → List BadValue
 where_known look t f = of_known f (look (name_in t))
 
@@ -101,7 +102,7 @@ expected t i = if is_custom_form i then name_in t else text_of (one_of t)
 abbrev pub single_at : Written → Value → InputForm → List BadValue
 single_at t x i = if takes x i then [] else bad rule.V18 (place_of x) (expected t i)
 
--- the same, where the type is known
+-- V18 of a value without parts, if the type is known
 abbrev pub single_misfits : InputLookup → Written → Value → List BadValue
 single_misfits look t x = where_known look t (single_at t x)
 
@@ -112,6 +113,7 @@ null_misfits look p t = if is_non_null t then never_fits look p t else []
 -- ---- V18 within a custom scalar, by its name: it takes integers of 64 bits and no other numbers
 -- (this registry's own rule)
 
+-- V18 within a value that a custom scalar takes, about this name
 abbrev mutual
   -- in a value
   pub within : List ℕ → Value → List BadValue
@@ -141,25 +143,25 @@ at_one p t = bad rule.V18 p (text_of (one_of t))
 
 -- ---- lists (3.11)
 
--- a list where none is expected: a custom scalar takes one, by what it holds
+-- V18 of a list where none is expected: a custom scalar takes it, if it takes what is in it
 abbrev pub list_at_one : Place → Written → (List ℕ → List BadValue) → InputForm → List BadValue
 list_at_one p t inside i = if is_custom_form i then inside (name_in t) else at_one p t
 
--- a list, by the item type of its type, where that is a list type
+-- V18 of a list, by the item type of its type, if that is a list type
 abbrev pub list_by : InputLookup → Place → Written → (List ℕ → List BadValue)
     → (Written → List BadValue) → Option Written → List BadValue
 list_by look p t inside items None = where_known look t (list_at_one p t inside)
 list_by look p t inside items (Some item) = items item
 
--- an item of a list that is given is not made a list of one
+-- What of an item of a list does not fit. An item is not made a list of one (3.11).
 abbrev pub item_by : InputLookup → Written → Value → List BadValue → List BadValue
 item_by look item x misfits =
     if is_list item && not (may_be_list x) then never_fits look (place_of x) item else misfits
 
 -- ---- input objects (3.10)
 
--- V19 of a field that the type does not have, and else what of the value does not fit the field's
--- type; null at a required field is reported by V21 alone
+-- V19 of a field that the type does not have; of another field, what of its value does not fit its
+-- type. Null at a required field is reported by V21 alone.
 abbrev pub field_by : Name → Value → (Written → List BadValue) → Option FieldForm → List BadValue
 field_by n x misfits None = bad rule.V19 n.place n.text
 field_by n x misfits (Some f) = if is_null x && is_required f then [] else misfits f.of_type
@@ -173,7 +175,7 @@ abbrev pub is_null_given : List GivenField → List ℕ → Bool
 is_null_given given name =
     list_any (λ (g : GivenField). bytes_eq name g.name.text && is_null g.value) given
 
--- not given, or given as null
+-- a field is not given, or is given as null
 abbrev pub lacks : Bool → Bool → Bool
 lacks is_there is_null = not is_there || is_null
 
@@ -185,11 +187,11 @@ missing_if is_missing p f = if is_required f && is_missing then bad rule.V21 p f
 abbrev pub missing : Place → List GivenField → FieldForm → List BadValue
 missing p given f = missing_if (lacks (is_given given f.name) (is_null_given given f.name)) p f
 
--- an object where a scalar is expected: a custom one takes it, by what it holds
+-- V18 of an object where a scalar is expected: a custom one takes it, if it takes what is in it
 abbrev pub object_at_scalar : Place → Written → (List ℕ → List BadValue) → Scalar → List BadValue
 object_at_scalar p t inside s = if is_custom s then inside (name_in t) else at_one p t
 
--- an object, by what its type is
+-- what of an object does not fit, by its input type
 abbrev pub object_by : Place → Written → List GivenField → (List ℕ → List BadValue)
     → (List FieldForm → List BadValue) → InputForm → List BadValue
 object_by p t given inside misfits (scalar s) = object_at_scalar p t inside s
@@ -199,8 +201,9 @@ object_by p t given inside misfits (input_object fields) =
 
 -- ---- V18, V19 and V21 of a value, by the type that is expected
 
+-- what does not fit of a value, of its items and of its fields
 abbrev mutual
-  -- of a value; a variable is judged by its own type elsewhere
+  -- of a value; V29 checks variables, by their own types
   pub misfits : InputLookup → Written → Value → List BadValue
   misfits look t (variable p name) = []
   misfits look t (null p) = null_misfits look p t
@@ -228,39 +231,40 @@ abbrev mutual
       field_by n x (λ t. misfits look t x) (field_named fields n.text)
       ++ fields_misfits look fields fs
 
--- of a list
+-- what of a list does not fit
 abbrev pub list_misfits : InputLookup → Place → Written → Values → List BadValue
 list_misfits look p t xs = list_by look p t (λ name. within_values name xs)
     (λ item. items_misfits look item xs) (item_of t)
 
--- of an object
+-- what of an object does not fit
 abbrev pub object_misfits : InputLookup → Place → Written → Fields → List BadValue
 object_misfits look p t fs = where_known look t
     (object_by p t (all_fields fs) (λ name. within_fields name fs)
     (λ fields. fields_misfits look fields fs))
 
--- of one item of a list
+-- what of one item of a list does not fit
 abbrev pub item_misfits : InputLookup → Written → Value → List BadValue
 item_misfits look item x = item_by look item x (misfits look item x)
 
--- of one field of an object
+-- what of one field of an object does not fit
 abbrev pub field_misfits : InputLookup → List FieldForm → GivenField → List BadValue
 field_misfits look fields g =
     field_by g.name g.value (λ t. misfits look t g.value) (field_named fields g.name.text)
 
 -- ---- V20, in every object, whatever is expected
 
--- one of the fields of one name
+-- V20 of a field whose name another one has
 abbrev pub repeat : Sited Name → List BadValue
 repeat n = bad rule.V20 n.node.place n.node.text
 
--- the fields of one object whose name another one has too
+-- V20 of an object's own fields: of each whose name another one has
 abbrev pub field_repeats : List GivenField → List BadValue
 field_repeats given =
     flat_map repeat (repeated (sited None (map (λ (g : GivenField). g.name) given)))
 
+-- V20 in a value, in its items and in its fields
 abbrev mutual
-  -- in a value: an object's own come before those within its fields
+  -- in a value: an object's own fields come before those within its fields
   pub repeats : Value → List BadValue
   repeats (variable p name) = []
   repeats (null p) = []
@@ -292,6 +296,6 @@ bad_values_by look x t = misfits look t x ++ repeats x
 abbrev pub bad_values : Schema → Literal → Written → List BadValue
 bad_values s x t = bad_values_by (in_schema s) (value_of x) t
 
--- a literal fits a type of a schema where nothing of it is bad
+-- a literal fits a type of a schema if nothing of it is bad
 abbrev pub fits : Schema → Literal → Written → Bool
 fits s x t = nat_eq (length (bad_values s x t)) 0

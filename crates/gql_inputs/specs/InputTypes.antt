@@ -41,13 +41,14 @@ is_non_null (required t) = true
 is_non_null (listed t) = false
 is_non_null (named n) = false
 
--- the same, where Non-Null marks were passed last or were not
+-- the type of a single value within a type, where a Non-Null mark is right around that type or is
+-- not
 abbrev pub one_of_from : Bool → Written → Written
 one_of_from marked (named n) = if marked then required (named n) else named n
 one_of_from marked (listed t) = one_of_from false t
 one_of_from marked (required t) = one_of_from true t
 
--- the type that is expected of a single value: where it is made a list, the type of the item,
+-- the type that is expected of a single value: where it would be made a list, the type of the item,
 -- however many lists there are (3.11)
 abbrev pub one_of : Written → Written
 one_of = one_of_from false
@@ -87,7 +88,7 @@ is_custom scalar.String = false
 is_custom scalar.Boolean = false
 is_custom scalar.Id = false
 
--- by a type's name, where its kind is Scalar
+-- a type with this name and of this kind is a scalar of a schema file
 abbrev pub is_custom_at : List ℕ → TypeKind → Bool
 is_custom_at name kind.Scalar = is_custom (scalar_named name)
 is_custom_at name kind.Enum = false

@@ -1,5 +1,5 @@
--- What a name is as an input type (GraphQL specification, 3.4.2, 3.5, 3.9 and 3.10): the question
--- that is asked of a schema, or of anything else that knows input types.
+-- What a name is as an input type (GraphQL specification, 3.4.2, 3.5, 3.9 and 3.10), by a schema or
+-- by anything else that knows input types.
 use Rattle.std.specs.Prelude.{◌&&◌, ℕ, List, [], Bool, not, map, filter, find, bytes_eq, is_some, Option, Some, None, option_and_then}
 use Rattle.gql_ast.specs.declared.type_system.EnumValueDefinition.{EnumValueDefinition}
 use Rattle.gql_ast.specs.declared.type_system.InputValueDefinition.{InputValueDefinition}
@@ -31,11 +31,11 @@ pub data InputForm : Type 0 where
   enumeration : List (List ℕ) → InputForm
   input_object : List FieldForm → InputForm
 
--- what each name is as an input type, or nothing where it is not a known one
+-- what each name is as an input type, or nothing if it is not a known one
 abbrev pub InputLookup : Type 0
 InputLookup = List ℕ → Option InputForm
 
--- whether an input type is a scalar, an enum or an input object
+-- which of the three an input type is
 abbrev pub kind_of : InputForm → InputKind
 kind_of (scalar s) = input_kind.Scalar s
 kind_of (enumeration values) = input_kind.Enum
@@ -57,7 +57,7 @@ fields_in (input_object fields) = fields
 abbrev pub field_named : List FieldForm → List ℕ → Option FieldForm
 field_named fields name = find (λ (f : FieldForm). bytes_eq name f.name) fields
 
--- a field is required where its type is Non-Null and it has no default
+-- a field is required if its type is Non-Null and it has no default value (3.10)
 abbrev pub is_required : FieldForm → Bool
 is_required f = is_non_null f.of_type && not f.has_default
 
@@ -65,7 +65,7 @@ is_required f = is_non_null f.of_type && not f.has_default
 abbrev pub required_in : InputForm → List FieldForm
 required_in i = filter is_required (fields_in i)
 
--- a field, as an answer lends it
+-- a field, as Rust code has it
 abbrev pub field_form : InputField → FieldForm
 field_form f = record {
   name = f.name.now;
@@ -93,7 +93,7 @@ schema_form (borrowed.Scalar s) = scalar s
 schema_form (borrowed.Enum values) = enumeration (value_names values.now)
 schema_form (borrowed.InputObject fields) = input_object (map field_of fields.now)
 
--- a type as an input type, by its kind
+-- a type as an input type, by its kind; an object, an interface or a union is none
 abbrev pub form_at : SchemaType → TypeKind → Option InputForm
 form_at t kind.Scalar = Some (scalar (scalar_named (name_of t)))
 form_at t kind.Enum = Some (enumeration (value_names t.values))
@@ -106,6 +106,6 @@ form_at t kind.Union = None
 abbrev pub form_of : SchemaType → Option InputForm
 form_of t = form_at t t.kind
 
--- what each name is in a schema
+-- what each name is as an input type of a schema
 abbrev pub in_schema : Schema → InputLookup
 in_schema s name = option_and_then form_of (type_named s name)

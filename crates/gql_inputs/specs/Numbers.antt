@@ -3,15 +3,16 @@ use Rattle.std.specs.Prelude.{◌&&◌, ◌^◌, ℕ, ℤ, List, Bool, Option, S
 use Rattle.std.specs.Str.{all_ascii_digits}
 use Rattle.std.specs.Str.Parse.{digits_value, signed_digits_value, starts_with_minus, without_leading_sign}
 
--- at most so many bits beside the sign: from -2^bits to 2^bits - 1
+-- whether a number has at most this many bits besides its sign: it is from -2^bits to 2^bits - 1
 abbrev pub is_within : ℕ → Bool → ℕ → Bool
 is_within bits negative n = if negative then nat_le n (2 ^ bits) else nat_lt n (2 ^ bits)
 
--- a whole number of that many bits
+-- whether a text is a whole number of at most this many bits besides its sign
 abbrev pub is_whole : ℕ → List ℕ → Bool
-is_whole bits text = nat_lt 0 (length (without_leading_sign text)) && (all_ascii_digits (without_leading_sign text)
+is_whole bits text = nat_lt 0 (length (without_leading_sign text))
+    && (all_ascii_digits (without_leading_sign text)
     && is_within bits (starts_with_minus text) (digits_value 10 (without_leading_sign text)))
 
--- the whole number of 64 bits that is written
+-- the whole number that a text is, if it has at most 64 bits
 abbrev pub whole_number : List ℕ → Option ℤ
 whole_number text = if is_whole 63 text then Some (signed_digits_value 10 text) else None

@@ -86,12 +86,12 @@ place_of (enum p name) = p
 place_of (list p xs) = p
 place_of (object p fs) = p
 
--- the value null
+-- whether a value is null
 abbrev pub is_null : Value → Bool
 is_null (null p) = true
 is_null _ = false
 
--- a list, null or a variable, which may stand for a list within a list (3.11)
+-- whether a value may be an item where lists are expected: a list, null or a variable (3.11)
 abbrev pub may_be_list : Value → Bool
 may_be_list (list p xs) = true
 may_be_list (null p) = true

@@ -1,3 +1,5 @@
+//! What of a value does not fit.
+
 ghost use Rattle.std.specs.Prelude.{◌≡◌, ◌++◌, OnOk};
 ghost use Rattle.gql_inputs.specs.BadValues as spec;
 
@@ -5,7 +7,7 @@ use gql_ast::{Rule, Text};
 use gql_text::Place;
 use std::alloc::AllocError;
 
-/// What does not fit of a value: by which rule, where, and about what (GraphQL specification, 5.6).
+/// What of a value does not fit: by which rule, where, and about what (GraphQL specification, 5.6).
 #[derive(Drop)]
 pub struct BadValue {
     /// V18, V19, V20 or V21.

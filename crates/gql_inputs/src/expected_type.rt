@@ -79,7 +79,7 @@ impl<'t> ExpectedType<'t> {
         }
     }
 
-    /// The type that is expected of a value that is no list (3.11).
+    /// The type that is expected of a value that is not a list (3.11).
     pub fn one(&self) -> ExpectedType<'t>
         ensures { written_of result ≡ spec.one_of (written_of self.now) }
     {

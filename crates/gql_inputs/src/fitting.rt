@@ -15,10 +15,10 @@ use gql_ast::{Literal, TypeRef};
 use gql_types::Schema;
 use std::alloc::{AllocError, Global};
 
-/// Adds what of a value does not fit the type that is expected (GraphQL specification, 5.6), where
-/// `types` says what input types are: values of another type (V18), fields that are not known (V19),
-/// that occur more than once (V20), and required fields that are not given (V21). Under a type that
-/// is not known, V20 alone is found. If the call fails, `found` may hold a part of them.
+/// Adds what of a value does not fit the type that is expected (GraphQL specification, 5.6), by the
+/// input types that `types` knows: values of another type (V18), unknown fields (V19), fields that
+/// occur more than once (V20), and required fields that are not given (V21). Under an unknown type,
+/// V20 alone is found. If the call fails, `found` may hold a part of them.
 pub fn add_bad_values<A: InputTypes>(
     alloc: Global,
     types: &mut A,
@@ -42,7 +42,8 @@ pub fn bad_values(
     value: &Literal,
     of_type: &TypeRef,
 ) -> Result<Vec<BadValue>, AllocError>
-    ensures { IfOk result (λ found. found.items ≡ spec.bad_values schema.now value.now (written of_type.now)) }
+    ensures { IfOk result (λ found. found.items
+        ≡ spec.bad_values schema.now value.now (written of_type.now)) }
 {
     let mut found = Vec::new(alloc);
     let mut types = OfSchema { schema };
@@ -51,7 +52,7 @@ pub fn bad_values(
     Ok(found)
 }
 
-/// Whether a value fits a type of a schema: whether nothing of it does not.
+/// Whether a value fits a type of a schema.
 pub fn fits(
     alloc: Global,
     schema: &Schema,

@@ -41,7 +41,7 @@ pub fn is_null(value: &Literal) -> bool
     }
 }
 
-/// Whether a value may stand for a list within a list: a list, `null` or a variable (3.11).
+/// Whether a value may be an item where lists are expected: a list, `null` or a variable (3.11).
 #[tactic(auto, using(crate::proofs::ValueForms::value_variable, crate::proofs::ValueForms::value_int, crate::proofs::ValueForms::value_float, crate::proofs::ValueForms::value_string, crate::proofs::ValueForms::value_boolean, crate::proofs::ValueForms::value_null, crate::proofs::ValueForms::value_enum, crate::proofs::ValueForms::value_list, crate::proofs::ValueForms::value_object))]
 pub fn may_be_list(value: &Literal) -> bool
     ensures { result ≡ spec.may_be_list (spec.value_of value.now) }

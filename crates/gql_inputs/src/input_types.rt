@@ -1,4 +1,5 @@
-//! What rules ask of input types, whoever knows them (GraphQL specification, 3.4.2).
+//! What rules need to know of input types, from a schema or anything else (GraphQL specification,
+//! 3.4.2).
 ghost use Rattle.std.specs.Prelude.{◌≡◌, ◌<◌, ℕ, List, Option, Some, IfOk, bytes_eq, length, option_map, slice_get};
 ghost use Rattle.std.specs.List.{list_any};
 ghost use Rattle.gql_inputs.specs.Lookups.{InputForm, InputLookup, field_form, field_named, fields_in, kind_of, required_in, values_in};
@@ -8,18 +9,18 @@ use crate::scalar::Scalar;
 use gql_ast::Text;
 use std::alloc::{AllocError, Global};
 
-/// Which kind of input type a type is.
+/// The kinds of input types.
 #[derive(Clone, Copy)]
 pub enum InputKind {
     /// A scalar, built in or of a schema file (3.5).
     Scalar(Scalar),
-    /// (3.9)
+    /// An enum (3.9).
     Enum,
-    /// (3.10)
+    /// An input object (3.10).
     InputObject,
 }
 
-/// A field of an input object (3.10).
+/// A field of an input object An input object (3.10)..
 #[derive(Clone, Copy)]
 pub struct InputField<'t> {
     pub name: &'t Text,
@@ -29,10 +30,10 @@ pub struct InputField<'t> {
 
 /// An input type: a scalar, an enum by the names of its values, or an input object by its fields.
 ///
-/// An implementation says by `form` which one it is. It may borrow from what it was taken from, or
-/// own what it knows; what it lends lives as long as it is borrowed itself.
+/// An implementation states by `form` which one it is. It may borrow what it knows, or own it; what
+/// it lends lives as long as it is borrowed itself.
 pub trait InputType {
-    /// The type, as definitions see it.
+    /// The type, as specifications see it.
     ghost form: { Self → InputForm };
 
     /// The kind of the type.
@@ -58,18 +59,18 @@ pub trait InputType {
         ensures { slice_get (required_in (form self.now)) index ≡ Some (field_form result) };
 }
 
-/// What can be asked which input type a name stands for.
+/// What knows which input type a name is that of.
 ///
-/// It is asked again for each part of a value, and answers the same each time. To implement it,
+/// It is called again for each part of a value, and returns the same each time. To implement it,
 /// state by `look` what each name is, and by `kept` what a call leaves as it was. `kept` is for
-/// whoever lends the implementation something: name there what the lender has to know afterwards,
-/// as the ghost name of a `&mut` borrow. Where nothing is borrowed, `Kept` is left out and `kept`
-/// is `λ _. tt`.
+/// what the implementation has borrowed: name there what the lender has to know afterwards, such as
+/// the ghost name of a `&mut` borrow. If it borrows nothing, leave `Kept` out and let `kept` be `λ
+/// _. tt`.
 pub trait InputTypes {
     /// What is known of an input type.
     type Answer: InputType + Drop;
 
-    /// What each name is as an input type, or nothing where it is none that is known.
+    /// What each name is as an input type, or nothing if it is not a known one.
     ghost look: { Self → InputLookup };
 
     // What a call leaves as it was, besides the answers.
@@ -77,9 +78,10 @@ pub trait InputTypes {
 
     ghost kept: { Self → Self.Kept };
 
-    /// The input type of that name, or `None` where the name is none that is known.
+    /// The input type of that name, or `None` if it is not a known one.
     fn input_type(&mut self, alloc: Global, name: &Text) -> Result<Option<Self::Answer>, AllocError>
-        ensures answer { IfOk result (λ answer. option_map Self.Answer.form answer ≡ look self.old name.now) }
+        ensures answer { IfOk result
+            (λ answer. option_map Self.Answer.form answer ≡ look self.old name.now) }
         ensures look { look self.new ≡ look self.old }
         ensures kept { Self.kept self.new ≡ Self.kept self.old };
 }

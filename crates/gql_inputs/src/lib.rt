@@ -1,5 +1,5 @@
-//! What of a literal does not fit a type, and where it is (GraphQL specification, 5.6). Types are
-//! asked of a schema, or of anything else that knows input types.
+//! What of a literal does not fit a type, and where it is (GraphQL specification, 5.6). Types come
+//! from a schema, or from anything else that knows input types.
 #![tactic(auto)]
 
 mod bad_value;

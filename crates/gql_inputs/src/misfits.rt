@@ -1,4 +1,5 @@
-//! Values that do not fit the type that is expected (GraphQL specification, 5.6.1, 5.6.2 and 5.6.4).
+//! Values that do not fit the type that is expected (GraphQL specification, 5.6.1, 5.6.2 and
+//! 5.6.4).
 ghost use Rattle.std.specs.Prelude.{◌≡◌, ◌++◌, ℕ, List, is_some, map, flat_map, IfOk, OnOk};
 ghost use Rattle.gql_ast.specs.declared.literal.Literal.{Literal as AValue};
 ghost use Rattle.gql_types.specs.Written.{Written};
@@ -20,7 +21,7 @@ use gql_ast::{Literal, ObjectField, Rule};
 use gql_text::Place;
 use std::alloc::{AllocError, Global};
 
-// Adds a value that does not fit, where the type is known.
+// Adds a value that does not fit, if the type is known.
 fn add_if_known<A: InputTypes>(
     alloc: Global,
     place: Place,
@@ -39,7 +40,7 @@ fn add_if_known<A: InputTypes>(
     Ok(())
 }
 
-// Adds null, where the type is Non-Null.
+// Adds null, if the type is Non-Null.
 fn add_null<A: InputTypes>(
     alloc: Global,
     place: Place,
@@ -65,7 +66,8 @@ fn add_at_one(
     of_type: ExpectedType<'_>,
     found: &mut Vec<BadValue>,
 ) -> Result<(), AllocError>
-    ensures { OnOk result (found.new.items ≡ found.old.items ++ spec.at_one place (written_of of_type.entry)) }
+    ensures { OnOk result (found.new.items
+        ≡ found.old.items ++ spec.at_one place (written_of of_type.entry)) }
 {
     add_bad(Rule::V18, place, of_type.one().text(alloc)?, found)
 }
@@ -84,7 +86,8 @@ fn add_list_at_one<A: InputTypes>(
     ensures kept { A.kept types.new ≡ A.kept types.old }
     ensures found { OnOk result (found.new.items ≡ found.old.items
         ++ spec.where_known (A.look types.old) (written_of of_type.entry)
-        (spec.list_at_one place (written_of of_type.entry) (λ name. spec.within_values name (values_of (map value_of items.now))))) }
+        (spec.list_at_one place (written_of of_type.entry)
+        (λ name. spec.within_values name (values_of (map value_of items.now))))) }
 {
     if let Some(found_type) = types.input_type(alloc, of_type.name())? {
         if is_custom_type(&found_type) {
@@ -142,7 +145,8 @@ fn add_list<A: InputTypes>(
     ensures look { A.look types.new ≡ A.look types.old }
     ensures kept { A.kept types.new ≡ A.kept types.old }
     ensures found { OnOk result (found.new.items ≡ found.old.items
-        ++ spec.list_misfits (A.look types.old) place (written_of of_type.entry) (values_of (map value_of items.now))) }
+        ++ spec.list_misfits (A.look types.old) place
+        (written_of of_type.entry) (values_of (map value_of items.now))) }
 {
     match of_type.item() {
         Some(item_type) => add_items(alloc, items, types, item_type, found),
@@ -162,7 +166,8 @@ fn add_items<A: InputTypes>(
     ensures look { A.look types.new ≡ A.look types.old }
     ensures kept { A.kept types.new ≡ A.kept types.old }
     ensures found { OnOk result (found.new.items ≡ found.old.items
-        ++ flat_map (λ (x : AValue). spec.item_misfits (A.look types.old) (written_of of_type.entry) (value_of x)) items.now) }
+        ++ flat_map (λ (x : AValue). spec.item_misfits
+        (A.look types.old) (written_of of_type.entry) (value_of x)) items.now) }
 {
     for item in items {
         add_item(alloc, item, types, of_type, found)?;
@@ -170,7 +175,7 @@ fn add_items<A: InputTypes>(
     Ok(())
 }
 
-// Adds what of one item does not fit. An item of a list that is given is not made a list of one.
+// Adds what of one item does not fit. An item is not made a list of one.
 #[cycle(misfits)]
 fn add_item<A: InputTypes>(
     alloc: Global,
@@ -205,7 +210,8 @@ fn add_object<A: InputTypes>(
     ensures look { A.look types.new ≡ A.look types.old }
     ensures kept { A.kept types.new ≡ A.kept types.old }
     ensures found { OnOk result (found.new.items ≡ found.old.items
-        ++ spec.object_misfits (A.look types.old) place (written_of of_type.entry) (fields_of (map given_field fields.now))) }
+        ++ spec.object_misfits (A.look types.old) place
+        (written_of of_type.entry) (fields_of (map given_field fields.now))) }
 {
     match types.input_type(alloc, of_type.name())? {
         None => Ok(()),
@@ -233,7 +239,8 @@ fn add_to_scalar(
     found: &mut Vec<BadValue>,
 ) -> Result<(), AllocError>
     ensures { OnOk result (found.new.items ≡ found.old.items
-        ++ spec.object_at_scalar place (written_of of_type.entry) (λ name. spec.within_fields name (fields_of (map given_field fields.now))) scalar) }
+        ++ spec.object_at_scalar place (written_of of_type.entry)
+        (λ name. spec.within_fields name (fields_of (map given_field fields.now))) scalar) }
 {
     if is_custom(scalar) {
         add_within_fields(alloc, fields, of_type.name().as_str(), found)
@@ -254,7 +261,8 @@ fn add_fields<A: InputTypes>(
     ensures look { A.look types.new ≡ A.look types.old }
     ensures kept { A.kept types.new ≡ A.kept types.old }
     ensures found { OnOk result (found.new.items ≡ found.old.items
-        ++ flat_map (spec.field_misfits (A.look types.old) (fields_in (A.Answer.form of_type.now))) (map given_field fields.now)) }
+        ++ flat_map (spec.field_misfits (A.look types.old) (fields_in (A.Answer.form of_type.now)))
+        (map given_field fields.now)) }
 {
     for field in fields {
         add_field(alloc, field, types, of_type, found)?;
@@ -275,7 +283,8 @@ fn add_field<A: InputTypes>(
     ensures look { A.look types.new ≡ A.look types.old }
     ensures kept { A.kept types.new ≡ A.kept types.old }
     ensures found { OnOk result (found.new.items ≡ found.old.items
-        ++ spec.field_misfits (A.look types.old) (fields_in (A.Answer.form of_type.now)) (given_field field.now)) }
+        ++ spec.field_misfits (A.look types.old)
+        (fields_in (A.Answer.form of_type.now)) (given_field field.now)) }
 {
     match of_type.field(field.name.as_str()) {
         Some(definition) => {

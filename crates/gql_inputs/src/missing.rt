@@ -24,7 +24,8 @@ pub fn is_required(field: &InputField<'_>) -> bool
 // The names of the fields.
 fn names<'v>(alloc: Global, fields: &'v [ObjectField]) -> Result<HashMap<&'v str, ()>, AllocError>
     ensures { IfOk result (λ names. (q : List ℕ) →
-        is_some (hash.get_by (λ k. bytes_eq q k.now) names) ≡ spec.is_given (map given_field fields.now) q) }
+        is_some (hash.get_by (λ k. bytes_eq q k.now) names)
+        ≡ spec.is_given (map given_field fields.now) q) }
 {
     let mut names = HashMap::new(alloc);
     for field in fields {
@@ -38,7 +39,8 @@ fn add_if_null<'v>(
     names: &mut HashMap<&'v str, ()>,
 ) -> Result<(), AllocError>
     ensures { OnOk result ((q : List ℕ) → is_some (hash.get_by (λ k. bytes_eq q k.now) names.new)
-        ≡ (is_some (hash.get_by (λ k. bytes_eq q k.now) names.old) || (bytes_eq q field.now.name.text && is_null_value (value_of field.now.value)))) }
+        ≡ (is_some (hash.get_by (λ k. bytes_eq q k.now) names.old)
+        || (bytes_eq q field.now.name.text && is_null_value (value_of field.now.value)))) }
 {
     if is_null(&field.value) {
         names.insert(field.name.as_str(), ())?;
@@ -49,7 +51,8 @@ fn add_if_null<'v>(
 // The names of the fields that are `null`.
 fn nulls<'v>(alloc: Global, fields: &'v [ObjectField]) -> Result<HashMap<&'v str, ()>, AllocError>
     ensures { IfOk result (λ names. (q : List ℕ) →
-        is_some (hash.get_by (λ k. bytes_eq q k.now) names) ≡ spec.is_null_given (map given_field fields.now) q) }
+        is_some (hash.get_by (λ k. bytes_eq q k.now) names)
+        ≡ spec.is_null_given (map given_field fields.now) q) }
 {
     let mut names = HashMap::new(alloc);
     for field in fields {
@@ -67,7 +70,8 @@ struct Given<'v> {
 
 impl Given<'_> {
     fn lacks(&self, name: &str) -> bool
-        ensures { result ≡ spec.lacks (is_some (hash.get_by (λ k. bytes_eq name.now k.now) self.now.names))
+        ensures { result
+            ≡ spec.lacks (is_some (hash.get_by (λ k. bytes_eq name.now k.now) self.now.names))
             (is_some (hash.get_by (λ k. bytes_eq name.now k.now) self.now.nulls)) }
     {
         !self.names.contains_key(name) || self.nulls.contains_key(name)
@@ -84,7 +88,8 @@ fn add_if_missing(
     requires { is_required_field (field_form field.now) ≡ true }
     ensures { OnOk result (found.new.items ≡ found.old.items ++ spec.missing_if
         (spec.lacks (is_some (hash.get_by (λ k. bytes_eq field.now.name.now k.now) given.now.names))
-        (is_some (hash.get_by (λ k. bytes_eq field.now.name.now k.now) given.now.nulls))) place (field_form field.now)) }
+        (is_some (hash.get_by (λ k. bytes_eq field.now.name.now k.now) given.now.nulls))) place
+        (field_form field.now)) }
 {
     if given.lacks(field.name.as_str()) {
         add_bad(Rule::V21, place, field.name.copy()?, found)?;
@@ -101,7 +106,8 @@ pub fn add_missing<T: InputType>(
     found: &mut Vec<BadValue>,
 ) -> Result<(), AllocError>
     ensures { OnOk result (found.new.items ≡ found.old.items
-        ++ flat_map (spec.missing place (map given_field fields.now)) (fields_in (T.form of_type.now))) }
+        ++ flat_map (spec.missing place (map given_field fields.now))
+        (fields_in (T.form of_type.now))) }
 {
     let names = names(alloc, fields)?;
     let nulls = nulls(alloc, fields)?;

@@ -43,7 +43,8 @@ fn field_named<'s>(
     fields: &'s DefinedInputs<Sited<Shared<InputValueDefinition>>>,
     name: &str,
 ) -> Option<InputField<'s>>
-    ensures { option_map spec.field_form result ≡ spec.field_named (map spec.field_of fields.now) name.now }
+    ensures { option_map spec.field_form result
+        ≡ spec.field_named (map spec.field_of fields.now) name.now }
 {
     match fields.get(name) {
         Some(definition) => Some(input_field(definition)),

@@ -15,7 +15,8 @@ use std::alloc::{AllocError, Global};
 
 // The names of the fields, in their order.
 fn names<'v>(alloc: Global, fields: &'v [ObjectField]) -> Result<Vec<NamePlace<'v>>, AllocError>
-    ensures { IfOk result (λ names. map named names.items ≡ sited None (map (λ (f : AField). f.name) fields.now)) }
+    ensures { IfOk result (λ names. map named names.items
+        ≡ sited None (map (λ (f : AField). f.name) fields.now)) }
 {
     let mut names = Vec::new(alloc);
     for field in fields {
@@ -45,7 +46,8 @@ fn add_all_repeats(
     names: &[NamePlace<'_>],
     found: &mut Vec<BadValue>,
 ) -> Result<(), AllocError>
-    ensures { OnOk result (found.new.items ≡ found.old.items ++ flat_map spec.repeat (map named names.now)) }
+    ensures { OnOk result (found.new.items
+        ≡ found.old.items ++ flat_map spec.repeat (map named names.now)) }
 {
     for name in names {
         add_repeat(alloc, name, found)?;
@@ -60,7 +62,8 @@ fn add_field_repeats(
     fields: &[ObjectField],
     found: &mut Vec<BadValue>,
 ) -> Result<(), AllocError>
-    ensures { OnOk result (found.new.items ≡ found.old.items ++ spec.field_repeats (map given_field fields.now)) }
+    ensures { OnOk result (found.new.items
+        ≡ found.old.items ++ spec.field_repeats (map given_field fields.now)) }
 {
     let names = names(alloc, fields)?;
     let repeated = repeated(alloc, names.as_slice())?;
@@ -102,7 +105,8 @@ fn add_repeats_in_all(
     items: &[Literal],
     found: &mut Vec<BadValue>,
 ) -> Result<(), AllocError>
-    ensures { OnOk result (found.new.items ≡ found.old.items ++ flat_map (λ (x : AValue). spec.repeats (value_of x)) items.now) }
+    ensures { OnOk result (found.new.items
+        ≡ found.old.items ++ flat_map (λ (x : AValue). spec.repeats (value_of x)) items.now) }
 {
     for item in items {
         add_repeats(alloc, item, found)?;
@@ -117,7 +121,8 @@ fn add_repeats_in_fields(
     fields: &[ObjectField],
     found: &mut Vec<BadValue>,
 ) -> Result<(), AllocError>
-    ensures { OnOk result (found.new.items ≡ found.old.items ++ flat_map (λ (f : AField). spec.repeats (value_of f.value)) fields.now) }
+    ensures { OnOk result (found.new.items ≡ found.old.items
+        ++ flat_map (λ (f : AField). spec.repeats (value_of f.value)) fields.now) }
 {
     for field in fields {
         add_repeats(alloc, &field.value, found)?;

@@ -1,3 +1,5 @@
+//! The scalars, by what they take.
+
 ghost use Rattle.std.specs.Prelude.{◌≡◌};
 ghost use Rattle.gql_inputs.specs.InputTypes as spec;
 
@@ -12,7 +14,7 @@ pub enum Scalar {
     Custom,
 }
 
-/// Which scalar a name names.
+/// The scalar of a name.
 pub fn scalar_named(name: &str) -> Scalar
     ensures { result ≡ spec.scalar_named name.now }
 {

@@ -115,7 +115,8 @@ fn expected_text<T: InputType>(
     of_type: ExpectedType<'_>,
     found_type: &T,
 ) -> Result<Text, AllocError>
-    ensures { IfOk result (λ text. text ≡ spec.expected (written_of of_type.entry) (T.form found_type.now)) }
+    ensures { IfOk result (λ text. text
+        ≡ spec.expected (written_of of_type.entry) (T.form found_type.now)) }
 {
     if is_custom_type(found_type) {
         of_type.name().copy()
@@ -142,7 +143,7 @@ fn add_unless_taken<T: InputType>(
     Ok(())
 }
 
-/// Adds a value without parts, where the type is known and does not take it.
+/// Adds a value without parts, if the type is known and does not take it.
 pub fn add_single<A: InputTypes>(
     alloc: Global,
     value: &Literal,

@@ -1,5 +1,5 @@
 //! What a type asks of an input, by its steps from the outside in (GraphQL specification, 2.11 and
-//! 3.12). It holds whatever name the steps end in.
+//! 3.12), whatever name they end in.
 ghost use Rattle.std.specs.Prelude.{◌≡◌, ◌++◌, ℕ, List, OnOk, option_map, string_bytes};
 ghost use Rattle.std.specs.Option.{option_copied};
 ghost use Rattle.gql_types.specs.Written.{named};
@@ -33,7 +33,8 @@ pub fn is_list(steps: &[Wrapper]) -> bool
 
 /// The steps of the type of each item of a list that is given.
 pub fn item_of(steps: &[Wrapper]) -> Option<&[Wrapper]>
-    ensures { (n : List ℕ) → option_map (λ (ws : List AStep). typed ws (named n)) (option_copied result)
+    ensures { (n : List ℕ)
+        → option_map (λ (ws : List AStep). typed ws (named n)) (option_copied result)
         ≡ spec.item_of (typed steps.now (named n)) }
 {
     match steps.split_first() {
@@ -43,7 +44,7 @@ pub fn item_of(steps: &[Wrapper]) -> Option<&[Wrapper]>
     }
 }
 
-/// The steps of the type that is expected of a value that is no list.
+/// The steps of the type that is expected of a value that is not a list.
 pub fn one_of(steps: &[Wrapper]) -> &[Wrapper]
     ensures { (n : List ℕ) → typed result.now (named n) ≡ spec.one_of (typed steps.now (named n)) }
 {

@@ -1,4 +1,5 @@
-//! Types as they are written, without anything ignored between their tokens (GraphQL specification, 2.11).
+//! Types as they are written, without anything ignored between their tokens (GraphQL specification,
+//! 2.11).
 ghost use Rattle.std.specs.Prelude.{◌≡◌, ◌++◌, IfOk, OnOk, string_bytes};
 ghost use Rattle.gql_types.specs.Written.{named, written};
 ghost use Rattle.gql_types.specs.WrittenTypes.{typed};
@@ -11,7 +12,8 @@ use std::alloc::{AllocError, Global};
 
 #[tactic(auto, using(gql_types::specs::Written::written_named, gql_types::specs::Written::written_list, gql_types::specs::Written::written_non_null))]
 fn add_text(of_type: &TypeRef, text: &mut String) -> Result<(), AllocError>
-    ensures { OnOk result (string_bytes text.new ≡ string_bytes text.old ++ spec.text_of (written of_type.now)) }
+    ensures { OnOk result (string_bytes text.new
+        ≡ string_bytes text.old ++ spec.text_of (written of_type.now)) }
 {
     match of_type {
         TypeRef::Named(name) => text.push_str(name.as_str())?,

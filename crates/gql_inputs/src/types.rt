@@ -54,7 +54,7 @@ pub fn is_non_null(of_type: &TypeRef) -> bool
     }
 }
 
-/// The type that is expected of a value that is no list.
+/// The type that is expected of a value that is not a list.
 #[tactic(auto, using(gql_types::specs::Written::written_named, gql_types::specs::Written::written_list, gql_types::specs::Written::written_non_null))]
 pub fn one_of(of_type: &TypeRef) -> &TypeRef
     ensures { written result.now ≡ spec.one_of (written of_type.now) }

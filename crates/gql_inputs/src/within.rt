@@ -1,6 +1,6 @@
-//! Values of a scalar of a schema file. It takes no number with a fraction or an exponent, and
-//! integers of 64 bits alone, wherever they are in the value (this registry's own rule, on scalars as
-//! in 3.5.5 of the GraphQL specification).
+//! Values of a scalar of a schema file. It takes no number with a fraction or an exponent, and no
+//! integer of more than 64 bits, wherever the number is in the value (this registry's own rule;
+//! GraphQL specification, 3.5.5, leaves it open).
 ghost use Rattle.std.specs.Prelude.{◌≡◌, ◌++◌, flat_map, OnOk};
 ghost use Rattle.gql_ast.specs.declared.literal.Literal.{Literal as AValue};
 ghost use Rattle.gql_ast.specs.declared.literal.ObjectField.{ObjectField as AField};
@@ -22,7 +22,8 @@ pub fn add_within(
     scalar: &str,
     found: &mut Vec<BadValue>,
 ) -> Result<(), AllocError>
-    ensures { OnOk result (found.new.items ≡ found.old.items ++ spec.within scalar.now (value_of value.now)) }
+    ensures { OnOk result (found.new.items
+        ≡ found.old.items ++ spec.within scalar.now (value_of value.now)) }
 {
     match value {
         Literal::Int { place, text } => {
@@ -54,7 +55,8 @@ pub fn add_within_all(
     scalar: &str,
     found: &mut Vec<BadValue>,
 ) -> Result<(), AllocError>
-    ensures { OnOk result (found.new.items ≡ found.old.items ++ flat_map (λ (x : AValue). spec.within scalar.now (value_of x)) items.now) }
+    ensures { OnOk result (found.new.items ≡ found.old.items
+        ++ flat_map (λ (x : AValue). spec.within scalar.now (value_of x)) items.now) }
 {
     for item in items {
         add_within(alloc, item, scalar, found)?;
@@ -70,7 +72,8 @@ pub fn add_within_fields(
     scalar: &str,
     found: &mut Vec<BadValue>,
 ) -> Result<(), AllocError>
-    ensures { OnOk result (found.new.items ≡ found.old.items ++ flat_map (λ (f : AField). spec.within scalar.now (value_of f.value)) fields.now) }
+    ensures { OnOk result (found.new.items ≡ found.old.items
+        ++ flat_map (λ (f : AField). spec.within scalar.now (value_of f.value)) fields.now) }
 {
     for field in fields {
         add_within(alloc, &field.value, scalar, found)?;

@@ -1,13 +1,13 @@
--- What a field calls, by which fields are compared where their results are merged (GraphQL 5.3.2):
--- its name and its arguments as a text. Two fields have one name and equal arguments where these
+-- What a field calls, as a text: its name and its arguments. Fields are compared by it where their
+-- results are merged (GraphQL 5.3.2): two have the same name and equal arguments exactly if their
 -- texts are equal.
 --
--- A text can be read back in one way: a number, a name and a variable end where a comma or a
--- bracket begins, a string has its length in front, and each item of a list, field of an object
--- and argument ends in a comma. Fields and arguments have no order, so they are in the order of
--- their texts. Arguments are a set: each text is there once. The fields of an object are as many as
--- are written. Numbers and names are equal where they are written alike, strings where their values
--- are.
+-- A text can be read back in one way: a number, a name and a variable end at a comma or a bracket,
+-- a string has its length in front, and each item of a list, field of an object and argument ends
+-- in a comma. Fields and arguments have no order, so they are in the order of their texts.
+-- Arguments are a set: each text occurs once. A field of an object occurs as often as it is
+-- written. Numbers and names are equal if they are written alike, and strings if their values are
+-- equal.
 use Rattle.std.specs.Prelude.{◌≡◌, ◌+◌, ℕ, List, [], ◌∷◌, ◌++◌, map, flat_map, fold, length, decimal, codes, Bool, true, false, refl}
 use Rattle.std.proofs.Common.{ap, sym, ◌∙◌}
 use Rattle.std.specs.BTreeMap.{insert_entry}
@@ -23,12 +23,13 @@ use Rattle.gql_ast.specs.declared.literal.Literal.TheVariants as l
 use Rattle.gql_ast.specs.declared.literal.ObjectField.{ObjectField, fold-ObjectField}
 use Rattle.gql_ast.specs.declared.text.Name.{Name}
 
+-- a text, by its bytes
 abbrev pub Text : Type 0
 Text = List ℕ
 
 -- ---- texts in order
 
--- with one text more, unless it is there
+-- these entries with one text more, unless it is there
 abbrev pub with_text : List (Text × Unit {0}) → Text → List (Text × Unit {0})
 with_text entries t = insert_entry name_order entries t tt
 
@@ -36,18 +37,18 @@ with_text entries t = insert_entry name_order entries t tt
 abbrev pub each_once : List Text → List Text
 each_once texts = map (λ (e : Text × Unit {0}). e.0) (fold with_text [] texts)
 
--- a text and the number of texts before it, by the text and then by the number
+-- the order of texts with numbers: by the text and then by the number
 abbrev pub numbered_order : Text × ℕ → Text × ℕ → Ordering
 numbered_order x y = ordering_then (name_order x.0 y.0) (nat_cmp x.1 y.1)
 
--- these texts in their order, after the first n texts
+-- these entries and texts in order, numbered from n on
 abbrev pub ordered_from : List ((Text × ℕ) × Unit {0}) → ℕ → List Text
     → List ((Text × ℕ) × Unit {0})
 ordered_from entries n [] = entries
 ordered_from entries n (t ∷ texts) =
     ordered_from (insert_entry numbered_order entries (t, n) tt) (n + 1) texts
 
--- these texts in the order of their bytes, each as often as it is there
+-- these texts in the order of their bytes, each as often as it occurs
 abbrev pub in_order : List Text → List Text
 in_order texts = map (λ (e : (Text × ℕ) × Unit {0}). e.0.0) (ordered_from [] 0 texts)
 
@@ -61,11 +62,12 @@ with_commas texts = flat_map (λ (t : Text). t ++ codes ",") texts
 abbrev pub string_text : Text → Text
 string_text value = decimal (length value) ++ (codes "\"" ++ value)
 
+-- the text of a Boolean value
 abbrev pub boolean_text : Bool → Text
 boolean_text true = codes "true"
 boolean_text false = codes "false"
 
--- a value of this form, by the texts of its parts
+-- the text of a value of this form, from the texts of its parts
 abbrev pub text_at : Literal-F Text Text → Text
 text_at (Literal-F.Variable place name) = codes "$" ++ name
 text_at (Literal-F.Int place text) = text
@@ -77,10 +79,11 @@ text_at (Literal-F.Enum place name) = name
 text_at (Literal-F.List place items) = codes "[" ++ (with_commas items ++ codes "]")
 text_at (Literal-F.Object place fields) = codes "{" ++ (with_commas (in_order fields) ++ codes "}")
 
--- a field of an object or an argument: its name and its value
+-- the text of an argument or a field of an object, from its name and the text of its value
 abbrev pub member_text : Text → Text → Text
 member_text name value = name ++ (codes ":" ++ value)
 
+-- the text of a field of an object, from the text of its value
 abbrev pub text_of_field : ObjectField-F Text Text → Text
 text_of_field f = member_text f.name.text f.value
 
@@ -90,16 +93,18 @@ value_text = fold-Literal Text Text text_at text_of_field
 
 -- ---- calls
 
+-- the text of an argument
 abbrev pub argument_text : Argument → Text
 argument_text a = member_text a.name.text (value_text a.value)
 
--- a field of this name with these arguments
+-- the text of a field of this name with these arguments
 abbrev pub call_text : Text → List Argument → Text
 call_text name arguments =
     name ++ (codes "(" ++ with_commas (each_once (map argument_text arguments)))
 
 -- ---- the text of each form of a value
 
+-- the text of a field of an object
 abbrev pub object_field_text : ObjectField → Text
 object_field_text f = member_text f.name.text (value_text f.value)
 
@@ -165,9 +170,11 @@ text_object p fields = ap value_text (sym (l.rolls-Object p fields))
 
 -- ---- examples
 
+-- a name at a place
 abbrev name : Place → Text → Name
 name p n = record { place = p; text = n }
 
+-- a field of an object with this name and value
 abbrev one : Place → Text → Literal → ObjectField
 one p n v = record { name = name p n; value = v }
 
@@ -178,8 +185,10 @@ without_order : (p : Place)
     ≡ value_text (l.Object p (one p (codes "b") (l.Int p (codes "2"))
     ∷ one p (codes "a") (l.Int p (codes "1")) ∷ []))
 without_order p = rw (
-  text_object p (one p (codes "a") (l.Int p (codes "1")) ∷ one p (codes "b") (l.Int p (codes "2")) ∷ []),
-  text_object p (one p (codes "b") (l.Int p (codes "2")) ∷ one p (codes "a") (l.Int p (codes "1")) ∷ []),
+  text_object p (one p (codes "a") (l.Int p (codes "1"))
+      ∷ one p (codes "b") (l.Int p (codes "2")) ∷ []),
+  text_object p (one p (codes "b") (l.Int p (codes "2"))
+      ∷ one p (codes "a") (l.Int p (codes "1")) ∷ []),
   text_int p (codes "1"),
   text_int p (codes "2"),
 ) refl
@@ -190,7 +199,8 @@ as_often : (p : Place)
     ∷ one p (codes "p") (l.Int p (codes "1")) ∷ []))
     ≡ codes "{p:1,p:1,}"
 as_often p = rw (
-  text_object p (one p (codes "p") (l.Int p (codes "1")) ∷ one p (codes "p") (l.Int p (codes "1")) ∷ []),
+  text_object p (one p (codes "p") (l.Int p (codes "1"))
+      ∷ one p (codes "p") (l.Int p (codes "1")) ∷ []),
   text_int p (codes "1"),
 ) refl
 

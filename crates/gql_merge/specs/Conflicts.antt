@@ -11,7 +11,7 @@ use Rattle.gql_facts.specs.Worlds.{Facts}
 use Rattle.gql_merge.specs.FieldNodes.{FieldInfo, FieldNode}
 use Rattle.gql_merge.specs.MergedNodes.{is_before, nodes, sets_in}
 
--- two fields of one response name, in their order, that may not be merged
+-- two fields of one response name, in file order, that clash where selections are merged
 abbrev pub IsConflict : Facts → Definition → FieldNode → FieldNode → Mode → Type 0
 IsConflict facts d f g m = IsClash (nodes facts) (SeedsOf (nodes facts) (sets_in facts d)) f g m
     × (is_before f.its g.its ≡ true)

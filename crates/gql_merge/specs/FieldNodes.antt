@@ -3,7 +3,7 @@ use Rattle.std.specs.Prelude.{◌≡◌, ℕ, List, [], ◌∷◌, Bool, Option,
 use Rattle.std.proofs.Common.{ap, ◌∙◌}
 use Rattle.gql_text.specs.declared.place.Place.{Place}
 
--- what is compared of a field whose definition is known, but for what it selects
+-- what is compared of a field whose definition is known, without what it selects
 pub record FieldInfo : Type 0 where
   pub file : List ℕ
   -- a field starts at its alias, or else at its name
@@ -14,7 +14,7 @@ pub record FieldInfo : Type 0 where
   pub of_object : Bool
   -- its name and its arguments (`Calls`)
   pub call : List ℕ
-  -- of its type (`Shapes`)
+  -- the shape of its type (`Shapes`)
   pub shape : List ℕ
 
 mutual
@@ -33,15 +33,17 @@ pub record FieldNode : Type 0 where
   pub its : FieldInfo
   pub below : Option SetNode
 
--- these fields
+-- a field in front of a list of fields
 abbrev pub with_field : FieldInfo → Option SetNode → FieldList → FieldList
 with_field i None rest = leaf i rest
 with_field i (Some s) rest = branch i s rest
 
+-- fields as a `FieldList`
 abbrev pub listed : List FieldNode → FieldList
 listed [] = no_fields
 listed (f ∷ rest) = with_field f.its f.below (listed rest)
 
+-- the fields of a `FieldList`, as a list
 abbrev pub fields_in : FieldList → List FieldNode
 fields_in no_fields = []
 fields_in (leaf i rest) = record { its = i; below = None } ∷ fields_in rest
@@ -63,4 +65,5 @@ fields_with i (Some s) rest = refl
 -- a set of these fields has them
 pub fields_listed : (fs : List FieldNode) → fields_in (listed fs) ≡ fs
 fields_listed [] = refl
-fields_listed (f ∷ fs) = fields_with f.its f.below (listed fs) ∙ ap (λ rest. f ∷ rest) (fields_listed fs)
+fields_listed (f ∷ fs) = fields_with f.its f.below (listed fs)
+    ∙ ap (λ rest. f ∷ rest) (fields_listed fs)

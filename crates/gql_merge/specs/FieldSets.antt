@@ -1,6 +1,6 @@
 -- The selection sets of a definition (GraphQL 5.3.2). What is in an inline fragment is part of the
--- set around it. A field whose definition is not known takes no part; the set that it selects is
--- there all the same, as a type is known again in an inline fragment with a condition.
+-- set around it. A field whose definition is not known takes no part, but the set that it selects
+-- does: within it, an inline fragment with a condition has a known type again.
 use Rattle.std.specs.Prelude.{◌≡◌, ℕ, List, [], ◌∷◌, ◌++◌, map, flat_map, Bool, true, false, Option, Some, None, option_map, refl}
 use Rattle.std.proofs.Common.{ap, sym, ◌∙◌}
 use Rattle.gql_ast.specs.declared.executable.Field.{Field}
@@ -24,23 +24,24 @@ use Rattle.gql_merge.specs.Shapes.{shape_text}
 
 -- ---- a field
 
--- the name of a field, as it is written
+-- a field as it is written, without what it selects
 pub record WrittenField : Type 0 where
   pub alias : Option Name
   pub name : Name
   pub arguments : List Argument
 
--- a field goes by its alias, or else by its name
+-- the response name of a field: its alias, or its name if it has none
 abbrev pub own_name : Option Name → Name → Name
 own_name None name = name
 own_name (Some alias) name = alias
 
+-- whether this is the kind of objects
 abbrev pub is_object : Option TypeKind → Bool
 is_object (Some kind.Object) = true
 is_object _ = false
 
--- What is compared of a field of the type `parent`, whose definition is d, where these are the kinds
--- of the parent and of the field's type.
+-- What is compared of a field of the type `parent`, whose definition is d; `own` is the kind of the
+-- parent and `of_field` that of the field's type.
 abbrev pub info_by : List ℕ → List ℕ → WrittenField → FieldFact → Option TypeKind
     → Option TypeKind → FieldInfo
 info_by file parent f d own of_field = record {
@@ -53,12 +54,12 @@ info_by file parent f d own of_field = record {
   shape = shape_text d.of_type of_field;
 }
 
--- the same, by the kinds that are known
+-- what is compared of a field of the type `parent`, whose definition is d
 abbrev pub info_of : Facts → List ℕ → List ℕ → WrittenField → FieldFact → FieldInfo
 info_of facts file parent f d =
     info_by file parent f d (kind_of facts parent) (kind_of facts d.of_type.name)
 
--- none where the definition is not known
+-- what is compared of a field, or none if its definition is not known
 abbrev pub known_info : Facts → List ℕ → Option (List ℕ) → WrittenField → Option FieldInfo
 known_info facts file None f = None
 known_info facts file (Some t) f =
@@ -89,17 +90,17 @@ abbrev pub set_if : Bool → Part → Option SetNode
 set_if true p = Some (set_of p)
 set_if false p = None
 
--- a list of it, if it is there
+-- an optional value as a list
 abbrev pub list_of : {A : Type 0} → Option A → List A
 list_of None = []
 list_of (Some x) = x ∷ []
 
--- the field, if it is known
+-- the field of this info, if its definition is known
 abbrev pub field_if : Option FieldInfo → Option SetNode → List FieldNode
 field_if None below = []
 field_if (Some i) below = record { its = i; below = below } ∷ []
 
--- of a field, by what is known of it, whether it selects anything, and what it selects
+-- the part of a field, from what is known of it, whether it selects anything, and what it selects
 abbrev pub part_of_field : Option FieldInfo → Bool → Part → Part
 part_of_field known selects p = record {
   fields = field_if known (set_if selects p);
@@ -107,30 +108,34 @@ part_of_field known selects p = record {
   sets = p.sets ++ list_of (set_if selects p);
 }
 
+-- the part of a spread of the fragment of this name
 abbrev pub part_of_spread : List ℕ → Part
 part_of_spread name = record { fields = []; names = name ∷ []; sets = [] }
 
 -- ---- selections
 
--- by the parent type
+-- a part, by the parent type of the set around it
 abbrev pub ByParent : Type 0
 ByParent = Option (List ℕ) → Part
 
--- all parts, with this parent type
+-- the parts together, with this parent type
 abbrev pub all_by : Option (List ℕ) → List ByParent → Part
 all_by parent parts = joined (map (λ by. by parent) parts)
 
+-- the part of a selection of this form, from that of a field or an inline fragment
 abbrev pub part_at : Selection-F ByParent ByParent ByParent → ByParent
 part_at (Selection-F.Field below) parent = below parent
 part_at (Selection-F.Spread x) parent = part_of_spread x.name.text
 part_at (Selection-F.InlineFragment below) parent = below parent
 
+-- the part of a field, from the parts of what it selects
 abbrev pub field_part : Facts → List ℕ → Field-F ByParent ByParent ByParent → ByParent
 field_part facts file f parent = part_of_field
     (known_info facts file parent
     (record { alias = f.alias; name = f.name; arguments = f.arguments })) (has_any f.selections)
     (all_by (parent_below facts parent f.name.text) f.selections)
 
+-- the part of an inline fragment, from the parts of what it selects
 abbrev pub inline_part : Facts → InlineFragment-F ByParent ByParent ByParent → ByParent
 inline_part facts i parent = all_by (parent_within facts parent i.condition) i.selections
 
@@ -145,7 +150,7 @@ part_within facts file parent xs = joined (map (λ x. part_in facts file x paren
 
 -- ---- the part of each form of a selection
 
--- how a field is written
+-- a field of a tree as it is written, without what it selects
 abbrev pub written_field : Field → WrittenField
 written_field f = record { alias = f.alias; name = f.name; arguments = f.arguments }
 

@@ -10,16 +10,15 @@ use Rattle.gql_merge.specs.Flat.{Draws}
 use Rattle.gql_merge.specs.MergedNodes.{fragment_part, fragment_set, sets_in, sets_of}
 use Rattle.gql_merge.specs.declared.flat.FlatSet.{FlatSet}
 
--- the sets of a fragment, its own as the last
+-- the sets of a fragment; its own is the last
 abbrev pub fragment_sets : Facts → FragmentFact → List SetNode
 fragment_sets facts g = sets_of (fragment_part facts g.file g.fragment)
 
--- all sets: those of the definition come first
+-- all sets, those of the definition first
 abbrev pub all_sets : Facts → Definition → List FragmentFact → List SetNode
 all_sets facts d members = sets_in facts d ++ flat_map (fragment_sets facts) members
 
--- a number is that of the own set of the fragment of this name; there is none where none of these
--- has the name
+-- the number of a fragment's own set, by its name, or none if none of these fragments has the name
 abbrev pub IsIndexAt : Facts → List SetNode → List FragmentFact → List ℕ → Option ℕ → Type 0
 IsIndexAt facts sets members name None =
     (g : FragmentFact) → Contains members g → g.fragment.name.text ≡ name → ⊥
@@ -27,12 +26,12 @@ IsIndexAt facts sets members name (Some i) = (g : FragmentFact)
     × Contains members g × (g.fragment.name.text ≡ name)
     × (slice_get sets i ≡ Some (fragment_set facts g))
 
--- the numbers of these fragments
+-- for each name, the number of that fragment's own set
 abbrev pub IsIndex : Facts → List SetNode → List FragmentFact → (List ℕ → Option ℕ) → Type 0
 IsIndex facts sets members number =
     (name : List ℕ) → IsIndexAt facts sets members name (number name)
 
--- the sets and the numbers have gained those of a fragment
+-- the sets of a fragment are added, and the number of its own set
 abbrev pub AddsMember : Facts → FragmentFact → List FlatSet → (List ℕ → Option ℕ)
     → List FlatSet → (List ℕ → Option ℕ) → Type 0
 AddsMember facts g sets number sets_after number_after =
@@ -41,7 +40,7 @@ AddsMember facts g sets number sets_after number_after =
     → Draws sets_after (before ++ fragment_sets facts g)
     × IsIndex facts (before ++ fragment_sets facts g) (members ++ g ∷ []) number_after
 
--- the same, of these fragments, where there were no numbers
+-- the sets of these fragments are added, and the numbers of their own sets; there were no numbers
 abbrev pub AddsMembers : Facts → List FragmentFact → List FlatSet
     → List FlatSet → (List ℕ → Option ℕ) → Type 0
 AddsMembers facts members sets sets_after number_after =

@@ -1,10 +1,10 @@
--- Helper definitions for private contracts: a field whose definition is known, as definitions see
--- it.
+-- Helper definitions for private contracts: a field whose definition is known, as specifications
+-- see it.
 use Rattle.gql_merge.specs.FieldNodes.{FieldInfo}
 use Rattle.gql_merge.specs.FieldSets.{own_name}
 use Rattle.gql_merge.specs.declared.known.KnownField.{KnownField}
 
--- what is compared of it
+-- what is compared of the field
 abbrev pub info_in : KnownField → FieldInfo
 info_in x = record {
   file = x.file.now;

@@ -6,6 +6,7 @@ use Rattle.gql_facts.specs.Worlds.{Facts}
 use Rattle.gql_merge.specs.V05DifferentCalls as v05
 use Rattle.gql_merge.specs.V06DifferentShapes as v06
 
+-- the faults of a definition by V05 and V06
 pub data IsMergeFault (facts : Facts) (d : Definition) : Fault → Type 0 where
   by_v05 : {f : Fault} → v05.IsFault facts d f → IsMergeFault facts d f
   by_v06 : {f : Fault} → v06.IsFault facts d f → IsMergeFault facts d f

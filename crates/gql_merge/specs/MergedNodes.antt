@@ -21,14 +21,16 @@ use Rattle.gql_merge.specs.FieldSets.{Part, part_within, set_of, list_of}
 
 -- ---- definitions
 
+-- the part of an operation: all that it selects
 abbrev pub operation_part : Facts → List ℕ → Operation → Part
 operation_part facts file o = part_within facts file (root_parent facts o.kind) o.selections
 
+-- the part of a fragment: all that it selects
 abbrev pub fragment_part : Facts → List ℕ → Fragment → Part
 fragment_part facts file f =
     part_within facts file (composite facts (Some f.condition.text)) f.selections
 
--- none for a definition of the type system
+-- the part of a definition, or none for one of the type system
 abbrev pub tree_part : Facts → List ℕ → Tree → Option Part
 tree_part facts file (tree.Operation o) = Some (operation_part facts file o)
 tree_part facts file (tree.Fragment f) = Some (fragment_part facts file f)
@@ -44,35 +46,37 @@ sets_in facts d = flat_map sets_of (list_of (tree_part facts d.file d.tree))
 
 -- ---- fragments
 
+-- the selection set of a fragment
 abbrev pub fragment_set : Facts → FragmentFact → SetNode
 fragment_set facts g = set_of (fragment_part facts g.file g.fragment)
 
--- the set of the fragment that a fact speaks of
+-- the selection set of the fragment that a fact gives
 abbrev pub sets_by : Facts → Fact → List SetNode
 sets_by facts (fact.Fragment g) = fragment_set facts g ∷ []
 sets_by facts _ = []
 
--- the set of the fragment of this name
+-- the selection set of the fragment of this name
 abbrev pub sets_named : Facts → List ℕ → List SetNode
 sets_named facts n = sets_by facts (facts (key.FragmentOf n))
 
 -- ---- fields
 
--- one field: one place in one file
+-- whether two fields are one: at one place in one file
 abbrev pub is_one : FieldNode → FieldNode → Bool
 is_one f g = bytes_eq f.its.file g.its.file
     && nat_eq f.its.start.offset g.its.start.offset
 
+-- the order by files first, and within one file by this
 abbrev pub is_before_by : Ordering → Bool → Bool
 is_before_by Less within = true
 is_before_by Equal within = within
 is_before_by Greater within = false
 
--- files are in the order of their names, and fields of one file in that of their places
+-- whether a field is before another: by the names of the files, then by the places
 abbrev pub is_before : FieldInfo → FieldInfo → Bool
 is_before i j = is_before_by (name_order i.file j.file) (nat_lt i.start.offset j.start.offset)
 
--- what the merging of fields asks of them
+-- what the merging of fields needs to know of them
 abbrev pub nodes : Facts → Nodes FieldNode SetNode
 nodes facts = record {
   direct = direct;

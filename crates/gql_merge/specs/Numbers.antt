@@ -20,7 +20,7 @@ abbrev pub place_in : List ℕ → List (List ℕ) → Option ℕ
 place_in t [] = None
 place_in t (x ∷ xs) = cond (bytes_eq t x) (Some 0) (option_map suc (place_in t xs))
 
--- the places of texts
+-- `number` gives the place of each text among these
 abbrev pub IsIndexed : (List ℕ → Option ℕ) → List (List ℕ) → Type 0
 IsIndexed number texts = (q : List ℕ) → number q ≡ place_in q texts
 
@@ -28,15 +28,16 @@ IsIndexed number texts = (q : List ℕ) → number q ≡ place_in q texts
 abbrev pub HasPlaces : List (List ℕ) → List ℕ → Type 0
 HasPlaces texts numbers = map Some numbers ≡ map (λ t. place_in t texts) texts
 
--- a text more, and its number
+-- a text is added at this place; the result is the first place of that text
 abbrev pub AddsText : (List ℕ → Option ℕ) → List ℕ → ℕ → (List ℕ → Option ℕ) → ℕ → Type 0
 AddsText number text place number_after result = (texts : List (List ℕ))
     → IsIndexed number texts → place ≡ length texts
-    → IsIndexed number_after (texts ++ text ∷ []) × (place_in text (texts ++ text ∷ []) ≡ Some result)
+    → IsIndexed number_after (texts ++ text ∷ [])
+    × (place_in text (texts ++ text ∷ []) ≡ Some result)
 
 -- ---- numbers of fields
 
--- an aspect of a field, as a text
+-- one aspect of a field, as a text
 abbrev pub aspect_of : Aspect → FieldInfo → List ℕ
 aspect_of aspect.File i = i.file
 aspect_of aspect.ResponseName i = i.response_name
@@ -44,11 +45,11 @@ aspect_of aspect.Parent i = i.parent
 aspect_of aspect.Call i = i.call
 aspect_of aspect.Shape i = i.shape
 
--- of all fields
+-- one aspect of all fields
 abbrev pub aspects_of : Aspect → List FlatField → List (List ℕ)
 aspects_of a all = map (λ (x : FlatField). aspect_of a (info_in x.known)) all
 
--- the numbers of all aspects
+-- the columns have the numbers of each aspect of all fields
 pub record AreColumns (all : List FlatField) (c : Columns) : Type 0 where
   pub files : HasPlaces (aspects_of aspect.File all) c.files.items
   pub names : HasPlaces (aspects_of aspect.ResponseName all) c.names.items
@@ -56,11 +57,11 @@ pub record AreColumns (all : List FlatField) (c : Columns) : Type 0 where
   pub calls : HasPlaces (aspects_of aspect.Call all) c.calls.items
   pub shapes : HasPlaces (aspects_of aspect.Shape all) c.shapes.items
 
--- the number of an aspect of x
+-- n is the number of this aspect of x
 abbrev pub IsPlace : Aspect → List FlatField → FlatField → ℕ → Type 0
 IsPlace a all x n = place_in (aspect_of a (info_in x.known)) (aspects_of a all) ≡ Some n
 
--- n is the field x of these
+-- n is the field x by numbers
 pub record IsNumberOf (all : List FlatField) (x : FlatField) (n : NumberedField) : Type 0 where
   pub file : IsPlace aspect.File all x n.file
   pub start : n.start ≡ (info_in x.known).start.offset
@@ -71,11 +72,11 @@ pub record IsNumberOf (all : List FlatField) (x : FlatField) (n : NumberedField)
   pub shape : IsPlace aspect.Shape all x n.shape
   pub below : n.below ≡ x.below
 
--- n is the field at this place
+-- n is the field at this place by numbers
 abbrev pub IsNumberAt : List FlatField → ℕ → NumberedField → Type 0
 IsNumberAt all place n = (d : FlatField) → IsNumberOf all (get_or all place d) n
 
--- one by one
+-- these are the fields by numbers, one by one
 abbrev pub AreNumbersOf : List FlatField → List FlatField → List NumberedField → Type 0
 AreNumbersOf all [] [] = Unit {0}
 AreNumbersOf all [] (n ∷ ns) = ⊥
@@ -88,12 +89,12 @@ AreNumbersOf all (x ∷ xs) (n ∷ ns) = IsNumberOf all x n × AreNumbersOf all 
 abbrev pub numbers_to : ℕ → List ℕ
 numbers_to n = range_with_len 0 n
 
--- the numbers of these fields, from this one on
+-- as many numbers as fields, from n on
 abbrev pub numbers_from : ℕ → List FlatField → List ℕ
 numbers_from n [] = []
 numbers_from n (x ∷ xs) = n ∷ numbers_from (n + 1) xs
 
--- of the fields of each set
+-- the numbers of the fields of each set, from n on
 abbrev pub direct_from : ℕ → List FlatSet → List (List ℕ)
 direct_from n [] = []
 direct_from n (s ∷ sets) = numbers_from n s.fields.items
@@ -103,7 +104,7 @@ direct_from n (s ∷ sets) = numbers_from n s.fields.items
 abbrev pub spreads_of : (List ℕ → Option ℕ) → FlatSet → List ℕ
 spreads_of number s = flat_map (λ n. list_of (number n.now)) s.names.items
 
--- z numbers these sets and all their fields
+-- z has these sets and all their fields by numbers
 pub record Numbers (sets : List FlatSet) (number : List ℕ → Option ℕ)
     (all : List FlatField) (z : Sets) : Type 0 where
   pub all_fields : all ≡ flat_map (λ (s : FlatSet). s.fields.items) sets

@@ -14,11 +14,11 @@ use Rattle.gql_merge.specs.Known.{info_in}
 use Rattle.gql_merge.specs.MergedNodes.{is_before}
 use Rattle.gql_merge.specs.declared.flat.FlatField.{FlatField}
 
--- the shapes of their types differ
+-- whether the shapes of the types of two fields differ
 abbrev pub differ_in_shape : FieldInfo → FieldInfo → Bool
 differ_in_shape i j = not (bytes_eq i.shape j.shape)
 
--- names or arguments differ, where the results are merged
+-- whether two fields whose results are merged differ in name or arguments
 abbrev pub differ_in_call : Mode → FieldInfo → FieldInfo → Bool
 differ_in_call m i j = is_merge m
     && (bytes_eq i.parent j.parent || not i.of_object || not j.of_object)
@@ -40,16 +40,16 @@ abbrev pub shape_faults : FilePlace → FieldInfo → FieldInfo → List Fault
 shape_faults owner i j =
     if differ_in_shape i j then ordered_fault owner rule.V06 i j ∷ [] else []
 
--- both
+-- the faults of two fields by both rules
 abbrev pub faults_of : FilePlace → Mode → FieldInfo → FieldInfo → List Fault
 faults_of owner m i j = call_faults owner m i j ++ shape_faults owner i j
 
--- of two fields, if there are two
+-- the faults of two fields, if both are there
 abbrev pub faults_if : FilePlace → Mode → Option FlatField → Option FlatField → List Fault
 faults_if owner m None y = []
 faults_if owner m (Some x) None = []
 faults_if owner m (Some x) (Some y) = faults_of owner m (info_in x.known) (info_in y.known)
 
--- of the fields of a pair of numbers
+-- the faults of the two fields that a pair of numbers refers to
 abbrev pub pair_faults : FilePlace → List FlatField → Pair → List Fault
 pair_faults owner all p = faults_if owner p.mode (slice_get all p.first) (slice_get all p.second)

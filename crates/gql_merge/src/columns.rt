@@ -1,4 +1,4 @@
-//! Numbers for the texts by which fields are compared: equal numbers where the texts are equal.
+//! Numbers for the texts by which fields are compared: they are equal exactly if the texts are.
 ghost use Rattle.std.specs.Prelude.{◌≡◌, IfOk, OnOk, bytes_eq, map};
 ghost use Rattle.std.specs.HashMap as hash;
 ghost use Rattle.gql_merge.specs.FieldSets.{own_name as the_own_name};
@@ -30,7 +30,7 @@ pub struct Columns {
     pub shapes: Vec<usize>,
 }
 
-/// A field goes by its alias, or else by its name.
+/// The response name of a field: its alias, or its name if it has none.
 pub fn own_name(field: &Field) -> &Name
     ensures { result.now ≡ the_own_name field.now.alias field.now.name }
 {

@@ -19,7 +19,7 @@ pub struct FlatField<'t> {
 }
 
 impl<'t> FlatField<'t> {
-    /// An equal field.
+    /// A copy of the field.
     pub fn copy(&self) -> Result<FlatField<'t>, AllocError>
         ensures { IfOk result (λ f. f ≡ self.now) }
     {

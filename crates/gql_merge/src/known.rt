@@ -25,12 +25,12 @@ pub struct KnownField<'t> {
     pub of_object: bool,
     /// Its name and arguments.
     pub call: Text,
-    /// That of its type.
+    /// The shape of its type.
     pub shape: Text,
 }
 
 impl<'t> KnownField<'t> {
-    /// An equal field.
+    /// A copy of the field.
     pub fn copy(&self) -> Result<KnownField<'t>, AllocError>
         ensures { IfOk result (λ f. f ≡ self.now) }
     {
@@ -129,7 +129,7 @@ fn see_known<'t, W: World>(
     })
 }
 
-/// The answer for a field of a parent type; absent where that is not known.
+/// The answer for a field of a parent type; absent if that is not known.
 fn ask_field<W: World>(
     alloc: Global,
     world: &mut W,

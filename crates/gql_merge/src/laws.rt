@@ -6,8 +6,8 @@ ghost use Rattle.gql_facts.specs.Reads.{Agree};
 ghost use Rattle.gql_facts.specs.Worlds.{Facts};
 ghost use Rattle.gql_merge.specs.MergeFaults.{IsMergeFault};
 
-/// The faults by the rules on the merging of fields depend on what the definition reads alone:
-/// facts that agree there give the same faults, both ways.
+/// The faults by the rules on the merging of fields depend only on what the definition reads: facts
+/// that agree there give the same faults, both ways.
 pub fn same_merge_faults()
     ensures { (v u : Facts) → (d : Definition) → Agree v u d
         → (f : Fault) → IsMergeFault v d f ↔ IsMergeFault u d f }

@@ -1,6 +1,6 @@
 //! The rules on the merging of fields (GraphQL specification, 5.3.2), over what a world answers.
 //!
-//! A function that adds to a list may have added a part where it fails for memory.
+//! A function that adds to a list may have added a part of it if an allocation fails.
 #![tactic(auto)]
 
 mod columns;

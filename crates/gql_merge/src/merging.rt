@@ -104,8 +104,8 @@ fn numbers_to(alloc: Global, count: usize) -> Result<Vec<usize>, AllocError>
 }
 
 /// The faults of a definition by the rules on the merging of fields: V05 and V06 (GraphQL
-/// specification, 5.3.2). A definition of the type system has none. An error leaves what the world
-/// answers as it was.
+/// specification, 5.3.2). A definition of the type system has none. If an allocation fails, the
+/// world answers as before.
 pub fn merge_faults<W: World>(
     alloc: Global,
     world: &mut W,

@@ -10,7 +10,7 @@ use gql_rules::kind_of;
 use gql_types::TypeKind;
 use std::alloc::{AllocError, Global};
 
-/// The type of this name, where its kind is composite.
+/// The type of this name, if its kind is composite.
 pub fn composite_by_kind(of_type: &Text, kind: Option<TypeKind>) -> Result<Option<Text>, AllocError>
     ensures { IfOk result (λ t. t ≡ composite_by of_type.now kind) }
 {
@@ -24,7 +24,7 @@ pub fn composite_by_kind(of_type: &Text, kind: Option<TypeKind>) -> Result<Optio
     }
 }
 
-/// The type of this name, where it is composite.
+/// The type of this name, if it is composite.
 pub fn composite<W: World>(
     alloc: Global,
     world: &mut W,
@@ -41,7 +41,7 @@ pub fn composite<W: World>(
     Ok(parent)
 }
 
-/// An equal name, if there is one.
+/// A copy of the name, if there is one.
 fn copied(name: &Option<Text>) -> Result<Option<Text>, AllocError>
     ensures { IfOk result (λ t. t ≡ name.now) }
 {

@@ -12,7 +12,8 @@ use std::alloc::{AllocError, Global};
 
 /// Whether the results of two fields may be those of one object.
 fn do_meet(first: &KnownField<'_>, second: &KnownField<'_>) -> bool
-    ensures { result ≡ (bytes_eq first.now.parent second.now.parent || not first.now.of_object || not second.now.of_object) }
+    ensures { result ≡ (bytes_eq first.now.parent second.now.parent
+        || not first.now.of_object || not second.now.of_object) }
 {
     first.parent.as_str() == second.parent.as_str() || !first.of_object || !second.of_object
 }

@@ -1,4 +1,5 @@
--- Helper definitions for contracts: nodes as the code borrows them.
+-- Helper definitions for private contracts: nodes that Rust code borrows, as specifications see
+-- them.
 use Rattle.std.specs.Option.{option_copied}
 use Rattle.std.specs.Prelude.{Some, map}
 use Rattle.gql_ast.specs.declared.literal.Literal.{Literal}

@@ -15,24 +15,24 @@ use Rattle.gql_node_rules.specs.S31RepeatedDirectives as s31
 use Rattle.gql_node_rules.specs.S32BadArguments as s32
 use Rattle.gql_node_rules.specs.S33BadArgumentValues as s33
 
--- by the rule on names
+-- the faults by the rule on names
 abbrev pub name_faults : AllNodes → List Fault
 name_faults n = s03.faults n
 
--- by the rules on references to types of a role
+-- the faults by the rules on references to types of one role
 abbrev pub role_faults : AllNodes → Schema → List Fault
 role_faults n s = s16.faults n s ++ (s21.faults n s ++ s22.faults n s)
 
--- by the rules on all references to types
+-- the faults by the rules on all references to types
 abbrev pub reference_faults : AllNodes → Schema → List Fault
 reference_faults n s = s20.faults n s ++ p01.faults n
 
--- by the rules on applied directives
+-- the faults by the rules on applied directives
 abbrev pub directive_faults : AllNodes → Schema → List Fault
 directive_faults n s = s29.faults n s ++ (s30.faults n s
     ++ (s31.faults n s ++ (s32.faults n s ++ s33.faults n s)))
 
--- by all these rules
+-- the faults by all these rules
 abbrev pub node_faults : AllNodes → Schema → List Fault
 node_faults n s = name_faults n ++ (role_faults n s
     ++ (reference_faults n s ++ directive_faults n s))

@@ -1,5 +1,6 @@
--- The nodes of schema files (GraphQL 3.3 to 3.13): their definitions and extensions, and what these
--- hold. Second definitions of a name and extensions that extend nothing are among them.
+-- The nodes of schema files (GraphQL 3.3 to 3.13): their definitions and extensions, and the parts
+-- of these. A second definition of a name counts, and so does an extension of a type that does not
+-- exist.
 use Rattle.std.specs.Prelude.{List, [], ◌∷◌, ◌++◌, map, flat_map}
 use Rattle.gql_ast.specs.declared.definition.Tree.{Tree}
 use Rattle.gql_ast.specs.declared.definition.Tree.TheVariants as tree
@@ -15,11 +16,11 @@ use Rattle.gql_ast.specs.declared.type_system.InputValueDefinition.{InputValueDe
 use Rattle.gql_built_in.specs.declared.sited.Sited.{Sited}
 use Rattle.gql_types.specs.Parts.{fields_of, values_of, input_fields_of, sited}
 
--- a part of each of these
+-- a part of each of these nodes
 abbrev pub each : {A B : Type 0} → (A → B) → List (Sited A) → List (Sited B)
 each part nodes = map (λ n. record { file = n.file; node = part n.node }) nodes
 
--- what all of these hold
+-- the parts of all these nodes
 abbrev pub within : {A B : Type 0} → (A → List B) → List (Sited A) → List (Sited B)
 within held nodes = flat_map (λ n. sited n.file (held n.node)) nodes
 
@@ -73,7 +74,7 @@ schema_extension_of (tree.Type definition) = []
 schema_extension_of (tree.Directive definition) = []
 schema_extension_of (tree.TypeExtension extension) = []
 
--- the definitions of types, of Float too
+-- the definitions of types; one of Float counts too
 abbrev pub types : List (Sited Tree) → List (Sited TypeDefinition)
 types ds = within type_of ds
 

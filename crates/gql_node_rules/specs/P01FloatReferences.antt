@@ -10,10 +10,11 @@ use Rattle.gql_faults.specs.Faults.{fault_of}
 use Rattle.gql_node_rules.specs.Nodes.{AllNodes}
 use Rattle.gql_node_rules.specs.References.{references}
 
+-- whether a name is `Float`
 abbrev pub is_float : List ℕ → Bool
 is_float name = bytes_eq name (codes "Float")
 
--- the fault at a name
+-- the fault of a reference
 abbrev pub fault_of_name : Sited Name → List Fault
 fault_of_name n = if is_float n.node.text then fault_of rule.P01 n else []
 

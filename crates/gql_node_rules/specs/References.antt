@@ -28,10 +28,11 @@ interfaces n = within interfaces_of n.parts
 abbrev pub members : AllNodes → List (Sited Name)
 members n = within members_of n.parts
 
--- the root operation types of definitions and extensions of the schema (3.3.1, 3.3.2)
+-- the names of the types in a list of root operation types
 abbrev pub types_in : List RootOperation → List Name
 types_in roots = map (λ (r : RootOperation). r.name) roots
 
+-- the root operation types of definitions and extensions of the schema (3.3.1, 3.3.2)
 abbrev pub roots : AllNodes → List (Sited Name)
 roots n = within (λ (s : SchemaDefinition). types_in s.roots) n.schemas
     ++ within (λ (e : SchemaExtension). types_in e.roots) n.schema_extensions

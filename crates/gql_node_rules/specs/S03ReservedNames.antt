@@ -12,6 +12,7 @@ use Rattle.gql_faults.specs.Faults.{fault_of}
 use Rattle.gql_node_rules.specs.DefinedNames.{defined_names}
 use Rattle.gql_node_rules.specs.Nodes.{AllNodes}
 
+-- whether a name begins with two underscores
 abbrev pub is_reserved : List ℕ → Bool
 is_reserved name = starts_with eqb name (codes "__")
 

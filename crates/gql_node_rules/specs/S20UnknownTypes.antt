@@ -12,10 +12,11 @@ use Rattle.gql_node_rules.specs.Nodes.{AllNodes}
 use Rattle.gql_node_rules.specs.P01FloatReferences.{is_float}
 use Rattle.gql_node_rules.specs.References.{references}
 
+-- whether a type has this name; P01 reports Float
 abbrev pub is_known : Schema → List ℕ → Bool
 is_known s name = is_some (type_named s name) || is_float name
 
--- the fault at a name
+-- the fault of a reference
 abbrev pub fault_of_name : Schema → Sited Name → List Fault
 fault_of_name s n = if is_known s n.node.text then [] else fault_of rule.S20 n
 

@@ -14,7 +14,7 @@ use Rattle.gql_types.specs.declared.schema.Schema.{Schema}
 use Rattle.gql_node_rules.specs.Nodes.{AllNodes}
 use Rattle.gql_node_rules.specs.References.{members}
 
--- the fault at a name
+-- the fault of a reference
 abbrev pub fault_of_name : Schema → Sited Name → List Fault
 fault_of_name s n = where_known (kind_named s n.node.text)
     (λ (k : TypeKind). if same_kind k kind.Object then [] else fault_of rule.S22 n)

@@ -12,7 +12,7 @@ use Rattle.gql_types.specs.declared.schema.Schema.{Schema}
 use Rattle.gql_node_rules.specs.Applied.{Application, applied, is_listed, name_of, place_of}
 use Rattle.gql_node_rules.specs.Nodes.{AllNodes}
 
--- of a directive with this definition, if it is known
+-- the fault of an applied directive with this definition, if it is known
 abbrev pub fault_by : Option (Sited DirectiveDefinition) → Application → List Fault
 fault_by known a = where_known known
     (λ (d : Sited DirectiveDefinition). if is_listed a.location d.node.locations then []

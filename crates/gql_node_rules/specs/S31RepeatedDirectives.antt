@@ -21,7 +21,7 @@ abbrev pub names_of : List Application → List (Sited Name)
 names_of group =
     map (λ (a : Application). record { file = a.file; node = a.directive.name }) group
 
--- the fault at a directive, if it is defined and not repeatable
+-- the fault at a directive, if its definition is known and it is not repeatable
 abbrev pub unless_repeatable : Schema → Application → List Fault
 unless_repeatable s a = where_known (directive_named s (name_of a))
     (λ (d : Sited DirectiveDefinition).
@@ -40,19 +40,19 @@ faults_in_group s group = flat_map (fault_in_group s group) group
 abbrev pub faults_together : Schema → List Annotations → List Fault
 faults_together s nodes = faults_in_group s (flat_map applied_at nodes)
 
--- of one node
+-- the faults of one node
 abbrev pub faults_alone : Schema → Annotations → List Fault
 faults_alone s n = faults_together s (n ∷ [])
 
--- of a type with its extensions
+-- the faults of a type with its extensions
 abbrev pub faults_of_type : Schema → SchemaType → List Fault
 faults_of_type s t = faults_together s (type_and_extensions t)
 
--- of the schema with its extensions
+-- the faults of the schema with its extensions
 abbrev pub faults_of_schema : AllNodes → Schema → List Fault
 faults_of_schema n s = faults_together s (schema_and_extensions n)
 
--- the same, of these nodes with their directives
+-- the faults of these nodes, of the types with their extensions, and of the schema
 abbrev pub faults_by : List Annotations → AllNodes → Schema → List Fault
 faults_by nodes n s =
     flat_map (faults_alone s) nodes ++ (flat_map (faults_of_type s) s.types ++ faults_of_schema n s)

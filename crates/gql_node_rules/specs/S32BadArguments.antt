@@ -19,45 +19,50 @@ use Rattle.gql_types.specs.declared.schema.Schema.{Schema}
 use Rattle.gql_node_rules.specs.Applied.{Application, applied, name_of, place_of}
 use Rattle.gql_node_rules.specs.Nodes.{AllNodes}
 
--- the names of the arguments that are given
+-- the names of arguments
 abbrev pub names_of : List Argument → List Name
 names_of arguments = map (λ (a : Argument). a.name) arguments
 
+-- the names of the arguments that an applied directive gives
 abbrev pub given : Application → List (Sited Name)
 given a = sited a.file (names_of a.directive.arguments)
 
--- an argument of this name is defined
+-- whether an argument of this name is defined
 abbrev pub is_defined : List InputValueDefinition → List ℕ → Bool
 is_defined arguments name = list_any
     (λ (v : InputValueDefinition). bytes_eq name v.name.text) arguments
 
--- an argument of this name is given
+-- whether an argument of this name is given
 abbrev pub is_given : Application → List ℕ → Bool
 is_given a name = list_any (λ (n : Sited Name). bytes_eq name n.node.text) (given a)
 
--- a given argument that is not defined
+-- the fault of a given argument that is not defined
 abbrev pub fault_of_given : List InputValueDefinition → Sited Name → List Fault
 fault_of_given arguments n = if is_defined arguments n.node.text then [] else fault_of rule.S32 n
 
+-- the faults of the given arguments that the definition of the directive does not have, if it is
+-- known
 abbrev pub undefined : Option (Sited DirectiveDefinition) → Application → List Fault
 undefined known a = where_known known
     (λ (d : Sited DirectiveDefinition). flat_map (fault_of_given d.node.arguments) (given a))
 
--- an argument that is given more than once, each time
+-- the faults of the arguments that are given more than once, at each of them
 abbrev pub twice : Application → List Fault
 twice a = repeated_faults rule.S32 (given a)
 
--- a required argument that is not given
+-- the fault of a required argument that is not given
 abbrev pub fault_of_required : Application → InputValueDefinition → List Fault
 fault_of_required a v = if is_given a v.name.text then []
     else fault_at rule.S32 v.name.text (place_of a)
 
+-- the faults of the required arguments that are not given, if the definition of the directive is
+-- known
 abbrev pub missing : Option (Sited DirectiveDefinition) → Application → List Fault
 missing known a = where_known known
     (λ (d : Sited DirectiveDefinition). flat_map (fault_of_required a)
     (filter is_required d.node.arguments))
 
--- of a directive with this definition, if it is known
+-- the faults of an applied directive with this definition, if it is known
 abbrev pub faults_by : Option (Sited DirectiveDefinition) → Application → List Fault
 faults_by known a = undefined known a ++ (twice a ++ missing known a)
 

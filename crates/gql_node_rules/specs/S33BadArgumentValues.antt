@@ -20,15 +20,17 @@ abbrev pub argument_named : List InputValueDefinition → List ℕ → Option In
 argument_named arguments name = find
     (λ (v : InputValueDefinition). bytes_eq name v.name.text) arguments
 
--- of one argument that is given in this file, where these are defined
+-- the fault of the value of one argument in this file, if the definition has the argument
 abbrev pub fault_of_value : Schema → Option (List ℕ) → List InputValueDefinition → Argument
     → List Fault
 fault_of_value s file arguments a = where_known (argument_named arguments a.name.text)
-    (λ (v : InputValueDefinition). fault_unless_fit rule.S33 s v (record { file = file; node = a.value }))
+    (λ (v : InputValueDefinition). fault_unless_fit rule.S33 s v
+    (record { file = file; node = a.value }))
 
--- of a directive with this definition, if it is known
+-- the faults of an applied directive with this definition, if it is known
 abbrev pub faults_by : Schema → Option (Sited DirectiveDefinition) → Application → List Fault
-faults_by s known a = where_known known (λ (d : Sited DirectiveDefinition). flat_map (fault_of_value s a.file d.node.arguments) a.directive.arguments)
+faults_by s known a = where_known known (λ (d : Sited DirectiveDefinition).
+    flat_map (fault_of_value s a.file d.node.arguments) a.directive.arguments)
 
 -- the faults of an applied directive
 abbrev pub faults_of_applied : Schema → Application → List Fault

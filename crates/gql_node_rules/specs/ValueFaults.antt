@@ -17,7 +17,7 @@ use Rattle.gql_types.specs.declared.schema.Schema.{Schema}
 abbrev pub start_of : Sited Literal → Sited Place
 start_of x = record { file = x.file; node = place_of (value_of x.node) }
 
--- of this rule, unless the value fits the type that this definition gives
+-- the fault of a value by this rule, unless it fits the type of its argument or input field
 abbrev pub fault_unless_fit : Rule → Schema → InputValueDefinition → Sited Literal → List Fault
 fault_unless_fit rule s v x = if fits s x.node (written v.of_type) then []
     else fault_at rule v.name.text (start_of x)

@@ -1,7 +1,7 @@
 //! The rules on the nodes of schema files: what their names, types and directives may be (GraphQL
 //! 3.3 to 3.13). The nodes themselves, and the fault of a value that does not fit its type.
 //!
-//! A function that adds to a list may have added a part where it fails for memory.
+//! A function that adds to a list may have added a part of it if an allocation fails.
 #![tactic(auto)]
 
 mod applied;

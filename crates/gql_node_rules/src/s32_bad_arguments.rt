@@ -64,7 +64,8 @@ fn check_all_given(
 /// The texts of these names.
 fn texts<'t>(alloc: Global, names: &[NamePlace<'t>]) -> Result<HashMap<&'t str, ()>, AllocError>
     ensures { IfOk result (λ texts. (q : List ℕ) →
-        is_some (hash.get_by (λ k. bytes_eq q k.now) texts) ≡ list_any (λ n. bytes_eq q n.node.text) (map named names.now)) }
+        is_some (hash.get_by (λ k. bytes_eq q k.now) texts)
+        ≡ list_any (λ n. bytes_eq q n.node.text) (map named names.now)) }
 {
     let mut texts = HashMap::new(alloc);
     for name in names {

@@ -36,8 +36,10 @@ pub struct Signature<'s> {
     pub required: Vec<&'s InputValueDefinition>,
     pub locations: Vec<DirectiveLocation>,
     ghost all: { map (λ a. a.definition.now) arguments ≡ definition.now.node.arguments },
-    ghost all_required: { map (λ v. v.now) required.items ≡ filter is_required definition.now.node.arguments },
-    ghost all_locations: { (l : TheLocation) → is_listed l locations.items ≡ is_listed l definition.now.node.locations },
+    ghost all_required: { map (λ v. v.now) required.items
+        ≡ filter is_required definition.now.node.arguments },
+    ghost all_locations: { (l : TheLocation)
+        → is_listed l locations.items ≡ is_listed l definition.now.node.locations },
 }
 
 impl<'s> HasName for Signature<'s> {

@@ -1,4 +1,4 @@
--- What the operations of files are.
+-- What is kept of the operations of document files.
 use Rattle.std.specs.Prelude.{◌≡◌, ℕ, List}
 use Rattle.gql_ast.specs.declared.definition.Document.{Document}
 use Rattle.gql_operations.specs.Chosen.{named_operations, operations}

@@ -1,3 +1,5 @@
+//! The operations of document files, and the one that a call asks for.
+
 ghost use Rattle.std.specs.Prelude.{◌≡◌, ◌++◌, ℕ, List, Some, IfOk, OnOk, flat_map};
 ghost use Rattle.std.specs.Option.{option_copied};
 ghost use Rattle.gql_ast.specs.declared.definition.Document.{Document as TheDocument};
@@ -23,8 +25,8 @@ impl HasName for NamedOperation {
     }
 }
 
-/// The operations of all document files, in the order of the files' names; of those of one name the
-/// first counts.
+/// The operations of all document files, in the order of the files' names. Of those of one name,
+/// the first counts.
 #[derive(Drop)]
 pub struct Operations {
     named: Named<NamedOperation>,
@@ -37,7 +39,8 @@ fn add_operation(
     named: &mut Vec<NamedOperation>,
     all: &mut Vec<Definition>,
 ) -> Result<(), AllocError>
-    ensures named { OnOk result (named.new.items ≡ named.old.items ++ spec.named_in definition.now) }
+    ensures named { OnOk result (named.new.items
+        ≡ named.old.items ++ spec.named_in definition.now) }
     ensures all { OnOk result (all.new.items ≡ all.old.items ++ spec.operation_in definition.now) }
 {
     if let Tree::Operation(operation) = &definition.tree {
@@ -111,8 +114,8 @@ impl Operations {
         }
     }
 
-    /// The operation that a call names: the first of that name, or without a name the only one that
-    /// there is (GraphQL specification, 6.1).
+    /// The operation that a call names: the first of that name, or, without a name, the only one
+    /// (GraphQL specification, 6.1).
     pub fn chosen(&self, name: Option<&str>) -> Option<&Definition>
         ensures { (documents : List (List ℕ × TheDocument)) → IsIndexOf documents self.now
             → option_copied result ≡ spec.chosen documents (option_copied name.entry) }

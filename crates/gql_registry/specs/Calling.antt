@@ -13,18 +13,18 @@ use Rattle.gql_registry.specs.declared.refusal.Refusal.TheVariants.{TooLarge, Me
 use Rattle.gql_registry.specs.declared.registry.Reply.{Reply}
 use Rattle.serde_json.specs.Data.{Data}
 
--- this holds of each response to the request of an operation
+-- `Holds` is true of each response to the request of an operation
 abbrev pub OfResponses : Files → Definition → Data → Data → (Response → Type 0) → Type 0
 OfResponses files d variables stored Holds = (operation : Operation)
     → d.tree ≡ tree.Operation operation → (p : Response)
     → Executes (request_of files d operation variables stored) p → Holds p
 
--- the reply has the text of the response
+-- the reply has the text of the response, of which at most `most_values` values are completed
 abbrev pub IsReplyOf : Files → Definition → Data → Data → Reply → Type 0
 IsReplyOf files d variables stored reply = OfResponses files d variables stored
     (λ p. (p.weight ≤ most_values) × (reply.body.items ≡ reply_text p.outcome))
 
--- the response has too many values, or an allocation failed
+-- the response has more values than `most_values`, or an allocation failed
 abbrev pub IsOver : Files → Definition → Data → Data → Refusal → Type 0
 IsOver files d variables stored TooLarge =
     OfResponses files d variables stored (λ p. most_values < p.weight)

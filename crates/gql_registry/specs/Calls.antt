@@ -1,5 +1,5 @@
--- What a call of a stored operation is answered (this registry's own rules): refused, where there is
--- no such operation or a fault stands against it; else the response that its execution gives.
+-- What a call of a stored operation is answered (this registry's own rule): a refusal, if there is
+-- no such operation or the operation is faulty; else the response that its execution gives.
 use Rattle.std.specs.Prelude.{◌≡◌, ◌≢◌, ◌↔◌, ◌<◌, ◌≤◌, ℕ, List, [], Contains, Option, Some, None, Result, Ok, Err}
 use Rattle.std.specs.List.Sorted.{IsStrictlySortedBy}
 use Rattle.gql_ast.specs.declared.definition.Definition.{Definition}
@@ -21,25 +21,25 @@ use Rattle.gql_registry.specs.declared.refusal.Refusal.TheVariants.{NoOperation,
 use Rattle.gql_registry.specs.declared.registry.Reply.{Reply}
 use Rattle.serde_json.specs.Data.{Data}
 
--- A fault stands against the operation d: it is one of the schema; or it is one of the files, and d
--- or a fragment that d reaches owns it.
+-- A fault that keeps the operation d from being executed: one of the schema, or one of the files
+-- that is owned by d or a fragment that d reaches.
 pub data StandsAgainst (files : Files) (d : Definition) (f : Fault) : Type 0 where
   of_schema : IsSchemaFault files f → StandsAgainst files d f
   of_documents : IsFault files f → IsOwned (fact_of files) d f → StandsAgainst files d f
 
--- these are the faults that stand against d, each once, in the order of reports
+-- these are the faults that keep d from being executed, each once, in the order of reports
 abbrev pub AreAgainst : Files → Definition → List Fault → Type 0
 AreAgainst files d faults = IsStrictlySortedBy fault_order faults
     × ((f : Fault) → Contains faults f ↔ StandsAgainst files d f)
 
--- the call of this name is one of the operation d, which no fault stands against
+-- the call of this name is one of the operation d, which no fault keeps from being executed
 pub record IsServed (files : Files) (name : Option (List ℕ)) (d : Definition) (o : Operation)
     : Type 0 where
   pub called : operations.chosen files.documents name ≡ Some d
   pub operation : d.tree ≡ tree.Operation o
   pub sound : (f : Fault) → StandsAgainst files d f → ⊥
 
--- the response to a call, on these data
+-- the response to a call, on this data
 pub record IsResponse (files : Files) (stored : Data) (name : Option (List ℕ)) (variables : Data)
     (p : Response) : Type 0 where
   pub definition : Definition
@@ -47,14 +47,14 @@ pub record IsResponse (files : Files) (stored : Data) (name : Option (List ℕ))
   pub served : IsServed files name definition operation
   pub executes : Executes (request_of files definition operation variables stored) p
 
--- What a call is answered, with these values for the operation's variables: the text of a reply, or a
--- refusal.
+-- What a call is answered, with these values for the operation's variables: the text of a reply, or
+-- a refusal.
 pub data Answers (files : Files) (stored : Data) (name : Option (List ℕ)) (variables : Data)
     : Result (List ℕ) Refusal → Type 0 where
-  -- 208: there is no operation of the name, or without a name there is not just one
+  -- 208: there is no operation of the name; or there is no name, and not exactly one operation
   no_operation : operations.chosen files.documents name ≡ None
       → Answers files stored name variables (Err NoOperation)
-  -- 209: faults stand against the operation, which are these
+  -- 209: these faults keep the operation from being executed
   faulty : {d : Definition} {faults : List Fault} → operations.chosen files.documents name ≡ Some d
       → AreAgainst files d faults → faults ≢ []
       → Answers files stored name variables (Err (Faulty faults))

@@ -1,4 +1,5 @@
--- Helper definitions for private contracts: what an edit makes of the files, before it is taken.
+-- Helper definitions for private contracts: what an edit makes of the files, before the change is
+-- taken.
 use Rattle.std.specs.Prelude.{◌≡◌, ℕ, List, Option, Some, None, Err, length, IfSome}
 use Rattle.gql_ast.specs.declared.fault.Fault.{Fault}
 use Rattle.gql_ast.specs.declared.fault.FileSide.{FileSide}
@@ -22,25 +23,25 @@ schema_after Schema known = None
 schema_after Documents None = None
 schema_after Documents (Some known) = Some known.schema
 
--- a change of the files that leaves these
+-- a change that makes `after` of the files `before`
 pub record IsChangeTo (before after : Files) (c : Change) : Type 0 where
   pub files : c.files ≡ after
   pub touched : ChangesOnly c.touched before after
   pub schema : IfSome c.schema (IsSideOf after)
 
--- a change that can be taken in the place of these files
+-- a change that can replace these files
 pub record IsChangeOf (before : Files) (c : Change) : Type 0 where
   pub placed : AreFilesPlaced c.files.documents
   pub touched : ChangesOnly c.touched before c.files
   pub schema : IfSome c.schema (IsSideOf c.files)
 
--- the edit passes all checks but the first two, and this is the change that it makes
+-- the edit passes all checks after the first two, and this is the change that it makes
 pub record IsChangeBy (s : State) (e : Edit) (c : Change) : Type 0 where
   pub accepted : (expected : Option ℕ) → IsInTime s expected → IsAccepted s expected e
   pub leaves : Leaves s e (next s c.files)
   pub change : IsChangeOf s.files c
 
--- an edit that comes in time is refused with this
+-- an edit that passes the first two checks is refused with this
 abbrev pub IsRefusedBy : State → Edit → Refusal → Type 0
 IsRefusedBy s e r = (expected : Option ℕ) → IsInTime s expected → Makes s expected e (Err r) s
 

@@ -1,5 +1,5 @@
--- Helper definitions for private contracts: what is known of an edit once some of its checks were
--- passed.
+-- Helper definitions for private contracts: what is known of an edit that has passed some of its
+-- checks.
 use Rattle.std.specs.Prelude.{ℕ, ◌≡◌, ◌<◌, ◌≤◌, List, length, Option, Some, None, Err, IsUtf8}
 use Rattle.gql_ast.specs.declared.definition.Document.{Document}
 use Rattle.gql_ast.specs.declared.fault.FileSide.{FileSide}
@@ -15,7 +15,7 @@ abbrev pub IsExpected : State → Option ℕ → Type 0
 IsExpected s None = Unit {0}
 IsExpected s (Some expected) = expected ≡ s.revision
 
--- the first two checks are passed
+-- the edit has passed the first two checks
 pub record IsInTime (s : State) (expected : Option ℕ) : Type 0 where
   pub present : IsExpected s expected
   pub left : s.revision < last_revision
@@ -32,12 +32,12 @@ pub record IsRead (side : FileSide) (name bytes : List ℕ) (document : Document
   pub file : IsFileOn side name bytes document
   pub placed : IsPlacedOn side name document
 
--- an edit that puts the bytes is refused with this, where it comes in time
+-- an edit that puts the bytes as a file is refused with this, if it passes the first two checks
 abbrev pub IsUnread : FileSide → List ℕ → List ℕ → Refusal → Type 0
 IsUnread side name bytes r = (s : State) (expected : Option ℕ) → IsInTime s expected
     → Makes s expected (put side name bytes) (Err r) s
 
--- an edit that puts the bytes as data is refused with this, where it comes in time
+-- an edit that puts the bytes as data is refused with this, if it passes the first two checks
 abbrev pub IsBadData : List ℕ → Refusal → Type 0
 IsBadData bytes r = (s : State) (expected : Option ℕ) → IsInTime s expected
     → Makes s expected (put_data bytes) (Err r) s

@@ -1,5 +1,5 @@
 -- What an edit answers, and the state that it leaves: the checks in their order, and the change of
--- one map of files or of the data.
+-- the files of one side or of the data.
 use Rattle.std.specs.Prelude.{ℕ, ◌≡◌, ◌≢◌, ◌<◌, ◌≤◌, List, length, Option, Some, None, Result, Ok, Err, IsUtf8}
 use Rattle.gql_text.specs.declared.place.Place.{Place}
 use Rattle.gql_grammar.specs.declared.fault.SyntaxFault.TheVariants.{At}
@@ -17,8 +17,8 @@ use Rattle.gql_registry.specs.declared.refusal.Refusal.TheVariants.{Syntax, NotT
 use Rattle.gql_registry.specs.declared.registry.Edited.{Edited}
 use Rattle.serde_json.specs.Data.{Data}
 
--- an edit: bytes put on a side as the file of a name, in place of any of that name; the file of a
--- name removed from a side; or bytes put as the data, in place of those before
+-- An edit: bytes put on a side as the file of a name, in place of any file of that name; the file
+-- of a name removed from a side; or bytes put as the data, in place of the data before.
 pub data Edit : Type 0 where
   put : FileSide → List ℕ → List ℕ → Edit
   remove : FileSide → List ℕ → Edit
@@ -39,10 +39,12 @@ pub data Fails : State → Option ℕ → Edit → Refusal → Type 0 where
   spent : {s : State} {expected : Option ℕ} {e : Edit} → s.revision ≡ last_revision
       → Fails s expected e Spent
   -- 203: the file has too many bytes
-  too_long : {s : State} {expected : Option ℕ} {side : FileSide} {name bytes : List ℕ} → file_limit < length bytes
+  too_long : {s : State} {expected : Option ℕ} {side : FileSide} {name bytes : List ℕ}
+      → file_limit < length bytes
       → Fails s expected (put side name bytes) TooLong
   -- 202: the bytes are not UTF-8
-  not_text : {s : State} {expected : Option ℕ} {side : FileSide} {name bytes : List ℕ} → (IsUtf8 bytes → ⊥)
+  not_text : {s : State} {expected : Option ℕ} {side : FileSide} {name bytes : List ℕ}
+      → (IsUtf8 bytes → ⊥)
       → Fails s expected (put side name bytes) NotText
   data_not_text : {s : State} {expected : Option ℕ} {bytes : List ℕ} → (IsUtf8 bytes → ⊥)
       → Fails s expected (put_data bytes) NotText
@@ -50,7 +52,8 @@ pub data Fails : State → Option ℕ → Edit → Refusal → Type 0 where
   bad_data : {s : State} {expected : Option ℕ} {bytes : List ℕ}
       → ((d : Data) → IsDataText bytes d → ⊥) → Fails s expected (put_data bytes) BadData
   -- 201: the text is not a file of the side
-  syntax : {s : State} {expected : Option ℕ} {side : FileSide} {name bytes : List ℕ} {number : SyntaxRefusal}
+  syntax : {s : State} {expected : Option ℕ}
+      {side : FileSide} {name bytes : List ℕ} {number : SyntaxRefusal}
       {place : Place}
       → IsFaultOn side name bytes (At number place)
       → Fails s expected (put side name bytes) (Syntax number place)
@@ -61,7 +64,8 @@ pub data Fails : State → Option ℕ → Edit → Refusal → Type 0 where
   -- 205: the name is new, and the side has as many files as it may have
   files_full : {s : State} {expected : Option ℕ} {side : FileSide} {name bytes : List ℕ}
       → file_named (files_on side s.files) name ≡ None
-      → most_files ≤ length (files_on side s.files) → Fails s expected (put side name bytes) FilesFull
+      → most_files ≤ length (files_on side s.files)
+      → Fails s expected (put side name bytes) FilesFull
 
 -- the order in which the checks are made: 206, 212, 203, 202, 201 or 207, 204, 205
 abbrev pub rank : Refusal → ℕ
@@ -101,9 +105,9 @@ abbrev pub Reports : State → Edited → Type 0
 Reports t edited = (edited.revision ≡ t.revision)
     × ((faults : List Fault) × IsReport t.files faults × (edited.faults ≡ length faults))
 
--- What an edit answers in the state s, and the state t that it leaves. It is accepted where it
--- fails no check, and else refused with the first, which changes nothing. If an allocation fails,
--- the answer is `Memory` and nothing is changed.
+-- What an edit answers in the state s, and the state t that it leaves. It is accepted if it fails
+-- no check. Otherwise it is refused with the first that it fails, and changes nothing. If an
+-- allocation fails, it returns `Memory` and changes nothing.
 abbrev pub Makes : State → Option ℕ → Edit → Result Edited Refusal → State → Type 0
 Makes s expected e (Ok edited) t = IsAccepted s expected e × Leaves s e t × Reports t edited
 Makes s expected e (Err Memory) t = t ≡ s

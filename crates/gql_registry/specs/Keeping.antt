@@ -31,7 +31,7 @@ pub record Keeping : Type 0 where
 abbrev pub nothing_kept : Keeping
 nothing_kept = record { files = record { schema = []; documents = [] }; shelf = [] }
 
--- the shelf has one verdict for each definition of the document files, and each holds
+-- one verdict for each definition of the document files; each holds
 abbrev pub IsShelfOf : Files → List Judgement → Type 0
 IsShelfOf files = IsCurrent (fact_of files) (all_definitions files.documents)
 
@@ -43,7 +43,7 @@ IsWorkOn files shelf = IsWork (fact_of files) shelf (all_definitions files.docum
 abbrev pub IsDefinitionFault : Files → Fault → Type 0
 IsDefinitionFault files = IsFaultOfAny (fact_of files) (all_definitions files.documents)
 
--- steps that make a shelf one of these files
+-- steps that make the shelf one of these files
 abbrev pub IsPlanFor : Files → List Judgement → List Slot → Type 0
 IsPlanFor files = IsPlanned (fact_of files) (all_definitions files.documents)
 
@@ -55,7 +55,7 @@ AreFactsOf files facts = facts ≡ tables_of (schema_of files)
 abbrev pub AreSchemaFaults : Files → List Fault → Type 0
 AreSchemaFaults files faults = Lists faults (IsSchemaFault files)
 
--- the schema of the files, its facts, what introspection says of it, and its faults
+-- the schema of the files, its facts, what introspection makes of it, and its faults
 pub record IsSideOf (files : Files) (side : SchemaSide) : Type 0 where
   pub schema : side.schema ≡ schema_of files
   pub facts : AreFactsOf files side.facts
@@ -73,7 +73,8 @@ pub record IsKnownOf (files : Files) (known : Known) : Type 0 where
   pub index : IsIndexOf files known.index
   pub report : IsReport files known.report.items
 
--- what is kept is of the files, and the definitions of the files are in order
+-- what is known and the verdicts are those of the files, and the definitions of the files are in
+-- order
 pub record IsKept (files : Files) (o : Option Known) (shelf : List Judgement) : Type 0 where
   pub placed : AreFilesPlaced files.documents
   pub known : IfSome o (IsKnownOf files)

@@ -1,4 +1,4 @@
--- Laws of the registry's report and edits.
+-- The laws of the registry's report and edits. `src/laws.rt` has a function for each.
 use Rattle.std.specs.Prelude.{ℕ, ◌≡◌, List, Option, Some, None, Result, Ok, Err}
 use Rattle.std.specs.List.Sorted.{IsStrictlySortedBy}
 use Rattle.std.specs.Map.{keys_of}
@@ -21,19 +21,19 @@ use Rattle.serde_json.specs.Data.{Data}
 abbrev pub WasMade : Result Edited Refusal → Type 0
 WasMade r = r ≡ Err Memory → ⊥
 
--- an edit has one answer and leaves one state, unless an allocation fails
+-- an edit has at most one answer and leaves at most one state, unless an allocation fails
 abbrev pub OneEdit : Type 0
 OneEdit = (s t u : State) (expected : Option ℕ) (e : Edit) (r q : Result Edited Refusal)
     → Makes s expected e r t
     → Makes s expected e q u → WasMade r → WasMade q → (r ≡ q) × (t ≡ u)
 
--- a call has one answer, unless an allocation fails
+-- a call has at most one answer, unless an allocation fails
 abbrev pub OneAnswer : Type 0
 OneAnswer = (files : Files) (stored : Data) (name : Option (List ℕ)) (variables : Data)
     (r q : Result (List ℕ) Refusal) → Answers files stored name variables r
     → Answers files stored name variables q → (r ≡ Err Memory → ⊥) → (q ≡ Err Memory → ⊥) → r ≡ q
 
--- files have one report
+-- files have at most one report
 abbrev pub OneReport : Type 0
 OneReport = (files : Files) (a b : List Fault) → IsReport files a → IsReport files b → a ≡ b
 
@@ -45,9 +45,8 @@ IsOrderedOn side s = IsStrictlySortedBy name_order (keys_of (files_on side s.fil
 abbrev pub under : FileSide → List ℕ → State → Option Document
 under side name s = file_named (files_on side s.files) name
 
--- What an accepted edit leaves under a name of a side, which held this before: the document that
--- was put, nothing after a removal, and the same as before where the edit changes another file or the
--- data.
+-- What an accepted edit leaves under a name of a side, which held `before`: the document that was
+-- put, nothing after a removal, or what was there, if the edit changes another file or the data.
 pub data LeavesUnder (side : FileSide) (name : List ℕ) (before : Option Document) : Edit
     → Option Document → Type 0 where
   by_put : {bytes : List ℕ} {document : Document} → IsFileOn side name bytes document

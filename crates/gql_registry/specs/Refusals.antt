@@ -4,7 +4,7 @@ use Rattle.gql_grammar.specs.declared.fault.SyntaxFault.TheVariants as syntax
 use Rattle.gql_registry.specs.declared.refusal.Refusal.{Refusal}
 use Rattle.gql_registry.specs.declared.refusal.Refusal.TheVariants.{Syntax, Memory}
 
--- a fault of a text, as the registry refuses it
+-- the refusal for a fault of a text
 abbrev pub refusal_of : SyntaxFault → Refusal
 refusal_of (syntax.At number place) = Syntax number place
 refusal_of syntax.Memory = Memory

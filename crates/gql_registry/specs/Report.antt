@@ -1,5 +1,5 @@
--- The report of files: all their faults and no others, each once, in the order of reports. While
--- the schema has faults, these are the report.
+-- The report of files: all their faults and no others, each once, in the order of reports. If the
+-- schema has faults, these alone are the report.
 use Rattle.std.specs.Prelude.{◌↔◌, List, Contains}
 use Rattle.std.specs.List.Sorted.{IsStrictlySortedBy}
 use Rattle.gql_ast.specs.declared.definition.Definition.{Definition}
@@ -12,12 +12,12 @@ use Rattle.gql_verdict.specs.Definitions.{all_definitions}
 use Rattle.gql_verdict.specs.Faults.{IsFaultIn}
 use Rattle.gql_verdict.specs.NameFaults.{name_faults}
 
--- the schema that the schema files are together has no fault
+-- the schema of the schema files has no fault
 abbrev pub IsSound : Files → Type 0
 IsSound files = (f : Fault) → IsSchemaFault files f → ⊥
 
 -- The files have this fault: it is one of the schema; or, if the schema has none, one of the names
--- in all document files, or one of a definition in them.
+-- in all document files or of a definition in them.
 pub data IsFault (files : Files) (f : Fault) : Type 0 where
   of_schema : IsSchemaFault files f → IsFault files f
   of_names : IsSound files → Contains (name_faults files) f → IsFault files f

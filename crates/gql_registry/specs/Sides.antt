@@ -15,22 +15,22 @@ abbrev pub files_on : FileSide → Files → List (List ℕ × Document)
 files_on Schema files = files.schema
 files_on Documents files = files.documents
 
--- with this schema file put, in the place of any of its name
+-- the files with this schema file, in place of any of its name
 abbrev pub with_schema : Files → List ℕ → Document → Files
 with_schema files name document =
     record { schema = with_file files.schema name document; documents = files.documents }
 
--- with no schema file of that name
+-- the files without the schema file of that name
 abbrev pub without_schema : Files → List ℕ → Files
 without_schema files name =
     record { schema = without_file files.schema name; documents = files.documents }
 
--- with this file put on a side, in the place of any of its name
+-- the files with this file on a side, in place of any of its name
 abbrev pub with_put : FileSide → Files → List ℕ → Document → Files
 with_put Schema = with_schema
 with_put Documents = with_document
 
--- with no file of that name on a side
+-- the files without the file of that name on a side
 abbrev pub with_removed : FileSide → Files → List ℕ → Files
 with_removed Schema = without_schema
 with_removed Documents = without_document
@@ -40,7 +40,7 @@ abbrev pub IsFileOn : FileSide → List ℕ → List ℕ → Document → Type 0
 IsFileOn Schema = IsSchemaFile
 IsFileOn Documents = IsDocumentFile
 
--- the text is refused, as a file of this side and of that name
+-- the text has this fault, as a file of this side and of that name
 abbrev pub IsFaultOn : FileSide → List ℕ → List ℕ → SyntaxFault → Type 0
 IsFaultOn Schema = IsSchemaFault
 IsFaultOn Documents = IsDocumentFault

@@ -6,8 +6,8 @@ use Rattle.gql_verdict.specs.Verdicts.{Judgement}
 use Rattle.serde_json.specs.Data.{Data, object, no_members}
 use Rattle.serde_json.specs.View.{view}
 
--- the files that are present, the data that operations are executed on, and the number of edits that
--- were accepted
+-- the files that are present, the data that operations are executed on, and the number of edits
+-- that were accepted
 pub record State : Type 0 where
   pub files : Files
   pub stored : Data
@@ -21,7 +21,7 @@ state_of r = record { files = r.kept.files; stored = view r.stored; revision = r
 abbrev pub shelf_of : Registry → List Judgement
 shelf_of r = r.kept.shelf
 
--- no files, data without members, and no edit
+-- the state without files, with data that has no members, before any edit
 abbrev pub empty : State
 empty = record {
   files = record { schema = []; documents = [] };
@@ -33,7 +33,7 @@ empty = record {
 abbrev pub next : State → Files → State
 next s files = record s { files = files; revision = s.revision + 1 }
 
--- the state after an accepted edit that leaves these data
+-- the state after an accepted edit that leaves this data
 abbrev pub next_data : State → Data → State
 next_data s d = record s { stored = d; revision = s.revision + 1 }
 

@@ -9,15 +9,15 @@ use Rattle.gql_registry.specs.declared.refusal.Refusal.TheVariants.{Memory}
 use Rattle.gql_registry.specs.declared.registry.Edited.{Edited}
 use Rattle.gql_verdict.specs.Verdicts.{Judgement}
 
--- what an edit examines that failed for memory: nothing, or what it would have examined
+-- what an edit examines if an allocation fails: nothing, or what it would have examined
 abbrev pub WorksInVain : State → List Judgement → Edit → List DefinitionId → List DefinitionId
     → Type 0
 WorksInVain s shelf e old new = (new ≡ old)
     ⊎ ((t : State) × Leaves s e t × IsWorkOn t.files shelf old new)
 
--- What an edit of the state s examines, where these verdicts were kept and the edit left t. An
--- accepted edit examines only definitions that are due in the files that it leaves. Another edit
--- examines nothing, unless it failed for memory.
+-- What an edit of the state s examines, if the registry kept these verdicts and the edit leaves t.
+-- An accepted edit examines only definitions that are due in the files that it leaves. A refused
+-- edit examines nothing, unless an allocation failed.
 abbrev pub Works : State → List Judgement → Edit → Result Edited Refusal → State
     → List DefinitionId → List DefinitionId → Type 0
 Works s shelf e (Ok edited) t old new = IsWorkOn t.files shelf old new

@@ -18,7 +18,7 @@ use gql_serving::{laws, owned_faults};
 use serde_json::Value;
 use std::alloc::{AllocError, Global};
 
-/// The faults that stand against an operation.
+/// The faults that keep an operation from being executed.
 fn faults_against(
     alloc: Global,
     known: &Known,
@@ -36,7 +36,7 @@ fn faults_against(
     Ok(faults)
 }
 
-/// Executes an operation, and lays out the answer.
+/// Executes an operation, and writes the answer.
 fn reply_of(
     alloc: Global,
     known: &Known,
@@ -69,7 +69,7 @@ fn reply_of(
 }
 
 /// Answers a call of the operation of a name, or of the only one, with these values for its
-/// variables, on these data. Refused by 208, 209 and 210, in this order.
+/// variables, on this data. The refusals are 208, 209 and 210, in this order.
 pub fn answer_call(
     alloc: Global,
     known: &Known,
@@ -81,7 +81,7 @@ pub fn answer_call(
         → Answers files (view stored.now) (option_copied name.entry) (view variables.now)
         (answer_of result) }
 {
-    // The law that there is a response to each request of an operation without faults.
+    // The law that every request of an operation without faults has a response.
     laws::some_answer();
     let Some(definition) = known.index.operations.chosen(name) else {
         return Err(Refusal::NoOperation);

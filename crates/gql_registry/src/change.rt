@@ -1,4 +1,4 @@
-//! What an edit makes of the files, before it is taken.
+//! What an edit makes of the files, before the change is taken.
 ghost use Rattle.std.specs.Prelude.{◌≡◌, IfOk, IfSome};
 ghost use Rattle.gql_registry.specs.Changes.{IsChangeTo, schema_after};
 ghost use Rattle.gql_registry.specs.Keeping.{IsKnownOf};
@@ -10,7 +10,7 @@ use gql_ast::{Document, FileName, FileSide, Files, Shared};
 use gql_verdict::Touched;
 use std::alloc::{AllocError, Global};
 
-/// Files that an edit leaves, what it touches, and the schema of the files if it is known.
+/// The files that an edit leaves, what it touches, and the schema of the files if it is known.
 #[derive(Drop)]
 pub struct Change {
     pub files: Files,

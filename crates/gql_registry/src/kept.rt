@@ -61,7 +61,7 @@ impl Model for Kept {
     ghost invariant = { λ k. IsKept k.files k.known k.shelf };
 }
 
-/// What an edit changes beside the files.
+/// What an edit changes besides the files.
 #[derive(Drop)]
 struct Planned {
     known: Known,
@@ -218,7 +218,7 @@ fn verdicts_for(
     Ok(verdicts)
 }
 
-/// All that an edit changes beside the files.
+/// All that an edit changes besides the files.
 fn plan_change(
     alloc: Global,
     shelf: &Shelf,
@@ -290,7 +290,7 @@ impl Kept {
     }
 
     /// Answers a call of the operation of a name, or of the only one, with these values for its
-    /// variables, on these data.
+    /// variables, on this data.
     pub fn answer_call(
         &self,
         alloc: Global,
@@ -335,8 +335,8 @@ impl Kept {
         change_by_removal(alloc, &self.files, &self.known, side, name)
     }
 
-    /// Takes the files of a change in the place of those that are present, and returns how many
-    /// faults the report then has. If an allocation fails, nothing is changed.
+    /// Replaces the files that are present by those of a change, and returns how many faults the
+    /// report then has. If an allocation fails, nothing is changed.
     #[tactic(none)]
     pub fn take(
         &mut self,

@@ -1,8 +1,8 @@
 //! Laws of the registry's report and edits. The functions do nothing: what they ensure is the law.
 ghost use Rattle.gql_registry.specs.Laws.{HoldsAfter, OneAnswer, OneEdit, OneReport};
 
-/// Files have one report; an edit has one answer and leaves one state, and a call has one answer,
-/// unless an allocation fails.
+/// Files have at most one report. Unless an allocation fails, an edit has at most one answer and
+/// leaves at most one state, and a call has at most one answer.
 pub fn one_outcome()
     ensures edit { OneEdit }
     ensures call { OneAnswer }
@@ -14,8 +14,8 @@ pub fn one_outcome()
     gql_exec::laws::one_response();
 }
 
-/// After an accepted edit a name of a side holds the document that was put under it, nothing after
-/// a removal, and what it held where the edit names another file.
+/// After an accepted edit, a name of a side holds the document that was put under it, nothing if
+/// the edit removed it, and what it held before if the edit names another file.
 pub fn holds_after()
     ensures { HoldsAfter }
 {}

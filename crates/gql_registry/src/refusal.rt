@@ -1,3 +1,5 @@
+//! Why the registry refuses a call.
+
 ghost use Rattle.std.specs.Prelude.{◌≡◌};
 ghost use Rattle.gql_registry.specs.Refusals.{refusal_of};
 ghost use Rattle.gql_registry.specs.declared.refusal.Refusal.TheVariants.{Memory};
@@ -11,7 +13,7 @@ use thiserror::Error;
 /// Why the registry refuses. Each has a number that users see. A refused call changes nothing.
 #[derive(Debug, Drop, Error)]
 pub enum Refusal {
-    /// 201: the file is no document of its kind; why, and where.
+    /// 201: the file is not a document of its kind; why, and where.
     #[error("syntax")]
     Syntax { number: SyntaxRefusal, place: Place },
     /// 202: the bytes are not UTF-8.
@@ -29,10 +31,10 @@ pub enum Refusal {
     /// 206: the edit expects another revision than the present one, which `revision` is.
     #[error("stale revision")]
     Stale { revision: u64 },
-    /// 207: the data is no JSON object as the registry takes it.
+    /// 207: the data is not a JSON object that the registry accepts.
     #[error("data is not accepted")]
     BadData,
-    /// 208: no such operation, or none is named and there isn't just one.
+    /// 208: no such operation, or none is named and there isn't exactly one.
     #[error("no such operation")]
     NoOperation,
     /// 209: the schema, the operation or a fragment that it reaches has faults, which are these.

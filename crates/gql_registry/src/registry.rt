@@ -18,7 +18,7 @@ use serde_json::{Map, Value};
 use std::alloc::{AllocError, Global};
 use std::str;
 
-/// The most bytes of a file.
+/// The greatest number of bytes of a file.
 pub const MAX_FILE_BYTES: usize = 65_536;
 
 /// How many files of a kind there may be.
@@ -54,7 +54,7 @@ fn has_room(files: &FileMap<Shared<Document>>, name: &FileName) -> bool
     files.has(name) || files.len() < MAX_FILES
 }
 
-/// Reads bytes as a file of a side. Refused by 203, 202 and 201, in this order.
+/// Reads bytes as a file of a side. The refusals are 203, 202 and 201, in this order.
 fn read_file(
     alloc: Global,
     side: FileSide,
@@ -74,7 +74,7 @@ fn read_file(
     Ok(document)
 }
 
-/// Reads bytes as data. Refused by 202 and 207, in this order.
+/// Reads bytes as data. The refusals are 202 and 207, in this order.
 fn read_data(alloc: Global, bytes: &[u8]) -> Result<Value, Refusal>
     ensures read { IfOk result (λ v. IsUtf8 bytes.now × IsDataText bytes.now (view v)) }
     ensures err { IfErr result (IsBadData bytes.now) }
@@ -103,7 +103,7 @@ impl Registry {
     ghost use Rattle.gql_registry.specs.Works.{Works};
     ghost use Rattle.std.specs.Prelude.{[]};
 
-    /// A registry without files and with data that have no members, at revision 0.
+    /// A registry without files and with data that has no members, at revision 0.
     pub fn new(alloc: Global) -> Registry
         ensures state { state_of result ≡ empty }
         ensures shelf { shelf_of result ≡ [] }
@@ -132,16 +132,16 @@ impl Registry {
     }
 
     /// The faults of the files that are present: all of them and no others, each once, by first
-    /// place (none first), rule, second place, owner and text. While the schema has faults, these
-    /// are all.
+    /// place (none first), rule, second place, owner and text. If the schema has faults, these
+    /// alone are reported.
     pub fn report(&self) -> Result<Vec<Fault>, AllocError>
         ensures { IfOk result (λ faults. spec.IsReport (state_of self.now).files faults.items) }
     {
         self.kept.report(self.alloc)
     }
 
-    /// The revision after the present one, for an edit that expects this revision. Refused by 206
-    /// and 212.
+    /// The revision after the present one, for an edit that expects this revision. The refusals are
+    /// 206 and 212.
     fn next_revision(&self, expected: Option<u64>) -> Result<u64, Refusal>
         ensures next { IfOk result (λ n. n ≡ (state_of self.now).revision + 1) }
         ensures time { IfOk result (λ _. IsInTime (state_of self.now) expected) }
@@ -161,8 +161,8 @@ impl Registry {
         }
     }
 
-    /// The change that puts bytes as the file of a name on a side. Refused by 203, 202, 201 and
-    /// 205, in this order.
+    /// The change that puts bytes as the file of a name on a side. The refusals are 203, 202, 201
+    /// and 205, in this order.
     #[tactic(none)]
     fn change_by_put(&self, side: FileSide, name: FileName, bytes: &[u8]) -> Result<Change, Refusal>
         ensures change { IfOk result
@@ -181,7 +181,7 @@ impl Registry {
         Ok(change)
     }
 
-    /// The change that removes the file of a name from a side. Refused by 204.
+    /// The change that removes the file of a name from a side. The refusal is 204.
     #[tactic(none)]
     fn change_by_removal(&self, side: FileSide, name: &FileName) -> Result<Change, Refusal>
         ensures change { IfOk result
@@ -261,9 +261,9 @@ impl Registry {
 
     /// Puts bytes as the schema file of a name, in place of any of that name, and returns the new
     /// revision and how many faults the report has then. An edit may expect a revision. The meter
-    /// gets an entry for each definition that is examined: those whose verdict no longer holds.
-    /// Refused, in this order, by 206, 212, 203, 202, 201 and 205, and by 211 if an allocation
-    /// fails; the registry is then as it was.
+    /// gets an entry for each definition that is examined: those whose verdict no longer holds. The
+    /// refusals, in this order: 206, 212, 203, 202, 201 and 205, and 211 if an allocation fails. A
+    /// refused edit changes nothing.
     #[tactic(none)]
     pub fn put_schema(
         &mut self,
@@ -283,8 +283,9 @@ impl Registry {
     }
 
     /// Puts bytes as the document file of a name, and returns what `put_schema` does. The
-    /// definitions of the file are examined, but for those that stood at the same place before, and
-    /// so are the others whose verdict no longer holds. Refused as `put_schema` is.
+    /// definitions of the file are examined, unless the same definition was at the same place
+    /// before, and so are the others whose verdict no longer holds. The refusals are those of
+    /// `put_schema`.
     #[tactic(none)]
     pub fn put_document(
         &mut self,
@@ -303,8 +304,8 @@ impl Registry {
         self.put(FileSide::Documents, name, bytes, expected, meter)
     }
 
-    /// Removes a schema file, and returns what `put_schema` does. Refused, in this order, by 206,
-    /// 212 and 204, and by 211 if an allocation fails; the registry is then as it was.
+    /// Removes a schema file, and returns what `put_schema` does. The refusals, in this order: 206,
+    /// 212 and 204, and 211 if an allocation fails. A refused edit changes nothing.
     #[tactic(none)]
     pub fn remove_schema(
         &mut self,
@@ -322,7 +323,8 @@ impl Registry {
         self.remove(FileSide::Schema, name, expected, meter)
     }
 
-    /// Removes a document file, and returns what `put_schema` does. Refused as `remove_schema` is.
+    /// Removes a document file, and returns what `put_schema` does. The refusals are those of
+    /// `remove_schema`.
     #[tactic(none)]
     pub fn remove_document(
         &mut self,
@@ -340,11 +342,11 @@ impl Registry {
         self.remove(FileSide::Documents, name, expected, meter)
     }
 
-    /// Puts bytes as the data that operations are executed on, in place of those before, and returns
-    /// the new revision and how many faults the report has. The data are a JSON object whose numbers
-    /// are integers, and whose members `query` and `mutation` are objects. Refused, in this order, by
-    /// 206, 212, 202 and 207, and by 211 if an allocation fails; the registry is then as it was.
-    /// Nothing is examined.
+    /// Puts bytes as the data that operations are executed on, in place of the data before, and
+    /// returns the new revision and how many faults the report has. The data is a JSON object whose
+    /// numbers are integers, and whose members `query` and `mutation` are objects. The refusals, in
+    /// this order: 206, 212, 202 and 207, and 211 if an allocation fails. A refused edit changes
+    /// nothing. No definition is examined.
     #[tactic(none)]
     pub fn put_data(
         &mut self,
@@ -366,11 +368,10 @@ impl Registry {
     }
 
     /// Runs the stored operation of a name, or without a name the only one, with the values of its
-    /// variables, which are an object or null, on the data that were put. Refused, in this order: by
-    /// 208 if there is no such operation; by 209 with the faults that stand against it, where these
-    /// are faults of the schema, of the operation or of fragments that it reaches; by 210 if more
-    /// than 100,000 values are to be completed; and by 211 if an allocation fails. Nothing is
-    /// changed.
+    /// variables, which are an object or null, on the data that was put. The refusals, in this
+    /// order: 208 if there is no such operation; 209 if the schema, the operation or a fragment
+    /// that it reaches has faults, with these faults; 210 if more than 100,000 values are to be
+    /// completed; and 211 if an allocation fails. Nothing is changed.
     #[tactic(none)]
     pub fn run(&mut self, name: Option<&str>, variables: &Value) -> Result<Reply, Refusal>
         ensures answers { Answers (state_of self.old).files (state_of self.old).stored

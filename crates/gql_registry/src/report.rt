@@ -15,7 +15,7 @@ use gql_types::{Schema, assemble};
 use gql_verdict::name_faults;
 use std::alloc::{AllocError, Global};
 
-/// The schema files as one schema, with its facts, what introspection says of it, and its faults.
+/// The schema files as one schema, with its facts, what introspection makes of it, and its faults.
 #[derive(Drop)]
 pub struct SchemaSide {
     pub schema: Schema,
@@ -60,7 +60,7 @@ pub fn copies(alloc: Global, faults: &[Fault]) -> Result<Vec<Fault>, AllocError>
     Ok(copied)
 }
 
-/// The report where the schema has faults, which are these.
+/// The report if the schema has faults, which are these.
 pub fn schema_report(alloc: Global, faults: &[Fault]) -> Result<Vec<Fault>, AllocError>
     requires { faults.now ≢ [] }
     ensures { IfOk result (λ report. (files : TheFiles) → AreSchemaFaults files faults.now
@@ -71,7 +71,7 @@ pub fn schema_report(alloc: Global, faults: &[Fault]) -> Result<Vec<Fault>, Allo
     Ok(report)
 }
 
-/// The report where the schema has no faults, and the definitions of the document files have these.
+/// The report if the schema has no faults, and the definitions of the document files have these.
 pub fn documents_report(
     alloc: Global,
     files: &Files,

@@ -24,7 +24,7 @@ pub fn files_on(files: &Files, side: FileSide) -> &FileMap<Shared<Document>>
     }
 }
 
-/// The tree of a file of a side, or why the text is none.
+/// The tree of a file of a side, or the fault of its text.
 pub fn parse_on(
     alloc: Global,
     side: FileSide,
@@ -42,7 +42,7 @@ pub fn parse_on(
     }
 }
 
-/// Equal files but for this one, which stands in the place of any of its name.
+/// The files with this one, in place of any of its name.
 pub fn with_put(
     alloc: Global,
     files: &Files,
@@ -61,7 +61,7 @@ pub fn with_put(
     Ok(changed)
 }
 
-/// Equal files but for that of this name, which is left out.
+/// The files without that of this name.
 pub fn with_removed(files: &Files, side: FileSide, name: &FileName) -> Result<Files, AllocError>
     ensures { IfOk result (λ changed. changed ≡ spec.with_removed side files.now name.now) }
 {
@@ -73,7 +73,7 @@ pub fn with_removed(files: &Files, side: FileSide, name: &FileName) -> Result<Fi
     Ok(changed)
 }
 
-/// What an edit touches that puts this file.
+/// What an edit that puts this file touches.
 pub fn touched_by_put(
     alloc: Global,
     files: &Files,
@@ -95,7 +95,7 @@ pub fn touched_by_put(
     }
 }
 
-/// What an edit touches that removes the file of this name.
+/// What an edit that removes the file of this name touches.
 pub fn touched_by_removal(
     alloc: Global,
     files: &Files,

@@ -52,7 +52,7 @@ fn write_step(step: &Step<'_>, out: &mut Vec<u8>) -> Result<(), AllocError>
     }
 }
 
-/// Writes a comma, where something stands before.
+/// Writes a comma, if something comes before.
 fn write_comma(later: bool, out: &mut Vec<u8>) -> Result<(), AllocError>
     ensures { OnOk result (out.new.items ≡ out.old.items ++ comma_if later) }
 {

@@ -7,7 +7,7 @@ use crate::errors::write_errors;
 use gql_exec::{Outcome, ResponseError};
 use std::alloc::{AllocError, Global};
 
-/// Writes the errors of an answer, if there are some.
+/// Writes the errors of an answer, if there are any.
 fn add_errors(errors: &[ResponseError<'_>], out: &mut Vec<u8>) -> Result<(), AllocError>
     ensures { OnOk result (out.new.items
         ≡ out.old.items ++ spec.errors_text (map error_of errors.now)) }
@@ -20,7 +20,7 @@ fn add_errors(errors: &[ResponseError<'_>], out: &mut Vec<u8>) -> Result<(), All
     Ok(())
 }
 
-/// Writes the data of an answer, if there are some.
+/// Writes the data of an answer, unless it is a request error.
 fn add_data(
     errors: &[ResponseError<'_>],
     text: &Option<Vec<u8>>,
@@ -41,7 +41,7 @@ fn add_data(
 }
 
 /// The text of an answer (GraphQL specification, 7.1), without blanks: its errors, if there are
-/// some, and its data, which a request error has none of.
+/// any, and its data, unless it is a request error.
 pub fn reply_text(alloc: Global, outcome: &Outcome<'_>) -> Result<Vec<u8>, AllocError>
     ensures { IfOk result (λ text. text.items ≡ spec.reply_text (outcome_of outcome.now)) }
 {

@@ -1,5 +1,5 @@
 -- What the answers to a rule's questions say, and what is known of a field, a directive or a type.
--- Where a parent type, a field or a directive is not known, rules that need it are silent.
+-- If a parent type, a field or a directive is not known, rules that need it report nothing.
 use Rattle.std.specs.Prelude.{ℕ, List, Bool, true, false, Option, Some, None, ◌∷◌, ◌&&◌, not, if◌then◌else◌}
 use Rattle.gql_types.specs.Kinds.{is_composite}
 use Rattle.gql_types.specs.declared.kind.TypeKind.{TypeKind}
@@ -16,23 +16,28 @@ use Rattle.gql_facts.specs.Worlds.{Facts}
 
 -- ---- what an answer says
 
+-- the kind of a type, as an answer gives it
 abbrev pub kind_in : Fact → Option TypeKind
 kind_in (fact.Kind kind) = Some kind
 kind_in _ = None
 
+-- the field definition that an answer gives
 abbrev pub field_in : Fact → Option FieldFact
 field_in (fact.Field field) = Some field
 field_in _ = None
 
--- the objects that a composite type may stand for
+-- the possible types of a composite type, as an answer gives them (GraphQL 5.5.2.3,
+-- GetPossibleTypes)
 abbrev pub possible_in : Fact → Option (List (List ℕ))
 possible_in (fact.Possible names) = Some names
 possible_in _ = None
 
+-- the directive definition that an answer gives
 abbrev pub directive_in : Fact → Option DirectiveFact
 directive_in (fact.Directive directive) = Some directive
 directive_in _ = None
 
+-- the fragment definition that an answer gives
 abbrev pub fragment_in : Fact → Option FragmentFact
 fragment_in (fact.Fragment fragment) = Some fragment
 fragment_in _ = None
@@ -53,7 +58,7 @@ abbrev pub kind_of_field : Facts → Option FieldFact → Option TypeKind
 kind_of_field facts None = None
 kind_of_field facts (Some field) = kind_of facts field.of_type.name
 
--- a type, where this kind of it is composite
+-- a type of this kind, if the kind is composite
 abbrev pub composite_by : List ℕ → Option TypeKind → Option (List ℕ)
 composite_by t None = None
 composite_by t (Some k) = if is_composite k then Some t else None
@@ -64,7 +69,7 @@ selected_type None kind = None
 selected_type (Some field) None = None
 selected_type (Some field) (Some k) = if is_composite k then Some field.of_type.name else None
 
--- the objects that a parent type may stand for
+-- the possible types of a parent type
 abbrev pub possible_of : Facts → Option (List ℕ) → Option (List (List ℕ))
 possible_of facts None = None
 possible_of facts (Some t) = possible_in (facts (key.PossibleOf t))
@@ -79,10 +84,11 @@ fragment_of facts name = fragment_in (facts (key.FragmentOf name))
 
 -- ---- arguments that are required (GraphQL 3.6.1)
 
+-- whether a type with these wrappers, from the outside in, is Non-Null
 abbrev pub starts_non_null : List Wrapper → Bool
 starts_non_null (wrapper.NonNull ∷ steps) = true
 starts_non_null _ = false
 
--- its type is Non-Null, and it has no default value
+-- an argument is required if its type is Non-Null and it has no default value
 abbrev pub is_required : InputFact → Bool
 is_required input = starts_non_null input.of_type.wrappers && not input.has_default

@@ -1,5 +1,5 @@
--- Faults of an operation or a fragment, which owns them: which rule, about which text, at which
--- place of its file.
+-- Faults of an operation or a fragment, which owns them: their rules, the texts that they are
+-- about, and their places in the owner's file.
 use Rattle.std.specs.Prelude.{ℕ, List, [], ◌∷◌, Some}
 use Rattle.gql_text.specs.declared.place.Place.{Place}
 use Rattle.gql_ast.specs.declared.fault.Fault.{Fault}

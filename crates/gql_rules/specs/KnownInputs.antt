@@ -25,7 +25,7 @@ abbrev pub values_in : Fact → Option (List (List ℕ))
 values_in (fact.Enum values) = Some values
 values_in _ = None
 
--- a field of an input object
+-- a field of an input object, from the answer about it
 abbrev pub field_of : InputFact → FieldForm
 field_of i = record {
   name = i.name;
@@ -43,7 +43,7 @@ form_of (known.Scalar s) = scalar s
 form_of (known.Enum values) = enumeration values
 form_of (known.InputObject fields) = object_of fields
 
--- the type of this name and this kind, by the answers for the fields of an input object and for the
+-- the type of this name and this kind; the two answers give the fields of an input object and the
 -- values of an enum
 abbrev pub form_by : List ℕ → Option TypeKind → Fact → Fact → Option InputForm
 form_by name (Some kind.Scalar) fields values = Some (scalar (scalar_named name))
@@ -51,7 +51,7 @@ form_by name (Some kind.Enum) fields values = option_map enumeration (values_in 
 form_by name (Some kind.InputObject) fields values = option_map object_of (fields_in fields)
 form_by name _ fields values = None
 
--- what each name is
+-- what each name is as an input type
 abbrev pub known_inputs : Facts → InputLookup
 known_inputs facts name = form_by name (kind_of facts name) (facts (key.InputOf name))
     (facts (key.EnumOf name))

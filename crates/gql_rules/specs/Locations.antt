@@ -13,6 +13,6 @@ location_of operation.Query = location.Query
 location_of operation.Mutation = location.Mutation
 location_of operation.Subscription = location.Subscription
 
--- two locations are the same
+-- whether two locations are the same
 unfoldable pub same_location : DirectiveLocation → DirectiveLocation → Bool
 same_location = sameb of_location.the_type

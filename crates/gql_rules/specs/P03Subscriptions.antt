@@ -1,5 +1,5 @@
--- P03, Subscriptions: an operation is a subscription, which this registry does not serve (a rule of
--- this registry's own).
+-- P03, Subscriptions: an operation is a subscription, which this registry does not serve (this
+-- registry's own rule).
 -- Reported at the operation's start, about its name, or empty.
 use Rattle.std.specs.Prelude.{List, [], ◌∷◌}
 use Rattle.gql_ast.specs.declared.executable.Operation.{Operation}
@@ -11,7 +11,7 @@ use Rattle.gql_ast.specs.declared.rule.Rule.TheVariants as rule
 use Rattle.gql_rules.specs.Faults.{fault_at}
 use Rattle.gql_rules.specs.Parts.{name_or_empty}
 
--- by the kind of the operation
+-- the fault of an operation of this kind
 abbrev pub faults_by : FilePlace → Operation → OperationKind → List Fault
 faults_by owner o operation.Subscription =
     fault_at owner rule.P03 (name_or_empty o.name) o.place ∷ []

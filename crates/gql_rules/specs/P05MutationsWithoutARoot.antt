@@ -1,5 +1,5 @@
--- P05, Mutations Without a Root: an operation is a mutation, and the schema has no mutation root (a
--- rule of this registry's own).
+-- P05, Mutations Without a Root: an operation is a mutation, and the schema has no mutation root
+-- (this registry's own rule).
 -- Reported at the operation's start, about its name, or empty.
 use Rattle.std.specs.Prelude.{ℕ, List, [], ◌∷◌, Option, Some, None}
 use Rattle.gql_ast.specs.declared.executable.Operation.{Operation}

@@ -6,15 +6,16 @@ use Rattle.gql_ast.specs.declared.literal.Directive.{Directive}
 use Rattle.gql_ast.specs.declared.text.Name.{Name}
 use Rattle.gql_facts.specs.Nodes.{FieldNode}
 
--- a field starts at its alias, or else at its name
+-- the start of a field: its alias, or its name if it has none
 abbrev pub start_at : Option Name → Name → Place
 start_at None name = name.place
 start_at (Some alias) name = alias.place
 
+-- where a field starts
 abbrev pub start_of : FieldNode → Place
 start_of f = start_at f.alias f.name
 
--- an operation's name, or an empty text
+-- an operation's name, or an empty text if it has none
 abbrev pub name_or_empty : Option Name → List ℕ
 name_or_empty None = []
 name_or_empty (Some name) = name.text
@@ -27,6 +28,6 @@ argument_name a = a.name.text
 abbrev pub directive_name : Directive → List ℕ
 directive_name d = d.name.text
 
--- more than one of these has the name
+-- whether more than one of these has the name
 abbrev pub is_repeated : {A : Type 0} → (A → List ℕ) → List A → List ℕ → Bool
 is_repeated name_of all name = nat_lt 1 (count_by (λ x. bytes_eq name (name_of x)) all)

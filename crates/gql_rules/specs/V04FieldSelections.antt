@@ -11,7 +11,7 @@ use Rattle.gql_rules.specs.Answers.{field_of}
 use Rattle.gql_rules.specs.Faults.{fault_at}
 use Rattle.gql_rules.specs.Parts.{start_of}
 
--- by the parent type, and the field that it has of this name
+-- the fault of a field, by its parent type and the definition there
 abbrev pub faults_by : FilePlace → FieldNode → Option (List ℕ) → Option FieldFact → List Fault
 faults_by owner f None known = []
 faults_by owner f (Some t) None = fault_at owner rule.V04 f.name.text (start_of f) ∷ []

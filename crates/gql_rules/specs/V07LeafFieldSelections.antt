@@ -14,7 +14,7 @@ use Rattle.gql_rules.specs.Answers.{field_of, kind_of_field}
 use Rattle.gql_rules.specs.Faults.{fault_at}
 use Rattle.gql_rules.specs.Parts.{start_of}
 
--- by the kind of the field's type
+-- the fault of a field whose type has this kind
 abbrev pub faults_by : FilePlace → FieldNode → Option TypeKind → List Fault
 faults_by owner f kind = where_known kind (λ (k : TypeKind).
     if (if f.has_selections then is_leaf k else is_composite k)

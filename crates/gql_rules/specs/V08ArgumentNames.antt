@@ -13,7 +13,7 @@ use Rattle.gql_rules.specs.Faults.{fault_of}
 abbrev pub defined : List InputFact → List ℕ → Option InputFact
 defined inputs name = find (λ (i : InputFact). bytes_eq name i.name) inputs
 
--- the fault of an argument, where these are defined
+-- the fault of an argument of a field or a directive that defines these
 abbrev pub fault_of_argument : FilePlace → List InputFact → Argument → List Fault
 fault_of_argument owner inputs a =
     if is_some (defined inputs a.name.text) then [] else fault_of owner rule.V08 a.name ∷ []

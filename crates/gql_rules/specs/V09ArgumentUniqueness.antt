@@ -8,7 +8,7 @@ use Rattle.gql_ast.specs.declared.rule.Rule.TheVariants as rule
 use Rattle.gql_rules.specs.Faults.{fault_of}
 use Rattle.gql_rules.specs.Parts.{is_repeated, argument_name}
 
--- the fault of an argument, given with these
+-- the fault of one of the given arguments
 abbrev pub fault_of_argument : FilePlace → List Argument → Argument → List Fault
 fault_of_argument owner given a = if is_repeated argument_name given a.name.text
     then fault_of owner rule.V09 a.name ∷ []

@@ -13,16 +13,16 @@ use Rattle.gql_rules.specs.Answers.{is_required}
 use Rattle.gql_rules.specs.Faults.{fault_at}
 use Rattle.gql_rules.specs.Literals.{is_null}
 
--- an argument of this name is given
+-- whether an argument of this name is given
 abbrev pub is_given : List Argument → List ℕ → Bool
 is_given given name = list_any (λ (a : Argument). bytes_eq name a.name.text) given
 
--- it is given as the literal `null`, once or more
+-- whether an argument of this name is given as the literal `null`, once or more
 abbrev pub is_given_null : List Argument → List ℕ → Bool
 is_given_null given name =
     list_any (λ (a : Argument). bytes_eq name a.name.text && is_null a.value) given
 
--- it is missing or null
+-- whether an argument of this name is missing or null
 abbrev pub is_lacking : List Argument → List ℕ → Bool
 is_lacking given name = not (is_given given name) || is_given_null given name
 

@@ -10,7 +10,7 @@ use Rattle.gql_facts.specs.Worlds.{Facts}
 use Rattle.gql_rules.specs.Answers.{kind_of}
 use Rattle.gql_rules.specs.Faults.{fault_of}
 
--- by the kind of the type
+-- the fault of a type condition whose type has this kind
 abbrev pub faults_by : FilePlace → Name → Option TypeKind → List Fault
 faults_by owner condition None = fault_of owner rule.V12 condition ∷ []
 faults_by owner condition (Some k) = []

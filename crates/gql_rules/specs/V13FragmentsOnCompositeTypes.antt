@@ -13,7 +13,7 @@ use Rattle.gql_faults.specs.Faults.{where_known}
 use Rattle.gql_rules.specs.Answers.{kind_of}
 use Rattle.gql_rules.specs.Faults.{fault_of}
 
--- by the kind of the type
+-- the fault of a type condition whose type has this kind
 abbrev pub faults_by : FilePlace → Name → Option TypeKind → List Fault
 faults_by owner condition kind = where_known kind (λ (k : TypeKind).
     if is_composite k then [] else fault_of owner rule.V13 condition ∷ [])

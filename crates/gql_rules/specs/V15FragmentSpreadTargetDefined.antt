@@ -10,7 +10,7 @@ use Rattle.gql_facts.specs.declared.fact.FragmentFact.{FragmentFact}
 use Rattle.gql_rules.specs.Answers.{fragment_of}
 use Rattle.gql_rules.specs.Faults.{fault_of}
 
--- by the fragment of the name
+-- the fault of a spread, by the fragment of its name
 abbrev pub faults_by : FilePlace → Spread → Option FragmentFact → List Fault
 faults_by owner x None = fault_of owner rule.V15 x.name ∷ []
 faults_by owner x (Some g) = []

@@ -1,5 +1,5 @@
--- V16, Fragment Spreads Must Not Form Cycles: a fragment spreads itself (GraphQL 5.5.2.2), in its
--- own selection set or in a fragment that it reaches by its spreads.
+-- V16, Fragment Spreads Must Not Form Cycles: a fragment spreads itself (GraphQL 5.5.2.2). It does
+-- so in its own selection set, or in a fragment that it reaches by its spreads.
 -- Reported at the fragment's name, about the fragment.
 use Rattle.std.specs.Prelude.{Option, Some, None}
 use Rattle.gql_ast.specs.declared.definition.Definition.{Definition}
@@ -19,7 +19,7 @@ abbrev pub own_fragment : Tree → Option Fragment
 own_fragment (tree.Fragment f) = Some f
 own_fragment _ = None
 
--- the fragment, as the answer to its name has it
+-- the fragment, as a world answers with it
 abbrev pub own_fact : Definition → Fragment → FragmentFact
 own_fact d f = record { file = d.file; fragment = f }
 
@@ -27,6 +27,6 @@ own_fact d f = record { file = d.file; fragment = f }
 abbrev pub IsCyclic : Facts → Definition → Fragment → Type 0
 IsCyclic facts d f = Reaches facts d (own_fact d f)
 
--- the fault of such a fragment
+-- the fault of a fragment that reaches itself
 abbrev pub fault : FilePlace → Fragment → Fault
 fault owner f = fault_of owner rule.V16 f.name

@@ -15,15 +15,15 @@ use Rattle.gql_faults.specs.Faults.{where_known}
 use Rattle.gql_rules.specs.Answers.{fragment_of, possible_of}
 use Rattle.gql_rules.specs.Faults.{fault_at}
 
--- the name is among these
+-- whether a name is one of these
 abbrev pub is_among : List (List ℕ) → List ℕ → Bool
 is_among names name = is_some (find (λ n. bytes_eq name n) names)
 
--- some name is among both
+-- whether some name is in both lists
 abbrev pub share_one : List (List ℕ) → List (List ℕ) → Bool
 share_one these those = list_any (is_among these) those
 
--- a condition at a place, by the objects that it and the parent type may stand for
+-- the fault of a condition at a place, by its possible types and those of the parent type
 abbrev pub faults_by : FilePlace → List ℕ → Place → Option (List (List ℕ)) → Option (List (List ℕ))
     → List Fault
 faults_by owner condition place possible around = where_known possible
@@ -40,7 +40,7 @@ abbrev pub faults_of_inline : Facts → FilePlace → Option (List ℕ) → Name
 faults_of_inline facts owner parent condition =
     faults_at facts owner parent condition.text condition.place
 
--- the fault of a spread, by the fragment that it names, whose condition it has
+-- the fault of a spread, by the fragment that it names
 abbrev pub faults_by_target : Facts → FilePlace → Option (List ℕ) → Spread → Option FragmentFact
     → List Fault
 faults_by_target facts owner parent x target = where_known target

@@ -27,7 +27,7 @@ pub fn field_in(fact: &Fact) -> Option<&FieldFact>
     }
 }
 
-/// The objects that an answer gives for a composite type.
+/// The possible types of a composite type, as an answer gives them.
 pub fn possible_in(fact: &Fact) -> Option<&Named<Text>>
     ensures { option_copied result ≡ spec.possible_in fact.now }
 {

@@ -10,8 +10,8 @@ use gql_text::Place;
 use gql_types::DefinedInputs;
 use std::alloc::{AllocError, Global};
 
-/// Adds the faults of the arguments that are given to a field or a directive at this place that
-/// defines these, if it is known.
+/// Adds the faults of the arguments `given` to a field or a directive at this place. It defines the
+/// arguments `known`, if it is known.
 pub fn check(
     alloc: Global,
     owner: &FilePlace,

@@ -23,7 +23,7 @@ pub fn kind_of<W: World>(
     Ok(kind_in(&fact))
 }
 
-/// The answer for a field of a parent type; absent where that is not known.
+/// The answer for a field of a parent type; absent if that is not known.
 pub fn ask_field<W: World>(
     alloc: Global,
     world: &mut W,
@@ -47,7 +47,7 @@ pub fn ask_field<W: World>(
     Ok(fact)
 }
 
-/// The answer for the objects that a parent type may stand for; absent where it is not known.
+/// The answer for the possible types of a parent type; absent if that is not known.
 pub fn ask_possible<W: World>(
     alloc: Global,
     world: &mut W,

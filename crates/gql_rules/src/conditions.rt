@@ -18,7 +18,7 @@ use gql_text::Place;
 use gql_types::TypeKind;
 use std::alloc::{AllocError, Global};
 
-/// A type, where this kind of it is composite.
+/// A type of this kind, if the kind is composite.
 pub fn composite_by(of_type: &Text, kind: Option<TypeKind>) -> Result<Option<Text>, AllocError>
     ensures { IfOk result (λ t. t ≡ answers.composite_by of_type.now kind) }
 {
@@ -32,7 +32,7 @@ pub fn composite_by(of_type: &Text, kind: Option<TypeKind>) -> Result<Option<Tex
     }
 }
 
-/// Adds the faults of a type condition. The result is the type, where it is composite.
+/// Adds the faults of a type condition. The result is the type, if it is composite.
 pub fn check_condition<W: World>(
     alloc: Global,
     world: &mut W,
@@ -55,7 +55,7 @@ pub fn check_condition<W: World>(
     Ok(within)
 }
 
-/// Adds the fault of a type condition at a place within a parent type, where it is impossible.
+/// Adds the fault of a type condition at a place within a parent type, if it is impossible.
 fn check_possible<W: World>(
     alloc: Global,
     world: &mut W,
@@ -142,7 +142,7 @@ pub fn check_inline<W: World>(
     Ok(within)
 }
 
-/// Adds the fault of a spread whose fragment is known, where its condition is impossible.
+/// Adds the fault of a spread whose fragment is known, if its condition is impossible.
 fn check_target<W: World>(
     alloc: Global,
     world: &mut W,

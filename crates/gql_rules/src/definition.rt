@@ -84,8 +84,8 @@ fn check_cycle<W: World>(
 }
 
 /// The faults of an operation or a fragment by the rules on one definition: V04, V07 to V10, V12,
-/// V13, V15 to V24, P03 and P05 (GraphQL specification, 5). A definition of the type
-/// system has none. An error leaves what the world answers as it was.
+/// V13, V15 to V24, P03 and P05 (GraphQL specification, 5). A definition of the type system has
+/// none. If an allocation fails, the world answers as before.
 pub fn local_faults<W: World>(
     alloc: Global,
     world: &mut W,

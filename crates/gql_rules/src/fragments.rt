@@ -9,7 +9,7 @@ use gql_ast::{DirectiveLocation, Fault, FilePlace, Fragment};
 use gql_facts::World;
 use std::alloc::{AllocError, Global};
 
-/// Adds the faults of a fragment, but for those of what it reaches.
+/// Adds the faults of a fragment, without those of what it reaches.
 pub fn check<W: World>(
     alloc: Global,
     world: &mut W,

@@ -14,7 +14,7 @@ use gql_inputs::{
 use gql_types::{DefinedInputs, Named, TypeKind};
 use std::alloc::{AllocError, Global};
 
-/// An input type, by the answers for its name. It shares what they hold.
+/// An input type, by the answers for its name. It shares the lists in them.
 #[derive(Drop)]
 pub enum KnownInputType {
     Scalar(Scalar),

@@ -11,15 +11,15 @@ ghost use Rattle.gql_inputs.specs.Lookups.{in_schema};
 ghost use Rattle.gql_rules.specs.KnownInputs.{known_inputs};
 ghost use Rattle.gql_rules.specs.LocalFaults.{IsFault};
 
-/// The faults of a definition rest on what it reads alone: facts that agree there give the same
+/// The faults of a definition depend only on what it reads: facts that agree there give the same
 /// faults, both ways.
 pub fn same_faults()
     ensures { (v u : Facts) → (d : Definition) → Agree v u d
         → (f : Fault) → IsFault v d f ↔ IsFault u d f }
 {}
 
-/// A name is the same input type for the rules on operations as for those on schemas: what the
-/// answers of files say of it is what their schema says. So the same value at the same type has the
+/// A name is the same input type for the rules on operations and for those on schemas, whether it
+/// comes from the answers of files or from their schema. So the same value at the same type has the
 /// same faults as an argument in an operation and as a default value in a schema.
 pub fn same_inputs()
     ensures { (files : Files) → (name : List ℕ)

@@ -28,7 +28,7 @@ fn selected_by(kind: OperationKind, root: &Fact) -> Result<Option<Text>, AllocEr
     }
 }
 
-/// A type, where it is known and composite.
+/// A type, if it is known and composite.
 fn composite<W: World>(
     alloc: Global,
     world: &mut W,

@@ -6,7 +6,8 @@ use gql_ast::{Field, Name, Text};
 use gql_text::Place;
 use std::alloc::{AllocError, Global};
 
-/// Where a field starts: at its alias, or else at its name (GraphQL specification, 2.5, 2.7).
+/// Where a field starts: at its alias, or at its name if it has none (GraphQL specification, 2.5,
+/// 2.7).
 pub fn start_of(field: &Field) -> Place
     ensures { result ≡ spec.start_at field.now.alias field.now.name }
 {

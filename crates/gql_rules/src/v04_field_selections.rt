@@ -10,7 +10,7 @@ use gql_ast::{Fault, Field, FilePlace, Rule, Text};
 use gql_facts::FieldFact;
 use std::alloc::{AllocError, Global};
 
-/// Adds the fault of a field, where its parent type is known and has no field of this name.
+/// Adds the fault of a field, if its parent type is known and has no field of this name.
 pub fn check(
     alloc: Global,
     owner: &FilePlace,

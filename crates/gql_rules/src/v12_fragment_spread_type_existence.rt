@@ -7,7 +7,7 @@ use gql_ast::{Fault, FilePlace, Name, Rule};
 use gql_types::TypeKind;
 use std::alloc::{AllocError, Global};
 
-/// Adds the fault of a type condition, where the kind of the type is not known.
+/// Adds the fault of a type condition, if the kind of the type is not known.
 pub fn check(
     alloc: Global,
     owner: &FilePlace,

@@ -8,7 +8,7 @@ use gql_ast::{Fault, FilePlace, Rule, Spread};
 use gql_facts::FragmentFact;
 use std::alloc::{AllocError, Global};
 
-/// Adds the fault of a spread, where the fragment of its name is not known.
+/// Adds the fault of a spread, if the fragment of its name is not known.
 pub fn check(
     alloc: Global,
     owner: &FilePlace,

@@ -22,8 +22,8 @@ fn share_one(these: &Named<Text>, those: &Named<Text>) -> bool
     those.as_slice().iter().any(|name| is_among(these, name))
 }
 
-/// Adds the fault of a type condition at a place, by the objects that it and the parent type may
-/// stand for, where both are known.
+/// Adds the fault of a type condition at a place, by its possible types and those of the parent
+/// type, if both are known.
 pub fn check(
     alloc: Global,
     owner: &FilePlace,

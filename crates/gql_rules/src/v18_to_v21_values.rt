@@ -1,5 +1,8 @@
-//! V18 to V21: values of correct type, and the fields of input objects, in the values of arguments
-//! and in the default values of variables.
+//! V18, Values of Correct Type: a value does not fit the type that is expected of it.
+//! V19, Input Object Field Names: an object value has a field that is not defined.
+//! V20, Input Object Field Uniqueness: an object value has two fields of the same name.
+//! V21, Input Object Required Fields: a required input field is missing or null.
+//! They check the values of arguments and the default values of variables.
 ghost use Rattle.std.specs.Prelude.{◌≡◌, ◌++◌, ◌∷◌, [], OnOk, map};
 ghost use Rattle.std.specs.Option.{option_copied};
 ghost use Rattle.gql_inputs.specs.ExpectedTypes.{written_of};
@@ -55,7 +58,7 @@ fn check_value<W: World>(
     Ok(())
 }
 
-/// Adds the faults of a value of which nothing is expected.
+/// Adds the faults of a value where no type is known.
 fn check_repeats(
     alloc: Global,
     owner: &FilePlace,

@@ -8,7 +8,7 @@ use gql_ast::{Directive, Fault, FilePlace, Rule};
 use gql_facts::DirectiveFact;
 use std::alloc::{AllocError, Global};
 
-/// Adds the fault of a directive, where it is not known.
+/// Adds the fault of a directive, if it is not known.
 pub fn check(
     alloc: Global,
     owner: &FilePlace,

@@ -9,7 +9,7 @@ use gql_ast::{Directive, DirectiveLocation, Fault, FilePlace, Rule};
 use gql_facts::DirectiveFact;
 use std::alloc::{AllocError, Global};
 
-/// Adds the fault of a directive at a location, where it is known and does not list that.
+/// Adds the fault of a directive at a location, if it is known and does not list that location.
 pub fn check(
     alloc: Global,
     owner: &FilePlace,

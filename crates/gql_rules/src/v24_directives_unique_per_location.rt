@@ -11,8 +11,8 @@ use gql_ast::{Directive, Fault, FilePlace, Rule};
 use gql_facts::DirectiveFact;
 use std::alloc::{AllocError, Global};
 
-/// Adds the fault of a directive that stands more than once in its list, or does not, where it is
-/// known and not repeatable.
+/// Adds the fault of a directive, if it is known, not repeatable, and occurs more than once in its
+/// list.
 pub fn check(
     alloc: Global,
     owner: &FilePlace,

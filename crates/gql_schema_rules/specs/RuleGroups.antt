@@ -19,16 +19,16 @@ use Rattle.gql_schema_rules.specs.S27ExtensionsOfUnknownTypes as s27
 use Rattle.gql_schema_rules.specs.S28ExtensionsOfAnotherKind as s28
 use Rattle.gql_schema_rules.specs.S34DuplicateSchemas as s34
 
--- of definitions and extensions: S01, S02, S04, S27, S28
+-- the faults of definitions and extensions: S01, S02, S04, S27, S28
 abbrev pub definition_faults : AllNodes → Schema → List Fault
 definition_faults n s = s01.faults n
     ++ (s02.faults n ++ (s04.faults n ++ (s27.faults n s ++ s28.faults n s)))
 
--- of types and directives: S05, S06, S07, S08, S18
+-- the faults of types and directives: S05, S06, S07, S08, S18
 abbrev pub type_faults : Schema → List Fault
 type_faults s = s05.faults s ++ (s06.faults s ++ (s07.faults s ++ (s08.faults s ++ s18.faults s)))
 
--- of root operation types: S23, S24, S25, S34, P02
+-- the faults of root operation types: S23, S24, S25, S34, P02
 abbrev pub root_faults : AllNodes → Schema → List Fault
 root_faults n s = s23.faults s
     ++ (s24.faults s ++ (s25.faults s ++ (s34.faults n s ++ p02.faults s)))

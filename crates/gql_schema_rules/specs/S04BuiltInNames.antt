@@ -14,12 +14,12 @@ use Rattle.gql_faults.specs.Faults.{fault_of}
 use Rattle.gql_node_rules.specs.Nodes.{AllNodes, each}
 use Rattle.gql_node_rules.specs.P01FloatReferences.{is_float}
 
--- the name of a built-in scalar, or Float
+-- whether a name is that of a built-in scalar, or `Float`
 abbrev pub is_scalar_name : List ℕ → Bool
 is_scalar_name name =
     list_any (λ (d : TypeDefinition). bytes_eq name d.name.text) built_in.scalars || is_float name
 
--- the name of a built-in directive
+-- whether a name is that of a built-in directive
 abbrev pub is_directive_name : List ℕ → Bool
 is_directive_name name =
     list_any (λ (d : DirectiveDefinition). bytes_eq name d.name.text) built_in.directives

@@ -11,7 +11,7 @@ use Rattle.gql_types.specs.declared.kind.TypeKind.TheVariants as kind
 use Rattle.gql_types.specs.declared.schema.Schema.{Schema}
 use Rattle.gql_types.specs.declared.schema_type.SchemaType.{SchemaType}
 
--- a type of this kind that has none of the parts that the kind needs; a scalar needs none
+-- whether a type has none of the parts that its kind needs; a scalar needs none
 abbrev pub is_empty : TypeKind → SchemaType → Bool
 is_empty kind.Scalar t = false
 is_empty kind.Object t = length t.fields == 0

@@ -23,15 +23,15 @@ names_in file arguments =
 abbrev pub faults_in : Option (List ℕ) → List InputValueDefinition → List Fault
 faults_in file arguments = repeated_faults rule.S08 (names_in file arguments)
 
--- of a field
+-- the faults of a field
 abbrev pub faults_of_field : Sited FieldDefinition → List Fault
 faults_of_field f = faults_in f.file f.node.arguments
 
--- of the fields of a type
+-- the faults of the fields of a type
 abbrev pub faults_of_type : SchemaType → List Fault
 faults_of_type t = flat_map faults_of_field t.fields
 
--- of a directive
+-- the faults of a directive
 abbrev pub faults_of_directive : Sited DirectiveDefinition → List Fault
 faults_of_directive d = faults_in d.file d.node.arguments
 

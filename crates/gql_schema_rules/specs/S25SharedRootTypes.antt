@@ -14,11 +14,11 @@ use Rattle.gql_types.specs.Schemas.{type_named}
 use Rattle.gql_schema_rules.specs.EarlierRoots.{with_earlier}
 use Rattle.gql_faults.specs.Faults.{fault_between, place_of, where_known}
 
--- a root operation type of this kind and this name
+-- whether a root operation type has this kind and this name
 abbrev pub is_for : OperationKind → List ℕ → Root → Bool
 is_for k name r = same_operation k r.kind && bytes_eq name r.name.node.text
 
--- the fault of a root with an earlier one of its type
+-- the fault of a root and an earlier one of the same type
 abbrev pub fault_with : Root → Root → List Fault
 fault_with r e = fault_between rule.S25 r.name.node.text (place_of r.name) (place_of e.name)
 

@@ -17,26 +17,26 @@ use Rattle.gql_types.specs.declared.schema.Schema.{Schema}
 use Rattle.gql_schema_rules.specs.EarlierRoots.{with_earlier}
 use Rattle.gql_schema_rules.specs.OperationKinds.{kind_word}
 
--- the places of the words `schema` of definitions
+-- the places of the keyword `schema` of each definition
 abbrev pub keywords : AllNodes → List (Sited Place)
 keywords n = each (λ (d : SchemaDefinition). d.keyword) n.schemas
 
--- a fault at each of these words, if there are two or more
+-- a fault at each of these keywords, if there are two or more
 abbrev pub faults_of_keywords : List (Sited Place) → List Fault
 faults_of_keywords words =
     if nat_lt 1 (length words) then flat_map (fault_at rule.S34 (codes "schema")) words else []
 
--- the fault at the entry of a root; a root by its name alone has no entry
+-- the fault at the entry of a root; a root that has its type by the type's name alone has no entry
 abbrev pub fault_at_entry : OperationKind → Option (List ℕ) → Option Place → List Fault
 fault_at_entry k file None = []
 fault_at_entry k file (Some place) =
     fault_at rule.S34 (kind_word k) (record { file = file; node = place })
 
--- one of these roots is of the kind
+-- whether one of these roots has the kind
 abbrev pub has_kind : List Root → OperationKind → Bool
 has_kind roots k = list_any (λ (r : Root). same_operation k r.kind) roots
 
--- the fault of a root, if an earlier one is of its kind
+-- the fault of a root, if an earlier one has its kind
 abbrev pub fault_if_again : List Root → Root → List Fault
 fault_if_again earlier r =
     if has_kind earlier r.kind then fault_at_entry r.kind r.name.file r.entry else []

@@ -1,4 +1,4 @@
--- The faults of a schema, as a set.
+-- The faults of a schema by all rules on schemas.
 use Rattle.std.specs.Prelude.{Contains}
 use Rattle.gql_ast.specs.declared.fault.Fault.{Fault}
 use Rattle.gql_ast.specs.declared.files.Files.{Files}
@@ -47,7 +47,7 @@ use Rattle.gql_schema_rules.specs.P02SubscriptionRoots as p02
 abbrev pub nodes_in : Files → AllNodes
 nodes_in files = nodes_of (of_files files.schema)
 
--- a fault by some rule, where this is the schema of the files
+-- a fault by one of the rules; s is the schema of the files
 pub data FaultsBy (files : Files) (s : Schema) (f : Fault) : Type 0 where
   by_s01 : Contains (s01.faults (nodes_in files)) f → FaultsBy files s f
   by_s02 : Contains (s02.faults (nodes_in files)) f → FaultsBy files s f

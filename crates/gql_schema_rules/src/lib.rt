@@ -1,7 +1,7 @@
 //! The faults of a schema, by each rule on schemas: those of the crates below, and the rules on
 //! definitions, types, root operation types and extensions.
 //!
-//! A function that adds to a list may have added a part where it fails for memory.
+//! A function that adds to a list may have added a part of it if an allocation fails.
 #![tactic(auto)]
 
 mod operation_kinds;

@@ -1,4 +1,4 @@
--- Law of operations that are served: there is a response to each request of one.
+-- The law of operations that are served: every request of one has a response.
 use Rattle.std.specs.Prelude.{◌≡◌, Contains}
 use Rattle.gql_ast.specs.declared.definition.Definition.{Definition}
 use Rattle.gql_ast.specs.declared.definition.Tree.TheVariants as tree
@@ -15,7 +15,7 @@ use Rattle.gql_verdict.specs.Definitions.{all_definitions}
 use Rattle.gql_verdict.specs.Faults.{IsFaultIn}
 use Rattle.serde_json.specs.Data.{Data}
 
--- a request of an operation of the document files, with these values for its variables and these
+-- a request of an operation of the document files, with these values for its variables and this
 -- data
 abbrev pub request_of : Files → Definition → Operation → Data → Data → Request
 request_of files d operation variables stored = record {
@@ -28,12 +28,12 @@ request_of files d operation variables stored = record {
   stored = stored;
 }
 
--- no definition of the document files has a fault that d or a fragment that d reaches owns
+-- no definition of the document files has a fault that d, or a fragment that d reaches, owns
 abbrev pub HasNoFault : Files → Definition → Type 0
 HasNoFault files d = (x : Definition) (f : Fault) → Contains (all_definitions files.documents) x
     → IsFaultIn (fact_of files) x f → IsOwned (fact_of files) d f → ⊥
 
--- where the schema has no fault, an operation without faults answers each request
+-- if the schema has no fault, every request of an operation without faults has a response
 abbrev pub SomeAnswer : Type 0
 SomeAnswer = (files : Files) (d : Definition) (operation : Operation)
     → d.tree ≡ tree.Operation operation → Contains (all_definitions files.documents) d

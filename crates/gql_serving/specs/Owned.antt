@@ -18,13 +18,13 @@ definition_of g = record { file = g.file; tree = tree.Fragment g.fragment }
 abbrev pub fragment_owner : FragmentFact → FilePlace
 fragment_owner g = owner_of (definition_of g)
 
--- the operation d owns the fault, or a fragment that d reaches does
+-- the operation d, or a fragment that d reaches, owns the fault
 pub data IsOwned (facts : Facts) (d : Definition) (f : Fault) : Type 0 where
   by_operation : f.owner ≡ Some (owner_of d) → IsOwned facts d f
   by_fragment : {g : FragmentFact} → Reaches facts d g → f.owner ≡ Some (fragment_owner g)
       → IsOwned facts d f
 
--- of a list of faults those that meet P, in their order
+-- the second list has the faults of the first that meet P, in their order
 pub data Picks (P : Fault → Type 0) : List Fault → List Fault → Type 0 where
   none : Picks P [] []
   picked : {f : Fault} {fs gs : List Fault} → P f → Picks P fs gs → Picks P (f ∷ fs) (f ∷ gs)

@@ -1,7 +1,7 @@
-//! Law of operations that are served. The function does nothing; its contract holds.
+//! The law of operations that are served. The function does nothing; its contract holds.
 ghost use Rattle.gql_serving.specs.Laws as laws;
 
-/// Where the schema has no fault, an operation without faults answers each request.
+/// If the schema has no fault, every request of an operation without faults has a response.
 pub fn some_answer()
     ensures { laws.SomeAnswer }
 {

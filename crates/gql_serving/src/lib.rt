@@ -1,4 +1,4 @@
-//! Which operations are served, and that there is a response to each request of one.
+//! Which operations are served, and the law that every request of one has a response.
 #![tactic(auto)]
 
 pub mod laws;

@@ -1,3 +1,5 @@
+//! The faults that an operation answers for.
+
 ghost use Rattle.std.specs.Prelude.{◌≡◌, ◌↔◌, IsTrue, IfOk};
 ghost use Rattle.gql_ast.specs.declared.fault.FileSide.TheVariants.{Documents};
 ghost use Rattle.gql_rules.specs.LocalFaults.{owner_of};
@@ -44,7 +46,7 @@ fn is_owned(fault: &Fault, definition: &Definition, members: &[FragmentFact]) ->
     }
 }
 
-/// Of these faults those that a definition, or one of the fragments that it reaches, owns.
+/// Those of these faults that a definition, or one of the fragments that it reaches, owns.
 fn picked(
     alloc: Global,
     definition: &Definition,
@@ -63,8 +65,9 @@ fn picked(
     Ok(owned)
 }
 
-/// Of these faults those that an operation answers for, in their order: those that it owns, and those
-/// that the fragments own which it reaches. Where there are no faults, the world is asked nothing.
+/// Those of these faults that an operation answers for, in their order: the faults that it owns,
+/// and those that the fragments own that it reaches. If there are no faults, the world is not
+/// called.
 pub fn owned_faults<W: World>(
     alloc: Global,
     world: &mut W,

@@ -1,7 +1,7 @@
-//! Laws of a schema without faults. The functions do nothing; their contracts hold.
+//! Laws of schemas without faults. The functions do nothing; their contracts hold.
 ghost use Rattle.gql_sound.specs.Laws as laws;
 
-/// No default leads back to itself.
+/// No default value leads back to itself.
 pub fn no_default_cycles()
     ensures { laws.NoDefaultCycles }
 {}

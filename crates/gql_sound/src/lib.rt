@@ -1,4 +1,4 @@
-//! What holds of a schema without faults. The functions do nothing: what they ensure is the law.
+//! Laws of schemas without faults. The functions do nothing: what they ensure is the law.
 #![tactic(auto)]
 
 pub mod laws;

@@ -1,22 +1,27 @@
--- Worked examples of V29: the specification's (GraphQL 5.8.5), and near misses.
+-- Worked examples of V29: those of the specification (GraphQL 5.8.5), and cases that only just
+-- differ from them.
 use Rattle.std.specs.Prelude.{◌≡◌, true, false, codes, refl}
 use Rattle.gql_types.specs.Written.{Written, named, listed, required}
 use Rattle.gql_vars.specs.Usages.{Location}
 use Rattle.gql_vars.specs.V29AllVariableUsagesAreAllowed.{fits, allows}
 
+-- the type `Int`
 abbrev int : Written
 int = named (codes "Int")
 
+-- the type `Boolean`
 abbrev boolean : Written
 boolean = named (codes "Boolean")
 
+-- the type `String`
 abbrev string : Written
 string = named (codes "String")
 
--- a location without a default value, and with one
+-- a location of this type without a default value
 abbrev at : Written → Location
 at t = record { expected = t; has_default = false }
 
+-- a location of this type with a default value
 abbrev with_default : Written → Location
 with_default t = record { expected = t; has_default = true }
 

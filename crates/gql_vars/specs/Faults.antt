@@ -1,4 +1,5 @@
--- Faults of an operation at uses of variables, which may be in the file of a fragment.
+-- Faults of an operation at uses of variables, which may be in other files: those of the fragments
+-- that it reaches.
 use Rattle.std.specs.Prelude.{[], ◌∷◌, Some}
 use Rattle.gql_ast.specs.declared.fault.Fault.{Fault}
 use Rattle.gql_ast.specs.declared.fault.FilePlace.{FilePlace}

@@ -35,58 +35,58 @@ use Rattle.gql_vars.specs.Usages.{Location, Usage, value_usages, item_usages, fi
 use Rattle.gql_vars.specs.V29AllVariableUsagesAreAllowed.{is_allowed, is_judged}
 use Rattle.gql_vars.specs.Variables.{variable_named}
 
--- a location, as definitions see it
+-- a location, as specifications see it
 abbrev pub location_at : ALocation → Location
 location_at l = record { expected = written_of l.expected; has_default = l.has_default }
 
--- a use at a location, as definitions see it
+-- a use at a location, as specifications see it
 abbrev pub usage_of : VariableUse → ALocation → Usage
 usage_of x l = record { used = use_of x; location = location_at l }
 
--- the variable of a name, by what usages are checked against
+-- the first variable of a name, as the check of usages keeps it
 abbrev pub first_named : UsageCheck → List ℕ → Option VariableDefinition
 first_named c name =
     option_map (λ v. v.now) (hash.get_by (λ k. bytes_eq name k.now) c.first.now)
 
--- V29 of a usage of this variable, if it is defined
+-- the fault of a usage of this variable by V29, if the variable is defined
 abbrev pub misuse_of : Facts → FilePlace → Usage → Option VariableDefinition → List Fault
 misuse_of facts owner x None = []
 misuse_of facts owner x (Some v) = if not (is_allowed v x.location) && is_judged facts v
     then fault_of_use owner rule.V29 x.used ∷ []
     else []
 
--- V29 of a usage, by the variables of each name
+-- the fault of a usage by V29; `variable` finds a variable by its name
 abbrev pub misuse_by : Facts → FilePlace → (List ℕ → Option VariableDefinition) → Usage
     → List Fault
 misuse_by facts owner variable x = misuse_of facts owner x (variable x.used.name)
 
--- V29 of usages
+-- the faults of usages by V29
 abbrev pub misuses : Facts → UsageCheck → List Usage → List Fault
 misuses facts c = flat_map (misuse_by facts c.owner.now (first_named c))
 
 -- ---- values
 
--- V29 in a value at a location
+-- the faults by V29 in a value at a location
 abbrev pub value_misuses : Facts → UsageCheck → Location → Value → List Fault
 value_misuses facts c at x =
     misuses facts c (value_usages (known_inputs facts) c.file.now at x)
 
--- in a list
+-- the faults by V29 in a list
 abbrev pub list_misuses : Facts → UsageCheck → Written → Values → List Fault
 list_misuses facts c t xs = misuses facts c
     (by_item (λ item. item_usages (known_inputs facts) c.file.now item xs) (item_of t))
 
--- in one item of a list
+-- the faults by V29 in one item of a list
 abbrev pub item_misuses : Facts → UsageCheck → Written → Value → List Fault
 item_misuses facts c item x = misuses facts c
     (if_item item x (value_usages (known_inputs facts) c.file.now (location_of_item item) x))
 
--- in an object
+-- the faults by V29 in an object
 abbrev pub object_misuses : Facts → UsageCheck → Written → Fields → List Fault
 object_misuses facts c t fs = misuses facts c
     (field_usages (known_inputs facts) c.file.now (fields_at (known_inputs facts) t) fs)
 
--- in one field of an object
+-- the faults by V29 in one field of an object
 abbrev pub field_misuses : Facts → UsageCheck → List FieldForm → GivenField → List Fault
 field_misuses facts c fields g = misuses facts c
     (by_field (λ at. value_usages (known_inputs facts) c.file.now at g.value)
@@ -94,33 +94,33 @@ field_misuses facts c fields g = misuses facts c
 
 -- ---- arguments and directives
 
--- in an argument, by its definition, if it is known
+-- the faults by V29 in an argument, by its definition, if it is known
 abbrev pub misuses_by : Facts → UsageCheck → Argument → Option InputFact → List Fault
 misuses_by facts c a None = []
 misuses_by facts c a (Some i) = value_misuses facts c (location_of i) (value_of a.value)
 
--- in an argument of a field or a directive that defines these, if it is known
+-- the faults by V29 in an argument of a field or a directive that defines these, if it is known
 abbrev pub misuses_of_argument : Facts → UsageCheck → Option (List InputFact) → Argument
     → List Fault
 misuses_of_argument facts c known a = misuses_by facts c a (definition_of known a.name.text)
 
--- in the arguments of a field or a directive that defines these, if it is known
+-- the faults by V29 in the arguments of a field or a directive that defines these, if it is known
 abbrev pub argument_misuses : Facts → UsageCheck → Option (List InputFact) → List Argument
     → List Fault
 argument_misuses facts c known = flat_map (misuses_of_argument facts c known)
 
--- in a directive that is applied
+-- the faults by V29 in a directive that is applied
 abbrev pub misuses_of_directive : Facts → UsageCheck → Directive → List Fault
 misuses_of_directive facts c d =
     argument_misuses facts c (of_directive (directive_of facts d.name.text)) d.arguments
 
--- in directives that are applied
+-- the faults by V29 in directives that are applied
 abbrev pub directive_misuses : Facts → UsageCheck → List Directive → List Fault
 directive_misuses facts c = flat_map (misuses_of_directive facts c)
 
 -- ---- nodes
 
--- in a node of a selection set
+-- the faults by V29 in a node of a selection set
 abbrev pub node_misuses : Facts → UsageCheck → Node → List Fault
 node_misuses facts c (field f) =
     argument_misuses facts c (of_field (field_of facts f.parent f.name.text)) f.arguments
@@ -128,51 +128,52 @@ node_misuses facts c (field f) =
 node_misuses facts c (spread parent x) = directive_misuses facts c x.directives
 node_misuses facts c (inline i) = directive_misuses facts c i.directives
 
--- in these nodes
+-- the faults by V29 in these nodes
 abbrev pub nodes_misuses : Facts → UsageCheck → List Node → List Fault
 nodes_misuses facts c = flat_map (node_misuses facts c)
 
--- in a selection set with this parent type
+-- the faults by V29 in a selection set with this parent type
 abbrev pub set_misuses : Facts → UsageCheck → Option (List ℕ) → List Selection → List Fault
 set_misuses facts c parent set = nodes_misuses facts c (nodes facts parent set)
 
--- in a selection, and in what it selects
+-- the faults by V29 in a selection, and in what it selects
 abbrev pub selection_misuses : Facts → UsageCheck → Option (List ℕ) → Selection → List Fault
 selection_misuses facts c parent x = nodes_misuses facts c (nodes_in facts x parent)
 
--- in a field, and then in what it selects
+-- the faults by V29 in a field, and then in what it selects
 abbrev pub field_visit : Facts → UsageCheck → Option (List ℕ) → Field → List Fault
 field_visit facts c parent f = node_misuses facts c (field (field_node parent f))
     ++ set_misuses facts c (parent_below facts parent f.name.text) f.selections
 
--- in an inline fragment, and then in what it selects
+-- the faults by V29 in an inline fragment, and then in what it selects
 abbrev pub inline_visit : Facts → UsageCheck → Option (List ℕ) → InlineFragment → List Fault
 inline_visit facts c parent i = node_misuses facts c (inline (inline_node parent i))
     ++ set_misuses facts c (parent_within facts parent i.condition) i.selections
 
 -- ---- definitions
 
--- in an operation, without the fragments that it reaches
+-- the faults by V29 in an operation, without the fragments that it reaches
 abbrev pub operation_misuses : Facts → UsageCheck → Operation → List Fault
 operation_misuses facts c o =
     directive_misuses facts c o.directives ++ nodes_misuses facts c (operation_nodes facts o)
 
--- in a fragment, without those that it reaches
+-- the faults by V29 in a fragment, without those that it reaches
 abbrev pub fragment_misuses : Facts → UsageCheck → Fragment → List Fault
 fragment_misuses facts c f =
     directive_misuses facts c f.directives ++ nodes_misuses facts c (fragment_nodes facts f)
 
--- V29 of a usage, where these are the variables of the operation
+-- the faults by V29 of a usage, where these are the variables of the operation
 abbrev pub misuse : Facts → FilePlace → List VariableDefinition → Usage → List Fault
 misuse facts owner variables = misuse_by facts owner (variable_named variables)
 
--- V29 in a fragment
+-- the faults by V29 in a fragment
 abbrev pub misuses_of_member : Facts → FilePlace → List VariableDefinition → FragmentFact
     → List Fault
 misuses_of_member facts owner variables g =
     flat_map (misuse facts owner variables) (fragment_usages facts g.file g.fragment)
 
--- V29 of an operation of this file with these variables, by the fragments that it reaches
+-- the faults by V29 of an operation of this file with these variables, by the fragments that it
+-- reaches
 abbrev pub usage_faults : Facts → FilePlace → List ℕ → Operation → List FragmentFact
     → List VariableDefinition → List Fault
 usage_faults facts owner file o members variables =

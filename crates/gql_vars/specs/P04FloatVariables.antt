@@ -1,4 +1,4 @@
--- P04, Float Variables: a variable's type is Float, which this registry does not serve (this
+-- P04, Float Variables: a variable is of type Float, which this registry does not serve (this
 -- registry's own rule).
 -- Reported at the type's name, about `Float`.
 use Rattle.std.specs.Prelude.{ℕ, List, [], ◌∷◌, Bool, codes, bytes_eq, if◌then◌else◌}
@@ -9,6 +9,7 @@ use Rattle.gql_ast.specs.declared.rule.Rule.TheVariants as rule
 use Rattle.gql_rules.specs.Faults.{fault_of}
 use Rattle.gql_vars.specs.Variables.{type_name}
 
+-- whether a name is `Float`
 abbrev pub is_float : List ℕ → Bool
 is_float name = bytes_eq name (codes "Float")
 

@@ -37,33 +37,34 @@ pub record Usage : Type 0 where
 
 -- ---- values
 
--- an item of a list that is given has no default value
+-- the location of an item of a list that is given; it has no default value
 abbrev pub location_of_item : Written → Location
 location_of_item item = record { expected = item; has_default = false }
 
--- a field of an input object
+-- the location of a field of an input object
 abbrev pub location_of_field : FieldForm → Location
 location_of_field f = record { expected = f.of_type; has_default = f.has_default }
 
--- the fields of the input object that a type names; none where it names another type
+-- the fields of the input object that a type names, or none if it names another type
 abbrev pub fields_at : InputLookup → Written → List FieldForm
 fields_at look t = option_map_or fields_in (look (name_in t)) []
 
--- the usages in a list, by the type of its items, where a list is expected
+-- the usages in a list, by the type of its items, if a list is expected
 abbrev pub by_item : (Written → List Usage) → Option Written → List Usage
 by_item usages None = []
 by_item usages (Some item) = usages item
 
--- the usages in an item; none where it is refused as a whole, since a list is expected and it
--- is no list
+-- The usages in an item of a list. There are none in an item that V18 refuses as a whole: a list is
+-- expected, and the item is not one.
 abbrev pub if_item : Written → Value → List Usage → List Usage
 if_item item x usages = if is_list item && not (may_be_list x) then [] else usages
 
--- the usages in a field of an object, where the type has the field
+-- the usages in a field of an object, if its type has the field
 abbrev pub by_field : (Location → List Usage) → Option FieldForm → List Usage
 by_field usages None = []
 by_field usages (Some f) = usages (location_of_field f)
 
+-- the usages in a value, in its items and in its fields
 abbrev mutual
   -- in a value at a location
   pub value_usages : InputLookup → List ℕ → Location → Value → List Usage
@@ -96,37 +97,37 @@ abbrev mutual
 
 -- ---- arguments and directives
 
--- an argument
+-- the location of an argument
 abbrev pub location_of : InputFact → Location
 location_of i = record { expected = typed_of i.of_type; has_default = i.has_default }
 
--- in an argument, by its definition, if it is known
+-- the usages in an argument, by its definition, if it is known
 abbrev pub usages_by : InputLookup → List ℕ → Argument → Option InputFact → List Usage
 usages_by look file a None = []
 usages_by look file a (Some i) = value_usages look file (location_of i) (value_of a.value)
 
--- in an argument of a field or a directive that defines these, if it is known
+-- the usages in an argument of a field or a directive that defines these, if it is known
 abbrev pub usages_of_argument : InputLookup → List ℕ → Option (List InputFact) → Argument
     → List Usage
 usages_of_argument look file known a = usages_by look file a (definition_of known a.name.text)
 
--- in the arguments of a field or a directive that defines these, if it is known
+-- the usages in the arguments of a field or a directive that defines these, if it is known
 abbrev pub argument_usages : Facts → List ℕ → Option (List InputFact) → List Argument → List Usage
 argument_usages facts file known =
     flat_map (usages_of_argument (known_inputs facts) file known)
 
--- in a directive that is applied
+-- the usages in a directive that is applied
 abbrev pub usages_of_directive : Facts → List ℕ → Directive → List Usage
 usages_of_directive facts file d =
     argument_usages facts file (of_directive (directive_of facts d.name.text)) d.arguments
 
--- in directives that are applied
+-- the usages in directives that are applied
 abbrev pub directive_usages : Facts → List ℕ → List Directive → List Usage
 directive_usages facts file = flat_map (usages_of_directive facts file)
 
 -- ---- definitions
 
--- in a node of a selection set
+-- the usages in a node of a selection set
 abbrev pub node_usages : Facts → List ℕ → Node → List Usage
 node_usages facts file (field f) =
     argument_usages facts file (of_field (field_of facts f.parent f.name.text)) f.arguments
@@ -134,14 +135,16 @@ node_usages facts file (field f) =
 node_usages facts file (spread parent x) = directive_usages facts file x.directives
 node_usages facts file (inline i) = directive_usages facts file i.directives
 
--- in directives, and in the nodes of a selection set
+-- the usages in directives, and in the nodes of a selection set
 abbrev pub part_usages : Facts → List ℕ → List Directive → List Node → List Usage
 part_usages facts file ds nodes =
     directive_usages facts file ds ++ flat_map (node_usages facts file) nodes
 
+-- the usages in an operation, without the fragments that it reaches
 abbrev pub operation_usages : Facts → List ℕ → Operation → List Usage
 operation_usages facts file o = part_usages facts file o.directives (operation_nodes facts o)
 
+-- the usages in a fragment, without those that it reaches
 abbrev pub fragment_usages : Facts → List ℕ → Fragment → List Usage
 fragment_usages facts file f = part_usages facts file f.directives (fragment_nodes facts f)
 

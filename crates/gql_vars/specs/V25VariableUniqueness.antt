@@ -1,5 +1,5 @@
--- V25, Variable Uniqueness: a variable is defined twice (GraphQL 5.8.1).
--- Reported at each definition's `$`, about the variable.
+-- V25, Variable Uniqueness: an operation has two variables of the same name (GraphQL 5.8.1).
+-- Reported at the `$` of each definition, about the variable.
 use Rattle.std.specs.Prelude.{List, [], ◌∷◌, flat_map, if◌then◌else◌}
 use Rattle.gql_ast.specs.declared.executable.VariableDefinition.{VariableDefinition}
 use Rattle.gql_ast.specs.declared.fault.Fault.{Fault}

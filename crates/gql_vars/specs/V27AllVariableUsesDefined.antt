@@ -1,6 +1,6 @@
--- V27, All Variable Uses Defined: a variable is used that the operation does not define (GraphQL
+-- V27, All Variable Uses Defined: an operation does not define a variable that it uses (GraphQL
 -- 5.8.3).
--- Reported at the use's `$`, about the variable, in each operation that reaches the use.
+-- Reported at the `$` of the use, about the variable, in each operation that reaches the use.
 use Rattle.std.specs.Prelude.{◌≡◌, None}
 use Rattle.gql_ast.specs.declared.definition.Definition.{Definition}
 use Rattle.gql_ast.specs.declared.executable.Operation.{Operation}

@@ -1,6 +1,6 @@
--- V28, All Variables Used: a variable is used neither in its operation nor in a fragment that the
--- operation reaches (GraphQL 5.8.4). Of variables of one name, the first counts.
--- Reported at the definition's `$`, about the variable.
+-- V28, All Variables Used: neither the operation nor its fragments use a variable (GraphQL 5.8.4).
+-- The fragments are those that the operation reaches. Of variables of one name, the first counts.
+-- Reported at the `$` of the definition, about the variable.
 use Rattle.std.specs.Prelude.{◌≡◌, ℕ, List, Some}
 use Rattle.gql_ast.specs.declared.definition.Definition.{Definition}
 use Rattle.gql_ast.specs.declared.executable.Operation.{Operation}

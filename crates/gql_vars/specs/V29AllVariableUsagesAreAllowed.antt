@@ -1,7 +1,7 @@
 -- V29, All Variable Usages Are Allowed: a variable is used where its type does not fit (GraphQL
--- 5.8.5). Of variables of one name, the first counts. A variable whose type is Float or is not
--- known is reported by P04 or V26 alone.
--- Reported at the use's `$`, about the variable, in each operation that reaches the use.
+-- 5.8.5). Of variables of one name, the first counts. If the type of a variable is unknown or
+-- Float, only V26 or P04 reports it.
+-- Reported at the `$` of the use, about the variable, in each operation that reaches the use.
 use Rattle.std.specs.Prelude.{◌≡◌, Bool, true, false, ◌&&◌, ◌||◌, not, bytes_eq, is_some, Option, Some, None, if◌then◌else◌}
 use Rattle.gql_ast.specs.declared.definition.Definition.{Definition}
 use Rattle.gql_ast.specs.declared.executable.Operation.{Operation}
@@ -20,8 +20,8 @@ use Rattle.gql_vars.specs.P04FloatVariables.{is_float}
 use Rattle.gql_vars.specs.Usages.{Location, Usage, Usages}
 use Rattle.gql_vars.specs.Variables.{type_name, variable_named}
 
--- The type of a variable, first, fits that of a location (AreTypesCompatible): Non-Null where the
--- location is, a list where it is, and the same name within.
+-- The type of a variable, the first, fits that of a location (AreTypesCompatible): it is Non-Null
+-- if that of the location is, a list exactly if that is, and names the same type.
 abbrev pub fits : Written → Written → Bool
 fits (required t) (required u) = fits t u
 fits (named n) (required u) = false
@@ -39,19 +39,19 @@ nullable (required t) = t
 nullable (listed t) = listed t
 nullable (named n) = named n
 
--- a default value other than null
+-- whether there is a default value other than null
 abbrev pub has_value : Option Literal → Bool
 has_value None = false
 has_value (Some x) = not (is_null x)
 
--- a default value takes the place of null where a type that is not Non-Null is used at a Non-Null
--- location: the variable's default value, or that of the location
+-- whether a type that is not Non-Null may be used at a Non-Null location, since the variable or the
+-- location has a default value
 abbrev pub is_never_null : Written → Bool → Location → Bool
 is_never_null t has_value at =
     is_non_null at.expected && (not (is_non_null t) && (has_value || at.has_default))
 
--- a variable of this type, that has a default value other than null or not, is allowed at a
--- location (IsVariableUsageAllowed)
+-- a variable of this type is allowed at a location (IsVariableUsageAllowed); `has_value`: it has a
+-- default value other than null
 abbrev pub allows : Written → Bool → Location → Bool
 allows t has_value at = if is_never_null t has_value at
     then fits t (nullable at.expected)
@@ -61,7 +61,7 @@ allows t has_value at = if is_never_null t has_value at
 abbrev pub is_allowed : VariableDefinition → Location → Bool
 is_allowed v at = allows (written v.of_type) (has_value v.default) at
 
--- the type of a variable is known, and is not Float
+-- V29 checks a variable if its type is known and is not Float
 abbrev pub is_judged : Facts → VariableDefinition → Bool
 is_judged facts v =
     not (is_float (type_name v).text) && is_some (kind_of facts (type_name v).text)

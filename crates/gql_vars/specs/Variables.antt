@@ -8,11 +8,11 @@ use Rattle.gql_faults.specs.TypeNames.{name_in}
 abbrev pub variable_name : VariableDefinition → List ℕ
 variable_name v = v.name.text
 
--- the first variable of a name: where there are more, the others do not count
+-- the first variable of a name; others of the name do not count
 abbrev pub variable_named : List VariableDefinition → List ℕ → Option VariableDefinition
 variable_named variables name =
     find (λ (v : VariableDefinition). bytes_eq name (variable_name v)) variables
 
--- the name that the type of a variable ends in
+-- the name within the type of a variable
 abbrev pub type_name : VariableDefinition → Name
 type_name v = name_in v.of_type

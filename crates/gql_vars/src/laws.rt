@@ -6,7 +6,7 @@ ghost use Rattle.gql_facts.specs.Reads.{Agree};
 ghost use Rattle.gql_facts.specs.Worlds.{Facts};
 ghost use Rattle.gql_vars.specs.VariableFaults.{IsVariableFault};
 
-/// The faults by the rules on variables depend on what the definition reads alone: facts that agree
+/// The faults by the rules on variables depend only on what the definition reads: facts that agree
 /// there give the same faults, both ways.
 pub fn same_variable_faults()
     ensures { (v u : Facts) → (d : Definition) → Agree v u d

@@ -1,7 +1,7 @@
 //! The rules on the variables of an operation (GraphQL specification, 5.8), over what a world
 //! answers.
 //!
-//! A function that adds to a list may have added a part where it fails for memory.
+//! A function that adds to a list may have added a part of it if an allocation fails.
 #![tactic(auto)]
 
 mod faults;

@@ -82,8 +82,8 @@ fn operation_faults<W: World>(
 }
 
 /// The faults of an operation by the rules on its variables: V25 to V29 and P04 (GraphQL
-/// specification, 5.8). Another definition has none. An error leaves what the world answers as it
-/// was.
+/// specification, 5.8). Another definition has none. If an allocation fails, the world answers as
+/// before.
 pub fn variable_faults<W: World>(
     alloc: Global,
     world: &mut W,

@@ -1,4 +1,4 @@
-//! P04, Float Variables: a variable's type is Float, which this registry does not serve.
+//! P04, Float Variables: a variable is of type Float, which this registry does not serve.
 ghost use Rattle.std.specs.Prelude.{◌≡◌, ◌++◌, OnOk};
 ghost use Rattle.gql_vars.specs.P04FloatVariables as spec;
 

@@ -10,7 +10,7 @@ use gql_facts::{Fact, FieldFact, Key, World};
 use gql_rules::kind_of;
 use std::alloc::{AllocError, Global};
 
-/// A type, where it is known and composite.
+/// A type, if it is known and composite.
 #[tactic(auto, using(gql_rules::proofs::Parents::composite_is))]
 pub fn composite<W: World>(
     alloc: Global,

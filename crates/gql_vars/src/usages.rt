@@ -21,7 +21,7 @@ use gql_text::Place;
 use gql_types::DefinedInputs;
 use std::alloc::{AllocError, Global};
 
-/// Whether a value may stand for a list within a list: a list, `null` or a variable.
+/// Whether a value may be an item where lists are expected: a list, `null` or a variable.
 #[tactic(auto, using(gql_inputs::proofs::ValueForms::value_variable, gql_inputs::proofs::ValueForms::value_int, gql_inputs::proofs::ValueForms::value_float, gql_inputs::proofs::ValueForms::value_string, gql_inputs::proofs::ValueForms::value_boolean, gql_inputs::proofs::ValueForms::value_null, gql_inputs::proofs::ValueForms::value_enum, gql_inputs::proofs::ValueForms::value_list, gql_inputs::proofs::ValueForms::value_object))]
 fn may_be_list(value: &Literal) -> bool
     ensures { result ≡ may_be_a_list (value_of value.now) }
@@ -116,7 +116,7 @@ fn check_value<W: World>(
     }
 }
 
-/// Adds those in a list. Where no list is expected, there are none.
+/// Adds those in a list. If no list is expected, there are none.
 #[cycle(usages)]
 #[tactic(auto, using(crate::proofs::ValueUsages::no_list))]
 fn check_list<W: World>(
@@ -163,7 +163,7 @@ fn check_items<W: World>(
     Ok(())
 }
 
-/// Adds those in one item. An item that is refused as a whole, since it is no list, has none.
+/// Adds those in one item. An item that is refused as a whole, since it is not a list, has none.
 #[cycle(usages)]
 fn check_item<W: World>(
     alloc: Global,
@@ -192,7 +192,7 @@ fn check_item<W: World>(
     }
 }
 
-/// Adds those in an object. Where no input object is expected, there are none.
+/// Adds those in an object. If no input object is expected, there are none.
 #[cycle(usages)]
 #[tactic(auto, using(crate::proofs::ValueUsages::in_known, crate::proofs::ValueUsages::in_unknown))]
 fn check_object<W: World>(

@@ -1,4 +1,4 @@
-//! V25, Variable Uniqueness: a variable is defined twice.
+//! V25, Variable Uniqueness: an operation has two variables of the same name.
 ghost use Rattle.std.specs.Prelude.{◌≡◌, ◌++◌, ◌∷◌, [], OnOk, bytes_eq, nat_lt, unwrap_or, if◌then◌else◌};
 ghost use Rattle.std.specs.HashMap as hash;
 ghost use Rattle.gql_ast.specs.declared.rule.Rule.TheVariants as rule;

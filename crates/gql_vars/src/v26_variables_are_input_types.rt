@@ -1,4 +1,4 @@
-//! V26, Variables Are Input Types: a variable's type names no type, or no input type.
+//! V26, Variables Are Input Types: the type of a variable is unknown, or not an input type.
 ghost use Rattle.std.specs.Prelude.{◌≡◌, ◌++◌, OnOk};
 ghost use Rattle.gql_vars.specs.V26VariablesAreInputTypes as spec;
 

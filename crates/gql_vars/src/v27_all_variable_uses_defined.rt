@@ -1,4 +1,4 @@
-//! V27, All Variable Uses Defined: a variable is used that the operation does not define.
+//! V27, All Variable Uses Defined: an operation does not define a variable that it uses.
 ghost use Rattle.std.specs.Prelude.{◌≡◌, ◌++◌, ◌∷◌, [], ℕ, List, OnOk, bytes_eq, flat_map, is_some, option_map, if◌then◌else◌};
 ghost use Rattle.std.specs.HashMap as hash;
 ghost use Rattle.gql_ast.specs.declared.executable.VariableDefinition.{VariableDefinition as AVariable};

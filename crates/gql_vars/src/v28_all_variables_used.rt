@@ -1,5 +1,4 @@
-//! V28, All Variables Used: a variable is used neither in its operation nor in a fragment that the
-//! operation reaches.
+//! V28, All Variables Used: neither the operation nor its fragments use a variable.
 ghost use Rattle.std.specs.Prelude.{◌≡◌, ◌++◌, ℕ, List, OnOk, [], bytes_eq, flat_map, is_some, map, option_map, if◌then◌else◌};
 ghost use Rattle.std.specs.HashMap as hash;
 ghost use Rattle.std.specs.Option.{option_copied};

@@ -1,4 +1,5 @@
--- Helper definitions for private contracts: names as the code borrows them.
+-- Helper definitions for private contracts: names that Rust code borrows, as specifications see
+-- them.
 use Rattle.gql_verdict.specs.Naming.{Named}
 use Rattle.gql_verdict.specs.declared.naming.NamedDefinition.{NamedDefinition}
 

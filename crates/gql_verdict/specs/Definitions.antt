@@ -10,7 +10,7 @@ use Rattle.gql_ast.specs.declared.text.Name.{Name}
 abbrev pub all_definitions : List (List ℕ × Document) → List Definition
 all_definitions documents = flat_map (λ (file : List ℕ × Document). file.1.definitions) documents
 
--- a definition is an operation
+-- whether a definition is an operation
 abbrev pub is_operation : Tree → Bool
 is_operation (tree.Operation o) = true
 is_operation _ = false

@@ -39,6 +39,6 @@ abbrev pub without_document : Files → List ℕ → Files
 without_document files name =
     record { schema = files.schema; documents = without_file files.documents name }
 
--- an edit of the files changes only the answers that are touched
+-- the files before and after an edit give the same answer to every key that is not touched
 abbrev pub ChangesOnly : Touched → Files → Files → Type 0
 ChangesOnly t before after = (k : Key) → touches t k ≡ false → fact_of after k ≡ fact_of before k

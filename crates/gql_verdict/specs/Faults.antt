@@ -1,4 +1,4 @@
--- The faults of one definition (GraphQL 5): by the rules on one definition, by those on the
+-- The faults of one definition (GraphQL 5): by the rules that check one definition, by those on the
 -- variables of an operation, and by those on the merging of fields.
 use Rattle.gql_ast.specs.declared.definition.Definition.{Definition}
 use Rattle.gql_ast.specs.declared.fault.Fault.{Fault}

@@ -10,7 +10,7 @@ use Rattle.gql_ast.specs.declared.definition.Definition.{Definition}
 use Rattle.gql_ast.specs.declared.definition.DefinitionId.{DefinitionId}
 use Rattle.gql_ast.specs.declared.definition.Document.{Document}
 
--- what names a definition is ordered by the name of the file, then by the offset
+-- the order of what identifies a definition: by the name of the file, then by the offset
 abbrev pub id_order : DefinitionId → DefinitionId → Ordering
 id_order a b = ordering_then (name_order a.file b.file) (nat_cmp a.offset b.offset)
 
@@ -18,7 +18,7 @@ id_order a b = ordering_then (name_order a.file b.file) (nat_cmp a.offset b.offs
 abbrev pub IsBefore : Definition → Definition → Type 0
 IsBefore d e = id_order (id_of d) (id_of e) ≡ Less
 
--- each definition is before all later ones
+-- each definition is before all that come later in the list
 abbrev pub InFileOrder : List Definition → Type 0
 InFileOrder = AllPairs IsBefore
 
@@ -27,7 +27,7 @@ pub record ArePlaced (name : List ℕ) (definitions : List Definition) : Type 0 
   pub named : (d : Definition) → Contains definitions d → d.file ≡ name
   pub rising : AllPairs (λ (d e : Definition). (id_of d).offset < (id_of e).offset) definitions
 
--- so it is in each of these files
+-- the definitions of each file have its name, and their offsets rise
 abbrev pub AreFilesPlaced : List (List ℕ × Document) → Type 0
 AreFilesPlaced documents = (file : List ℕ × Document) → Contains documents file
     → ArePlaced file.0 file.1.definitions

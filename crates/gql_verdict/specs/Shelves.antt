@@ -15,7 +15,7 @@ use Rattle.gql_verdict.specs.declared.observation.Observation.{Observation}
 abbrev pub defs : List Judgement → List Definition
 defs shelf = map (λ (v : Judgement). v.def) shelf
 
--- one verdict for each definition, in the order of the definitions, and each holds
+-- one verdict for each definition, in the order of the definitions; each holds
 pub record IsCurrent (facts : Facts) (definitions : List Definition) (shelf : List Judgement)
     : Type 0 where
   pub each : defs shelf ≡ definitions
@@ -26,14 +26,14 @@ pub record Serves (facts : Facts) (d : Definition) (v : Judgement) : Type 0 wher
   pub def : v.def ≡ d
   pub holds : Hold facts v.observations
 
--- the verdict on the definition of that name, or none where no verdict is on such a definition
+-- the verdict on the definition of that name, or none if there is no verdict on such a definition
 abbrev pub IsVerdictAt : List Judgement → DefinitionId → Option Judgement → Type 0
 IsVerdictAt shelf id found = MatchOption found
     ((v : Judgement) → Contains shelf v → id_of v.def ≡ id → ⊥)
     (λ v. Contains shelf v × (id_of v.def ≡ id))
 
--- For a definition that is present the answer is its verdict, which holds. Where no definition is,
--- the answer is none.
+-- For a definition that is present, the answer is its verdict, which holds. If there is no such
+-- definition, the answer is none.
 pub record Answers (facts : Facts) (definitions : List Definition) (id : DefinitionId)
     (answer : Option Judgement) : Type 0 where
   pub present : (d : Definition) → Contains definitions d → id_of d ≡ id
@@ -47,7 +47,7 @@ IsFaultOfAny facts definitions f =
 
 -- ---- what an edit examines
 
--- an observation that does not hold
+-- some observation does not hold
 abbrev pub IsBroken : Facts → List Observation → Type 0
 IsBroken facts observations =
     (o : Observation) × Contains observations o × (facts o.key ≡ o.fact → ⊥)
@@ -58,14 +58,14 @@ abbrev pub IsDue : Facts → List Judgement → Definition → Type 0
 IsDue facts kept d = ((v : Judgement) → Contains kept v → v.def ≡ d → ⊥)
     ⊎ ((v : Judgement) × Contains kept v × (v.def ≡ d) × IsBroken facts v.observations)
 
--- some of the definitions, in their order, each at most once
+-- the first are some of the second, in their order, each at most once
 pub data Picks : List Definition → List Definition → Type 0 where
   pick_none : Picks [] []
   skip : {xs ys : List Definition} (y : Definition) → Picks xs ys → Picks xs (ys ++ y ∷ [])
   pick : {xs ys : List Definition} (y : Definition) → Picks xs ys
       → Picks (xs ++ y ∷ []) (ys ++ y ∷ [])
 
--- the meter gained only entries at its end, for definitions that were due, each at most once
+-- the meter has only gained entries at its end: for definitions that were due, each at most once
 pub record IsWork (facts : Facts) (kept : List Judgement) (definitions : List Definition)
     (old new : List DefinitionId) : Type 0 where
   pub work : List Definition
@@ -73,7 +73,7 @@ pub record IsWork (facts : Facts) (kept : List Judgement) (definitions : List De
   pub entries : new ≡ old ++ map id_of work
   pub due : (d : Definition) → Contains work d → IsDue facts kept d
 
--- the same for one definition
+-- the meter has gained at most an entry for this definition, and that only if it was due
 abbrev pub IsStepWork : Facts → List Judgement → Definition → List DefinitionId → List DefinitionId
     → Type 0
 IsStepWork facts kept d old new =

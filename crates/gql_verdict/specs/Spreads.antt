@@ -10,38 +10,38 @@ use Rattle.gql_ast.specs.declared.executable.Selection.TheOpen.{Selection-F, Fie
 abbrev pub Names : Type 0
 Names = List (List ℕ)
 
--- the names of all parts
+-- the names in all parts
 abbrev pub all : List Names → Names
 all = flat_map (λ names. names)
 
--- of a selection of this form, by the names in what it selects
+-- the names in a selection of this form, from those in a field or an inline fragment
 abbrev pub spreads_at : Selection-F Names Names Names → Names
 spreads_at (Selection-F.Field names) = names
 spreads_at (Selection-F.Spread x) = x.name.text ∷ []
 spreads_at (Selection-F.InlineFragment names) = names
 
--- below a field
+-- the names in what a field selects
 abbrev pub below_field : Field-F Names Names Names → Names
 below_field f = all f.selections
 
--- in an inline fragment
+-- the names in an inline fragment
 abbrev pub within_inline : InlineFragment-F Names Names Names → Names
 within_inline i = all i.selections
 
--- in a selection, and in what it selects
+-- the names in a selection, and in what it selects
 unfoldable pub selection_spreads : Selection → Names
 selection_spreads = fold-Selection Names Names Names spreads_at below_field within_inline
 
--- in a selection set
+-- the names in a selection set
 abbrev pub set_spreads : List Selection → Names
 set_spreads = flat_map selection_spreads
 
--- in a definition; one of the type system has none
+-- the names in a definition; one of the type system has none
 abbrev pub tree_spreads : Tree → Names
 tree_spreads (tree.Operation o) = set_spreads o.selections
 tree_spreads (tree.Fragment f) = set_spreads f.selections
 tree_spreads _ = []
 
--- in all these definitions
+-- the names in all these definitions
 abbrev pub spreads_in : List Definition → Names
 spreads_in = flat_map (λ (d : Definition). tree_spreads d.tree)

@@ -8,24 +8,25 @@ use Rattle.gql_verdict.specs.declared.observation.Observation.{Observation}
 use Rattle.gql_verdict.specs.declared.touched.Touched.{Touched}
 use Rattle.gql_verdict.specs.declared.touched.Touched.TheVariants as touched
 
--- the answer to this key may have changed
+-- whether the answer to this key may have changed
 abbrev pub touches : Touched → Key → Bool
 touches touched.All k = true
 touches (touched.Fragments names) (key.FragmentOf n) = is_some (find (bytes_eq n) names)
 touches (touched.Fragments names) _ = false
 
--- these observations hold, so far as their answers may have changed
+-- these observations hold, of those whose answers may have changed
 abbrev pub HoldWhere : Facts → Touched → List Observation → Type 0
 HoldWhere facts t observations = (o : Observation) → Contains observations o
     → touches t o.key ≡ true → facts o.key ≡ o.fact
 
--- the facts before an edit: what is kept held, and the edit changed no other answers
+-- the facts before an edit: every verdict that is kept held, and no answer has changed but those
+-- that are touched
 pub record IsEarlier (facts : Facts) (kept : List Judgement) (t : Touched) (before : Facts)
     : Type 0 where
   pub held : (v : Judgement) → Contains kept v → Hold before v.observations
   pub unchanged : (k : Key) → touches t k ≡ false → facts k ≡ before k
 
--- there were such facts before the edit, unless all answers may have changed
+-- there were such facts before the edit, unless every answer may have changed
 abbrev pub IsKnown : Facts → List Judgement → Touched → Type 0
 IsKnown facts kept touched.All = Unit {0}
 IsKnown facts kept (touched.Fragments names) =

@@ -12,7 +12,8 @@ use Rattle.gql_faults.specs.Faults.{where_known}
 use Rattle.gql_rules.specs.Faults.{fault_at}
 use Rattle.gql_rules.specs.LocalFaults.{owner_of}
 
--- the text for a definition or an extension of the type system; operations and fragments have none
+-- the name of a definition or an extension of the type system, or an empty text; none for an
+-- operation or a fragment
 abbrev pub type_system_name : Tree → Option (List ℕ)
 type_system_name (tree.Operation o) = None
 type_system_name (tree.Fragment f) = None

@@ -11,7 +11,7 @@ use Rattle.gql_rules.specs.Faults.{fault_at}
 use Rattle.gql_rules.specs.LocalFaults.{owner_of}
 use Rattle.gql_verdict.specs.Definitions.{is_operation}
 
--- an operation without a name
+-- whether a definition is an operation without a name
 abbrev pub is_anonymous : Tree → Bool
 is_anonymous (tree.Operation o) = not (is_some o.name)
 is_anonymous _ = false
@@ -22,7 +22,7 @@ fault_if_anonymous d = if is_anonymous d.tree
     then fault_at (owner_of d) rule.V03 [] (place_of d.tree) ∷ []
     else []
 
--- the faults of all definitions, where more than one of them is an operation
+-- the faults of all definitions: there are none if at most one of them is an operation
 abbrev pub faults : List Definition → List Fault
 faults ds = if nat_lt 1 (count_by (λ (d : Definition). is_operation d.tree) ds)
     then flat_map fault_if_anonymous ds

@@ -10,7 +10,7 @@ use Rattle.gql_verdict.specs.Definitions.{fragment_name}
 use Rattle.gql_verdict.specs.Naming.{Named, named_by, fault_of_name, text_of}
 use Rattle.gql_verdict.specs.Spreads.{Names, spreads_in}
 
--- a name is one of these
+-- whether a name is one of these
 abbrev pub is_spread : Names → List ℕ → Bool
 is_spread spread name = list_any (bytes_eq name) spread
 

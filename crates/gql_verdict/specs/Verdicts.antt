@@ -1,4 +1,4 @@
--- What a verdict is worth: the faults of a definition are known wherever its observations hold.
+-- What a verdict guarantees: the faults of a definition, wherever its observations hold.
 use Rattle.std.specs.Prelude.{◌≡◌, List, map, Contains}
 use Rattle.gql_ast.specs.declared.definition.Definition.{Definition}
 use Rattle.gql_ast.specs.declared.fault.Fault.{Fault}
@@ -13,18 +13,18 @@ use Rattle.gql_verdict.specs.declared.observation.Observation.{Observation}
 abbrev pub Hold : Facts → List Observation → Type 0
 Hold facts observations = (o : Observation) → Contains observations o → facts o.key ≡ o.fact
 
--- wherever the observations hold, these are the faults of d
+-- these are the faults of d wherever the observations hold
 abbrev pub IsCertificate : Definition → List Fault → List Observation → Type 0
 IsCertificate d faults observations = (facts : Facts) → Hold facts observations
     → Lists faults (IsFaultIn facts d)
 
--- a verdict as callers see it
+-- a verdict, as specifications see it
 pub record Judgement : Type 0 where
   pub def : Definition
   pub faults : List Fault
   pub observations : List Observation
 
--- the answer to a key, where these are the facts
+-- the observation of a key's answer, by these facts
 abbrev pub observed : Facts → Key → Observation
 observed facts k = record { key = k; fact = facts k }
 
@@ -32,7 +32,7 @@ observed facts k = record { key = k; fact = facts k }
 abbrev pub keys_of : List Observation → List Key
 keys_of observations = map (λ (o : Observation). o.key) observations
 
--- The verdict on d, made where these are the facts: it is certified, its observations hold, and
+-- The verdict on d that is made with these facts: it has a certificate, its observations hold, and
 -- their keys are those that d reads.
 pub record Judges (facts : Facts) (d : Definition) (v : Judgement) : Type 0 where
   pub def : v.def ≡ d

@@ -11,22 +11,22 @@ ghost use Rattle.gql_verdict.specs.DocumentEdits.{ChangesOnly, touched_by};
 ghost use Rattle.gql_verdict.specs.DocumentEdits.{with_document, without_document};
 ghost use Rattle.gql_verdict.specs.Faults.{IsFaultIn};
 
-/// The faults of a definition by all rules on it depend on what it reads alone: facts that agree
+/// The faults of a definition by all rules on it depend only on what it reads: facts that agree
 /// there give the same faults, both ways.
 pub fn same_faults()
     ensures { (v u : Facts) → (d : Definition) → Agree v u d
         → (f : Fault) → IsFaultIn v d f ↔ IsFaultIn u d f }
 {}
 
-/// A document file that is put changes no answer but those for the fragments that the file of its
-/// name had or that it has.
+/// A document file that is put changes only the answers for the fragments that it has, or that the
+/// file of its name had.
 pub fn put_document()
     ensures { (files : Files) → (name : List ℕ) → (document : Document)
         → ChangesOnly (touched_by (file_named files.documents name) (Some document))
         files (with_document files name document) }
 {}
 
-/// A document file that is removed changes no answer but those for the fragments that it had.
+/// A document file that is removed changes only the answers for the fragments that it had.
 pub fn remove_document()
     ensures { (files : Files) → (name : List ℕ)
         → ChangesOnly (touched_by (file_named files.documents name) None)

@@ -1,7 +1,7 @@
 //! The faults of names over all document files (GraphQL specification, 5), and verdicts: the faults
 //! of a definition with all that they depend on.
 //!
-//! A function that adds to a list may have added a part where it fails for memory.
+//! A function that adds to a list may have added a part of it if an allocation fails.
 #![tactic(auto)]
 
 mod definitions;

@@ -37,7 +37,7 @@ fn answers<W: World>(
     Ok(observations)
 }
 
-/// The answers to just the keys that a definition reads.
+/// The answers to exactly the keys that a definition reads.
 pub fn observe<W: World>(
     alloc: Global,
     world: &mut W,

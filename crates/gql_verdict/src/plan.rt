@@ -35,7 +35,7 @@ fn is_as_observed<W: World>(
     Ok(fact.same(&observation.fact))
 }
 
-/// Whether a world still gives these answers, so far as they may have changed.
+/// Whether a world still gives those of these answers that may have changed.
 fn observations_hold<W: World>(
     alloc: Global,
     world: &mut W,

@@ -147,7 +147,7 @@ impl Shelf {
     }
 
     /// Makes the shelf current: new verdicts take their places, those that still hold keep theirs,
-    /// and those on definitions that are gone are dropped. It takes no memory and cannot fail.
+    /// and those on definitions that are gone are dropped. It allocates nothing and cannot fail.
     pub fn commit(&mut self, prepared: Prepared)
         requires { IsPrepared self.old prepared }
         ensures { (facts : Facts) (definitions : List Definition)

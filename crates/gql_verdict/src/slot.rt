@@ -9,7 +9,7 @@ use gql_ast::{Definition, DefinitionId};
 use std::cmp::Ordering;
 use std::mem;
 
-/// A verdict, or the index of the one that comes here.
+/// A verdict, or the index of a verdict that is kept.
 #[derive(Drop)]
 pub enum Slot {
     Here(Verdict),
@@ -26,7 +26,7 @@ fn definition_order(definition: &Definition, id: &DefinitionId) -> Ordering
 }
 
 impl Slot {
-    /// The order of the definition here, and of a name.
+    /// The order of the definition in the slot, and of a name.
     fn order_to(&self, id: &DefinitionId) -> Ordering
         ensures { result ≡ slot_order self.now id.now }
     {
@@ -45,7 +45,7 @@ pub fn find(slots: &[Slot], id: &DefinitionId) -> Option<usize>
     slots.binary_search_by(|slot| slot.order_to(id)).ok()
 }
 
-/// The verdict that comes at a step.
+/// The verdict of a slot.
 pub fn resolved<'s>(kept: &'s [Slot], step: &'s Slot) -> &'s Slot
     ensures { result.now ≡ resolve kept.now step.now }
 {
@@ -58,7 +58,7 @@ pub fn resolved<'s>(kept: &'s [Slot], step: &'s Slot) -> &'s Slot
     }
 }
 
-/// Fetches each verdict that is elsewhere. It cannot fail.
+/// Fetches each verdict that a slot refers to by its index. It cannot fail.
 pub fn fill(steps: &mut [Slot], kept: &mut [Slot])
     requires { IsApart steps.old }
     ensures { steps.new ≡ map (resolve kept.old) steps.old }

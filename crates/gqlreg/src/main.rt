@@ -62,8 +62,8 @@ fn report_fault(rt: &HostRuntime, fault: CommandFault) -> u8 {
     }
 }
 
-/// The status where the command line cannot be read: 4 if an allocation failed, and 2 with a text
-/// for words that are not UTF-8.
+/// The status if the command line cannot be read: 4 if an allocation failed, and 2 with a text for
+/// words that are not UTF-8.
 fn report_unread(rt: &HostRuntime, error: &io::Error) -> u8 {
     match error.kind() {
         io::ErrorKind::OutOfMemory => 4,

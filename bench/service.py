@@ -1,0 +1,278 @@
+"""Times of the service over `gqlreg pipe`; bench/service.sh says what it measures and starts it."""
+
+import json
+import subprocess
+import sys
+import threading
+import time
+
+# The operation by which tools ask for a whole schema (GraphQL specification, 4).
+INTROSPECTION = """query { __schema { description queryType { name } mutationType { name }
+  subscriptionType { name } types { ...T } directives { name description isRepeatable locations
+  args { ...I } } } }
+fragment T on __Type { kind name description specifiedByURL
+  fields(includeDeprecated: true) { name description args { ...I } type { ...R } isDeprecated
+  deprecationReason } inputFields { ...I } interfaces { ...R }
+  enumValues(includeDeprecated: true) { name description isDeprecated deprecationReason }
+  possibleTypes { ...R } }
+fragment I on __InputValue { name description type { ...R } defaultValue }
+fragment R on __Type { kind name ofType { kind name ofType { kind name ofType { kind name
+  ofType { kind name ofType { kind name ofType { kind name ofType { kind name } } } } } } } }"""
+
+
+def request(line, body):
+    body = body.encode()
+    return f"{line} HTTP/1.1\r\nContent-Length: {len(body)}\r\n\r\n".encode() + body
+
+
+class Service:
+    """A process of `gqlreg pipe`."""
+
+    def __init__(self, program):
+        self.process = subprocess.Popen(
+            [program, "pipe"], stdin=subprocess.PIPE, stdout=subprocess.PIPE, bufsize=0)
+        self.left = b""
+
+    def answer(self):
+        """The body of the next answer, whose status has to be 200."""
+        while b"\r\n\r\n" not in self.left:
+            self.more()
+        head, rest = self.left.split(b"\r\n\r\n", 1)
+        if b" 200 " not in head.split(b"\r\n", 1)[0]:
+            sys.exit(f"a wrong answer: {self.left[:300]!r}")
+        fields = dict(line.lower().split(b": ", 1) for line in head.split(b"\r\n")[1:])
+        length = int(fields[b"content-length"])
+        parts, found = [rest], len(rest)
+        while found < length:
+            part = self.process.stdout.read(1 << 20)
+            if not part:
+                sys.exit("the service ended")
+            parts.append(part)
+            found += len(part)
+        whole = b"".join(parts)
+        self.left = whole[length:]
+        return whole[:length]
+
+    def more(self):
+        part = self.process.stdout.read(1 << 20)
+        if not part:
+            sys.exit("the service ended")
+        self.left += part
+
+    def send(self, sent):
+        """Sends requests at once. The result is the time of each in microseconds, and the last body."""
+        writer = threading.Thread(target=self.write, args=(b"".join(sent),))
+        start = time.perf_counter()
+        writer.start()
+        body = b""
+        for _ in sent:
+            body = self.answer()
+        taken = time.perf_counter() - start
+        writer.join()
+        return taken * 1e6 / len(sent), body
+
+    def write(self, data):
+        view = memoryview(data)
+        while view:
+            view = view[self.process.stdin.write(view):]
+
+    def put(self, path, text):
+        return json.loads(self.send([request(f"PUT {path}", text)])[1])
+
+    def faults(self):
+        return len(json.loads(self.send([request("GET /report", "")])[1])["faults"])
+
+    def end(self):
+        self.process.stdin.close()
+        self.process.wait()
+
+
+def say(what, micros, more=""):
+    print(f"{what}: {micros:.1f} us{more}" if micros < 100 else f"{what}: {micros:.0f} us{more}",
+          flush=True)
+
+
+# ---- edits of schema files
+
+def schema_file(number):
+    """A file of 100 objects and 100 input objects, which no other file has."""
+    lines = ["type Query { node(id: ID!): Node } interface Node { id: ID! }"] if number == 0 else []
+    for t in range(100):
+        name = f"{number}_{t}"
+        lines.append(f"type T{name} implements Node {{ id: ID! next(first: I{name}): T{name}! "
+                     f"@deprecated }} input I{name} {{ count: Int! = 10 }}")
+    return "\n".join(lines) + "\n"
+
+
+def edits(program):
+    for count in [12, 48, 192]:
+        service = Service(program)
+        for number in range(count):
+            service.put(f"/schema/f{number}", schema_file(number))
+        each, _ = service.send([request("PUT /schema/f1", schema_file(1))] * 5)
+        say(f"edit one of {count} schema files of 12 KB", each, f" ({service.faults()} faults)")
+        service.end()
+
+
+def extension(input_object, field, of_type):
+    fields = "\n".join(f"{field}{number}: {of_type}" for number in range(4000))
+    return f"extend input {input_object} {{\n{fields}\n}}\n"
+
+
+def fields(program):
+    for what, of_type in [("no default values", "B"), ("half of them with the default {}", "B = {}")]:
+        service = Service(program)
+        service.put("/schema/inputs",
+                    "type Query { a(of: A): Int } input A { a: Int } input B { b: Int }")
+        service.put("/schema/b1", extension("B", "c", "Int"))
+        service.put("/schema/b2", extension("B", "d", "Int"))
+        service.put("/schema/a1", extension("A", "c", of_type))
+        service.put("/schema/a2", extension("A", "d", of_type))
+        each, _ = service.send([request("PUT /schema/a2", extension("A", "d", of_type))] * 5)
+        say(f"edit one of four files of 4,000 fields, {what}", each, f" ({service.faults()} faults)")
+        service.end()
+    for default in ["", " = {}"]:
+        service = Service(program)
+        service.put("/schema/query", "type Query { a(of: A): Int } input A { a: Int }")
+        files = []
+        for number in range(4):
+            lines = "\n".join(f"f{number}_{field}: A{default}" for field in range(5000))
+            files.append(f"extend input A {{\n{lines}\n}}\n")
+            service.put(f"/schema/a{number}", files[-1])
+        each, _ = service.send([request("PUT /schema/a3", files[3])] * 5)
+        say(f"edit one of four files that give one input object 20,000 fields of its type{default}",
+            each, f" ({service.faults()} faults)")
+        service.end()
+
+
+# ---- edits where operations are stored
+
+def operation(number, lower):
+    """An operation with a fragment of its own, which stand a line lower in every second edit."""
+    return ("\n" * lower + f"query Q{number}($id: Key!) {{ t{number}(id: $id) {{ id ...F{number} }} }}\n"
+            f"fragment F{number} on T{number} {{ name next(first: 2) {{ id name }} }}\n")
+
+
+def stored_service(program, operations):
+    service = Service(program)
+    root = "\n".join(f"t{t}(id: Key!): T{t}" for t in range(256))
+    types = "\n".join(f"type T{t} {{ id: ID! name: String next(first: Int = 1): T{t} }}"
+                      for t in range(1, 256))
+    service.put("/schema/root", f"type Query {{\n{root}\n}}\n")
+    service.put("/schema/types", types)
+    service.put("/schema/key", "scalar Key")
+    service.put("/schema/first", "type T0 { id: ID! name: String next(first: Int): T0 }")
+    service.put("/schema/other", "type Other { y: Int }")
+    for number in range(operations):
+        service.put(f"/documents/d{number}", operation(number, 0))
+    return service
+
+
+def stored(program):
+    for operations in [16, 64, 256]:
+        service = stored_service(program, operations)
+        sent = [request("PUT /documents/d1", operation(1, n % 2)) for n in range(1, 201)]
+        each, body = service.send(sent)
+        say(f"edit one document file of {operations}, each with an operation and a fragment", each,
+            f" ({json.loads(body)['faults']} faults)")
+        service.end()
+    texts = {
+        "none": ("other", "type Other { z: Int }", "type Other { y: Int }"),
+        "one": ("first", "type T0 { id: ID! name: String! next(first: Int): T0 }",
+                "type T0 { id: ID! name: String next(first: Int): T0 }"),
+        "all": ("key", "input Key { of: Int }", "scalar Key"),
+    }
+    for what, (name, one, other) in texts.items():
+        service = stored_service(program, 256)
+        sent = [request(f"PUT /schema/{name}", [one, other][n % 2]) for n in range(20)]
+        say(f"edit a schema file that touches {what} of 256 operations", service.send(sent)[0])
+        service.end()
+
+
+# ---- runs of stored operations
+
+def run_service(program, schema, document, data):
+    service = Service(program)
+    service.put("/schema/s", schema)
+    service.put("/documents/d", document)
+    service.put("/data", data)
+    return service
+
+
+def run(program, what, schema, document, data, rounds=20, call="{}"):
+    service = run_service(program, schema, document, data)
+    service.send([request("POST /run", call)])
+    each, body = service.send([request("POST /run", call)] * rounds)
+    if b'"errors"' in body[:20]:
+        sys.exit(f"a wrong answer: {body[:300]!r}")
+    say(what, each, f" ({len(body)} bytes)")
+    service.end()
+
+
+def runs(program):
+    run(program, "run a short operation with a variable",
+        "type Query { user(id: ID!): User } type User { id: ID! name: String }",
+        "query User($id: ID!) { user(id: $id) { id name } }",
+        '{"query":{"user":[{"id":"1","name":"Ann"},{"id":"2","name":"Bob"}]}}',
+        20000, '{"operationName":"User","variables":{"id":"2"}}')
+    run(program, "run a short operation without variables",
+        "type Query { hello: String }", "{ hello }", '{"query":{"hello":"world"}}', 20000)
+    item = '{"x":1,"y":"two","z":true}'
+    run(program, "run over 10,000 values in objects of three fields",
+        "type Query { a: [Item] } type Item { x: Int y: String z: Boolean }", "{ a { x y z } }",
+        '{"query":{"a":[' + ",".join([item] * 2500) + ']}}')
+    run(program, "run over 90,000 integers", "type Query { a: [Int] }", "{ a }",
+        '{"query":{"a":[' + ",".join(["7"] * 90000) + ']}}')
+    doubling = ["query A { ...F15 }", "fragment F1 on Query { a: q { x } b: q { x } }"]
+    doubling += [f"fragment F{level} on Query {{ a: q {{ ...F{level - 1} }} b: q {{ ...F{level - 1} }} }}"
+                 for level in range(2, 16)]
+    run(program, "run over 98,302 values that double at each of 15 levels",
+        "type Query { q: Query x: Int }", "\n".join(doubling),
+        '{"query":' + '{"q":' * 16 + '{"x":1}' + "}" * 17)
+
+
+def described_types(number):
+    lines = ["type Query { a: ID }"] if number == 0 else []
+    for t in range(225):
+        name = f"T{number}x{t}"
+        lines.append(
+            f'"""\nOne of many types, the number {t} of the file {number}. This is what a reader of the '
+            f'schema is told of it.\n"""\ntype {name} {{\n  "How the object is named."\n  id: ID!\n'
+            f'  "The next objects after it, so many of them."\n  next("How many objects." first: Int = 10)'
+            f": [{name}!]!\n  name: String\n}}")
+    return "\n".join(lines) + "\n"
+
+
+def introspection(program):
+    for files in [1, 2, 3]:
+        service = run_service(program, "scalar Other", INTROSPECTION, "{}")
+        size = 0
+        for number in range(files):
+            text = described_types(number)
+            size += len(text)
+            service.put(f"/schema/t{number}", text)
+        each, body = service.send([request("POST /run", "{}")] * 20)
+        say(f"run the introspection of a schema of {size} bytes", each, f" ({len(body)} bytes)")
+        service.end()
+
+
+def nested(program):
+    service = run_service(program, "type Query { a(x: A0 = {}): Int } input A100000 { f: Int }",
+                          "{ a }", "{}")
+    for number in range(50):
+        first = number * 2000
+        text = "\n".join(f"input A{t}{{f:A{t + 1}={{}}}}" for t in range(first, first + 2000))
+        service.put(f"/schema/t{number}", text)
+    each, _ = service.send([request("POST /run", "{}")] * 5)
+    say("run with 100,000 default values within one another", each)
+    service.end()
+
+
+PARTS = {"edits": edits, "fields": fields, "stored": stored, "runs": runs,
+         "introspection": introspection, "nested": nested}
+
+if __name__ == "__main__":
+    for part in sys.argv[2:] or PARTS:
+        if part not in PARTS:
+            sys.exit(f"no part {part}; there are: {' '.join(PARTS)}")
+        PARTS[part](sys.argv[1])

@@ -1,0 +1,17 @@
+#!/bin/sh
+# Measures the service over `gqlreg pipe`: edits, edits where operations are stored, runs of stored
+# operations, introspection, default values within one another. bench/service.sh [PART..], where a
+# part is one of edits, fields, stored, runs, introspection, nested; by default all of them. It needs
+# python3. A line for each figure is printed: the time of one request among many that are sent at
+# once, from the first byte sent to the last byte answered. So it holds the reading of requests and
+# the writing of answers. Each answer is checked for its status.
+#
+# Figures depend on the machine and on what else it does: compare lines of one run alone.
+# GQLREG names the program; else it is the one that is built in this repository, or on the path.
+set -eu
+here=$(cd "$(dirname "$0")" && pwd)
+program=${GQLREG:-$here/../crates/gqlreg/out/gqlreg}
+[ -x "$program" ] || program=$(command -v gqlreg) \
+    || { echo "no program gqlreg (README.md says how to build it)" >&2; exit 2; }
+command -v python3 > /dev/null || { echo "service.sh needs python3" >&2; exit 2; }
+exec python3 "$here/service.py" "$program" "$@"
