@@ -92,7 +92,14 @@ enum_type name values = type_of name (p.Enum (map enum_value values))
 -- DirectiveDefinition of a directive that is not repeatable: name, arguments and locations (3.13)
 unfoldable pub directive : List ℕ → List InputValueDefinition → List DirectiveLocation
     → DirectiveDefinition
-directive name arguments locations = record { place = nowhere; description = None; name = word name; arguments = arguments; is_repeatable = false; locations = locations }
+directive name arguments locations = record {
+  place = nowhere;
+  description = None;
+  name = word name;
+  arguments = arguments;
+  is_repeatable = false;
+  locations = locations;
+}
 
 -- a definition that is in no file
 unfoldable pub of_no_file : Tree → Sited Tree

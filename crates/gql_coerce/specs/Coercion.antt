@@ -145,7 +145,11 @@ given_as n fs = option_map (λ (f : Field). f.value) (find (λ (f : Field). byte
 -- a member of an object at an input object type
 abbrev pub defined_entry : List Field → Sited InputValueDefinition → Entry
 defined_entry fs d =
-    record { name = d.node.name.text; definition = Some d.node; given = given_as d.node.name.text fs }
+    record {
+      name = d.node.name.text;
+      definition = Some d.node;
+      given = given_as d.node.name.text fs;
+    }
 
 -- whether the type defines a field of this name
 abbrev pub is_defined : List (Sited InputValueDefinition) → Field → Bool

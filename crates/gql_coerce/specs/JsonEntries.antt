@@ -13,7 +13,11 @@ use Rattle.gql_coerce.specs.declared.json_entries.JsonEntries.TheVariants as ent
 
 -- a member that an object is to have
 abbrev pub entry_of : JsonEntry → Entry
-entry_of e = record { name = e.name.now; definition = option_map (λ d. d.now) e.definition; given = option_map (λ v. json_input (view v.now)) e.given }
+entry_of e = record {
+  name = e.name.now;
+  definition = option_map (λ d. d.now) e.definition;
+  given = option_map (λ v. json_input (view v.now)) e.given;
+}
 
 -- what an object is made of
 abbrev pub entries_of : JsonEntries → Entries

@@ -12,7 +12,11 @@ use Rattle.gql_coerce.specs.declared.literal_entries.LiteralEntries.TheVariants 
 
 -- a member that an object is to have
 abbrev pub entry_of : Data → LiteralEntry → Entry
-entry_of vs e = record { name = e.name.now; definition = option_map (λ d. d.now) e.definition; given = option_map (λ x. literal vs x.now) e.given }
+entry_of vs e = record {
+  name = e.name.now;
+  definition = option_map (λ d. d.now) e.definition;
+  given = option_map (λ x. literal vs x.now) e.given;
+}
 
 -- what an object is made of
 abbrev pub entries_of : Data → LiteralEntries → Entries

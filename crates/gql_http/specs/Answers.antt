@@ -123,7 +123,11 @@ no_route = said 404 (error_text (codes "no such route") 305)
 -- the answer if the resource doesn't serve the method
 abbrev pub not_allowed : Allow → Said
 not_allowed methods =
-    record { status = 405; allow = Some methods; body = error_text (codes "method is not allowed") 306 }
+    record {
+      status = 405;
+      allow = Some methods;
+      body = error_text (codes "method is not allowed") 306;
+    }
 
 -- the answer if the query isn't served
 abbrev pub bad_query : Said

@@ -61,7 +61,11 @@ pub record NumberedObject : Type 0 where
 abbrev pub objects_from : ℕ → List SchemaType → List NumberedObject
 objects_from n [] = []
 objects_from n (t ∷ types) =
-    record { of_type = t; numbers = record { start = n; end = n + length t.input_fields }; inputs = numbered_from n t.input_fields }
+    record {
+      of_type = t;
+      numbers = record { start = n; end = n + length t.input_fields };
+      inputs = numbered_from n t.input_fields;
+    }
     ∷ objects_from (n + length t.input_fields) types
 
 -- the input objects of a schema
@@ -177,7 +181,11 @@ object_values all x = (within all x).objects
 -- a field of an object literal, with the objects within its value
 abbrev pub given : List NumberedObject → ObjectField → Given
 given all f =
-    record { name = f.name.text; is_variable = is_variable f.value; value = object_values all f.value }
+    record {
+      name = f.name.text;
+      is_variable = is_variable f.value;
+      value = object_values all f.value;
+    }
 
 -- the name of a field of an object literal, if it counts as given
 abbrev pub name_of_given : ObjectField → List (List ℕ)

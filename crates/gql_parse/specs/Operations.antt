@@ -75,7 +75,14 @@ named_operation = do
   variables ← optional_variables
   applied ← directives false
   found ← set
-  pure (record { place = kind.place; kind = operation_kind kind.text; name = named; variables = variables; directives = applied; selections = found })
+  pure (record {
+    place = kind.place;
+    kind = operation_kind kind.text;
+    name = named;
+    variables = variables;
+    directives = applied;
+    selections = found;
+  })
 
 -- OperationDefinition: SelectionSet, the short form of a query (2.3)
 unfoldable pub shorthand : Phrase Operation
@@ -83,7 +90,14 @@ shorthand = do
   mark ← token k.LeftBrace
   found ← selections_of set
   token k.RightBrace
-  pure (record { place = mark.place; kind = o.Query; name = None; variables = []; directives = []; selections = found })
+  pure (record {
+    place = mark.place;
+    kind = o.Query;
+    name = None;
+    variables = [];
+    directives = [];
+    selections = found;
+  })
 
 -- OperationDefinition, in either form (2.3)
 abbrev pub operation : Phrase Operation
@@ -97,4 +111,10 @@ fragment = do
   on ← type_condition
   applied ← directives false
   found ← set
-  pure (record { place = mark.place; name = named; condition = on; directives = applied; selections = found })
+  pure (record {
+    place = mark.place;
+    name = named;
+    condition = on;
+    directives = applied;
+    selections = found;
+  })

@@ -35,7 +35,13 @@ field_of set = do
   given ← optional_arguments false
   applied ← directives false
   inner ← optional (sees k.LeftBrace) [] set
-  pure (roll-Field (record { alias = named.0; name = named.1; arguments = given; directives = applied; selections = inner }))
+  pure (roll-Field (record {
+    alias = named.0;
+    name = named.1;
+    arguments = given;
+    directives = applied;
+    selections = inner;
+  }))
 
 -- whether a name is a FragmentName: any but on (2.8)
 abbrev pub is_fragment_name : List ℕ → Bool

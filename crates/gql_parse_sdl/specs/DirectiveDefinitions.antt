@@ -105,4 +105,11 @@ directive_definition described = do
   taken ← optional_argument_definitions
   again ← optional_repeatable
   places ← locations
-  pure (record { place = start described mark.place; description = text_of described; name = found; arguments = taken; is_repeatable = again; locations = places })
+  pure (record {
+    place = start described mark.place;
+    description = text_of described;
+    name = found;
+    arguments = taken;
+    is_repeatable = again;
+    locations = places;
+  })

@@ -54,7 +54,13 @@ field = do
   token k.Colon
   of ← type_ref
   applied ← directives true
-  pure (record { description = text_of described; name = found; arguments = taken; of_type = of; directives = applied })
+  pure (record {
+    description = text_of described;
+    name = found;
+    arguments = taken;
+    of_type = of;
+    directives = applied;
+  })
 
 -- FieldsDefinition: { FieldDefinition+ } (3.6)
 unfoldable pub fields : Phrase (List FieldDefinition)

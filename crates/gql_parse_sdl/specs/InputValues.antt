@@ -21,7 +21,13 @@ input_value = do
   of ← type_ref
   given ← optional_default
   applied ← directives true
-  pure (record { description = text_of described; name = found; of_type = of; default = given; directives = applied })
+  pure (record {
+    description = text_of described;
+    name = found;
+    of_type = of;
+    default = given;
+    directives = applied;
+  })
 
 -- InputValueDefinition+, up to the closing mark
 abbrev pub input_values : Kind → Phrase (List InputValueDefinition)

@@ -38,4 +38,10 @@ schema described = do
   mark ← word (codes "schema")
   applied ← directives true
   found ← roots
-  pure (record { place = start described mark.place; description = text_of described; keyword = mark.place; directives = applied; roots = found })
+  pure (record {
+    place = start described mark.place;
+    description = text_of described;
+    keyword = mark.place;
+    directives = applied;
+    roots = found;
+  })

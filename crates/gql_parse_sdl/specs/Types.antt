@@ -94,4 +94,10 @@ type_definition described keyword = do
   mark ← word (spelling keyword)
   found ← name
   rest ← body keyword
-  pure (record { place = start described mark.place; description = text_of described; name = found; directives = rest.directives; parts = rest.parts })
+  pure (record {
+    place = start described mark.place;
+    description = text_of described;
+    name = found;
+    directives = rest.directives;
+    parts = rest.parts;
+  })

@@ -12,11 +12,19 @@ use Rattle.gql_built_in.specs.declared.sited.Sited.{Sited}
 
 -- the root operation types that a definition or an extension of the schema lists
 abbrev pub entries : Option (List ℕ) → List RootOperation → List Root
-entries file roots = map (λ (r : RootOperation). record { kind = r.kind; entry = Some r.place; name = record { file = file; node = r.name } }) roots
+entries file roots = map (λ (r : RootOperation). record {
+  kind = r.kind;
+  entry = Some r.place;
+  name = record { file = file; node = r.name };
+}) roots
 
 -- the root operation type of this kind, without an entry, if a type has this name
 abbrev pub implied : List SchemaType → OperationKind → List ℕ → List Root
-implied types kind text = option_map_or (λ (t : SchemaType). record { kind = kind; entry = None; name = record { file = t.definition.file; node = t.definition.node.name } } ∷ [])
+implied types kind text = option_map_or (λ (t : SchemaType). record {
+  kind = kind;
+  entry = None;
+  name = record { file = t.definition.file; node = t.definition.node.name };
+} ∷ [])
     (find (λ (t : SchemaType). bytes_eq text t.definition.node.name.text) types) []
 
 -- the root operation types of a schema without a definition: the types of these names
