@@ -14,6 +14,8 @@ sed -e 's/\r$//' -e 's/^/> /' "$requests"
 echo
 status=0
 if [ -x out/gqlreg ]; then
+    newer=$(find ../*/src -name '*.rt' -newer out/gqlreg | head -n 1)
+    [ -z "$newer" ] || echo "note: out/gqlreg is older than some source, as $newer" >&2
     out/gqlreg pipe < "$requests" > "$answers" || status=$?
 else
     echo "gqlreg is not built yet: the same sources run without proof" >&2

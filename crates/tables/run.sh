@@ -8,6 +8,8 @@ if [ $# = 0 ]; then
     set -- $(sed 's,^,data/,' args)
 fi
 if [ -x out/tables ]; then
+    newer=$(find ../*/src -name '*.rt' -newer out/tables | head -n 1)
+    [ -z "$newer" ] || echo "note: out/tables is older than some source, as $newer" >&2
     exec out/tables "$@"
 fi
 echo "tables is not built yet: the same sources run without proof" >&2
