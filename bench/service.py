@@ -131,17 +131,17 @@ def fields(program):
         each, _ = service.send([request("PUT /schema/a2", extension("A", "d", of_type))] * 5)
         say(f"edit one of four files of 4,000 fields, {what}", each, f" ({service.faults()} faults)")
         service.end()
-    for default in ["", " = {}"]:
+    for default in ["", "={}"]:
         service = Service(program)
-        service.put("/schema/query", "type Query { a(of: A): Int } input A { a: Int }")
+        service.put("/schema/query", "type Query { a(of: A): Int } input A { a: Int } input B { b: Int }")
         files = []
-        for number in range(4):
-            lines = "\n".join(f"f{number}_{field}: A{default}" for field in range(5000))
+        for letter in "cdef":
+            lines = "\n".join(f"{letter}{field}:B{default}" for field in range(5000))
             files.append(f"extend input A {{\n{lines}\n}}\n")
-            service.put(f"/schema/a{number}", files[-1])
-        each, _ = service.send([request("PUT /schema/a3", files[3])] * 5)
-        say(f"edit one of four files that give one input object 20,000 fields of its type{default}",
-            each, f" ({service.faults()} faults)")
+            service.put(f"/schema/{letter}", files[-1])
+        each, _ = service.send([request("PUT /schema/f", files[3])] * 5)
+        say(f"edit one of four files that give an input object 20,000 fields `B{default}`", each,
+            f" ({service.faults()} faults)")
         service.end()
 
 
@@ -257,14 +257,14 @@ def introspection(program):
 
 
 def nested(program):
-    service = run_service(program, "type Query { a(x: A0 = {}): Int } input A100000 { f: Int }",
+    service = run_service(program, "type Query { a(x: A0 = {}): Int } input A10000 { f: Int }",
                           "{ a }", "{}")
-    for number in range(50):
+    for number in range(5):
         first = number * 2000
         text = "\n".join(f"input A{t}{{f:A{t + 1}={{}}}}" for t in range(first, first + 2000))
         service.put(f"/schema/t{number}", text)
     each, _ = service.send([request("POST /run", "{}")] * 5)
-    say("run with 100,000 default values within one another", each)
+    say("run with 10,000 default values within one another", each)
     service.end()
 
 
