@@ -6,6 +6,8 @@
 set -eu
 cd "$(dirname "$0")/../crates/gqlreg"
 port=${1:-8080} connections=${2:-1000000}
+# A value in which default values nest deep is dropped by recursion, which takes stack.
+ulimit -s unlimited 2> /dev/null || true
 if [ -x out/gqlreg ]; then
     exec out/gqlreg serve --port "$port" --connections "$connections"
 fi
