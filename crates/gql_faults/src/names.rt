@@ -76,6 +76,39 @@ fn add_if_repeated<'t>(
     Ok(())
 }
 
+/// How many names are compared each with each at most. More of them are counted in a map.
+const FEW: usize = 8;
+
+/// How often this text occurs among these names.
+#[tactic(auto, using(crate::proofs::Counting::count_named))]
+fn count_of(text: &str, names: &[NamePlace<'_>]) -> usize
+    ensures { result ≡ spec.count_of text.now (map named names.now) }
+{
+    let mut count = 0;
+    for name in names {
+        if text == name.name.as_str() {
+            count += 1;
+        }
+    }
+    count
+}
+
+/// The names whose text occurs more than once among these, each compared with each.
+fn repeated_of_few<'t>(
+    alloc: Global,
+    names: &[NamePlace<'t>],
+) -> Result<Vec<NamePlace<'t>>, AllocError>
+    ensures { IfOk result (λ found. map named found.items ≡ spec.repeated (map named names.now)) }
+{
+    let mut found = Vec::new(alloc);
+    for name in names {
+        if count_of(name.name.as_str(), names) > 1 {
+            found.push(*name)?;
+        }
+    }
+    Ok(found)
+}
+
 /// The names whose text occurs more than once among these, each of them.
 pub fn repeated<'t>(
     alloc: Global,
@@ -83,6 +116,9 @@ pub fn repeated<'t>(
 ) -> Result<Vec<NamePlace<'t>>, AllocError>
     ensures { IfOk result (λ found. map named found.items ≡ spec.repeated (map named names.now)) }
 {
+    if names.len() <= FEW {
+        return repeated_of_few(alloc, names);
+    }
     let counts = counts(alloc, names)?;
     let mut found = Vec::new(alloc);
     for name in names {
