@@ -93,6 +93,21 @@ fn count_of(text: &str, names: &[NamePlace<'_>]) -> usize
     count
 }
 
+fn add_if_repeated_among<'t>(
+    names: &[NamePlace<'t>],
+    name: &NamePlace<'t>,
+    found: &mut Vec<NamePlace<'t>>,
+) -> Result<(), AllocError>
+    ensures { OnOk result (map named found.new.items ≡ map named found.old.items
+        ++ (if nat_lt 1 (spec.count_of name.now.name.now.text (map named names.now))
+        then named name.now ∷ [] else [])) }
+{
+    if count_of(name.name.as_str(), names) > 1 {
+        found.push(*name)?;
+    }
+    Ok(())
+}
+
 /// The names whose text occurs more than once among these, each compared with each.
 fn repeated_of_few<'t>(
     alloc: Global,
@@ -102,9 +117,7 @@ fn repeated_of_few<'t>(
 {
     let mut found = Vec::new(alloc);
     for name in names {
-        if count_of(name.name.as_str(), names) > 1 {
-            found.push(*name)?;
-        }
+        add_if_repeated_among(names, name, &mut found)?;
     }
     Ok(found)
 }
