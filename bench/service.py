@@ -36,7 +36,7 @@ class Service:
     def answer(self):
         """The body of the next answer, whose status has to be 200."""
         while b"\r\n\r\n" not in self.left:
-            self.more()
+            self.left += self.read()
         head, rest = self.left.split(b"\r\n\r\n", 1)
         if b" 200 " not in head.split(b"\r\n", 1)[0]:
             sys.exit(f"a wrong answer: {self.left[:300]!r}")
@@ -44,23 +44,20 @@ class Service:
         length = int(fields[b"content-length"])
         parts, found = [rest], len(rest)
         while found < length:
-            part = self.process.stdout.read(1 << 20)
-            if not part:
-                sys.exit("the service ended")
-            parts.append(part)
-            found += len(part)
+            parts.append(self.read())
+            found += len(parts[-1])
         whole = b"".join(parts)
         self.left = whole[length:]
         return whole[:length]
 
-    def more(self):
+    def read(self):
         part = self.process.stdout.read(1 << 20)
         if not part:
             sys.exit("the service ended")
-        self.left += part
+        return part
 
     def send(self, sent):
-        """Sends requests at once. The result is the time of each in microseconds, and the last body."""
+        """Sends requests at once: the microseconds for each of them, and the last answer's body."""
         writer = threading.Thread(target=self.write, args=(b"".join(sent),))
         start = time.perf_counter()
         writer.start()

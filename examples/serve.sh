@@ -6,9 +6,9 @@
 set -eu
 cd "$(dirname "$0")/../crates/gqlreg"
 port=${1:-8080} connections=${2:-1000000}
-# A value in which default values nest deep is dropped by recursion, which takes stack.
-ulimit -s unlimited 2> /dev/null || true
 if [ -x out/gqlreg ]; then
+    # A value in which default values nest deep is dropped by recursion, which takes stack.
+    ulimit -s unlimited 2> /dev/null || true
     exec out/gqlreg serve --port "$port" --connections "$connections"
 fi
 echo "gqlreg is not built yet: the same sources run without proof" >&2

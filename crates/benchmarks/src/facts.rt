@@ -13,7 +13,7 @@ use std::time::Instant;
 /// How many names of each kind the files have.
 const NAMES: u64 = 16;
 
-/// How often keys of a kind are asked, half of them in the mean.
+/// How often keys of a kind are asked, half of them on average.
 const ROUNDS: u64 = 125_000;
 
 /// What is asked.
