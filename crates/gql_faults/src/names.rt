@@ -76,6 +76,52 @@ fn add_if_repeated<'t>(
     Ok(())
 }
 
+/// How many names are compared each with each at most. More of them are counted in a map.
+const FEW: usize = 8;
+
+/// How often this text occurs among these names.
+#[tactic(auto, using(crate::proofs::Counting::count_named))]
+fn count_of(text: &str, names: &[NamePlace<'_>]) -> usize
+    ensures { result ≡ spec.count_of text.now (map named names.now) }
+{
+    let mut count = 0;
+    for name in names {
+        if text == name.name.as_str() {
+            count += 1;
+        }
+    }
+    count
+}
+
+fn add_if_repeated_among<'t>(
+    names: &[NamePlace<'t>],
+    name: &NamePlace<'t>,
+    found: &mut Vec<NamePlace<'t>>,
+) -> Result<(), AllocError>
+    ensures { OnOk result (map named found.new.items ≡ map named found.old.items
+        ++ (if nat_lt 1 (spec.count_of name.now.name.now.text (map named names.now))
+        then named name.now ∷ [] else [])) }
+{
+    if count_of(name.name.as_str(), names) > 1 {
+        found.push(*name)?;
+    }
+    Ok(())
+}
+
+/// The names whose text occurs more than once among these, each compared with each.
+fn repeated_of_few<'t>(
+    alloc: Global,
+    names: &[NamePlace<'t>],
+) -> Result<Vec<NamePlace<'t>>, AllocError>
+    ensures { IfOk result (λ found. map named found.items ≡ spec.repeated (map named names.now)) }
+{
+    let mut found = Vec::new(alloc);
+    for name in names {
+        add_if_repeated_among(names, name, &mut found)?;
+    }
+    Ok(found)
+}
+
 /// The names whose text occurs more than once among these, each of them.
 pub fn repeated<'t>(
     alloc: Global,
@@ -83,6 +129,9 @@ pub fn repeated<'t>(
 ) -> Result<Vec<NamePlace<'t>>, AllocError>
     ensures { IfOk result (λ found. map named found.items ≡ spec.repeated (map named names.now)) }
 {
+    if names.len() <= FEW {
+        return repeated_of_few(alloc, names);
+    }
     let counts = counts(alloc, names)?;
     let mut found = Vec::new(alloc);
     for name in names {

@@ -27,16 +27,20 @@ impl HasName for Text {
     }
 }
 
+/// How many things are compared one by one at most. Of more, a map keeps where each name is.
+const FEW: usize = 16;
+
 /// Things in their order, with a look-up of the first of a name. Contracts see the list of the
 /// things.
 #[derive(Drop)]
 pub struct Named<T: HasName> {
     things: Vec<T>,
-    first: HashMap<String, usize>,
+    /// Where the first of each name is; none for few things.
+    first: Option<HashMap<String, usize>>,
 }
 
 impl<T: HasName> Model for Named<T> {
-    ghost use Rattle.std.specs.Prelude.{◌≡◌, ℕ, List, find, bytes_eq, string_bytes, slice_get, option_and_then};
+    ghost use Rattle.std.specs.Prelude.{◌≡◌, ℕ, List, IfSome, find, bytes_eq, string_bytes, slice_get, option_and_then};
     ghost use Rattle.std.specs.Coded.{coded_list};
     ghost use Rattle.std.specs.HashMap as hash;
 
@@ -46,10 +50,9 @@ impl<T: HasName> Model for Named<T> {
 
     ghost view = { λ n. n.things.items };
 
-    ghost invariant = { λ n.
-        (q : List ℕ)
-        → option_and_then (λ i. slice_get n.things.items i) (hash.get_by_text n.first q)
-        ≡ find (λ x. bytes_eq q (T.name x)) n.things.items };
+    ghost invariant = { λ n. (q : List ℕ) → IfSome n.first
+        (λ first. option_and_then (λ i. slice_get n.things.items i) (hash.get_by_text first q)
+        ≡ find (λ x. bytes_eq q (T.name x)) n.things.items) };
 }
 
 /// The index of the first of each name.
@@ -69,10 +72,34 @@ fn first_places<T: HasName>(
     Ok(first)
 }
 
+/// The first of that name, each compared.
+fn first_named<'a, T: HasName>(things: &'a [T], name: &str) -> Option<&'a T>
+    ensures { option_copied result ≡ find (λ x. bytes_eq name.now (T.name x)) things.now }
+{
+    for thing in things {
+        if name == thing.name() {
+            return Some(thing);
+        }
+    }
+    None
+}
+
+/// The thing at a place.
 fn thing_at<T>(things: &[T], place: usize) -> Option<&T>
     ensures { option_copied result ≡ slice_get things.now place }
 {
     things.get(place)
+}
+
+/// The first of that name, by the map of places.
+fn thing_in_map<'a, T>(first: &HashMap<String, usize>, things: &'a [T], name: &str) -> Option<&'a T>
+    ensures { option_copied result
+        ≡ option_and_then (λ i. slice_get things.now i) (hash.get_by_text first.now name.now) }
+{
+    match first.get(name) {
+        Some(place) => thing_at(things, *place),
+        None => None,
+    }
 }
 
 impl<T: HasName + Drop> Named<T> {
@@ -80,8 +107,17 @@ impl<T: HasName + Drop> Named<T> {
     pub fn new(alloc: Global, things: Vec<T>) -> Result<Named<T>, AllocError>
         ensures { IfOk result (λ named. named ≡ things.items) }
     {
+        if things.len() <= FEW {
+            return Ok(Named {
+                things,
+                first: None,
+            });
+        }
         let first = first_places(alloc, things.as_slice())?;
-        Ok(Named { things, first })
+        Ok(Named {
+            things,
+            first: Some(first),
+        })
     }
 }
 
@@ -97,9 +133,9 @@ impl<T: HasName> Named<T> {
     pub fn get(&self, name: &str) -> Option<&T>
         ensures { option_copied result ≡ find (λ x. bytes_eq name.now (T.name x)) self.now }
     {
-        match self.first.get(name) {
-            Some(place) => thing_at(self.things.as_slice(), *place),
-            None => None,
+        match &self.first {
+            Some(first) => thing_in_map(first, self.things.as_slice(), name),
+            None => first_named(self.things.as_slice(), name),
         }
     }
 }

@@ -3,6 +3,3 @@ use Rattle.gql_types.proofs.named.Named.get.Goals as goal
 
 pub returns-in-Some : goal.returns-in-Some
 returns-in-Some g c = let e = c.self.invariant c.args.name.now in search rules
-
-pub returns-in-None : goal.returns-in-None
-returns-in-None g c = let e = c.self.invariant c.args.name.now in search rules

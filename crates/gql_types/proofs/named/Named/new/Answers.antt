@@ -3,7 +3,7 @@ use Rattle.std.specs.List.{position_from}
 use Rattle.gql_types.proofs.Places.{found_there}
 use Rattle.gql_types.proofs.named.Named.new.Goals as goal
 
-pub invariant_of-result : goal.invariant_of-result
-invariant_of-result g c = λ q. ap (λ o. option_and_then (λ i. slice_get c.args.things.items i) o) (c.in_ok-first.ensures q)
+pub invariant_of-result-2 : goal.invariant_of-result-2
+invariant_of-result-2 g c = λ q. ap (λ o. option_and_then (λ i. slice_get c.args.things.items i) o) (c.in_ok-first.ensures q)
     ∙ ap (λ xs. option_and_then (λ i. slice_get c.args.things.items i) (position_from (λ x. bytes_eq q (g.T.HasName.name x)) 0 xs)) c.as_slice.ensures.value
     ∙ found_there (λ x. bytes_eq q (g.T.HasName.name x)) c.args.things.items
