@@ -1,20 +1,24 @@
 -- What was seen, after one item more.
-use Rattle.std.proofs.Common.{◌≡◌, ◌≢◌, ℕ, zero, suc, ◌+◌, ◌*◌, ◌<◌, ◌≤◌, ◌⊎◌, inl, inr, List, [], ◌∷◌, Bool, true, false, cond, length, get_or, set, map, replicate, ap, sym, ◌∙◌, subst, refl, arith, Contains, Option, Some, None}
+use Rattle.std.proofs.Common.{◌≡◌, ◌≢◌, ℕ, zero, suc, ◌+◌, ◌*◌, ◌/◌, ◌%◌, ◌^◌, ◌<◌, ◌≤◌, ◌++◌, ◌⊎◌, inl, inr, List, [], ◌∷◌, Bool, true, false, cond, length, get_or, set, map, replicate, ap, sym, ◌∙◌, subst, refl, arith, Contains, Option, Some, None, w64}
 use Rattle.std.specs.HashMap as hash
 use Rattle.std.specs.HashMap.{HashMap}
 use Rattle.std.specs.List.{sum_by}
 use Rattle.std.specs.Map.{lookup}
-use Rattle.std.specs.Prelude.{is_some, nat_eq}
+use Rattle.std.specs.Prelude.{bit_and, bit_or, is_some, nat_eq}
+use Rattle.std.specs.Option.{unwrap_or}
+use Rattle.std.specs.Int.{bit_at}
+use Rattle.std.specs.Int.Bits.{or_zero_l}
 use Rattle.std.proofs.Math.ListN.{length-set}
 use Rattle.std.proofs.lemmas.Bool.{cases_eq, cases_lt}
 use Rattle.std.proofs.lemmas.Bool.Decides.{nat_tests}
 use Rattle.std.proofs.lemmas.List.{get_or-set_same, get_or-set_other, get_or_past, get_or-map, map-set, get_or-replicate, length-replicate}
 use Rattle.std.proofs.lemmas.List.Elements.{Contains-get_or}
+use Rattle.std.proofs.lemmas.Nat.Bits.{bit_at-zero, bit_at_set_other, bit_at_set_same, shr_and_one}
 use Rattle.std.proofs.lemmas.List.Sums.{sum_by-set}
 use Rattle.gql_clashes.specs.declared.sets.Mode.{Mode}
 use Rattle.gql_clashes.specs.declared.sets.Mode.TheVariants.{Merge, Shape}
 use Rattle.gql_clashes.specs.declared.search.Item.{Item}
-use Rattle.gql_clashes.specs.Seen.{place_of, column, first_of, is_seen, row_of, see, IsSquare, IsInside}
+use Rattle.gql_clashes.specs.Seen.{place_of, column, first_of, is_marked, is_seen, mark, row_of, see, word_at, IsSquare, IsInside}
 use Rattle.gql_clashes.proofs.Members.{Contains-here, Contains-there}
 
 place_less : (m : Mode) → place_of m ≤ 1
@@ -119,6 +123,20 @@ see_less count rows q x i f =
     let one : ◌≡◌ {A = ℕ} (cond (is_seen rows x) 0 1) 1 = rw f refl in
     omega (arith, inner, outer, one)
 
+-- what was seen is seen already
+set_again : (r : List Bool) (c : ℕ) → get_or r c false ≡ true → set r c true ≡ r
+set_again [] c h = refl
+set_again (b ∷ r) zero h = ap (λ d. d ∷ r) (sym h)
+set_again (b ∷ r) (suc c) h = ap (λ q. b ∷ q) (set_again r c h)
+
+set_back : (rows : List (List Bool)) (i : ℕ) → set rows i (get_or rows i []) ≡ rows
+set_back [] i = refl
+set_back (r ∷ rows) zero = refl
+set_back (r ∷ rows) (suc i) = ap (λ q. r ∷ q) (set_back rows i)
+
+see_again : (rows : List (List Bool)) (x : Item) → is_seen rows x ≡ true → see rows x ≡ rows
+see_again rows x h = ap (λ r. set rows x.left r) (set_again (get_or rows x.left []) (column x) h) ∙ set_back rows x.left
+
 -- nothing is seen at first
 pub none_square : (count : ℕ) → IsSquare count (replicate count (replicate (2 * count) false))
 none_square count = record {
@@ -172,29 +190,86 @@ column_inside n x i = omega (arith, i.1, place_less x.mode)
 apart_tests : (a b : ℕ) → a ≢ b → nat_eq b a ≡ false
 apart_tests a b ne = grind (arith, nat_tests, ne)
 
-module _ {X S : Type 0} where
-  -- a row in which one place more was seen
-  pub row_marked : (n : ℕ) (m k : HashMap ℕ X S) (c : ℕ) (v : X) → c < 2 * n → hash.Updates nat_eq m k c (Some v) → row_of n k ≡ set (row_of n m) c true
-  row_marked n m k c v lt u = first_marked (2 * n) (λ i. is_some (hash.get nat_eq m i)) (λ i. is_some (hash.get nat_eq k i)) c lt (ap (λ o. is_some o) u.1) (λ i ne. ap (λ o. is_some o) (u.2 i (apart_tests i c ne)))
+-- the test of a bit, as the code has it
+pub bit_tests : (n k : ℕ) → nat_eq (bit_and (n / 2 ^ k) 1) 1 ≡ nat_eq (bit_at n k) 1
+bit_tests n k = ap (λ b. nat_eq b 1) (shr_and_one n k)
 
-  -- the same, from the clauses of the calls
-  pub seen_at : (n : ℕ) (rows : List (HashMap ℕ X S)) (x : Item) (v : HashMap ℕ X S) → IsInside n x → x.left < length rows → v ≡ get_or rows x.left v → is_seen (map (λ r. row_of n r) rows) x ≡ is_some (hash.get nat_eq v (column x))
-  seen_at n rows x v i lt is = ap (λ r. get_or r (column x) false) (get_or-map (λ r. row_of n r) rows x.left v [] lt ∙ ap (λ r. row_of n r) (sym is)) ∙ first_at (2 * n) (λ j. is_some (hash.get nat_eq v j)) (column x) (column_inside n x i)
+same_place : (i c : ℕ) → i / 64 ≡ c / 64 → i % 64 ≡ c % 64 → i ≡ c
+same_place i c e f = omega (arith, e, f)
 
-  pub see_in : (rows : List (HashMap ℕ X S)) (x : Item) (v k : HashMap ℕ X S) → x.left < length rows → v ≡ get_or rows x.left v → row_of (length rows) k ≡ set (row_of (length rows) v) (column x) true
+module _ {S : Type 0} where
+  -- a word of a row, with one bit more
+  module _ (m k : HashMap ℕ ℕ S) (c w : ℕ) (is : word_at m (c / 64) ≡ w) (u : hash.Updates nat_eq m k (c / 64) (Some (bit_or w (1 * 2 ^ (c % 64) % 2 ^ 64)))) where
+    new_word : word_at k (c / 64) ≡ bit_or w (1 * 2 ^ (c % 64) % 2 ^ 64)
+    new_word = ap (λ o. unwrap_or o 0) u.1
+
+    pub bit_here : is_marked k c ≡ true
+    bit_here = ap (λ n. nat_eq (bit_at n (c % 64)) 1) new_word ∙ ap (λ b. nat_eq b 1) (bit_at_set_same w64 w (c % 64) (omega arith))
+
+    pub bit_others : (i : ℕ) → i ≢ c → is_marked k i ≡ is_marked m i
+    bit_others i ne = elim (cases_eq (i / 64) (c / 64)) [
+      | inr other ↦ ap (λ o. nat_eq (bit_at (unwrap_or o 0) (i % 64)) 1) (u.2 (i / 64) (apart_tests (i / 64) (c / 64) other))
+      | inl e ↦
+          ap (λ j. nat_eq (bit_at (word_at k j) (i % 64)) 1) e ∙ ap (λ n. nat_eq (bit_at n (i % 64)) 1) new_word
+          ∙ ap (λ b. nat_eq b 1) (bit_at_set_other w64 w (c % 64) (omega arith) (i % 64) (λ f. ne (same_place i c e f)))
+          ∙ ap (λ n. nat_eq (bit_at n (i % 64)) 1) (sym is) ∙ ap (λ j. nat_eq (bit_at (word_at m j) (i % 64)) 1) (sym e)
+    ]
+
+  -- a word that was written where one was
+  pub wrote : (m k : HashMap ℕ ℕ S) (i w w' : ℕ) → Some w ≡ hash.get nat_eq m i → hash.WritesThrough nat_eq (nat_eq i) m w' k → hash.Updates nat_eq m k i (Some w')
+  wrote m k i w w' is u = u.3 (ap (λ o. is_some o) (sym is))
+
+  pub word_is : (m : HashMap ℕ ℕ S) (c w : ℕ) → Some w ≡ hash.get nat_eq m (c / 64) → word_at m (c / 64) ≡ w
+  word_is m c w e = ap (λ o. unwrap_or o 0) (sym e)
+
+  -- a word that was put where none was
+  pub no_word : (m : HashMap ℕ ℕ S) (c : ℕ) → None ≡ hash.get nat_eq m (c / 64) → word_at m (c / 64) ≡ 0
+  no_word m c e = ap (λ o. unwrap_or o 0) (sym e)
+
+  pub first_word : (m m' k : HashMap ℕ ℕ S) (i b : ℕ) → m' ≡ m → hash.Updates nat_eq m' k i (Some b) → hash.Updates nat_eq m k i (Some (bit_or 0 b))
+  first_word m m' k i b e u = subst (λ n. hash.Updates nat_eq n k i (Some (bit_or 0 b))) e (subst (λ w. hash.Updates nat_eq m' k i (Some w)) (sym (or_zero_l b)) u)
+
+  -- the mark of an item, as its row has it
+  pub seen_at : (n : ℕ) (rows : List (HashMap ℕ ℕ S)) (x : Item) (v : HashMap ℕ ℕ S) → IsInside n x → x.left < length rows → v ≡ get_or rows x.left v → is_seen (map (λ r. row_of n r) rows) x ≡ is_marked v (column x)
+  seen_at n rows x v i lt is = ap (λ r. get_or r (column x) false) (get_or-map (λ r. row_of n r) rows x.left v [] lt ∙ ap (λ r. row_of n r) (sym is)) ∙ first_at (2 * n) (is_marked v) (column x) (column_inside n x i)
+
+  pub see_in : (rows : List (HashMap ℕ ℕ S)) (x : Item) (v k : HashMap ℕ ℕ S) → x.left < length rows → v ≡ get_or rows x.left v → row_of (length rows) k ≡ set (row_of (length rows) v) (column x) true
       → map (λ r. row_of (length (set rows x.left k)) r) (set rows x.left k) ≡ see (map (λ r. row_of (length rows) r) rows) x
   see_in rows x v k lt is e = ap (λ n. map (λ r. row_of n r) (set rows x.left k)) (length-set rows x.left k) ∙ see_by (λ r. row_of (length rows) r) rows x v k lt is e
 
   -- rows without marks
-  pub nothing_in : (n : ℕ) (m : HashMap ℕ X S) → m.entries ≡ [] → row_of n m ≡ replicate (2 * n) false
-  nothing_in n m e = first_none (2 * n) (λ i. is_some (hash.get nat_eq m i)) (λ i. let l : ◌≡◌ {A = Option X} (hash.get nat_eq m i) None = ap (λ (es : List (ℕ × X)). lookup (nat_eq i) es) e in ap (λ o. is_some o) l)
+  pub nothing_in : (n : ℕ) (m : HashMap ℕ ℕ S) → m.entries ≡ [] → row_of n m ≡ replicate (2 * n) false
+  nothing_in n m e = first_none (2 * n) (is_marked m) (λ i. let l : ◌≡◌ {A = Option ℕ} (hash.get nat_eq m (i / 64)) None = ap (λ (es : List (ℕ × ℕ)). lookup (nat_eq (i / 64)) es) e in ap (λ o. nat_eq (bit_at (unwrap_or o 0) (i % 64)) 1) l ∙ ap (λ b. nat_eq b 1) (bit_at-zero (i % 64)))
 
-  all_nothing : (n : ℕ) (rows : List (HashMap ℕ X S)) → ((m : HashMap ℕ X S) → Contains rows m → m.entries ≡ []) → map (λ r. row_of n r) rows ≡ replicate (length rows) (replicate (2 * n) false)
+  all_nothing : (n : ℕ) (rows : List (HashMap ℕ ℕ S)) → ((m : HashMap ℕ ℕ S) → Contains rows m → m.entries ≡ []) → map (λ r. row_of n r) rows ≡ replicate (length rows) (replicate (2 * n) false)
   all_nothing n [] h = refl
   all_nothing n (m ∷ rows) h = ap (λ r. r ∷ map (λ r. row_of n r) rows) (nothing_in n m (h m (Contains-here m rows))) ∙ ap (λ rs. replicate (2 * n) false ∷ rs) (all_nothing n rows (λ k c. h k (Contains-there k m rows c)))
 
-  pub nothing_rows : (rows : List (HashMap ℕ X S)) (n count : ℕ) → length rows ≡ n → ((m : HashMap ℕ X S) → Contains rows m → m.entries ≡ []) → n ≡ count → map (λ r. row_of (length rows) r) rows ≡ replicate count (replicate (2 * count) false)
+  pub nothing_rows : (rows : List (HashMap ℕ ℕ S)) (n count : ℕ) → length rows ≡ n → ((m : HashMap ℕ ℕ S) → Contains rows m → m.entries ≡ []) → n ≡ count → map (λ r. row_of (length rows) r) rows ≡ replicate count (replicate (2 * count) false)
   nothing_rows rows n count l h e = all_nothing (length rows) rows h ∙ ap (λ k. replicate k (replicate (2 * k) false)) (l ∙ e)
+
+  -- marking an item, from what was done with its row
+  module _ (rows : List (HashMap ℕ ℕ S)) (todo : List Item) (x : Item) (v k : HashMap ℕ ℕ S) (c : ℕ) (b : Bool) (inside : IsInside (length rows) x) (is : v ≡ get_or rows x.left v) (at_column : c ≡ column x)
+      (before : b ≡ is_marked v c) (here : is_marked k c ≡ true) (others : (i : ℕ) → i ≢ c → is_marked k i ≡ is_marked v i) where
+    abbrev pub old : List (List Bool)
+    old = map (λ r. row_of (length rows) r) rows
+
+    abbrev pub new : List (List Bool)
+    new = map (λ r. row_of (length (set rows x.left k)) r) (set rows x.left k)
+
+    saw : new ≡ see old x
+    saw = see_in rows x v k inside.0 is (first_marked (2 * length rows) (is_marked v) (is_marked k) (column x) (column_inside (length rows) x inside) (subst (λ i. is_marked k i ≡ true) at_column here) (λ i ne. others i (λ e. ne (e ∙ at_column))))
+
+    was : is_seen old x ≡ b
+    was = seen_at (length rows) rows x v inside inside.0 is ∙ ap (λ i. is_marked v i) (sym at_column) ∙ sym before
+
+    -- it is new
+    pub marked_new : b ≡ false → ◌≡◌ {A = List (List Bool) × List Item} (new, todo ++ x ∷ []) (mark x (old, todo))
+    marked_new f = rw (was ∙ f, saw) refl
+
+    -- it was seen before
+    pub marked_again : b ≡ true → ◌≡◌ {A = List (List Bool) × List Item} (new, todo) (mark x (old, todo))
+    marked_again t = ap (λ r. (r, todo)) (saw ∙ see_again old x (was ∙ t)) ∙ rw (was ∙ t) refl
 
 abbrev pub no_item : Item
 no_item = record { left = 0; right = 0; mode = Merge }

@@ -1,6 +1,8 @@
 -- Helper definitions for private contracts: the items that were seen. There is a row for each left
 -- group, with two columns for each right group.
-use Rattle.std.specs.Prelude.{◌≡◌, ◌<◌, ◌+◌, ◌*◌, ◌++◌, ◌∷◌, [], ℕ, zero, suc, List, Bool, true, false, cond, length, nat_eq, is_some, slice_index_or, slice_set, map}
+use Rattle.std.specs.Prelude.{◌≡◌, ◌<◌, ◌+◌, ◌*◌, ◌/◌, ◌%◌, ◌++◌, ◌∷◌, [], ℕ, zero, suc, List, Bool, true, false, cond, length, nat_eq, slice_index_or, slice_set, map}
+use Rattle.std.specs.Option.{unwrap_or}
+use Rattle.std.specs.Int.{bit_at}
 use Rattle.std.specs.HashMap as hash
 use Rattle.std.specs.HashMap.{HashMap}
 use Rattle.gql_clashes.specs.declared.sets.Mode.{Mode}
@@ -39,9 +41,17 @@ abbrev pub first_of : ℕ → (ℕ → Bool) → List Bool
 first_of zero f = []
 first_of (suc n) f = f 0 ∷ first_of n (λ i. f (suc i))
 
+-- the word of a row that has the marks of the 64 columns from `64 * i` on
+abbrev pub word_at : {S : Type 0} → HashMap ℕ ℕ S → ℕ → ℕ
+word_at words i = unwrap_or (hash.get nat_eq words i) 0
+
+-- whether a column is marked: its bit in its word is 1
+abbrev pub is_marked : {S : Type 0} → HashMap ℕ ℕ S → ℕ → Bool
+is_marked words i = nat_eq (bit_at (word_at words (i / 64)) (i % 64)) 1
+
 -- a row of the code, as the list of its marks
-abbrev pub row_of : {X S : Type 0} → ℕ → HashMap ℕ X S → List Bool
-row_of count marks = first_of (2 * count) (λ i. is_some (hash.get nat_eq marks i))
+abbrev pub row_of : {S : Type 0} → ℕ → HashMap ℕ ℕ S → List Bool
+row_of count words = first_of (2 * count) (is_marked words)
 
 -- the rows of the code, as lists of marks
 abbrev pub rows_of : Seen → List (List Bool)

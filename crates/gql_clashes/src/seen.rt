@@ -1,17 +1,19 @@
 //! The items that a search has seen.
-ghost use Rattle.std.specs.Prelude.{◌≡◌, ◌<◌, ◌≤◌, ◌*◌, ◌+◌, ◌^◌, false, length, replicate, IfOk, OnOk, Contains};
+ghost use Rattle.std.specs.Prelude.{◌≡◌, ◌≢◌, ◌<◌, ◌≤◌, ◌*◌, ◌+◌, ◌^◌, ℕ, true, false, length, replicate, IfOk, OnOk, Contains};
 ghost use Rattle.gql_clashes.specs.declared.search.Item as item;
-ghost use Rattle.gql_clashes.specs.Seen.{IsInside, IsSquare, column, is_seen, mark_all, place_of, rows_of, see};
+ghost use Rattle.gql_clashes.specs.Seen.{IsInside, IsSquare, column, is_marked, mark as mark_item, mark_all, place_of, rows_of};
 
 use crate::search::Item;
 use crate::sets::Mode;
 use std::alloc::{AllocError, Global};
 use std::collections::HashMap;
 
-/// For each left group the columns that were seen, of two for each right group.
+/// For each left group the columns that were seen, of two for each right group. A row has a word
+/// for 64 columns, one bit for each: neighbours share an entry, and those that were not seen have
+/// none.
 #[derive(Drop)]
 pub struct Seen {
-    pub rows: Vec<HashMap<usize, ()>>,
+    pub rows: Vec<HashMap<usize, u64>>,
 }
 
 // The column of a mode, of the two for a right group.
@@ -45,24 +47,39 @@ pub fn nothing_seen(alloc: Global, count: usize) -> Result<Seen, AllocError>
     Ok(Seen { rows })
 }
 
-// Whether an item was seen.
-fn was_seen(seen: &Seen, item: Item) -> bool
-    requires square { IsSquare (length seen.now.rows.items) (rows_of seen.now) }
-    requires inside { IsInside (length seen.now.rows.items) item }
-    ensures { result ≡ is_seen (rows_of seen.now) item }
+// Marks a column of a row. Returns whether it was marked before.
+fn mark_column(row: &mut HashMap<usize, u64>, column: usize) -> Result<bool, AllocError>
+    ensures before { IfOk result (λ before. before ≡ is_marked row.old column) }
+    ensures marked { OnOk result (is_marked row.new column ≡ true) }
+    ensures others { OnOk result ((i : ℕ) → i ≢ column
+        → is_marked row.new i ≡ is_marked row.old i) }
 {
-    seen.rows[item.left].contains_key(&column_of(item))
+    let place = column % 64;
+    if let Some(word) = row.get_mut(&(column / 64)) {
+        if (*word >> place) & 1 == 1 {
+            return Ok(true);
+        }
+        *word |= 1 << place;
+        return Ok(false);
+    }
+    row.insert(column / 64, 1 << place)?;
+    Ok(false)
 }
 
-// Marks an item as seen.
-fn see_one(seen: &mut Seen, item: Item) -> Result<(), AllocError>
+// Marks an item as seen. If it is new, it is added to `todo`.
+fn mark_one(item: Item, seen: &mut Seen, todo: &mut Vec<Item>) -> Result<(), AllocError>
     requires square { IsSquare (length seen.old.rows.items) (rows_of seen.old) }
     requires inside { IsInside (length seen.old.rows.items) item }
-    ensures { OnOk result (rows_of seen.new ≡ see (rows_of seen.old) item) }
+    ensures seen { OnOk result
+        (rows_of seen.new ≡ (mark_item item (rows_of seen.old, todo.old.items)).0) }
+    ensures todo { OnOk result
+        (todo.new.items ≡ (mark_item item (rows_of seen.old, todo.old.items)).1) }
 {
     let column = column_of(item);
     let row = &mut seen.rows[item.left];
-    row.insert(column, ())?;
+    if !mark_column(row, column)? {
+        todo.push(item)?;
+    }
     Ok(())
 }
 
@@ -77,11 +94,7 @@ pub fn mark(items: &[Item], seen: &mut Seen, todo: &mut Vec<Item>) -> Result<(),
         (todo.new.items ≡ (mark_all items.now (rows_of seen.old, todo.old.items)).1) }
 {
     for item in items {
-        let item = *item;
-        if !was_seen(seen, item) {
-            see_one(seen, item)?;
-            todo.push(item)?;
-        }
+        mark_one(*item, seen, todo)?;
     }
     Ok(())
 }
