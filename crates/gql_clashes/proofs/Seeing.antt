@@ -1,25 +1,24 @@
 -- What was seen, after one item more.
-use Rattle.std.proofs.Common.{◌≡◌, ◌≢◌, ℕ, zero, suc, ◌+◌, ◌*◌, ◌/◌, ◌%◌, ◌^◌, ◌<◌, ◌≤◌, ◌++◌, ◌⊎◌, inl, inr, List, [], ◌∷◌, Bool, true, false, cond, length, get_or, set, map, replicate, ap, sym, ◌∙◌, subst, refl, arith, Contains, Option, Some, None, w64}
+use Rattle.std.proofs.Common.{◌≡◌, ◌≢◌, ℕ, zero, suc, ◌+◌, ◌*◌, ◌/◌, ◌%◌, ◌^◌, ◌<◌, ◌≤◌, ◌++◌, ◌⊎◌, inl, inr, List, [], ◌∷◌, Bool, true, false, ◌&&◌, cond, length, get_or, set, replicate, ap, sym, ◌∙◌, subst, refl, arith, Contains, Option, Some, None, w64}
 use Rattle.std.specs.HashMap as hash
-use Rattle.std.specs.HashMap.{HashMap}
 use Rattle.std.specs.List.{sum_by}
 use Rattle.std.specs.Map.{lookup}
-use Rattle.std.specs.Prelude.{bit_and, bit_or, is_some, nat_eq}
+use Rattle.std.specs.Prelude.{bit_or, is_some, nat_eq}
 use Rattle.std.specs.Option.{unwrap_or}
 use Rattle.std.specs.Int.{bit_at}
 use Rattle.std.specs.Int.Bits.{or_zero_l}
 use Rattle.std.proofs.Math.ListN.{length-set}
 use Rattle.std.proofs.lemmas.Bool.{cases_eq, cases_lt}
 use Rattle.std.proofs.lemmas.Bool.Decides.{nat_tests}
-use Rattle.std.proofs.lemmas.List.{get_or-set_same, get_or-set_other, get_or_past, get_or-map, map-set, get_or-replicate, length-replicate}
+use Rattle.std.proofs.lemmas.List.{get_or-set_same, get_or-set_other, get_or_past, get_or-replicate, length-replicate}
 use Rattle.std.proofs.lemmas.List.Elements.{Contains-get_or}
-use Rattle.std.proofs.lemmas.Nat.Bits.{bit_at-zero, bit_at_set_other, bit_at_set_same, shr_and_one}
+use Rattle.std.proofs.lemmas.Map.Steps.{set_value_same}
+use Rattle.std.proofs.lemmas.Nat.Bits.{bit_at-zero, bit_at_set_other, bit_at_set_same}
 use Rattle.std.proofs.lemmas.List.Sums.{sum_by-set}
 use Rattle.gql_clashes.specs.declared.sets.Mode.{Mode}
 use Rattle.gql_clashes.specs.declared.sets.Mode.TheVariants.{Merge, Shape}
 use Rattle.gql_clashes.specs.declared.search.Item.{Item}
-use Rattle.gql_clashes.specs.Seen.{place_of, column, first_of, is_marked, is_seen, mark, row_of, see, word_at, IsSquare, IsInside}
-use Rattle.gql_clashes.proofs.Members.{Contains-here, Contains-there}
+use Rattle.gql_clashes.specs.Seen.{bit_place, place_of, column, first_of, is_marked, is_seen, mark, rows_in, same_word, see, word_at, IsSquare, IsInside, Words}
 
 place_less : (m : Mode) → place_of m ≤ 1
 place_less Merge = omega arith
@@ -153,123 +152,152 @@ none_seen count x h = elim (cases_lt x.left count) [
   | inr g ↦ not_true _ (ap (λ r. get_or r (column x) false) (get_or_past (replicate count (replicate (2 * count) false)) x.left [] (omega (arith, length-replicate count (replicate (2 * count) false))))) h
 ]
 
--- the same, from the clauses of the calls
-pub see_by : {V : Type 0} (f : V → List Bool) (rows : List V) (x : Item) (v v' : V) → x.left < length rows → v ≡ get_or rows x.left v → f v' ≡ set (f v) (column x) true → map f (set rows x.left v') ≡ see (map f rows) x
-see_by f rows x v v' lt is e =
-    let out : f v ≡ get_or (map f rows) x.left [] = ap f is ∙ sym (get_or-map f rows x.left v [] lt) in
-    map-set f rows x.left v' ∙ ap (λ r. set (map f rows) x.left r) (e ∙ ap (λ r. set r (column x) true) out)
-
 -- the first values of a function
-first_length : (n : ℕ) (f : ℕ → Bool) → length (first_of n f) ≡ n
+first_length : {A : Type 0} (n : ℕ) (f : ℕ → A) → length (first_of n f) ≡ n
 first_length zero f = refl
 first_length (suc n) f = ap suc (first_length n (λ i. f (suc i)))
 
-pub first_at : (n : ℕ) (f : ℕ → Bool) (i : ℕ) → i < n → get_or (first_of n f) i false ≡ f i
-first_at zero f i lt = absurd (omega arith)
-first_at (suc n) f zero lt = refl
-first_at (suc n) f (suc i) lt = first_at n (λ j. f (suc j)) i (omega arith)
+first_at : {A : Type 0} (n : ℕ) (f : ℕ → A) (i : ℕ) (d : A) → i < n → get_or (first_of n f) i d ≡ f i
+first_at zero f i d lt = absurd (omega arith)
+first_at (suc n) f zero d lt = refl
+first_at (suc n) f (suc i) d lt = first_at n (λ j. f (suc j)) i d (omega arith)
 
-first_same : (n : ℕ) (f g : ℕ → Bool) → ((i : ℕ) → f i ≡ g i) → first_of n f ≡ first_of n g
+first_same : {A : Type 0} (n : ℕ) (f g : ℕ → A) → ((i : ℕ) → f i ≡ g i) → first_of n f ≡ first_of n g
 first_same zero f g h = refl
 first_same (suc n) f g h = ap (λ b. b ∷ first_of n (λ i. f (suc i))) (h 0) ∙ ap (λ bs. g 0 ∷ bs) (first_same n (λ i. f (suc i)) (λ i. g (suc i)) (λ i. h (suc i)))
 
-first_none : (n : ℕ) (f : ℕ → Bool) → ((i : ℕ) → f i ≡ false) → first_of n f ≡ replicate n false
-first_none zero f h = refl
-first_none (suc n) f h = ap (λ b. b ∷ first_of n (λ i. f (suc i))) (h 0) ∙ ap (λ bs. false ∷ bs) (first_none n (λ i. f (suc i)) (λ i. h (suc i)))
+first_all : {A : Type 0} (n : ℕ) (f : ℕ → A) (d : A) → ((i : ℕ) → f i ≡ d) → first_of n f ≡ replicate n d
+first_all zero f d h = refl
+first_all (suc n) f d h = ap (λ b. b ∷ first_of n (λ i. f (suc i))) (h 0) ∙ ap (λ bs. d ∷ bs) (first_all n (λ i. f (suc i)) d (λ i. h (suc i)))
 
--- with a mark more
-pub first_marked : (n : ℕ) (f g : ℕ → Bool) (c : ℕ) → c < n → g c ≡ true → ((i : ℕ) → i ≢ c → g i ≡ f i) → first_of n g ≡ set (first_of n f) c true
-first_marked zero f g c lt here other = absurd (omega arith)
-first_marked (suc n) f g zero lt here other = ap (λ b. b ∷ first_of n (λ i. g (suc i))) here ∙ ap (λ bs. true ∷ bs) (first_same n (λ i. g (suc i)) (λ i. f (suc i)) (λ i. other (suc i) (λ e. omega (arith, e))))
-first_marked (suc n) f g (suc c) lt here other = ap (λ b. b ∷ first_of n (λ i. g (suc i))) (other 0 (λ e. omega (arith, e)))
-    ∙ ap (λ bs. f 0 ∷ bs) (first_marked n (λ i. f (suc i)) (λ i. g (suc i)) c (omega arith) here (λ i ne. other (suc i) (λ e. ne (omega (arith, e)))))
+-- with one value changed
+first_set : {A : Type 0} (n : ℕ) (f g : ℕ → A) (c : ℕ) (v : A) → c < n → g c ≡ v → ((i : ℕ) → i ≢ c → g i ≡ f i) → first_of n g ≡ set (first_of n f) c v
+first_set zero f g c v lt here other = absurd (omega arith)
+first_set (suc n) f g zero v lt here other = ap (λ b. b ∷ first_of n (λ i. g (suc i))) here ∙ ap (λ bs. v ∷ bs) (first_same n (λ i. g (suc i)) (λ i. f (suc i)) (λ i. other (suc i) (λ e. omega (arith, e))))
+first_set (suc n) f g (suc c) v lt here other = ap (λ b. b ∷ first_of n (λ i. g (suc i))) (other 0 (λ e. omega (arith, e)))
+    ∙ ap (λ bs. f 0 ∷ bs) (first_set n (λ i. f (suc i)) (λ i. g (suc i)) c v (omega arith) here (λ i ne. other (suc i) (λ e. ne (omega (arith, e)))))
 
-pub column_inside : (n : ℕ) (x : Item) → IsInside n x → column x < 2 * n
+column_inside : (n : ℕ) (x : Item) → IsInside n x → column x < 2 * n
 column_inside n x i = omega (arith, i.1, place_less x.mode)
+
+-- the word of an item, and its bit there
+pub word_is : (x : Item) → x.right / 4 ≡ column x / 8
+word_is x = omega (arith, place_less x.mode)
+
+pub bit_is : (x : Item) → x.left % 8 * 8 + x.right % 4 * 2 + place_of x.mode ≡ bit_place x.left (column x)
+bit_is x = omega (arith, place_less x.mode)
+
+same_cell : (i j c d : ℕ) → i / 8 ≡ j / 8 → c / 8 ≡ d / 8 → bit_place i c ≡ bit_place j d → (i ≡ j) × (c ≡ d)
+same_cell i j c d e f b = (omega (arith, e, b), omega (arith, f, b))
+
+other_cell : (i j c d : ℕ) → (i ≢ j) ⊎ (c ≢ d) → i / 8 ≡ j / 8 → c / 8 ≡ d / 8 → bit_place i c ≢ bit_place j d
+other_cell i j c d (inl ne) e f b = ne (same_cell i j c d e f b).0
+other_cell i j c d (inr ne) e f b = ne (same_cell i j c d e f b).1
 
 apart_tests : (a b : ℕ) → a ≢ b → nat_eq b a ≡ false
 apart_tests a b ne = grind (arith, nat_tests, ne)
 
--- the test of a bit, as the code has it
-pub bit_tests : (n k : ℕ) → nat_eq (bit_and (n / 2 ^ k) 1) 1 ≡ nat_eq (bit_at n k) 1
-bit_tests n k = ap (λ b. nat_eq b 1) (shr_and_one n k)
+apart_left : (a b : Bool) → a ≡ false → (a && b) ≡ false
+apart_left a b e = rw e refl
 
-same_place : (i c : ℕ) → i / 64 ≡ c / 64 → i % 64 ≡ c % 64 → i ≡ c
-same_place i c e f = omega (arith, e, f)
+apart_right : (a b : Bool) → b ≡ false → (a && b) ≡ false
+apart_right true b e = e
+apart_right false b e = refl
 
 module _ {S : Type 0} where
-  -- a word of a row, with one bit more
-  module _ (m k : HashMap ℕ ℕ S) (c w : ℕ) (is : word_at m (c / 64) ≡ w) (u : hash.Updates nat_eq m k (c / 64) (Some (bit_or w (1 * 2 ^ (c % 64) % 2 ^ 64)))) where
-    new_word : word_at k (c / 64) ≡ bit_or w (1 * 2 ^ (c % 64) % 2 ^ 64)
-    new_word = ap (λ o. unwrap_or o 0) u.1
-
-    pub bit_here : is_marked k c ≡ true
-    bit_here = ap (λ n. nat_eq (bit_at n (c % 64)) 1) new_word ∙ ap (λ b. nat_eq b 1) (bit_at_set_same w64 w (c % 64) (omega arith))
-
-    pub bit_others : (i : ℕ) → i ≢ c → is_marked k i ≡ is_marked m i
-    bit_others i ne = elim (cases_eq (i / 64) (c / 64)) [
-      | inr other ↦ ap (λ o. nat_eq (bit_at (unwrap_or o 0) (i % 64)) 1) (u.2 (i / 64) (apart_tests (i / 64) (c / 64) other))
-      | inl e ↦
-          ap (λ j. nat_eq (bit_at (word_at k j) (i % 64)) 1) e ∙ ap (λ n. nat_eq (bit_at n (i % 64)) 1) new_word
-          ∙ ap (λ b. nat_eq b 1) (bit_at_set_other w64 w (c % 64) (omega arith) (i % 64) (λ f. ne (same_place i c e f)))
-          ∙ ap (λ n. nat_eq (bit_at n (i % 64)) 1) (sym is) ∙ ap (λ j. nat_eq (bit_at (word_at m j) (i % 64)) 1) (sym e)
-    ]
-
   -- a word that was written where one was
-  pub wrote : (m k : HashMap ℕ ℕ S) (i w w' : ℕ) → Some w ≡ hash.get nat_eq m i → hash.WritesThrough nat_eq (nat_eq i) m w' k → hash.Updates nat_eq m k i (Some w')
-  wrote m k i w w' is u = u.3 (ap (λ o. is_some o) (sym is))
+  pub wrote : (m k : Words S) (p : ℕ × ℕ) (w w' : ℕ) → Some w ≡ hash.get same_word m p → hash.WritesThrough same_word (same_word p) m w' k → hash.Updates same_word m k p (Some w')
+  wrote m k p w w' is u = u.3 (ap (λ o. is_some o) (sym is))
 
-  pub word_is : (m : HashMap ℕ ℕ S) (c w : ℕ) → Some w ≡ hash.get nat_eq m (c / 64) → word_at m (c / 64) ≡ w
-  word_is m c w e = ap (λ o. unwrap_or o 0) (sym e)
+  pub some_word : (m : Words S) (p : ℕ × ℕ) (w : ℕ) → Some w ≡ hash.get same_word m p → unwrap_or (hash.get same_word m p) 0 ≡ w
+  some_word m p w e = ap (λ o. unwrap_or o 0) (sym e)
+
+  pub no_word : (m : Words S) (p : ℕ × ℕ) → None ≡ hash.get same_word m p → unwrap_or (hash.get same_word m p) 0 ≡ 0
+  no_word m p e = ap (λ o. unwrap_or o 0) (sym e)
+
+  -- a word that was written as it was
+  pub rewrote : (m k : Words S) (p : ℕ × ℕ) (w : ℕ) (i c : ℕ) → Some w ≡ hash.get same_word m p → hash.WritesThrough same_word (same_word p) m w k → is_marked k i c ≡ is_marked m i c
+  rewrote m k p w i c is u =
+      let e : k.entries ≡ m.entries = u.0 ∙ set_value_same (same_word p) m.entries w (sym is) in
+      ap (λ (es : List ((ℕ × ℕ) × ℕ)). nat_eq (bit_at (unwrap_or (lookup (same_word (i / 8, c / 8)) es) 0) (bit_place i c)) 1) e
 
   -- a word that was put where none was
-  pub no_word : (m : HashMap ℕ ℕ S) (c : ℕ) → None ≡ hash.get nat_eq m (c / 64) → word_at m (c / 64) ≡ 0
-  no_word m c e = ap (λ o. unwrap_or o 0) (sym e)
+  pub first_word : (m m' k : Words S) (p : ℕ × ℕ) (b : ℕ) → m' ≡ m → hash.Updates same_word m' k p (Some b) → hash.Updates same_word m k p (Some (bit_or 0 b))
+  first_word m m' k p b e u = subst (λ n. hash.Updates same_word n k p (Some (bit_or 0 b))) e (subst (λ w. hash.Updates same_word m' k p (Some w)) (sym (or_zero_l b)) u)
 
-  pub first_word : (m m' k : HashMap ℕ ℕ S) (i b : ℕ) → m' ≡ m → hash.Updates nat_eq m' k i (Some b) → hash.Updates nat_eq m k i (Some (bit_or 0 b))
-  first_word m m' k i b e u = subst (λ n. hash.Updates nat_eq n k i (Some (bit_or 0 b))) e (subst (λ w. hash.Updates nat_eq m' k i (Some w)) (sym (or_zero_l b)) u)
+  -- a word with one bit more
+  module _ (m k : Words S) (x : Item) (p : ℕ × ℕ) (b w : ℕ) (at_word : p ≡ (x.left / 8, column x / 8)) (at_bit : b ≡ bit_place x.left (column x)) (is : unwrap_or (hash.get same_word m p) 0 ≡ w)
+      (u : hash.Updates same_word m k p (Some (bit_or w (1 * 2 ^ b % 2 ^ 64)))) where
+    small : b < 64
+    small = omega (arith, at_bit)
 
-  -- the mark of an item, as its row has it
-  pub seen_at : (n : ℕ) (rows : List (HashMap ℕ ℕ S)) (x : Item) (v : HashMap ℕ ℕ S) → IsInside n x → x.left < length rows → v ≡ get_or rows x.left v → is_seen (map (λ r. row_of n r) rows) x ≡ is_marked v (column x)
-  seen_at n rows x v i lt is = ap (λ r. get_or r (column x) false) (get_or-map (λ r. row_of n r) rows x.left v [] lt ∙ ap (λ r. row_of n r) (sym is)) ∙ first_at (2 * n) (is_marked v) (column x) (column_inside n x i)
+    was : word_at m (x.left / 8) (column x / 8) ≡ w
+    was = ap (λ q. unwrap_or (hash.get same_word m q) 0) (sym at_word) ∙ is
 
-  pub see_in : (rows : List (HashMap ℕ ℕ S)) (x : Item) (v k : HashMap ℕ ℕ S) → x.left < length rows → v ≡ get_or rows x.left v → row_of (length rows) k ≡ set (row_of (length rows) v) (column x) true
-      → map (λ r. row_of (length (set rows x.left k)) r) (set rows x.left k) ≡ see (map (λ r. row_of (length rows) r) rows) x
-  see_in rows x v k lt is e = ap (λ n. map (λ r. row_of n r) (set rows x.left k)) (length-set rows x.left k) ∙ see_by (λ r. row_of (length rows) r) rows x v k lt is e
+    new_word : word_at k (x.left / 8) (column x / 8) ≡ bit_or w (1 * 2 ^ b % 2 ^ 64)
+    new_word = ap (λ q. unwrap_or (hash.get same_word k q) 0) (sym at_word) ∙ ap (λ o. unwrap_or o 0) u.1
 
-  -- rows without marks
-  pub nothing_in : (n : ℕ) (m : HashMap ℕ ℕ S) → m.entries ≡ [] → row_of n m ≡ replicate (2 * n) false
-  nothing_in n m e = first_none (2 * n) (is_marked m) (λ i. let l : ◌≡◌ {A = Option ℕ} (hash.get nat_eq m (i / 64)) None = ap (λ (es : List (ℕ × ℕ)). lookup (nat_eq (i / 64)) es) e in ap (λ o. nat_eq (bit_at (unwrap_or o 0) (i % 64)) 1) l ∙ ap (λ b. nat_eq b 1) (bit_at-zero (i % 64)))
+    pub bit_here : is_marked k x.left (column x) ≡ true
+    bit_here = ap (λ n. nat_eq (bit_at n (bit_place x.left (column x))) 1) new_word ∙ ap (λ d. nat_eq (bit_at (bit_or w (1 * 2 ^ b % 2 ^ 64)) d) 1) (sym at_bit) ∙ ap (λ n. nat_eq n 1) (bit_at_set_same w64 w b small)
 
-  all_nothing : (n : ℕ) (rows : List (HashMap ℕ ℕ S)) → ((m : HashMap ℕ ℕ S) → Contains rows m → m.entries ≡ []) → map (λ r. row_of n r) rows ≡ replicate (length rows) (replicate (2 * n) false)
-  all_nothing n [] h = refl
-  all_nothing n (m ∷ rows) h = ap (λ r. r ∷ map (λ r. row_of n r) rows) (nothing_in n m (h m (Contains-here m rows))) ∙ ap (λ rs. replicate (2 * n) false ∷ rs) (all_nothing n rows (λ k c. h k (Contains-there k m rows c)))
+    other_word : (i c : ℕ) → (i / 8 ≢ x.left / 8) ⊎ (c / 8 ≢ column x / 8) → same_word p (i / 8, c / 8) ≡ false
+    other_word i c (inl ne) = ap (λ q. same_word q (i / 8, c / 8)) at_word ∙ apart_left _ _ (apart_tests (i / 8) (x.left / 8) ne)
+    other_word i c (inr ne) = ap (λ q. same_word q (i / 8, c / 8)) at_word ∙ apart_right _ _ (apart_tests (c / 8) (column x / 8) ne)
 
-  pub nothing_rows : (rows : List (HashMap ℕ ℕ S)) (n count : ℕ) → length rows ≡ n → ((m : HashMap ℕ ℕ S) → Contains rows m → m.entries ≡ []) → n ≡ count → map (λ r. row_of (length rows) r) rows ≡ replicate count (replicate (2 * count) false)
-  nothing_rows rows n count l h e = all_nothing (length rows) rows h ∙ ap (λ k. replicate k (replicate (2 * k) false)) (l ∙ e)
+    unchanged : (i c : ℕ) → (i / 8 ≢ x.left / 8) ⊎ (c / 8 ≢ column x / 8) → is_marked k i c ≡ is_marked m i c
+    unchanged i c ne = ap (λ o. nat_eq (bit_at (unwrap_or o 0) (bit_place i c)) 1) (u.2 (i / 8, c / 8) (other_word i c ne))
 
-  -- marking an item, from what was done with its row
-  module _ (rows : List (HashMap ℕ ℕ S)) (todo : List Item) (x : Item) (v k : HashMap ℕ ℕ S) (c : ℕ) (b : Bool) (inside : IsInside (length rows) x) (is : v ≡ get_or rows x.left v) (at_column : c ≡ column x)
-      (before : b ≡ is_marked v c) (here : is_marked k c ≡ true) (others : (i : ℕ) → i ≢ c → is_marked k i ≡ is_marked v i) where
-    abbrev pub old : List (List Bool)
-    old = map (λ r. row_of (length rows) r) rows
+    beside : (i c : ℕ) → (i ≢ x.left) ⊎ (c ≢ column x) → i / 8 ≡ x.left / 8 → c / 8 ≡ column x / 8 → is_marked k i c ≡ is_marked m i c
+    beside i c ne e f =
+        let ne' : bit_place i c ≢ b = λ q. other_cell i x.left c (column x) ne e f (q ∙ at_bit) in
+        let new : word_at k (i / 8) (c / 8) ≡ bit_or w (1 * 2 ^ b % 2 ^ 64) = ap (λ j. word_at k j (c / 8)) e ∙ ap (λ j. word_at k (x.left / 8) j) f ∙ new_word in
+        let old : word_at m (i / 8) (c / 8) ≡ w = ap (λ j. word_at m j (c / 8)) e ∙ ap (λ j. word_at m (x.left / 8) j) f ∙ was in
+        ap (λ n. nat_eq (bit_at n (bit_place i c)) 1) new ∙ ap (λ n. nat_eq n 1) (bit_at_set_other w64 w b small (bit_place i c) ne') ∙ ap (λ n. nat_eq (bit_at n (bit_place i c)) 1) (sym old)
 
-    abbrev pub new : List (List Bool)
-    new = map (λ r. row_of (length (set rows x.left k)) r) (set rows x.left k)
+    pub bit_others : (i c : ℕ) → (i ≢ x.left) ⊎ (c ≢ column x) → is_marked k i c ≡ is_marked m i c
+    bit_others i c ne = elim (cases_eq (i / 8) (x.left / 8)) [
+      | inr a ↦ unchanged i c (inl a)
+      | inl e ↦ elim (cases_eq (c / 8) (column x / 8)) [
+        | inr a ↦ unchanged i c (inr a)
+        | inl f ↦ beside i c ne e f
+      ]
+    ]
 
-    saw : new ≡ see old x
-    saw = see_in rows x v k inside.0 is (first_marked (2 * length rows) (is_marked v) (is_marked k) (column x) (column_inside (length rows) x inside) (subst (λ i. is_marked k i ≡ true) at_column here) (λ i ne. others i (λ e. ne (e ∙ at_column))))
+  -- no marks
+  pub nothing_in : (n : ℕ) (m : Words S) → m.entries ≡ [] → rows_in n m ≡ replicate n (replicate (2 * n) false)
+  nothing_in n m e = first_all n (λ i. first_of (2 * n) (is_marked m i)) (replicate (2 * n) false) (λ i. first_all (2 * n) (is_marked m i) false (λ c.
+      let l : ◌≡◌ {A = Option ℕ} (hash.get same_word m (i / 8, c / 8)) None = ap (λ (es : List ((ℕ × ℕ) × ℕ)). lookup (same_word (i / 8, c / 8)) es) e in
+      ap (λ o. nat_eq (bit_at (unwrap_or o 0) (bit_place i c)) 1) l ∙ ap (λ b. nat_eq b 1) (bit_at-zero (bit_place i c))))
 
-    was : is_seen old x ≡ b
-    was = seen_at (length rows) rows x v inside inside.0 is ∙ ap (λ i. is_marked v i) (sym at_column) ∙ sym before
+  -- marking an item, from what was done with its word
+  module _ (n : ℕ) (todo : List Item) (x : Item) (m k : Words S) (b : Bool) (inside : IsInside n x)
+      (before : b ≡ is_marked m x.left (column x)) (here : is_marked k x.left (column x) ≡ true) (others : (i c : ℕ) → (i ≢ x.left) ⊎ (c ≢ column x) → is_marked k i c ≡ is_marked m i c) where
+    saw : rows_in n k ≡ see (rows_in n m) x
+    saw =
+        let row : get_or (rows_in n m) x.left [] ≡ first_of (2 * n) (is_marked m x.left) = first_at n (λ i. first_of (2 * n) (is_marked m i)) x.left [] inside.0 in
+        let more = first_set (2 * n) (is_marked m x.left) (is_marked k x.left) (column x) true (column_inside n x inside) here (λ c ne. others x.left c (inr ne)) in
+        first_set n (λ i. first_of (2 * n) (is_marked m i)) (λ i. first_of (2 * n) (is_marked k i)) x.left _ inside.0 (more ∙ ap (λ r. set r (column x) true) (sym row))
+        (λ i ne. first_same (2 * n) (is_marked k i) (is_marked m i) (λ c. others i c (inl ne)))
+
+    known : is_seen (rows_in n m) x ≡ b
+    known =
+        ap (λ r. get_or r (column x) false) (first_at n (λ i. first_of (2 * n) (is_marked m i)) x.left [] inside.0)
+        ∙ first_at (2 * n) (is_marked m x.left) (column x) false (column_inside n x inside) ∙ sym before
 
     -- it is new
-    pub marked_new : b ≡ false → ◌≡◌ {A = List (List Bool) × List Item} (new, todo ++ x ∷ []) (mark x (old, todo))
-    marked_new f = rw (was ∙ f, saw) refl
+    pub marked_new : b ≡ false → ◌≡◌ {A = List (List Bool) × List Item} (rows_in n k, todo ++ x ∷ []) (mark x (rows_in n m, todo))
+    marked_new f = rw (known ∙ f, saw) refl
 
     -- it was seen before
-    pub marked_again : b ≡ true → ◌≡◌ {A = List (List Bool) × List Item} (new, todo) (mark x (old, todo))
-    marked_again t = ap (λ r. (r, todo)) (saw ∙ see_again old x (was ∙ t)) ∙ rw (was ∙ t) refl
+    pub marked_again : b ≡ true → ◌≡◌ {A = List (List Bool) × List Item} (rows_in n k, todo) (mark x (rows_in n m, todo))
+    marked_again t = ap (λ r. (r, todo)) (saw ∙ see_again (rows_in n m) x (known ∙ t)) ∙ rw (known ∙ t) refl
+
+  -- there are as many rows as groups, each with two columns for each
+  pub rows_square : (n : ℕ) (m : Words S) → IsSquare n (rows_in n m)
+  rows_square n m = record {
+    rows_are = first_length n (λ i. first_of (2 * n) (is_marked m i));
+    row_is = λ i lt. ap length (first_at n (λ j. first_of (2 * n) (is_marked m j)) i [] lt) ∙ first_length (2 * n) (is_marked m i);
+  }
 
 abbrev pub no_item : Item
 no_item = record { left = 0; right = 0; mode = Merge }

@@ -1,6 +1,6 @@
 -- Helper definitions for private contracts: the items that were seen. There is a row for each left
 -- group, with two columns for each right group.
-use Rattle.std.specs.Prelude.{◌≡◌, ◌<◌, ◌+◌, ◌*◌, ◌/◌, ◌%◌, ◌++◌, ◌∷◌, [], ℕ, zero, suc, List, Bool, true, false, cond, length, nat_eq, slice_index_or, slice_set, map}
+use Rattle.std.specs.Prelude.{◌≡◌, ◌<◌, ◌+◌, ◌*◌, ◌/◌, ◌%◌, ◌&&◌, ◌++◌, ◌∷◌, [], ℕ, zero, suc, List, Bool, true, false, cond, length, nat_eq, slice_index_or, slice_set}
 use Rattle.std.specs.Option.{unwrap_or}
 use Rattle.std.specs.Int.{bit_at}
 use Rattle.std.specs.HashMap as hash
@@ -37,25 +37,38 @@ abbrev pub IsInside : ℕ → Item → Type 0
 IsInside count x = (x.left < count) × (x.right < count)
 
 -- the first values of a function, as a list
-abbrev pub first_of : ℕ → (ℕ → Bool) → List Bool
+abbrev pub first_of : {A : Type 0} → ℕ → (ℕ → A) → List A
 first_of zero f = []
 first_of (suc n) f = f 0 ∷ first_of n (λ i. f (suc i))
 
--- the word of a row that has the marks of the 64 columns from `64 * i` on
-abbrev pub word_at : {S : Type 0} → HashMap ℕ ℕ S → ℕ → ℕ
-word_at words i = unwrap_or (hash.get nat_eq words i) 0
+-- whether two words are one
+abbrev pub same_word : ℕ × ℕ → ℕ × ℕ → Bool
+same_word x y = nat_eq x.0 y.0 && nat_eq x.1 y.1
 
--- whether a column is marked: its bit in its word is 1
-abbrev pub is_marked : {S : Type 0} → HashMap ℕ ℕ S → ℕ → Bool
-is_marked words i = nat_eq (bit_at (word_at words (i / 64)) (i % 64)) 1
+-- the words of the code, by eight rows and eight columns
+abbrev pub Words : Type 0 → Type 0
+Words S = HashMap (ℕ × ℕ) ℕ S
 
--- a row of the code, as the list of its marks
-abbrev pub row_of : {S : Type 0} → ℕ → HashMap ℕ ℕ S → List Bool
-row_of count words = first_of (2 * count) (is_marked words)
+-- the word that has the marks of eight rows, from row `8 * i` on, in eight columns, from column
+-- `8 * j` on
+abbrev pub word_at : {S : Type 0} → Words S → ℕ → ℕ → ℕ
+word_at words i j = unwrap_or (hash.get same_word words (i, j)) 0
+
+-- the bit of a row and a column in their word
+abbrev pub bit_place : ℕ → ℕ → ℕ
+bit_place i c = i % 8 * 8 + c % 8
+
+-- whether the column of the row is marked
+abbrev pub is_marked : {S : Type 0} → Words S → ℕ → ℕ → Bool
+is_marked words i c = nat_eq (bit_at (word_at words (i / 8) (c / 8)) (bit_place i c)) 1
+
+-- the marks of the first rows, two columns for each
+abbrev pub rows_in : {S : Type 0} → ℕ → Words S → List (List Bool)
+rows_in count words = first_of count (λ i. first_of (2 * count) (is_marked words i))
 
 -- the rows of the code, as lists of marks
 abbrev pub rows_of : Seen → List (List Bool)
-rows_of seen = map (row_of (length seen.rows.items)) seen.rows.items
+rows_of seen = rows_in seen.count seen.words
 
 -- marks an item: if it is new, it is now seen, and is added to the items to visit
 abbrev pub mark : Item → List (List Bool) × List Item → List (List Bool) × List Item

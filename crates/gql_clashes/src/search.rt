@@ -4,7 +4,7 @@ ghost use Rattle.gql_clashes.specs.Clashes.{SeedsBetween, SeedsOf};
 ghost use Rattle.gql_clashes.specs.Compared.{IsTable, plan_of};
 ghost use Rattle.gql_clashes.specs.Numbered.{IsClashPair, IsWhole, Lists, nodes_of};
 ghost use Rattle.gql_clashes.specs.Search.{Explores, Searches, start_at};
-ghost use Rattle.gql_clashes.specs.Seen.{IsInside, IsSquare, is_seen, rows_of};
+ghost use Rattle.gql_clashes.specs.Seen.{IsInside, is_seen, rows_of};
 ghost use Rattle.gql_clashes.specs.declared.search.Item as item;
 
 use crate::asked::{ask_all, asked_by};
@@ -34,8 +34,7 @@ fn run(
 ) -> Result<(), AllocError>
     requires whole { IsWhole sets.now }
     requires table { IsTable sets.now table.now }
-    requires size { length seen.old.rows.items ≡ length table.now.bodies.items }
-    requires square { IsSquare (length table.now.bodies.items) (rows_of seen.old) }
+    requires size { seen.old.count ≡ length table.now.bodies.items }
     requires waits { (x : item.Item) → Contains todo.old.items x
         → is_seen (rows_of seen.old) x ≡ true }
     requires all { (x : item.Item) → is_seen (rows_of seen.old) x ≡ true
@@ -68,7 +67,7 @@ fn search_from(
     ensures { OnOk result ((rows : List (List Bool)) × Explores sets.now (plan_of table.now)
         items.now bad.old.items rows bad.new.items) }
 {
-    let mut seen = nothing_seen(alloc, table.bodies.len())?;
+    let mut seen = nothing_seen(alloc, table.bodies.len());
     let mut todo = Vec::new(alloc);
     mark(items, &mut seen, &mut todo)?;
     run(alloc, sets, table, &mut seen, &mut todo, bad)?;

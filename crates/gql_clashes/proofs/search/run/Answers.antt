@@ -1,15 +1,16 @@
-use Rattle.std.proofs.Common.{◌≡◌, length, ◌∙◌, arith}
+use Rattle.std.proofs.Common.{◌≡◌, length, subst, ◌∙◌, arith}
 use Rattle.gql_clashes.specs.Compared.{plan_of}
-use Rattle.gql_clashes.specs.Seen.{row_of, rows_of}
+use Rattle.gql_clashes.specs.Seen.{IsSquare, rows_of}
 use Rattle.gql_clashes.proofs.Reading.{asked_inside, classes_inside}
 use Rattle.gql_clashes.proofs.Looking.{found_by}
-use Rattle.gql_clashes.proofs.Searching.{searches_first, searches_by, less_by, popped_inside, items_inside_by, marked_size, ended}
+use Rattle.gql_clashes.proofs.Searching.{searches_first, searches_by, less_by, popped_inside, items_inside_by, ended}
+use Rattle.gql_clashes.proofs.Seeing.{rows_square}
 use Rattle.gql_clashes.proofs.search.run.Goals as goal
 
 pub loop-item-init : goal.loop-item-init
 loop-item-init c = record {
   size = c.requires.size;
-  square = c.requires.square;
+  square = subst (λ n. IsSquare n (rows_of c.args.seen.now)) c.requires.size (rows_square c.args.seen.now.count c.args.seen.now.words);
   searches = searches_first c.args.sets.now c.requires.whole (length c.args.table.now.bodies.items) (plan_of c.args.table.now) c.requires.table.planned (rows_of c.args.seen.now) c.args.todo.now.items c.args.bad.now.items c.requires.waits c.requires.all;
 }
 
@@ -31,8 +32,8 @@ asked_by-requires-clause-left c = (popped_inside c.args.sets.now c.requires.whol
 pub asked_by-requires-clause-right : goal.asked_by-requires-clause-right
 asked_by-requires-clause-right c = (popped_inside c.args.sets.now c.requires.whole (length c.args.table.now.bodies.items) (plan_of c.args.table.now) c.requires.table.planned _ _ _ _ _ _ c.in-Some.item c.loop-item.invariant.square c.loop-item.invariant.searches c.in-Some.ensures.items).1
 
-pub mark-requires-clause-inside : goal.mark-requires-clause-inside
-mark-requires-clause-inside c = λ y h. items_inside_by c.args.sets.now c.requires.whole (length c.args.table.now.bodies.items) (plan_of c.args.table.now) c.requires.table.planned _ c.deref.result.now c.in-Some.item y
+pub mark-requires : goal.mark-requires
+mark-requires c = λ y h. items_inside_by c.args.sets.now c.requires.whole (length c.args.table.now.bodies.items) (plan_of c.args.table.now) c.requires.table.planned _ c.deref.result.now c.in-Some.item y
     (popped_inside c.args.sets.now c.requires.whole (length c.args.table.now.bodies.items) (plan_of c.args.table.now) c.requires.table.planned _ _ _ _ _ _ c.in-Some.item c.loop-item.invariant.square c.loop-item.invariant.searches c.in-Some.ensures.items) (c.deref.ensures.value ∙ c.in_ok-items.ensures) c.loop-item.invariant.size h
 
 pub loop-item-smaller : goal.loop-item-smaller
@@ -45,7 +46,7 @@ loop-item-preserved c =
     let r = searches_by c.args.sets.now c.requires.whole (length c.args.table.now.bodies.items) (plan_of c.args.table.now) c.requires.table.planned (rows_of c.args.seen.now) (rows_of c.loop-item.seen) (rows_of c.mark.new.seen) c.args.bad.now.items c.loop-item.bad.items c.find_all.new.bad.items _ _ c.mark.new.todo.items c.deref.result.now c.in-Some.item c.loop-item.invariant.square
     (λ y h. asked_inside c.args.sets.now c.requires.whole (length c.args.table.now.bodies.items) (plan_of c.args.table.now) c.requires.table.planned c.in-Some.item y (popped_inside c.args.sets.now c.requires.whole (length c.args.table.now.bodies.items) (plan_of c.args.table.now) c.requires.table.planned _ _ _ _ _ _ c.in-Some.item c.loop-item.invariant.square c.loop-item.invariant.searches c.in-Some.ensures.items) h)
     c.loop-item.invariant.searches c.in-Some.ensures.items (c.deref.ensures.value ∙ c.in_ok-items.ensures) (found_by c.args.sets.now (plan_of c.args.table.now) c.in-Some.item _ _ _ _ c.classes_at-lefts.ensures c.classes_at-rights.ensures c.in_ok-find_all.ensures) c.in_ok-mark.ensures.seen c.in_ok-mark.ensures.todo in
-    record { size = marked_size (row_of (length c.mark.new.seen.rows.items)) _ c.mark.new.seen.rows.items r.1; square = r.1; searches = r.0 }
+    record { size = c.mark.ensures.count ∙ c.loop-item.invariant.size; square = r.1; searches = r.0 }
 
 pub returns : goal.returns
 returns c =
