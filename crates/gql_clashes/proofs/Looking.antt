@@ -10,12 +10,12 @@ use Rattle.gql_clashes.specs.declared.search.Item.{Item}
 use Rattle.gql_clashes.specs.declared.sets.Sets.{Sets}
 use Rattle.gql_clashes.specs.Compared.{Plan, asked_at, bad_among, fields_in, found_at, items_among, lefts_of, rights_of}
 
-joined : {A : Type 0} (i j k l a b c : List A) → i ≡ [] → j ≡ i ++ a → k ≡ j ++ b → l ≡ k ++ c → l ≡ a ++ b ++ c
-joined i j k l a b c e f g h = rw (h, g, f, e) refl
+joined : {A : Type 0} (i j k l a b c : List A) → j ≡ i ++ a → k ≡ j ++ b → l ≡ k ++ c → l ≡ i ++ (a ++ b ++ c)
+joined i j k l a b c f g h = rw (h, g, f) (ap (λ z. z ++ c) (append_assoc i a b) ∙ append_assoc i (a ++ b) c)
 
 pub asked_by : (w : Sets) (p : Plan) (x : Item) (i j l n : List Item) (cs ds : List Class) (ls rs : List ℕ) → cs ≡ p.classes x.left → ds ≡ p.classes x.right → ls ≡ p.bodies x.left → rs ≡ p.bodies x.right
-    → i ≡ [] → j ≡ i ++ items_among w x.mode cs ds → l ≡ j ++ flat_map (lefts_of w x) ls → n ≡ l ++ flat_map (rights_of w x) rs → n ≡ asked_at w p x
-asked_by w p x i j l n cs ds ls rs ec ed el er e f g h = joined i j l n _ _ _ e (rw (ec, ed) at f) (rw el at g) (rw er at h)
+    → j ≡ i ++ items_among w x.mode cs ds → l ≡ j ++ flat_map (lefts_of w x) ls → n ≡ l ++ flat_map (rights_of w x) rs → n ≡ i ++ asked_at w p x
+asked_by w p x i j l n cs ds ls rs ec ed el er f g h = joined i j l n _ _ _ (rw (ec, ed) at f) (rw el at g) (rw er at h)
 
 pub found_by : (w : Sets) (p : Plan) (x : Item) (old new : List Pair) (cs ds : List Class) → cs ≡ p.classes x.left → ds ≡ p.classes x.right → new ≡ old ++ bad_among w x.mode cs ds → new ≡ old ++ found_at w p x
 found_by w p x old new cs ds ec ed e = rw (ec, ed) at e

@@ -1,5 +1,5 @@
 //! The items that two classes, two lists of classes, or an item ask for.
-ghost use Rattle.std.specs.Prelude.{◌≡◌, ◌<◌, ◌++◌, ℕ, map, flat_map, length, IfOk, OnOk, Contains};
+ghost use Rattle.std.specs.Prelude.{◌≡◌, ◌<◌, ◌++◌, ℕ, map, flat_map, length, OnOk, Contains};
 ghost use Rattle.gql_clashes.specs.Compared.{IsTable, asked_at, between, fields_in, item_of, items_among, items_below, items_of, lefts_of, other_in, plan_of, rights_of, selves, two_in};
 ghost use Rattle.gql_clashes.specs.Numbered.{IsWhole};
 ghost use Rattle.gql_clashes.specs.declared.groups.Class.{Class as AClass};
@@ -8,7 +8,7 @@ use crate::compare::{are_bad, are_one, field_of, mode_under, share_name, spreads
 use crate::groups::{Class, Table, bodies_at, classes_at};
 use crate::search::Item;
 use crate::sets::{Mode, Sets};
-use std::alloc::{AllocError, Global};
+use std::alloc::AllocError;
 
 // The item of two groups, the lesser number first.
 fn in_order(left: usize, right: usize, mode: Mode) -> Item
@@ -233,25 +233,24 @@ fn add_spread_rights(
     Ok(())
 }
 
-/// The items that an item asks for.
-pub fn asked_by(
-    alloc: Global,
+/// Adds the items that an item asks for.
+pub fn add_asked(
     sets: &Sets,
     table: &Table,
     item: Item,
-) -> Result<Vec<Item>, AllocError>
+    items: &mut Vec<Item>,
+) -> Result<(), AllocError>
     requires whole { IsWhole sets.now }
     requires table { IsTable sets.now table.now }
     requires left { item.left < length table.now.bodies.items }
     requires right { item.right < length table.now.bodies.items }
-    ensures { IfOk result
-        (λ items. items.items ≡ asked_at sets.now (plan_of table.now) item) }
+    ensures { OnOk result
+        (items.new.items ≡ items.old.items ++ asked_at sets.now (plan_of table.now) item) }
 {
-    let mut items = Vec::new(alloc);
     let lefts = classes_at(table, item.left);
     let rights = classes_at(table, item.right);
-    ask_all(sets, item.mode, lefts, rights, &mut items)?;
-    add_spread_lefts(sets, item, bodies_at(table, item.left), &mut items)?;
-    add_spread_rights(sets, item, bodies_at(table, item.right), &mut items)?;
-    Ok(items)
+    ask_all(sets, item.mode, lefts, rights, items)?;
+    add_spread_lefts(sets, item, bodies_at(table, item.left), items)?;
+    add_spread_rights(sets, item, bodies_at(table, item.right), items)?;
+    Ok(())
 }

@@ -7,7 +7,7 @@ ghost use Rattle.gql_clashes.specs.Search.{Explores, Searches, start_at};
 ghost use Rattle.gql_clashes.specs.Seen.{IsInside, is_seen, rows_of};
 ghost use Rattle.gql_clashes.specs.declared.search.Item as item;
 
-use crate::asked::{ask_all, asked_by};
+use crate::asked::{add_asked, ask_all};
 use crate::found::find_all;
 use crate::groups::{Table, classes_at, table_of};
 use crate::seen::{Seen, mark, nothing_seen};
@@ -42,11 +42,13 @@ fn run(
     ensures { OnOk result (Searches sets.now (plan_of table.now) (rows_of seen.old)
         bad.old.items (rows_of seen.new) [] bad.new.items) }
 {
+    let mut items = Vec::new(alloc);
     while let Some(item) = todo.pop() {
         let lefts = classes_at(table, item.left);
         let rights = classes_at(table, item.right);
         find_all(sets, item.mode, lefts, rights, bad)?;
-        let items = asked_by(alloc, sets, table, item)?;
+        items.clear();
+        add_asked(sets, table, item, &mut items)?;
         mark(&items, seen, todo)?;
     }
     Ok(())
