@@ -311,10 +311,6 @@ popped_inside z w count k known rows0 rows bad0 bad todo rest x q s e = seen_ins
 pub items_inside_by : (z : Sets) (w : IsWhole z) (count : ℕ) (k : Plan) (known : IsPlanned z count k) (n : ℕ) (items : List Item) (x y : Item) → IsInside count x → items ≡ asked_at z k x → n ≡ count → Contains items y → IsInside n y
 items_inside_by z w count k known n items x y i e s c = rw s (asked_inside z w count k known x y i (subst (λ a. Contains a y) e c))
 
--- what is added to no items
-pub asked_list : (items old new asked : List Item) → items ≡ new → old ≡ [] → new ≡ old ++ asked → items ≡ asked
-asked_list items old new asked e f g = rw (e, g, f) refl
-
 pub starts_inside : (n : ℕ) (bodies : List ℕ) (items : List Item) (x : Item) → ((s : ℕ) → Contains bodies s → s < n) → items ≡ map start_at bodies → Contains items x → IsInside n x
 starts_inside n bodies items x h e c = let r = Contains-map_from start_at bodies x (subst (λ y. Contains y x) e c) in rw (← r.2) (h r.0 r.1, h r.0 r.1)
 

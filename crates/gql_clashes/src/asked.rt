@@ -1,11 +1,9 @@
-//! The items that two classes, two lists of classes, or an item ask for.
+//! The items that two classes ask for, and those that an item asks for by spreads.
 ghost use Rattle.std.specs.Prelude.{◌≡◌, ◌<◌, ◌++◌, ℕ, map, flat_map, length, OnOk, Contains};
-ghost use Rattle.gql_clashes.specs.Compared.{IsTable, asked_at, between, fields_in, item_of, items_among, items_below, items_of, lefts_of, other_in, plan_of, rights_of, selves, two_in};
-ghost use Rattle.gql_clashes.specs.Numbered.{IsWhole};
-ghost use Rattle.gql_clashes.specs.declared.groups.Class.{Class as AClass};
+ghost use Rattle.gql_clashes.specs.Compared.{IsTable, between, fields_in, item_of, items_below, lefts_of, other_in, plan_of, rights_of, selves, two_in};
 
-use crate::compare::{are_bad, are_one, field_of, mode_under, share_name, spreads_of};
-use crate::groups::{Class, Table, bodies_at, classes_at};
+use crate::compare::{are_one, field_of, spreads_of};
+use crate::groups::{Class, Table, bodies_at};
 use crate::search::Item;
 use crate::sets::{Mode, Sets};
 use std::alloc::AllocError;
@@ -60,8 +58,8 @@ fn add_selves(
     Ok(())
 }
 
-// Adds the items that two classes ask for, whose fields below are compared in this mode.
-fn add_below(
+/// Adds the items that two classes ask for, whose fields below are compared in this mode.
+pub fn add_below(
     sets: &Sets,
     mode: Mode,
     left: &Class,
@@ -94,8 +92,8 @@ fn has_other(sets: &Sets, left: usize, rights: &[usize]) -> bool
     false
 }
 
-// Whether a field of one class differs from one of the other.
-fn have_two(sets: &Sets, lefts: &[usize], rights: &[usize]) -> bool
+/// Whether a field of one class differs from one of the other.
+pub fn have_two(sets: &Sets, lefts: &[usize], rights: &[usize]) -> bool
     requires lefts { (f : ℕ) → Contains lefts.now f → f < length sets.now.fields.items }
     requires rights { (g : ℕ) → Contains rights.now g → g < length sets.now.fields.items }
     ensures { result ≡ two_in sets.now lefts.now rights.now }
@@ -106,75 +104,6 @@ fn have_two(sets: &Sets, lefts: &[usize], rights: &[usize]) -> bool
         }
     }
     false
-}
-
-// Adds the items that two classes ask for, by their first fields.
-fn ask(
-    sets: &Sets,
-    mode: Mode,
-    left: &Class,
-    right: &Class,
-    items: &mut Vec<Item>,
-) -> Result<(), AllocError>
-    requires left { (f : ℕ) → Contains (fields_in left.now) f → f < length sets.now.fields.items }
-    requires right { (g : ℕ) → Contains (fields_in right.now) g
-        → g < length sets.now.fields.items }
-    ensures { OnOk result
-        (items.new.items ≡ items.old.items ++ items_of sets.now mode left.now right.now) }
-{
-    let lefts = left.fields.as_slice();
-    let rights = right.fields.as_slice();
-    if !lefts.is_empty()
-        && !rights.is_empty()
-        && share_name(sets, lefts[0], rights[0])
-        && !are_bad(sets, mode, lefts[0], rights[0])
-        && have_two(sets, lefts, rights)
-    {
-        let under = mode_under(sets, mode, lefts[0], rights[0]);
-        add_below(sets, under, left, right, items)?;
-    }
-    Ok(())
-}
-
-// Adds the items that a class and each of some ask for.
-fn ask_with(
-    sets: &Sets,
-    mode: Mode,
-    left: &Class,
-    classes: &[Class],
-    items: &mut Vec<Item>,
-) -> Result<(), AllocError>
-    requires left { (f : ℕ) → Contains (fields_in left.now) f → f < length sets.now.fields.items }
-    requires classes { (c : AClass) (g : ℕ) → Contains classes.now c
-        → Contains (fields_in c) g → g < length sets.now.fields.items }
-    ensures { OnOk result (items.new.items ≡ items.old.items
-        ++ flat_map (items_of sets.now mode left.now) classes.now) }
-{
-    for right in classes {
-        ask(sets, mode, left, right, items)?;
-    }
-    Ok(())
-}
-
-/// Adds the items that each class of some and each of others ask for.
-pub fn ask_all(
-    sets: &Sets,
-    mode: Mode,
-    lefts: &[Class],
-    rights: &[Class],
-    items: &mut Vec<Item>,
-) -> Result<(), AllocError>
-    requires lefts { (c : AClass) (f : ℕ) → Contains lefts.now c
-        → Contains (fields_in c) f → f < length sets.now.fields.items }
-    requires rights { (c : AClass) (g : ℕ) → Contains rights.now c
-        → Contains (fields_in c) g → g < length sets.now.fields.items }
-    ensures { OnOk result (items.new.items ≡ items.old.items
-        ++ items_among sets.now mode lefts.now rights.now) }
-{
-    for class in lefts {
-        ask_with(sets, mode, class, rights, items)?;
-    }
-    Ok(())
 }
 
 // Adds an item for each of some bodies in place of its left group.
@@ -233,23 +162,20 @@ fn add_spread_rights(
     Ok(())
 }
 
-/// Adds the items that an item asks for.
-pub fn add_asked(
+/// Adds the items that an item asks for by the bodies that its groups spread.
+pub fn add_spreads(
     sets: &Sets,
     table: &Table,
     item: Item,
     items: &mut Vec<Item>,
 ) -> Result<(), AllocError>
-    requires whole { IsWhole sets.now }
     requires table { IsTable sets.now table.now }
     requires left { item.left < length table.now.bodies.items }
     requires right { item.right < length table.now.bodies.items }
-    ensures { OnOk result
-        (items.new.items ≡ items.old.items ++ asked_at sets.now (plan_of table.now) item) }
+    ensures { OnOk result (items.new.items ≡ items.old.items
+        ++ flat_map (lefts_of sets.now item) ((plan_of table.now).bodies item.left)
+        ++ flat_map (rights_of sets.now item) ((plan_of table.now).bodies item.right)) }
 {
-    let lefts = classes_at(table, item.left);
-    let rights = classes_at(table, item.right);
-    ask_all(sets, item.mode, lefts, rights, items)?;
     add_spread_lefts(sets, item, bodies_at(table, item.left), items)?;
     add_spread_rights(sets, item, bodies_at(table, item.right), items)?;
     Ok(())

@@ -7,11 +7,11 @@ ghost use Rattle.gql_clashes.specs.Search.{Explores, Searches, start_at};
 ghost use Rattle.gql_clashes.specs.Seen.{IsInside, is_seen, rows_of};
 ghost use Rattle.gql_clashes.specs.declared.search.Item as item;
 
-use crate::asked::{add_asked, ask_all};
-use crate::found::find_all;
+use crate::asked::add_spreads;
 use crate::groups::{Table, classes_at, table_of};
 use crate::seen::{Seen, mark, nothing_seen};
 use crate::sets::{Mode, Pair, Sets};
+use crate::visit::visit_all;
 use std::alloc::{AllocError, Global};
 
 /// Two groups of bodies in their order, and how the fields of one are compared with those of the
@@ -46,9 +46,9 @@ fn run(
     while let Some(item) = todo.pop() {
         let lefts = classes_at(table, item.left);
         let rights = classes_at(table, item.right);
-        find_all(sets, item.mode, lefts, rights, bad)?;
         items.clear();
-        add_asked(sets, table, item, &mut items)?;
+        visit_all(sets, item.mode, lefts, rights, bad, &mut items)?;
+        add_spreads(sets, table, item, &mut items)?;
         mark(&items, seen, todo)?;
     }
     Ok(())
@@ -124,8 +124,7 @@ pub fn clashes_between(
     let mut items = Vec::new(alloc);
     let lefts = classes_at(&table, left);
     let rights = classes_at(&table, right);
-    find_all(sets, Mode::Merge, lefts, rights, &mut bad)?;
-    ask_all(sets, Mode::Merge, lefts, rights, &mut items)?;
+    visit_all(sets, Mode::Merge, lefts, rights, &mut bad, &mut items)?;
     search_from(alloc, sets, &table, &items, &mut bad)?;
     Ok(bad)
 }
