@@ -2,7 +2,6 @@
 use Rattle.std.proofs.Common.{◌&&◌, ◌≡◌, ◌≢◌, ℕ, ◌<◌, ◌≤◌, inl, inr, List, [], ◌∷◌, ◌++◌, Bool, true, false, nat_eq, nat_lt, cond, map, length, replicate, ap, sym, subst, ◌∙◌, refl, arith, length-append, Contains, ◌*◌}
 use Rattle.std.proofs.lemmas.Bool.{cases_lt}
 use Rattle.std.proofs.lemmas.Bool.Decides.{Decides-eqb, Decides-ltb}
-use Rattle.std.proofs.lemmas.List.{length-map, length-replicate}
 use Rattle.std.proofs.lemmas.List.Elements.{Contains-push, Contains-push_cases, Contains-append_left, Contains-append_right, Contains-append_cases}
 use Rattle.gql_clashes.specs.declared.sets.Mode.{Mode}
 use Rattle.gql_clashes.specs.declared.sets.Mode.TheVariants.{Merge}
@@ -312,9 +311,6 @@ popped_inside z w count k known rows0 rows bad0 bad todo rest x q s e = seen_ins
 pub items_inside_by : (z : Sets) (w : IsWhole z) (count : ℕ) (k : Plan) (known : IsPlanned z count k) (n : ℕ) (items : List Item) (x y : Item) → IsInside count x → items ≡ asked_at z k x → n ≡ count → Contains items y → IsInside n y
 items_inside_by z w count k known n items x y i e s c = rw s (asked_inside z w count k known x y i (subst (λ a. Contains a y) e c))
 
-pub marked_size : {V : Type 0} (f : V → List Bool) (count : ℕ) (rows : List V) → IsSquare count (map f rows) → length rows ≡ count
-marked_size f count rows q = omega (arith, q.rows_are, length-map rows f)
-
 pub starts_inside : (n : ℕ) (bodies : List ℕ) (items : List Item) (x : Item) → ((s : ℕ) → Contains bodies s → s < n) → items ≡ map start_at bodies → Contains items x → IsInside n x
 starts_inside n bodies items x h e c = let r = Contains-map_from start_at bodies x (subst (λ y. Contains y x) e c) in rw (← r.2) (h r.0 r.1, h r.0 r.1)
 
@@ -324,8 +320,3 @@ ended z w count k known rows0 rows bad0 bad (x ∷ xs) e s = absurd (omega (arit
 
 pub nothing_by : (n count : ℕ) (rows : List (List Bool)) → rows ≡ replicate n (replicate (2 * n) false) → n ≡ count → rows ≡ replicate count (replicate (2 * count) false)
 nothing_by n count rows e h = rw (← h) e
-
-pub nothing_inside : {V : Type 0} (f : V → List Bool) (count : ℕ) (rows : List V) (x : Item) → map f rows ≡ replicate count (replicate (2 * count) false) → IsInside count x → IsInside (length rows) x
-nothing_inside f count rows x e i =
-    let l : length rows ≡ count = sym (length-map rows f) ∙ ap length e ∙ length-replicate count (replicate (2 * count) false) in
-    (omega (arith, l, i.0), omega (arith, l, i.1))

@@ -1,14 +1,12 @@
-//! The items that two classes, two lists of classes, or an item ask for.
-ghost use Rattle.std.specs.Prelude.{◌≡◌, ◌<◌, ◌++◌, ℕ, map, flat_map, length, IfOk, OnOk, Contains};
-ghost use Rattle.gql_clashes.specs.Compared.{IsTable, asked_at, between, fields_in, item_of, items_among, items_below, items_of, lefts_of, other_in, plan_of, rights_of, selves, two_in};
-ghost use Rattle.gql_clashes.specs.Numbered.{IsWhole};
-ghost use Rattle.gql_clashes.specs.declared.groups.Class.{Class as AClass};
+//! The items that two classes ask for, and those that an item asks for by spreads.
+ghost use Rattle.std.specs.Prelude.{◌≡◌, ◌<◌, ◌++◌, ℕ, map, flat_map, length, OnOk, Contains};
+ghost use Rattle.gql_clashes.specs.Compared.{IsTable, between, fields_in, item_of, items_below, lefts_of, other_in, plan_of, rights_of, selves, two_in};
 
-use crate::compare::{are_bad, are_one, field_of, mode_under, share_name, spreads_of};
-use crate::groups::{Class, Table, bodies_at, classes_at};
+use crate::compare::{are_one, field_of, spreads_of};
+use crate::groups::{Class, Table, bodies_at};
 use crate::search::Item;
 use crate::sets::{Mode, Sets};
-use std::alloc::{AllocError, Global};
+use std::alloc::AllocError;
 
 // The item of two groups, the lesser number first.
 fn in_order(left: usize, right: usize, mode: Mode) -> Item
@@ -60,8 +58,8 @@ fn add_selves(
     Ok(())
 }
 
-// Adds the items that two classes ask for, whose fields below are compared in this mode.
-fn add_below(
+/// Adds the items that two classes ask for, whose fields below are compared in this mode.
+pub fn add_below(
     sets: &Sets,
     mode: Mode,
     left: &Class,
@@ -94,8 +92,8 @@ fn has_other(sets: &Sets, left: usize, rights: &[usize]) -> bool
     false
 }
 
-// Whether a field of one class differs from one of the other.
-fn have_two(sets: &Sets, lefts: &[usize], rights: &[usize]) -> bool
+/// Whether a field of one class differs from one of the other.
+pub fn have_two(sets: &Sets, lefts: &[usize], rights: &[usize]) -> bool
     requires lefts { (f : ℕ) → Contains lefts.now f → f < length sets.now.fields.items }
     requires rights { (g : ℕ) → Contains rights.now g → g < length sets.now.fields.items }
     ensures { result ≡ two_in sets.now lefts.now rights.now }
@@ -106,75 +104,6 @@ fn have_two(sets: &Sets, lefts: &[usize], rights: &[usize]) -> bool
         }
     }
     false
-}
-
-// Adds the items that two classes ask for, by their first fields.
-fn ask(
-    sets: &Sets,
-    mode: Mode,
-    left: &Class,
-    right: &Class,
-    items: &mut Vec<Item>,
-) -> Result<(), AllocError>
-    requires left { (f : ℕ) → Contains (fields_in left.now) f → f < length sets.now.fields.items }
-    requires right { (g : ℕ) → Contains (fields_in right.now) g
-        → g < length sets.now.fields.items }
-    ensures { OnOk result
-        (items.new.items ≡ items.old.items ++ items_of sets.now mode left.now right.now) }
-{
-    let lefts = left.fields.as_slice();
-    let rights = right.fields.as_slice();
-    if !lefts.is_empty()
-        && !rights.is_empty()
-        && share_name(sets, lefts[0], rights[0])
-        && !are_bad(sets, mode, lefts[0], rights[0])
-        && have_two(sets, lefts, rights)
-    {
-        let under = mode_under(sets, mode, lefts[0], rights[0]);
-        add_below(sets, under, left, right, items)?;
-    }
-    Ok(())
-}
-
-// Adds the items that a class and each of some ask for.
-fn ask_with(
-    sets: &Sets,
-    mode: Mode,
-    left: &Class,
-    classes: &[Class],
-    items: &mut Vec<Item>,
-) -> Result<(), AllocError>
-    requires left { (f : ℕ) → Contains (fields_in left.now) f → f < length sets.now.fields.items }
-    requires classes { (c : AClass) (g : ℕ) → Contains classes.now c
-        → Contains (fields_in c) g → g < length sets.now.fields.items }
-    ensures { OnOk result (items.new.items ≡ items.old.items
-        ++ flat_map (items_of sets.now mode left.now) classes.now) }
-{
-    for right in classes {
-        ask(sets, mode, left, right, items)?;
-    }
-    Ok(())
-}
-
-/// Adds the items that each class of some and each of others ask for.
-pub fn ask_all(
-    sets: &Sets,
-    mode: Mode,
-    lefts: &[Class],
-    rights: &[Class],
-    items: &mut Vec<Item>,
-) -> Result<(), AllocError>
-    requires lefts { (c : AClass) (f : ℕ) → Contains lefts.now c
-        → Contains (fields_in c) f → f < length sets.now.fields.items }
-    requires rights { (c : AClass) (g : ℕ) → Contains rights.now c
-        → Contains (fields_in c) g → g < length sets.now.fields.items }
-    ensures { OnOk result (items.new.items ≡ items.old.items
-        ++ items_among sets.now mode lefts.now rights.now) }
-{
-    for class in lefts {
-        ask_with(sets, mode, class, rights, items)?;
-    }
-    Ok(())
 }
 
 // Adds an item for each of some bodies in place of its left group.
@@ -233,25 +162,21 @@ fn add_spread_rights(
     Ok(())
 }
 
-/// The items that an item asks for.
-pub fn asked_by(
-    alloc: Global,
+/// Adds the items that an item asks for by the bodies that its groups spread.
+pub fn add_spreads(
     sets: &Sets,
     table: &Table,
     item: Item,
-) -> Result<Vec<Item>, AllocError>
-    requires whole { IsWhole sets.now }
+    items: &mut Vec<Item>,
+) -> Result<(), AllocError>
     requires table { IsTable sets.now table.now }
     requires left { item.left < length table.now.bodies.items }
     requires right { item.right < length table.now.bodies.items }
-    ensures { IfOk result
-        (λ items. items.items ≡ asked_at sets.now (plan_of table.now) item) }
+    ensures { OnOk result (items.new.items ≡ items.old.items
+        ++ flat_map (lefts_of sets.now item) ((plan_of table.now).bodies item.left)
+        ++ flat_map (rights_of sets.now item) ((plan_of table.now).bodies item.right)) }
 {
-    let mut items = Vec::new(alloc);
-    let lefts = classes_at(table, item.left);
-    let rights = classes_at(table, item.right);
-    ask_all(sets, item.mode, lefts, rights, &mut items)?;
-    add_spread_lefts(sets, item, bodies_at(table, item.left), &mut items)?;
-    add_spread_rights(sets, item, bodies_at(table, item.right), &mut items)?;
-    Ok(items)
+    add_spread_lefts(sets, item, bodies_at(table, item.left), items)?;
+    add_spread_rights(sets, item, bodies_at(table, item.right), items)?;
+    Ok(())
 }

@@ -17,6 +17,7 @@ mod parts;
 mod search;
 mod seen;
 mod sets;
+mod visit;
 
 pub use compare::{differ_in_call, differ_in_shape};
 pub use parts::clashes_by_parts;

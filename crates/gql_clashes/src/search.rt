@@ -4,14 +4,14 @@ ghost use Rattle.gql_clashes.specs.Clashes.{SeedsBetween, SeedsOf};
 ghost use Rattle.gql_clashes.specs.Compared.{IsTable, plan_of};
 ghost use Rattle.gql_clashes.specs.Numbered.{IsClashPair, IsWhole, Lists, nodes_of};
 ghost use Rattle.gql_clashes.specs.Search.{Explores, Searches, start_at};
-ghost use Rattle.gql_clashes.specs.Seen.{IsInside, IsSquare, is_seen, rows_of};
+ghost use Rattle.gql_clashes.specs.Seen.{IsInside, is_seen, rows_of};
 ghost use Rattle.gql_clashes.specs.declared.search.Item as item;
 
-use crate::asked::{ask_all, asked_by};
-use crate::found::find_all;
+use crate::asked::add_spreads;
 use crate::groups::{Table, classes_at, table_of};
 use crate::seen::{Seen, mark, nothing_seen};
 use crate::sets::{Mode, Pair, Sets};
+use crate::visit::visit_all;
 use std::alloc::{AllocError, Global};
 
 /// Two groups of bodies in their order, and how the fields of one are compared with those of the
@@ -34,8 +34,7 @@ fn run(
 ) -> Result<(), AllocError>
     requires whole { IsWhole sets.now }
     requires table { IsTable sets.now table.now }
-    requires size { length seen.old.rows.items ≡ length table.now.bodies.items }
-    requires square { IsSquare (length table.now.bodies.items) (rows_of seen.old) }
+    requires size { seen.old.count ≡ length table.now.bodies.items }
     requires waits { (x : item.Item) → Contains todo.old.items x
         → is_seen (rows_of seen.old) x ≡ true }
     requires all { (x : item.Item) → is_seen (rows_of seen.old) x ≡ true
@@ -43,11 +42,13 @@ fn run(
     ensures { OnOk result (Searches sets.now (plan_of table.now) (rows_of seen.old)
         bad.old.items (rows_of seen.new) [] bad.new.items) }
 {
+    let mut items = Vec::new(alloc);
     while let Some(item) = todo.pop() {
         let lefts = classes_at(table, item.left);
         let rights = classes_at(table, item.right);
-        find_all(sets, item.mode, lefts, rights, bad)?;
-        let items = asked_by(alloc, sets, table, item)?;
+        items.clear();
+        visit_all(sets, item.mode, lefts, rights, bad, &mut items)?;
+        add_spreads(sets, table, item, &mut items)?;
         mark(&items, seen, todo)?;
     }
     Ok(())
@@ -68,7 +69,7 @@ fn search_from(
     ensures { OnOk result ((rows : List (List Bool)) × Explores sets.now (plan_of table.now)
         items.now bad.old.items rows bad.new.items) }
 {
-    let mut seen = nothing_seen(alloc, table.bodies.len())?;
+    let mut seen = nothing_seen(alloc, table.bodies.len());
     let mut todo = Vec::new(alloc);
     mark(items, &mut seen, &mut todo)?;
     run(alloc, sets, table, &mut seen, &mut todo, bad)?;
@@ -123,8 +124,7 @@ pub fn clashes_between(
     let mut items = Vec::new(alloc);
     let lefts = classes_at(&table, left);
     let rights = classes_at(&table, right);
-    find_all(sets, Mode::Merge, lefts, rights, &mut bad)?;
-    ask_all(sets, Mode::Merge, lefts, rights, &mut items)?;
+    visit_all(sets, Mode::Merge, lefts, rights, &mut bad, &mut items)?;
     search_from(alloc, sets, &table, &items, &mut bad)?;
     Ok(bad)
 }
