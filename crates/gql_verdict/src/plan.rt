@@ -12,7 +12,7 @@ ghost use Rattle.gql_verdict.specs.declared.slot.Slot.TheVariants.{At};
 use crate::definitions::all_definitions;
 use crate::meter::Meter;
 use crate::observation::Observation;
-use crate::slot::{Slot, find_near};
+use crate::slot::{Slot, find};
 use crate::touched::Touched;
 use crate::verdict::{Verdict, examine};
 use gql_ast::{Definition, Files, Same};
@@ -85,12 +85,11 @@ fn is_good<W: World>(
     Ok(hold)
 }
 
-/// The index of the verdict that a definition keeps, if it still holds. It is likely to be `near`.
+/// The index of the verdict that a definition keeps, if it still holds.
 fn kept_verdict<W: World>(
     alloc: Global,
     world: &mut W,
     kept: &[Slot],
-    near: usize,
     definition: &Definition,
     touched: &Touched,
 ) -> Result<Option<usize>, AllocError>
@@ -103,7 +102,7 @@ fn kept_verdict<W: World>(
         (IsDue (W.facts world.old) (verdicts kept.now) definition.now)
         (λ j. IsStep (W.facts world.old) kept.now definition.now (At j))) }
 {
-    let Some(j) = find_near(kept, near, &definition.id()) else {
+    let Some(j) = find(kept, &definition.id()) else {
         return Ok(None);
     };
     match &kept[j] {
@@ -115,12 +114,11 @@ fn kept_verdict<W: World>(
     }
 }
 
-/// The verdict that a definition keeps, or a new one. The kept one is likely to be `near`.
+/// The verdict that a definition keeps, or a new one.
 fn step<W: World>(
     alloc: Global,
     world: &mut W,
     kept: &[Slot],
-    near: usize,
     definition: &Definition,
     touched: &Touched,
     meter: &mut Meter,
@@ -134,20 +132,12 @@ fn step<W: World>(
     ensures work { IsStepWork (W.facts world.old) (verdicts kept.now) definition.now
         meter.old meter.new }
 {
-    match kept_verdict(alloc, world, kept, near, definition, touched)? {
+    match kept_verdict(alloc, world, kept, definition, touched)? {
         Some(j) => Ok(Slot::At(j)),
         None => {
             let verdict = examine(alloc, world, definition, meter)?;
             Ok(Slot::Here(verdict))
         }
-    }
-}
-
-/// Where the verdict on the next definition is likely to be, after this step.
-fn near_after(step: &Slot, near: usize) -> usize {
-    match step {
-        Slot::At(j) => j.saturating_add(1),
-        Slot::Here(_) => near,
     }
 }
 
@@ -171,10 +161,8 @@ fn plan_all<W: World>(
         (map (λ d. d.now) definitions.now) meter.old meter.new }
 {
     let mut steps = Vec::new(alloc);
-    let mut near = 0;
     for definition in definitions {
-        let next = step(alloc, world, kept, near, definition, touched, meter)?;
-        near = near_after(&next, near);
+        let next = step(alloc, world, kept, definition, touched, meter)?;
         steps.push(next)?;
     }
     Ok(steps)

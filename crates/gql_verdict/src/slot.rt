@@ -45,19 +45,6 @@ pub fn find(slots: &[Slot], id: &DefinitionId) -> Option<usize>
     slots.binary_search_by(|slot| slot.order_to(id)).ok()
 }
 
-/// The same index. First the verdict at the index `near` is tried, where it is likely to be.
-pub fn find_near(slots: &[Slot], near: usize, id: &DefinitionId) -> Option<usize>
-    requires { IsInOrder slots.now }
-    ensures { IsFound slots.now id.now result }
-{
-    if let Some(slot) = slots.get(near) {
-        if slot.order_to(id) == Ordering::Equal {
-            return Some(near);
-        }
-    }
-    find(slots, id)
-}
-
 /// The verdict of a slot.
 pub fn resolved<'s>(kept: &'s [Slot], step: &'s Slot) -> &'s Slot
     ensures { result.now ≡ resolve kept.now step.now }
