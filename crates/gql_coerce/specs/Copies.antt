@@ -4,7 +4,7 @@ use Rattle.std.specs.Prelude.{List, [], ◌∷◌, ◌++◌, String, map, string
 use Rattle.std.specs.Global.{Global}
 use Rattle.serde_json.specs.Data as json
 use Rattle.serde_json.specs.Data.{Data, Members, put}
-use Rattle.serde_json.specs.View.{view, items_of, items_view, members_view}
+use Rattle.serde_json.specs.View.{view, items_of, members_view}
 use Rattle.serde_json.specs.declared.value.Value.{Value}
 use Rattle.gql_coerce.specs.declared.copies.CopyFrame.{CopyFrame}
 use Rattle.gql_coerce.specs.declared.copies.CopyFrame.TheVariants as frame

@@ -1,5 +1,5 @@
-//! Lists and objects that are being completed, part by part. Like complete ones, they may nest deep,
-//! and are dropped without recursion.
+//! Lists and objects that are not complete yet. Their parts may nest deep, and are dropped without
+//! recursion.
 ghost use Rattle.std.specs.Prelude.{◌≡◌, ◌++◌, ◌∷◌, [], OnOk, length, string_bytes};
 ghost use Rattle.serde_json.specs.Data.{put, array, object};
 ghost use Rattle.serde_json.specs.View.{view, items_view, members_view};
@@ -10,7 +10,7 @@ use serde_json::{Map, Value};
 use std::alloc::{AllocError, Global};
 use std::marker::Model;
 
-/// The items of a list so far.
+/// The items that a list has so far.
 pub struct CoercedItems {
     values: Vec<Value>,
 }
@@ -74,7 +74,7 @@ impl CoercedItems {
     }
 }
 
-/// The members of an object so far.
+/// The members that an object has so far.
 pub struct CoercedMembers {
     values: Map<String, Value>,
 }

@@ -1,5 +1,5 @@
-//! A copy of a value. The lists and objects around the part that is copied are on a stack of its
-//! own, so that only memory limits how deep they nest.
+//! Copies of values. The lists and objects around the part that is being copied are on a stack of
+//! its own, so that only memory limits how deep they nest.
 ghost use Rattle.std.specs.Prelude.{◌≡◌, ◌++◌, IfOk};
 ghost use Rattle.serde_json.specs.Data.{array, object};
 ghost use Rattle.serde_json.specs.View.{view, items_view, members_view};
@@ -41,8 +41,7 @@ fn next_item<'v>(items: &'v [Value], copies: CoercedItems) -> CopyStep<'v>
 
 // The next member of an object, or the whole object.
 fn next_member<'v>(members: Iter<'v, String, Value>, copies: CoercedMembers) -> CopyStep<'v>
-    ensures { object (put_each members.entry (members_view copies))
-        ≡ copied_by result }
+    ensures { object (put_each members.entry (members_view copies)) ≡ copied_by result }
 {
     let mut members = members;
     match members.next() {
@@ -88,7 +87,7 @@ fn resume<'v>(frame: CopyFrame<'v>, copy: CoercedValue) -> Result<CopyStep<'v>, 
     }
 }
 
-/// A copy of a value.
+/// A copy of a value. It gives up after 2^64 - 1 steps, which no run reaches.
 pub fn copy_of(alloc: Global, value: &Value) -> Result<CoercedValue, AllocError>
     ensures { IfOk result (λ copy. view copy ≡ view value.now) }
 {
