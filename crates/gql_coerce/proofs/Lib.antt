@@ -11,6 +11,7 @@ pub mod InTime
 pub mod Settling
 pub mod Ending
 pub mod Inserted
+pub mod Copying
 pub mod JsonFields
 pub mod JsonForms
 pub mod Arguments

@@ -1,13 +1,13 @@
 -- A refusal of the variables of a request begins with the name of one of them.
-use Rattle.std.proofs.Common.{◌≡◌, ◌+◌, ℕ, List, [], ◌∷◌, map, Option, Some, None, Contains, refl, sym, ap, ◌∙◌, subst}
+use Rattle.std.proofs.Common.{◌≡◌, ◌+◌, ℕ, List, [], ◌∷◌, map, Contains, sym, ap, ◌∙◌}
 use Rattle.gql_ast.specs.declared.executable.VariableDefinition.{VariableDefinition}
 use Rattle.gql_types.specs.declared.schema.Schema.{Schema}
 use Rattle.serde_json.specs.Data as json
 use Rattle.serde_json.specs.Data.{Data}
-use Rattle.gql_coerce.specs.Coercion.{object_of, put_all, under}
+use Rattle.gql_coerce.specs.Coercion.{put_all, under}
 use Rattle.gql_coerce.specs.Laws.{NamedRefusals}
 use Rattle.gql_coerce.specs.Outcomes.{Reached, value, refused, too_deep, after, within, all}
-use Rattle.gql_coerce.specs.Requests.{named_variable, variables, given_at, or_default_at, variable_value}
+use Rattle.gql_coerce.specs.Requests.{named_variable, variables, variable_value}
 use Rattle.gql_coerce.specs.declared.refusal.Reason.{Reason}
 use Rattle.gql_coerce.specs.declared.refusal.Segment.{Segment}
 use Rattle.gql_coerce.specs.declared.refusal.Segment.TheVariants as segment

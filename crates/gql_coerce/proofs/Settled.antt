@@ -1,6 +1,6 @@
 -- The variables of a request, and the arguments of a field, come to something where no default leads
 -- back to itself.
-use Rattle.std.proofs.Common.{◌≡◌, ◌+◌, ℕ, List, [], ◌∷◌, map, Option, Some, None, refl, sym, ap, ◌∙◌, subst, arith, if◌then◌else◌, Bool, true, false}
+use Rattle.std.proofs.Common.{◌≡◌, ◌+◌, ℕ, List, [], ◌∷◌, map, Option, Some, None, refl, ap, ◌∙◌, arith, if◌then◌else◌, Bool, true, false}
 use Rattle.gql_ast.specs.declared.executable.VariableDefinition.{VariableDefinition}
 use Rattle.gql_ast.specs.declared.literal.Argument.{Argument}
 use Rattle.gql_ast.specs.declared.literal.Literal.{Literal}
@@ -10,12 +10,11 @@ use Rattle.gql_types.specs.Written.{Written, written}
 use Rattle.gql_types.specs.declared.schema.Schema.{Schema}
 use Rattle.serde_json.specs.Data as json
 use Rattle.serde_json.specs.Data.{Data, Members}
-use Rattle.serde_json.specs.Find.{get}
 use Rattle.gql_coerce.specs.Coercion.{coerced, object_of, put_all, under}
 use Rattle.gql_coerce.specs.Comes.{Outcome, Eventually, reached}
 use Rattle.gql_coerce.specs.Comes as comes
 use Rattle.gql_coerce.specs.Defaults.{HasNoCycle}
-use Rattle.gql_coerce.specs.Inputs.{Input, literal, json_input}
+use Rattle.gql_coerce.specs.Inputs.{Input, literal}
 use Rattle.gql_coerce.specs.Laws.{SomeOfArguments, SomeOfVariables}
 use Rattle.gql_coerce.specs.Outcomes.{Reached, after, within, all}
 use Rattle.gql_coerce.specs.Outcomes as levels

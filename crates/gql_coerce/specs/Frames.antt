@@ -94,17 +94,17 @@ Inside s whole fs at = (j : ℕ) × (k : ℕ)
 -- a frame of a list
 abbrev pub list_frame : ListFrame → Frame
 list_frame f = item (option_map written (option_copied f.expected))
-    (map view f.values.items) (drop f.next (items_in f.items))
+    (map view f.values) (drop f.next (items_in f.items))
 
 -- a frame of an object, in which the default value of this field is being coerced
 abbrev pub object_frame : ObjectFrame → List ℕ → Frame
 object_frame f n = default (option_map written (option_copied f.expected)) n
-    (members_view f.members.entries) (drop f.next (entries_in f.entries))
+    (members_view f.members) (drop f.next (entries_in f.entries))
 
 -- a frame of an object, in which the value that this entry gives is being coerced
 abbrev pub given_frame : ObjectFrame → AnEntry → Frame
 given_frame f e = given (option_map written (option_copied f.expected))
-    (entry_of e) (members_view f.members.entries) (drop f.next (entries_in f.entries))
+    (entry_of e) (members_view f.members) (drop f.next (entries_in f.entries))
 
 -- a frame
 abbrev pub frame_of : AFrame → Frame

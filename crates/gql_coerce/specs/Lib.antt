@@ -10,6 +10,7 @@ pub mod LiteralEntries
 pub mod Scopes
 pub mod JsonEntries
 pub mod Parts
+pub mod Copies
 pub mod Frames
 pub mod Requests
 pub mod Defaults

@@ -6,6 +6,7 @@ ghost use Rattle.gql_coerce.specs.Comes.{Comes, value as comes_to};
 ghost use Rattle.gql_coerce.specs.Inputs.{literal, json_input};
 ghost use Rattle.gql_coerce.specs.Requests.{Tells};
 
+use crate::coerced_value::CoercedValue;
 use crate::fault::{CoerceFault, result_of};
 use crate::part::Part;
 use crate::walk;
@@ -24,7 +25,7 @@ pub fn coerce_literal(
     value: &Literal,
     of_type: &TypeRef,
     variables: &Value,
-) -> Result<Option<Value>, CoerceFault>
+) -> Result<Option<CoercedValue>, CoerceFault>
     ensures ok { IfOk result (λ v. Comes schema.now (literal (view variables.now) value.now)
         (written of_type.now) (comes_to (option_map view v))) }
     ensures err { IfErr result (λ e. Tells e
@@ -44,7 +45,7 @@ pub fn coerce_json(
     schema: &Schema,
     value: &Value,
     of_type: &TypeRef,
-) -> Result<Value, CoerceFault>
+) -> Result<CoercedValue, CoerceFault>
     ensures ok { IfOk result (λ v. Comes schema.now
         (json_input (view value.now)) (written of_type.now) (comes_to (Some (view v)))) }
     ensures err { IfErr result
@@ -53,6 +54,6 @@ pub fn coerce_json(
     let coerced = walk::coerce(alloc, schema, Part::Json(value), Some(of_type))?;
     match result_of(coerced)? {
         Some(value) => Ok(value),
-        None => Ok(Value::Null),
+        None => Ok(CoercedValue::new(Value::Null)),
     }
 }

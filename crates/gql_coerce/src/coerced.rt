@@ -4,15 +4,15 @@ ghost use Rattle.serde_json.specs.View.{view};
 ghost use Rattle.gql_coerce.specs.Outcomes.{said, value, refused as is_refused, within};
 ghost use Rattle.gql_coerce.specs.declared.refusal.Segment.TheVariants.{Key, Index};
 
+use crate::coerced_value::CoercedValue;
 use crate::refusal::{Reason, Refusal, Segment};
 use gql_ast::{Items, Text};
-use serde_json::Value;
 use std::alloc::{AllocError, Global};
 
 /// What the coercion of an input comes to.
 #[derive(Drop)]
 pub enum Coerced {
-    Given(Value),
+    Given(CoercedValue),
     /// The input is a variable without a value.
     Absent,
     Refused(Stop),

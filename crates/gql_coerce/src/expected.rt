@@ -10,6 +10,8 @@ ghost use Rattle.gql_coerce.specs.Outcomes.{said, some, after};
 ghost use Rattle.gql_coerce.specs.Singles.{single_of};
 
 use crate::coerced::{Coerced, refused};
+use crate::coerced_value::CoercedValue;
+use crate::copies::copy_of;
 use crate::ones::once;
 use crate::refusal::Reason;
 use crate::single::{Single, as_custom, as_type};
@@ -29,10 +31,10 @@ pub fn coerce_null(alloc: Global, expected: Option<&TypeRef>) -> Coerced
             if is_non_null(of_type) {
                 refused(alloc, Reason::NullForNonNull)
             } else {
-                Coerced::Given(Value::Null)
+                Coerced::Given(CoercedValue::new(Value::Null))
             }
         }
-        None => Coerced::Given(Value::Null),
+        None => Coerced::Given(CoercedValue::new(Value::Null)),
     }
 }
 
@@ -96,7 +98,7 @@ pub fn coerce_given(
             if value.is_null() {
                 Ok(coerce_null(alloc, expected))
             } else {
-                Ok(Coerced::Given(value.clone()?))
+                Ok(Coerced::Given(copy_of(alloc, value)?))
             }
         }
         None => Ok(Coerced::Absent),

@@ -9,8 +9,8 @@ ghost use Rattle.gql_coerce.specs.Requests.{Tells};
 ghost use Rattle.gql_coerce.specs.declared.fault.CoerceFault.TheVariants.{Memory};
 
 use crate::coerced::{Coerced, refusal_of};
+use crate::coerced_value::CoercedValue;
 use crate::refusal::Refusal;
-use serde_json::Value;
 use std::alloc::AllocError;
 use thiserror::Error;
 
@@ -34,7 +34,7 @@ impl From<AllocError> for CoerceFault {
 }
 
 /// What an input comes to, as a result.
-pub fn result_of(coerced: Coerced) -> Result<Option<Value>, CoerceFault>
+pub fn result_of(coerced: Coerced) -> Result<Option<CoercedValue>, CoerceFault>
     ensures ok { IfOk result (λ v. said coerced ≡ value (option_map view v)) }
     ensures err { IfErr result
         (λ e. Tells e (λ (o : AnOutcome (Option Data)). said coerced ≡ reached o)) }

@@ -1,9 +1,9 @@
 //! The lists and objects around the input that is coerced.
 use crate::coerced::Coerced;
+use crate::coerced_parts::{CoercedItems, CoercedMembers};
 use crate::entry::{Entries, Entry};
 use crate::part::{ListItems, Part};
 use gql_ast::TypeRef;
-use serde_json::{Map, Value};
 
 /// A list: its items, how many were coerced or are being coerced, what is expected of each, and the
 /// values so far.
@@ -12,7 +12,7 @@ pub struct ListFrame<'v> {
     pub items: ListItems<'v>,
     pub next: usize,
     pub expected: Option<&'v TypeRef>,
-    pub values: Vec<Value>,
+    pub values: CoercedItems,
 }
 
 /// An object: its entries, how many were coerced or are being coerced, what is expected of it, and
@@ -22,7 +22,7 @@ pub struct ObjectFrame<'v> {
     pub entries: Entries<'v>,
     pub next: usize,
     pub expected: Option<&'v TypeRef>,
-    pub members: Map<String, Value>,
+    pub members: CoercedMembers,
 }
 
 /// A list or an object, and the part of it that is being coerced.

@@ -14,6 +14,7 @@ ghost use Rattle.gql_coerce.specs.Outcomes.{some};
 ghost use Rattle.gql_coerce.specs.Singles.{single_of};
 
 use crate::coerced::{at_key, refused};
+use crate::coerced_parts::CoercedMembers;
 use crate::entry::Entries;
 use crate::expected::coerce_null;
 use crate::frame::{ObjectFrame, Step};
@@ -26,7 +27,7 @@ use crate::refusal::Reason;
 use crate::single::Single;
 use gql_ast::TypeRef;
 use gql_types::Schema;
-use serde_json::{Map, Number, Value};
+use serde_json::{Number, Value};
 use std::alloc::{AllocError, Global};
 
 fn number(number: &Number) -> Single<'_>
@@ -65,7 +66,7 @@ fn start_object<'v>(
                 entries: Entries::Json(entries),
                 next: 0,
                 expected,
-                members: Map::new(alloc),
+                members: CoercedMembers::new(alloc),
             };
             next_entry(alloc, object)
         }

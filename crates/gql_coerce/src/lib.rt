@@ -4,6 +4,9 @@
 
 mod calls;
 mod coerced;
+mod coerced_parts;
+mod coerced_value;
+mod copies;
 mod entry;
 mod expected;
 mod fault;
@@ -23,9 +26,11 @@ mod path;
 mod refusal;
 mod requests;
 mod single;
+mod take_apart;
 mod walk;
 
 pub use calls::{coerce_json, coerce_literal};
+pub use coerced_value::CoercedValue;
 pub use fault::CoerceFault;
 pub use gql_inputs::fits;
 pub use path::path_text;

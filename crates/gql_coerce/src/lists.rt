@@ -11,13 +11,13 @@ ghost use Rattle.gql_coerce.specs.Outcomes.{said, some, after};
 ghost use Rattle.gql_coerce.specs.Parts.{input_of, items_in};
 
 use crate::coerced::{Coerced, at_index, refused};
+use crate::coerced_parts::CoercedItems;
 use crate::expected::{Expected, expects_list, items_expected, or_null};
 use crate::frame::{Focus, Frame, ListFrame, Step};
 use crate::part::{ListItems, Part};
 use crate::refusal::Reason;
 use gql_ast::TypeRef;
 use gql_types::Schema;
-use serde_json::Value;
 use std::alloc::{AllocError, Global};
 
 // An item. It is not made a list of one.
@@ -38,7 +38,7 @@ fn item_focus<'v>(alloc: Global, item: Part<'v>, expected: Option<&'v TypeRef>) 
 // The next item of a list, or the whole list.
 fn next_item<'v>(alloc: Global, list: ListFrame<'v>) -> Step<'v>
     ensures { (s : ASchema) (n : ℕ) → items_rest (levels_of n s)
-        (option_map written (option_copied list.entry.expected)) (map view list.entry.values.items)
+        (option_map written (option_copied list.entry.expected)) (map view list.entry.values)
         (drop list.entry.next (items_in list.entry.items)) ≡ step_at n s result }
 {
     let ListFrame {
@@ -58,7 +58,7 @@ fn next_item<'v>(alloc: Global, list: ListFrame<'v>) -> Step<'v>
             };
             Step::Within(Frame::Item(list), focus)
         }
-        None => Step::Answer(Coerced::Given(Value::from(values))),
+        None => Step::Answer(Coerced::Given(values.into_value())),
     }
 }
 
@@ -92,7 +92,7 @@ fn start_items<'v>(alloc: Global, items: ListItems<'v>, expected: Option<&'v Typ
         items,
         next: 0,
         expected,
-        values: Vec::new(alloc),
+        values: CoercedItems::new(alloc),
     };
     next_item(alloc, list)
 }

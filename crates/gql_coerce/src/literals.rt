@@ -16,6 +16,7 @@ ghost use Rattle.gql_coerce.specs.Scopes.{values_in};
 ghost use Rattle.gql_coerce.specs.Singles.{single_of};
 
 use crate::coerced::{at_key, refused};
+use crate::coerced_parts::CoercedMembers;
 use crate::entry::Entries;
 use crate::expected::{coerce_given, coerce_null};
 use crate::frame::{ObjectFrame, Step};
@@ -29,7 +30,7 @@ use crate::single::Single;
 use gql_ast::{Literal, TypeRef};
 use gql_inputs::whole_number;
 use gql_types::Schema;
-use serde_json::{Map, Value};
+use serde_json::Value;
 use std::alloc::{AllocError, Global};
 
 fn whole(text: &str) -> Single<'_>
@@ -88,7 +89,7 @@ fn start_object<'v>(
                 entries: Entries::Literals(entries, variables),
                 next: 0,
                 expected,
-                members: Map::new(alloc),
+                members: CoercedMembers::new(alloc),
             };
             next_entry(alloc, object)
         }

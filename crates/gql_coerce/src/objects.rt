@@ -21,7 +21,6 @@ use crate::part::Part;
 use crate::refusal::Reason;
 use gql_ast::InputValueDefinition;
 use gql_inputs::is_non_null;
-use serde_json::Value;
 use std::alloc::{AllocError, Global};
 
 // A field that is not given: its default, in which no variable occurs.
@@ -48,7 +47,7 @@ fn default_focus<'v>(alloc: Global, definition: Option<&'v InputValueDefinition>
 fn start_default<'v>(alloc: Global, object: ObjectFrame<'v>, entry: Entry<'v>) -> Step<'v>
     ensures { (s : ASchema) (n : ℕ) → members_then (levels_of n s)
         (option_map written (option_copied object.entry.expected)) entry.entry.name.now
-        (members_view object.entry.members.entries)
+        (members_view object.entry.members)
         (drop object.entry.next (entries_in object.entry.entries))
         (spec.or_default (levels_of n s) entry.entry.name.now
         (option_copied entry.entry.definition) None) ≡ step_at n s result }
@@ -61,7 +60,7 @@ fn start_default<'v>(alloc: Global, object: ObjectFrame<'v>, entry: Entry<'v>) -
 fn start_entry<'v>(alloc: Global, object: ObjectFrame<'v>, entry: Entry<'v>) -> Step<'v>
     ensures { (s : ASchema) (n : ℕ) → members_then (levels_of n s)
         (option_map written (option_copied object.entry.expected)) entry.entry.name.now
-        (members_view object.entry.members.entries)
+        (members_view object.entry.members)
         (drop object.entry.next (entries_in object.entry.entries))
         (spec.entry_at (levels_of n s) (entry_of entry.entry)) ≡ step_at n s result }
 {
@@ -78,7 +77,7 @@ fn start_entry<'v>(alloc: Global, object: ObjectFrame<'v>, entry: Entry<'v>) -> 
 pub fn next_entry<'v>(alloc: Global, object: ObjectFrame<'v>) -> Result<Step<'v>, AllocError>
     ensures { IfOk result (λ step. (s : ASchema) (n : ℕ)
         → members_rest (levels_of n s) (option_map written (option_copied object.entry.expected))
-        (members_view object.entry.members.entries)
+        (members_view object.entry.members)
         (drop object.entry.next (entries_in object.entry.entries)) ≡ step_at n s step) }
 {
     match object.entries.get(object.next) {
@@ -88,7 +87,7 @@ pub fn next_entry<'v>(alloc: Global, object: ObjectFrame<'v>) -> Result<Step<'v>
             Ok(start_entry(alloc, object, entry))
         }
         None => {
-            let whole = Coerced::Given(Value::from(object.members));
+            let whole = Coerced::Given(object.members.into_value());
             Ok(Step::Answer(once(alloc, object.expected, whole)?))
         }
     }

@@ -8,21 +8,22 @@ ghost use Rattle.gql_coerce.specs.Coercion as spec;
 ghost use Rattle.gql_coerce.specs.Outcomes.{said};
 
 use crate::coerced::Coerced;
+use crate::coerced_parts::CoercedItems;
+use crate::coerced_value::CoercedValue;
 use gql_ast::TypeRef;
-use serde_json::Value;
 use std::alloc::{AllocError, Global};
 
 #[tactic(auto, using(gql_types::specs::Written::written_named, gql_types::specs::Written::written_list, gql_types::specs::Written::written_non_null))]
-fn one_in(alloc: Global, of_type: &TypeRef, value: Value) -> Result<Value, AllocError>
+fn one_in(alloc: Global, of_type: &TypeRef, value: CoercedValue) -> Result<CoercedValue, AllocError>
     ensures { IfOk result (λ v. view v ≡ spec.one_in (written of_type.now) (view value)) }
 {
     match of_type {
         TypeRef::Named(_) => Ok(value),
         TypeRef::List { item, .. } => {
             let one = one_in(alloc, item.get(), value)?;
-            let mut items = Vec::new(alloc);
+            let mut items = CoercedItems::new(alloc);
             items.push(one)?;
-            Ok(Value::from(items))
+            Ok(items.into_value())
         }
         TypeRef::NonNull(item) => one_in(alloc, item.get(), value),
     }

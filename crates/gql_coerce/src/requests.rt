@@ -12,6 +12,8 @@ ghost use Rattle.gql_coerce.specs.Requests as spec;
 ghost use Rattle.gql_coerce.specs.Requests.{Tells};
 
 use crate::coerced::{Coerced, at_key, refusal_of, refused};
+use crate::coerced_parts::CoercedMembers;
+use crate::coerced_value::CoercedValue;
 use crate::fault::CoerceFault;
 use crate::members::add_member;
 use crate::part::Part;
@@ -20,7 +22,7 @@ use crate::walk;
 use gql_ast::{Argument, InputValueDefinition, Literal, Shared, TypeRef, VariableDefinition};
 use gql_inputs::is_non_null;
 use gql_types::{HasName, Named, Schema};
-use serde_json::{Map, Value};
+use serde_json::Value;
 use std::alloc::{AllocError, Global};
 
 /// The schema, and the object that has the values of the variables, if there may be some.
@@ -109,7 +111,7 @@ fn variables(
     ensures { IfOk result (λ c. Eventually
         (λ n. some (spec.variables n schema.now definitions.now (view values.now)) ≡ said c)) }
 {
-    let mut members = Map::new(alloc);
+    let mut members = CoercedMembers::new(alloc);
     for definition in definitions {
         match coerce_variable(alloc, schema, definition, values)? {
             Coerced::Given(value) => {
@@ -119,11 +121,11 @@ fn variables(
             Coerced::Refused(refusal) => return Ok(Coerced::Refused(refusal)),
         }
     }
-    Ok(Coerced::Given(Value::from(members)))
+    Ok(Coerced::Given(members.into_value()))
 }
 
 // What an object comes to, as a result.
-fn of_object(coerced: Coerced) -> Result<Value, CoerceFault>
+fn of_object(coerced: Coerced) -> Result<CoercedValue, CoerceFault>
     ensures ok { IfOk result (λ v. (o : Reached Data)
         → some o ≡ said coerced → o ≡ reached (value (view v))) }
     ensures err { IfErr result (λ e. (o : Reached Data)
@@ -131,7 +133,7 @@ fn of_object(coerced: Coerced) -> Result<Value, CoerceFault>
 {
     match coerced {
         Coerced::Given(value) => Ok(value),
-        Coerced::Absent => Ok(Value::Null),
+        Coerced::Absent => Ok(CoercedValue::new(Value::Null)),
         Coerced::Refused(stop) => Err(CoerceFault::Refused(refusal_of(stop))),
     }
 }
@@ -146,7 +148,7 @@ pub fn coerce_variables(
     schema: &Schema,
     definitions: &[VariableDefinition],
     values: &Value,
-) -> Result<Value, CoerceFault>
+) -> Result<CoercedValue, CoerceFault>
     ensures ok { IfOk result
         (λ v. spec.VariablesCome schema.now definitions.now (view values.now) (value (view v))) }
     ensures err { IfErr result
@@ -240,7 +242,7 @@ fn arguments(
     ensures { IfOk result (λ c. Eventually (λ n. some (spec.arguments n scope.now.schema.now
         definitions.now (map (λ g. g.argument.now) given.now) (variables_of scope.now)) ≡ said c)) }
 {
-    let mut members = Map::new(alloc);
+    let mut members = CoercedMembers::new(alloc);
     for definition in definitions {
         let definition = definition.get();
         match coerce_argument(alloc, scope, definition, given)? {
@@ -251,7 +253,7 @@ fn arguments(
             Coerced::Refused(refusal) => return Ok(Coerced::Refused(refusal)),
         }
     }
-    Ok(Coerced::Given(Value::from(members)))
+    Ok(Coerced::Given(members.into_value()))
 }
 
 fn all_arguments(
@@ -279,7 +281,7 @@ pub fn coerce_arguments(
     definitions: &[Shared<InputValueDefinition>],
     given: &[Argument],
     values: &Value,
-) -> Result<Value, CoerceFault>
+) -> Result<CoercedValue, CoerceFault>
     ensures ok { IfOk result (λ v. spec.ArgumentsCome schema.now definitions.now given.now
         (view values.now) (value (view v))) }
     ensures err { IfErr result

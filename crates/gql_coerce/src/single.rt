@@ -10,6 +10,7 @@ ghost use Rattle.gql_coerce.specs.Singles.{single_of};
 ghost use Rattle.gql_coerce.specs.declared.single.Single.TheVariants as single_form;
 
 use crate::coerced::{Coerced, refused};
+use crate::coerced_value::CoercedValue;
 use crate::refusal::Reason;
 use gql_inputs::{Scalar, scalar_named};
 use gql_types::{HasName, SchemaType, TypeKind};
@@ -38,19 +39,19 @@ fn of_text(alloc: Global, text: &str) -> Result<Coerced, AllocError>
     ensures { IfOk result (λ c. said c ≡ some (value (json.string text.now))) }
 {
     let text = String::from_str(alloc, text)?;
-    Ok(Coerced::Given(Value::from(text)))
+    Ok(Coerced::Given(CoercedValue::new(Value::from(text))))
 }
 
 fn of_whole(number: i64) -> Coerced
     ensures { said result ≡ some (value (json.number (of_integer number))) }
 {
-    Coerced::Given(Value::from(number))
+    Coerced::Given(CoercedValue::new(Value::from(number)))
 }
 
 fn of_truth(truth: bool) -> Coerced
     ensures { said result ≡ some (value (json.boolean truth)) }
 {
-    Coerced::Given(Value::from(truth))
+    Coerced::Given(CoercedValue::new(Value::from(truth)))
 }
 
 fn as_int(alloc: Global, single: &Single<'_>) -> Coerced

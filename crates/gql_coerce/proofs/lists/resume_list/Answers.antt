@@ -10,7 +10,7 @@ use Rattle.gql_coerce.proofs.ListSteps.{item_done, one_pushed}
 use Rattle.gql_coerce.proofs.lists.resume_list.Goals as goal
 
 pub returns-in-Given : goal.returns-in-Given
-returns-in-Given c = λ s n. item_done (coerced n s) (option_map written (option_copied c.args.list.expected)) (map view c.args.list.values.items) (drop c.args.list.next (items_in c.args.list.items)) (said c.args.coerced) (view c.in-Given.value)
+returns-in-Given c = λ s n. item_done (coerced n s) (option_map written (option_copied c.args.list.expected)) (map view c.args.list.values) (drop c.args.list.next (items_in c.args.list.items)) (said c.args.coerced) (view c.in-Given.value)
     (ap said (sym c.in-Given.is) ∙ c.or_null.ensures)
-    ∙ ap (λ vs. items_rest (coerced n s) (option_map written (option_copied c.args.list.expected)) vs (drop c.args.list.next (items_in c.args.list.items))) (one_pushed c.args.list.values.items _ c.in-Given.value c.in_ok-push-in-Given.ensures.items)
+    ∙ ap (λ vs. items_rest (coerced n s) (option_map written (option_copied c.args.list.expected)) vs (drop c.args.list.next (items_in c.args.list.items))) (one_pushed c.args.list.values _ c.in-Given.value c.in_ok-push-in-Given.ensures)
     ∙ c.next_item.ensures s n

@@ -7,4 +7,4 @@ use Rattle.gql_coerce.proofs.ListSteps.{begins}
 use Rattle.gql_coerce.proofs.lists.start_items.Goals as goal
 
 pub returns : goal.returns
-returns c = λ s n. begins (coerced n s) (option_map written (option_copied c.args.expected)) (items_in c.args.items) c.new.result.items c.new.ensures.items ∙ c.next_item.ensures s n
+returns c = λ s n. begins (coerced n s) (option_map written (option_copied c.args.expected)) (items_in c.args.items) c.new.result c.new.ensures ∙ c.next_item.ensures s n

@@ -8,13 +8,13 @@ use Rattle.gql_coerce.proofs.requests.variables.Goals.{in-Given+in_ok-add_member
 use Rattle.gql_coerce.proofs.requests.variables.Goals as goal
 
 pub returns-in-Refused : goal.returns-in-Refused
-returns-in-Refused c = to (λ (n : ℕ). some ((λ (n : ℕ). variables n c.args.schema.now c.args.definitions.now (view c.args.values.now)) n)) (said c.in_ok-value.field-0) _ (stops (λ (n : ℕ) (d : VariableDefinition). variable_value n c.args.schema.now (view c.args.values.now) d) (λ (d : VariableDefinition). d.name.text) (λ (n : ℕ). variables n c.args.schema.now c.args.definitions.now (view c.args.values.now)) c.args.definitions.now c.loop-definition.definition-index c.definition-item.result (members_view c.loop-definition.members.entries)
+returns-in-Refused c = to (λ (n : ℕ). some ((λ (n : ℕ). variables n c.args.schema.now c.args.definitions.now (view c.args.values.now)) n)) (said c.in_ok-value.field-0) _ (stops (λ (n : ℕ) (d : VariableDefinition). variable_value n c.args.schema.now (view c.args.values.now) d) (λ (d : VariableDefinition). d.name.text) (λ (n : ℕ). variables n c.args.schema.now c.args.definitions.now (view c.args.values.now)) c.args.definitions.now c.loop-definition.definition-index c.definition-item.result (members_view c.loop-definition.members)
     (search rules) (search rules) c.loop-definition.invariant (said c.in_ok-value.field-0) _ _ c.in_ok-value.ensures (ap said c.in-Refused.is)) (ap said c.in-Refused.is)
 
 pub loop-definition-preserved : goal.loop-definition-preserved
 loop-definition-preserved c = elim c.match-branch-2.branch [
-  | in-Given+in_ok-add_member-in-Given w ↦ goes_on (λ (n : ℕ) (d : VariableDefinition). variable_value n c.args.schema.now (view c.args.values.now) d) (λ (d : VariableDefinition). d.name.text) (λ (n : ℕ). variables n c.args.schema.now c.args.definitions.now (view c.args.values.now)) c.args.definitions.now c.loop-definition.definition-index c.definition-item.result (members_view c.loop-definition.members.entries)
+  | in-Given+in_ok-add_member-in-Given w ↦ goes_on (λ (n : ℕ) (d : VariableDefinition). variable_value n c.args.schema.now (view c.args.values.now) d) (λ (d : VariableDefinition). d.name.text) (λ (n : ℕ). variables n c.args.schema.now c.args.definitions.now (view c.args.values.now)) c.args.definitions.now c.loop-definition.definition-index c.definition-item.result (members_view c.loop-definition.members)
       (search rules) (search rules) c.loop-definition.invariant (Some (view w.in-Given.value)) (said c.in_ok-value.field-0) _ c.in_ok-value.ensures (ap said w.in-Given.is) (search rules)
-  | in-Absent w ↦ goes_on (λ (n : ℕ) (d : VariableDefinition). variable_value n c.args.schema.now (view c.args.values.now) d) (λ (d : VariableDefinition). d.name.text) (λ (n : ℕ). variables n c.args.schema.now c.args.definitions.now (view c.args.values.now)) c.args.definitions.now c.loop-definition.definition-index c.definition-item.result (members_view c.loop-definition.members.entries)
+  | in-Absent w ↦ goes_on (λ (n : ℕ) (d : VariableDefinition). variable_value n c.args.schema.now (view c.args.values.now) d) (λ (d : VariableDefinition). d.name.text) (λ (n : ℕ). variables n c.args.schema.now c.args.definitions.now (view c.args.values.now)) c.args.definitions.now c.loop-definition.definition-index c.definition-item.result (members_view c.loop-definition.members)
       (search rules) (search rules) c.loop-definition.invariant None (said c.in_ok-value.field-0) _ c.in_ok-value.ensures (ap said w.in-Absent.is) (search rules)
 ]
