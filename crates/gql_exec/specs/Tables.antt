@@ -1,5 +1,5 @@
 -- Helper definitions for private contracts: the table of planned fields.
-use Rattle.std.specs.Prelude.{◌≡◌, ℕ, zero, suc, ◌<◌, List, [], ◌∷◌, ◌++◌, codes, length, take, string_bytes, Option, Some, None}
+use Rattle.std.specs.Prelude.{◌≡◌, ℕ, zero, suc, ◌<◌, List, [], ◌∷◌, ◌++◌, codes, length, take, string_bytes}
 use Rattle.std.proofs.Common.{get_or}
 use Rattle.std.specs.List.{All}
 use Rattle.json.specs.Print.{quoted}
@@ -19,6 +19,7 @@ use Rattle.gql_exec.specs.declared.planning.Called.{Called}
 use Rattle.gql_exec.specs.declared.planning.Called.TheVariants as called
 use Rattle.gql_exec.specs.declared.planning.FieldPlan.{FieldPlan}
 use Rattle.gql_exec.specs.declared.table.Entry.{Entry}
+use Rattle.gql_exec.specs.declared.table.Link.{Link}
 use Rattle.gql_exec.specs.declared.table.Slot.{Slot}
 use Rattle.gql_exec.specs.declared.table.Table.{Table}
 
@@ -89,11 +90,23 @@ Hold g t xs fs = (groups : List Group) → Collects g.given t xs groups → Plan
 
 -- ---- entries
 
+-- what f gives for the entry of this number; nothing if there is no such entry
+abbrev pub of_entry : {A : Type 0} → (Entry → List A) → List Entry → ℕ → List A
+of_entry f [] k = []
+of_entry f (e ∷ es) zero = f e
+of_entry f (e ∷ es) (suc k) = of_entry f es k
+
+-- the type of the objects that the entry of this number is for
+abbrev pub type_at : List Entry → ℕ → List ℕ
+type_at es k = of_entry (λ (e : Entry). e.of_type) es k
+
+-- the selections that the entry of this number was made for
+abbrev pub made_for : List Entry → ℕ → List FileSelection
+made_for es k = of_entry (λ (e : Entry). all_selections e.sets.items) es k
+
 -- the fields of the entry of this number
 abbrev pub fields_at : List Entry → ℕ → List FieldPlan
-fields_at [] k = []
-fields_at (e ∷ es) zero = e.fields.items
-fields_at (e ∷ es) (suc k) = fields_at es k
+fields_at es k = of_entry (λ (e : Entry). e.fields.items) es k
 
 -- the selections below the field of this number
 abbrev pub sets_at : List FieldPlan → ℕ → List FileSelection
@@ -114,38 +127,67 @@ pub record InTable (t : Table) (s : Slot) : Type 0 where
   pub entry : s.entry < length t.entries.items
   pub field : s.field < length (fields_at t.entries.items s.entry)
 
--- an entry has what the selections below its field ask of the objects of its type
-abbrev pub HoldsBelow : Basis → List Entry → Option Slot → Entry → Type 0
-HoldsBelow g es None e = Unit {0}
-HoldsBelow g es (Some s) e =
-    (s.entry < length es) × Hold g e.of_type (selections_at es s) e.fields.items
+-- an entry has what its selection sets ask of the objects of its type
+abbrev pub IsRightEntry : Basis → Entry → Type 0
+IsRightEntry g e = Hold g e.of_type (all_selections e.sets.items) e.fields.items
 
--- an entry has the fields that it is to have
-abbrev pub IsRightIn : Basis → List Entry → Entry → Type 0
-IsRightIn g es e = HoldsBelow g es e.above e
+-- the entry of a link was made for what the link's field selects
+pub record IsRightLink (es : List Entry) (l : Link) : Type 0 where
+  pub slot : l.slot.entry < length es
+  pub entry : l.entry < length es
+  pub sets : made_for es l.entry ≡ selections_at es l.slot
 
--- every entry of the table has the fields that it is to have
+-- every entry has the fields that it is to have, and every link leads to an entry made for its
+-- field's selections
+pub record AreRight (g : Basis) (es : List Entry) (ls : List Link) : Type 0 where
+  pub entries : All (IsRightEntry g) es
+  pub links : All (IsRightLink es) ls
+
+-- the entries and the links of the table are right
 abbrev pub IsRight : Basis → Table → Type 0
-IsRight g t = All (IsRightIn g t.entries.items) t.entries.items
+IsRight g t = AreRight g t.entries.items t.links.items
+
+-- nothing was asked yet
+pub record IsEmpty (t : Table) : Type 0 where
+  pub entries : t.entries.items ≡ []
+  pub links : t.links.items ≡ []
 
 -- entries stay where they are, and others may come after them
 abbrev pub Grows : Table → Table → Type 0
 Grows old new = take (length old.entries.items) new.entries.items ≡ old.entries.items
 
--- the entry k has the fields that these selections ask of objects of the type t
-pub record Has (g : Basis) (table : Table) (k : ℕ) (t : List ℕ) (xs : List FileSelection)
+-- of these entries, k has the fields that these selections ask of objects of the type t
+pub record HasIn (g : Basis) (es : List Entry) (k : ℕ) (t : List ℕ) (xs : List FileSelection)
     : Type 0 where
-  pub within : k < length table.entries.items
-  pub holds : Hold g t xs (fields_at table.entries.items k)
-
--- the entry is for what the field of this slot selects, on objects of the type t
-pub record IsBelow (e : Entry) (s : Slot) (t : List ℕ) : Type 0 where
-  pub above : e.above ≡ Some s
-  pub of_type : e.of_type ≡ t
-
--- the entry k is for what the field of this slot selects, on objects of the type t
-pub record FoundAt (es : List Entry) (k : ℕ) (s : Slot) (t : List ℕ) : Type 0 where
-  pub entry : Entry
   pub within : k < length es
-  pub here : entry ≡ get_or es k entry
-  pub is : IsBelow entry s t
+  pub holds : Hold g t xs (fields_at es k)
+
+-- the entry k has the fields that these selections ask of objects of the type t
+abbrev pub Has : Basis → Table → ℕ → List ℕ → List FileSelection → Type 0
+Has g table k t xs = HasIn g table.entries.items k t xs
+
+-- the entry k is for objects of the type t
+pub record IsFor (es : List Entry) (k : ℕ) (t : List ℕ) : Type 0 where
+  pub within : k < length es
+  pub of_type : type_at es k ≡ t
+
+-- the entry k was made for these selections, on objects of the type t
+pub record IsMadeFor (es : List Entry) (k : ℕ) (t : List ℕ) (xs : List FileSelection)
+    : Type 0 where
+  pub within : k < length es
+  pub of_type : type_at es k ≡ t
+  pub sets : made_for es k ≡ xs
+
+-- a link leads from this slot to an entry for objects of the type n
+pub record Leads (es : List Entry) (l : Link) (s : Slot) (n : List ℕ) : Type 0 where
+  pub slot : l.slot ≡ s
+  pub is : IsFor es l.entry n
+
+-- a link of the table leads from this slot to the entry k, which is for objects of the type n
+pub record FoundAt (t : Table) (k : ℕ) (s : Slot) (n : List ℕ) : Type 0 where
+  pub link : Link
+  pub place : ℕ
+  pub listed : place < length t.links.items
+  pub here : link ≡ get_or t.links.items place link
+  pub entry : link.entry ≡ k
+  pub leads : Leads t.entries.items link s n

@@ -1,7 +1,9 @@
 //! The execution of operations (GraphQL specification, 6).
 #![tactic(auto)]
 
+mod credit;
 mod ended;
+mod equal_sets;
 mod executor;
 mod filter;
 mod introspection;

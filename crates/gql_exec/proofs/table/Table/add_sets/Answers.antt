@@ -1,17 +1,27 @@
-use Rattle.std.proofs.Common.{subst, sym}
+use Rattle.std.proofs.Common.{ap}
 use Rattle.gql_collect.specs.Borrowed.{all_selections}
 use Rattle.gql_exec.specs.Objects.{basis}
-use Rattle.gql_exec.specs.Tables.{Has, Hold}
-use Rattle.gql_exec.proofs.Entries.{has_last, right_more}
+use Rattle.gql_exec.proofs.Entries.{added_made, added_right, entry_right, grown, made_has}
 use Rattle.gql_exec.proofs.table.Table.add_sets.Goals as goal
 
 pub returns-clause-right : goal.returns-clause-right
-returns-clause-right c = right_more (basis c.args.setting.now) c.args.self.now c.add.new.self _ c.requires c.in_ok-number.ensures.entries tt
+returns-clause-right c =
+    let g = basis c.args.setting.now in
+    added_right g c.args.self.now c.add.new.self _ c.requires c.in_ok-number.ensures.entries c.in_ok-number.ensures.links
+    (entry_right g c.in_ok-from_str.field-0 c.in_ok-from_slice.field-0.items c.in_ok-fields.fields.items c.args.of_type.now (all_selections c.args.sets.now) c.in_ok-from_str.ensures (ap all_selections c.in_ok-from_slice.ensures.items) c.in_ok-fields.ensures)
+
+pub returns-clause-grows : goal.returns-clause-grows
+returns-clause-grows c = grown c.args.self.now c.add.new.self _ c.in_ok-number.ensures.entries
+
+pub returns-clause-made : goal.returns-clause-made
+returns-clause-made c = added_made c.args.self.now c.add.new.self _ c.in_ok-number.number c.args.of_type.now (all_selections c.args.sets.now)
+    c.in_ok-number.ensures.entries c.in_ok-number.ensures.number c.in_ok-from_str.ensures (ap all_selections c.in_ok-from_slice.ensures.items)
 
 pub returns-clause-has : goal.returns-clause-has
 returns-clause-has c =
     let g = basis c.args.setting.now in
-    let xs = all_selections c.args.sets.now in
-    subst (λ n. Has g c.add.new.self c.in_ok-number.number n xs) c.in_ok-from_str.ensures
-    (has_last g c.args.self.now c.add.new.self _ c.in_ok-number.number xs c.in_ok-number.ensures.entries c.in_ok-number.ensures.number
-    (subst (λ n. Hold g n xs c.in_ok-fields.fields.items) (sym c.in_ok-from_str.ensures) c.in_ok-fields.ensures))
+    made_has g c.add.new.self.entries.items c.add.new.self.links.items c.in_ok-number.number c.args.of_type.now (all_selections c.args.sets.now)
+    (added_right g c.args.self.now c.add.new.self _ c.requires c.in_ok-number.ensures.entries c.in_ok-number.ensures.links
+    (entry_right g c.in_ok-from_str.field-0 c.in_ok-from_slice.field-0.items c.in_ok-fields.fields.items c.args.of_type.now (all_selections c.args.sets.now) c.in_ok-from_str.ensures (ap all_selections c.in_ok-from_slice.ensures.items) c.in_ok-fields.ensures))
+    (added_made c.args.self.now c.add.new.self _ c.in_ok-number.number c.args.of_type.now (all_selections c.args.sets.now)
+    c.in_ok-number.ensures.entries c.in_ok-number.ensures.number c.in_ok-from_str.ensures (ap all_selections c.in_ok-from_slice.ensures.items))
