@@ -254,14 +254,14 @@ def introspection(program):
 
 
 def nested(program):
-    service = run_service(program, "type Query { a(x: A0 = {}): Int } input A10000 { f: Int }",
+    service = run_service(program, "type Query { a(x: A0 = {}): Int } input A100000 { f: Int }",
                           "{ a }", "{}")
-    for number in range(5):
+    for number in range(50):
         first = number * 2000
         text = "\n".join(f"input A{t}{{f:A{t + 1}={{}}}}" for t in range(first, first + 2000))
         service.put(f"/schema/t{number}", text)
     each, _ = service.send([request("POST /run", "{}")] * 5)
-    say("run with 10,000 default values within one another", each)
+    say("run with 100,000 default values within one another", each)
     service.end()
 
 
