@@ -199,14 +199,17 @@ fn call_field<'d>(
         Called::Refused(message) => {
             raise(alloc, run, field.place, Reason::Refused(message.as_str()))
         }
-        Called::Given(arguments) => match object {
-            ObjectRef::Stored(value) => {
-                call_stored(alloc, setting, table, slot, field, arguments, value, run)
+        Called::Given(given) => {
+            let arguments = given.get();
+            match object {
+                ObjectRef::Stored(value) => {
+                    call_stored(alloc, setting, table, slot, field, arguments, value, run)
+                }
+                ObjectRef::Described(node) => {
+                    call_node(alloc, setting, table, slot, field, arguments, node, run)
+                }
             }
-            ObjectRef::Described(node) => {
-                call_node(alloc, setting, table, slot, field, arguments, node, run)
-            }
-        },
+        }
     }
 }
 

@@ -17,17 +17,16 @@ ghost use Rattle.gql_exec.specs.Tables.{Hold, Planning, StandFor, called_of, Pla
 use crate::setting::Setting;
 use crate::strings::write_string;
 use gql_ast::{Field, FieldDefinition, OperationKind, Shared, Text, TypeRef};
-use gql_coerce::{CoerceFault, Refusal, coerce_arguments, laws, path_text};
+use gql_coerce::{CoerceFault, CoercedValue, Refusal, coerce_arguments, laws, path_text};
 use gql_collect::{Context, Group, SelectionSet, collect};
 use gql_text::Place;
 use gql_types::Schema;
-use serde_json::Value;
 use std::alloc::{AllocError, Global};
 
 /// What a field is called with: its arguments as an object, or the message of their refusal.
 #[derive(Drop)]
 pub enum Called {
-    Given(Value),
+    Given(CoercedValue),
     Refused(String),
 }
 

@@ -246,7 +246,7 @@ fn execute_request<'d>(
             let context = Context {
                 schema,
                 fragments,
-                values: &values,
+                values: values.get(),
             };
             let setting = Setting { context, made };
             execute_operation(alloc, &setting, file, operation, stored)

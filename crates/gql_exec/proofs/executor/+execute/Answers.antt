@@ -227,19 +227,21 @@ place_field-returns-in_ok-cut_to_null-in-Bubbled-clause-does t c = λ q h.
 pub call_field-returns-in-Stored-clause-does : goal.call_field-returns-in-Stored-clause-does
 call_field-returns-in-Stored-clause-does t c = λ q h.
     as_part (called_part (types_of (basis c.args.setting.now)) (object_of c.args.object) q (path_of c.args.run.now))
-    (source_part (types_of (basis c.args.setting.now)) (view c.in-Given.arguments) (view c.in-Stored.value.now) q (path_of c.args.run.now))
+    (source_part (types_of (basis c.args.setting.now)) (view c.get-arguments.result.now) (view c.in-Stored.value.now) q (path_of c.args.run.now))
     c.call_stored.result c.args.run.now c.call_stored.new.run
     (ap (λ o. called_part (types_of (basis c.args.setting.now)) (object_of o) q (path_of c.args.run.now)) c.in-Stored.is
-    ∙ called_stored (types_of (basis c.args.setting.now)) q (path_of c.args.run.now) c.args.field.now _ h.planned c.in-Given.is (view c.in-Stored.value.now))
+    ∙ called_stored (types_of (basis c.args.setting.now)) q (path_of c.args.run.now) c.args.field.now _ h.planned c.in-Given.is (view c.in-Stored.value.now)
+    ∙ ap (λ v. source_part (types_of (basis c.args.setting.now)) (view v) (view c.in-Stored.value.now) q (path_of c.args.run.now)) (sym c.get-arguments.ensures))
     (c.call_stored.ensures.does q h)
 
 pub call_field-returns-in-Described-clause-does : goal.call_field-returns-in-Described-clause-does
 call_field-returns-in-Described-clause-does t c = λ q h.
     as_part (called_part (types_of (basis c.args.setting.now)) (object_of c.args.object) q (path_of c.args.run.now))
-    (answer_part (types_of (basis c.args.setting.now)) (view c.in-Given.arguments) (node_of c.in-Described.node) q (path_of c.args.run.now))
+    (answer_part (types_of (basis c.args.setting.now)) (view c.get-arguments.result.now) (node_of c.in-Described.node) q (path_of c.args.run.now))
     c.call_node.result c.args.run.now c.call_node.new.run
     (ap (λ o. called_part (types_of (basis c.args.setting.now)) (object_of o) q (path_of c.args.run.now)) c.in-Described.is
-    ∙ called_described (types_of (basis c.args.setting.now)) q (path_of c.args.run.now) c.args.field.now _ h.planned c.in-Given.is (node_of c.in-Described.node))
+    ∙ called_described (types_of (basis c.args.setting.now)) q (path_of c.args.run.now) c.args.field.now _ h.planned c.in-Given.is (node_of c.in-Described.node)
+    ∙ ap (λ v. answer_part (types_of (basis c.args.setting.now)) (view v) (node_of c.in-Described.node) q (path_of c.args.run.now)) (sym c.get-arguments.ensures))
     (c.call_node.ensures.does q h)
 
 pub complete_answer-returns-in-Null-clause-does : goal.complete_answer-returns-in-Null-clause-does
