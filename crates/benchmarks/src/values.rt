@@ -90,7 +90,7 @@ fn variable_inputs(
     values: &Value,
 ) -> u64 {
     match coerce_variables(alloc, schema, variables, values) {
-        Ok(coerced) => length(coerced.get("v")),
+        Ok(coerced) => length(coerced.get().get("v")),
         Err(_) => 0,
     }
 }
@@ -102,7 +102,8 @@ fn default_inputs(alloc: Global, schema: &Schema, variable: &VariableDefinition)
         return 0;
     };
     match coerce_literal(alloc, schema, default, &variable.of_type, &Value::Null) {
-        Ok(coerced) => length(coerced.as_ref()),
+        Ok(Some(coerced)) => length(Some(coerced.get())),
+        Ok(None) => 0,
         Err(_) => 0,
     }
 }

@@ -1,7 +1,6 @@
 //! The results of the coercion of values, as the table writes them.
-use gql_coerce::{CoerceFault, Refusal, path_text};
+use gql_coerce::{CoerceFault, CoercedValue, Refusal, path_text};
 use gql_inputs::BadValue;
-use serde_json::Value;
 use std::alloc::{AllocError, Global};
 
 /// A refusal as its number, and its path if it is not the whole input.
@@ -27,10 +26,10 @@ fn written_fault(alloc: Global, fault: &CoerceFault) -> Result<String, AllocErro
 /// A value as JSON, or its refusal.
 pub fn written_value(
     alloc: Global,
-    coerced: &Result<Value, CoerceFault>,
+    coerced: &Result<CoercedValue, CoerceFault>,
 ) -> Result<String, AllocError> {
     match coerced {
-        Ok(value) => value.to_string(alloc),
+        Ok(value) => value.get().to_string(alloc),
         Err(fault) => written_fault(alloc, fault),
     }
 }
@@ -38,10 +37,10 @@ pub fn written_value(
 /// A value as JSON, or `absent` if there is none, or its refusal.
 pub fn written_option(
     alloc: Global,
-    coerced: &Result<Option<Value>, CoerceFault>,
+    coerced: &Result<Option<CoercedValue>, CoerceFault>,
 ) -> Result<String, AllocError> {
     match coerced {
-        Ok(Some(value)) => value.to_string(alloc),
+        Ok(Some(value)) => value.get().to_string(alloc),
         Ok(None) => String::from_str(alloc, "absent"),
         Err(fault) => written_fault(alloc, fault),
     }
