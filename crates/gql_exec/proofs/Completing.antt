@@ -1,7 +1,8 @@
 -- What completing is at each form of a type and of a value, and what is written for it.
-use Rattle.std.proofs.Common.{◌≡◌, ℕ, ◌+◌, ◌⊎◌, inl, inr, Bool, true, false, List, [], ◌∷◌, ◌++◌, map, codes, is_some, Option, Some, None, refl, ap, ◌∙◌, if◌then◌else◌}
+use Rattle.std.proofs.Common.{◌≡◌, ℕ, ◌+◌, inl, inr, Bool, true, false, List, [], ◌∷◌, ◌++◌, map, codes, is_some, Option, Some, None, refl, ap, ◌∙◌, if◌then◌else◌}
 use Rattle.json.specs.Print.{quoted}
-use Rattle.gql_inputs.specs.InputTypes.{is_list, is_non_null, item_of}
+use Rattle.gql_inputs.specs.InputTypes.{is_list, is_non_null, item_of, name_in, scalar_named}
+use Rattle.gql_inputs.specs.declared.scalar.Scalar.{Scalar}
 use Rattle.gql_intro.specs.Nodes as intro
 use Rattle.gql_intro.specs.Nodes.{Node}
 use Rattle.gql_types.specs.Written.{Written, named, listed, required}
@@ -13,14 +14,16 @@ use Rattle.serde_json.specs.Find.{as_array, as_object, get}
 use Rattle.serde_json.specs.View.{items_of}
 use Rattle.serde_json.specs.Written.{compact_text}
 use Rattle.gql_exec.specs.Execution.{Object, Site, Types, stored, Plan, plan, Fields, no_fields, field, PlannedField, complete, each, execute, fault, is_null, leaf, list_reply, members_of, name_item, of_kind, on_abstract, on_answer, among, on_list, on_node, on_object}
-use Rattle.gql_exec.specs.Leaves.{as_enum, scalar_value}
+use Rattle.gql_exec.specs.Kinds.{kind_from}
+use Rattle.gql_exec.specs.Leaves.{as_boolean, as_enum, as_id, as_int, as_scalar, as_string, scalar_value}
 use Rattle.gql_exec.specs.LeafParts.{leaf_at}
-use Rattle.gql_exec.specs.Parts.{Part, plain, raise, within, all, numbered, after_comma, counted}
+use Rattle.gql_exec.specs.Parts.{Part, caught, plain, raise, within, all, numbered, after_comma, counted}
 use Rattle.gql_exec.specs.Replies.{Path, index, Reply}
 use Rattle.gql_exec.specs.Replies as reply
 use Rattle.gql_exec.specs.Tables.{pairs_of}
 use Rattle.gql_exec.specs.Texts.{value_part, texted, member_text}
-use Rattle.gql_exec.specs.ValueParts.{name_list_part, name_part, node_list_part, field_part, object_part, item_at, item_part, list_part}
+use Rattle.gql_exec.specs.ValueParts.{IsAbstract, content_of_item, name_list_part, name_part, node_list_part, field_part, object_part, item_at, item_part, list_part, placed_part}
+use Rattle.gql_exec.specs.declared.kinds.ValueKind.TheVariants as value
 use Rattle.gql_exec.proofs.Resolving.{listed as listed_items}
 use Rattle.gql_exec.proofs.Texting as texting
 use Rattle.gql_exec.proofs.Texting.{placed_is, uncounted}
@@ -85,26 +88,113 @@ module _ (s : Site) (n : List ℕ) (p : Path) where
   leaf_is (Some d) = refl
   leaf_is None = refl
 
--- by the kind of the type
-module _ (s : Site) (n : List ℕ) (p : Path) (d : Data) (k : Option TypeKind) where
-  pub kind_scalar : k ≡ Some kind.Scalar → value_part (of_kind s n p d k) ≡ leaf_at n s.place p (scalar_value n d)
-  kind_scalar e = ap (λ o. value_part (of_kind s n p d o)) e ∙ leaf_is s n p (scalar_value n d)
+-- by what the values of the type are
+module _ (s : Site) (n : List ℕ) (p : Path) (d : Data) where
+  same_scalar : (a b : Scalar) → value.Scalar a ≡ value.Scalar b → a ≡ b
+  same_scalar a b e = cc
 
-  pub kind_enum : k ≡ Some kind.Enum → value_part (of_kind s n p d k) ≡ leaf_at n s.place p (as_enum (s.types.values n) d)
-  kind_enum e = ap (λ o. value_part (of_kind s n p d o)) e ∙ leaf_is s n p (as_enum (s.types.values n) d)
+  pub kind_scalar : (k : Option TypeKind) (c : Scalar) → kind_from n k ≡ value.Scalar c → value_part (of_kind s n p d k) ≡ leaf_at n s.place p (as_scalar c d)
+  kind_scalar (Some kind.Scalar) c e = leaf_is s n p (scalar_value n d) ∙ ap (λ x. leaf_at n s.place p (as_scalar x d)) (same_scalar (scalar_named n) c e)
+  kind_scalar (Some kind.Enum) c e = cc
+  kind_scalar (Some kind.Object) c e = cc
+  kind_scalar (Some kind.Interface) c e = cc
+  kind_scalar (Some kind.Union) c e = cc
+  kind_scalar (Some kind.InputObject) c e = cc
+  kind_scalar None c e = cc
 
-  pub kind_object : k ≡ Some kind.Object → value_part (of_kind s n p d k) ≡ value_part (on_object s n p d)
-  kind_object e = ap (λ o. value_part (of_kind s n p d o)) e
+  pub kind_enum : (k : Option TypeKind) → kind_from n k ≡ value.Enum → value_part (of_kind s n p d k) ≡ leaf_at n s.place p (as_enum (s.types.values n) d)
+  kind_enum (Some kind.Scalar) e = cc
+  kind_enum (Some kind.Enum) e = leaf_is s n p (as_enum (s.types.values n) d)
+  kind_enum (Some kind.Object) e = cc
+  kind_enum (Some kind.Interface) e = cc
+  kind_enum (Some kind.Union) e = cc
+  kind_enum (Some kind.InputObject) e = cc
+  kind_enum None e = cc
 
-  pub kind_abstract : (k ≡ Some kind.Interface) ⊎ (k ≡ Some kind.Union)
+  pub kind_object : (k : Option TypeKind) → kind_from n k ≡ value.Object → value_part (of_kind s n p d k) ≡ value_part (on_object s n p d)
+  kind_object (Some kind.Scalar) e = cc
+  kind_object (Some kind.Enum) e = cc
+  kind_object (Some kind.Object) e = refl
+  kind_object (Some kind.Interface) e = cc
+  kind_object (Some kind.Union) e = cc
+  kind_object (Some kind.InputObject) e = cc
+  kind_object None e = cc
+
+  pub kind_abstract : (k : Option TypeKind) → kind_from n k ≡ value.Abstract
       → value_part (of_kind s n p d k) ≡ value_part (on_abstract s n p d (among (s.types.possible n) (get (codes "__typename") d)))
-  kind_abstract (inl e) = ap (λ o. value_part (of_kind s n p d o)) e
-  kind_abstract (inr e) = ap (λ o. value_part (of_kind s n p d o)) e
+  kind_abstract (Some kind.Scalar) e = cc
+  kind_abstract (Some kind.Enum) e = cc
+  kind_abstract (Some kind.Object) e = cc
+  kind_abstract (Some kind.Interface) e = refl
+  kind_abstract (Some kind.Union) e = refl
+  kind_abstract (Some kind.InputObject) e = cc
+  kind_abstract None e = cc
 
-  pub kind_other : (k ≡ Some kind.InputObject) ⊎ (k ≡ None)
+  pub kind_other : (k : Option TypeKind) → kind_from n k ≡ value.NoOutput
       → value_part (of_kind s n p d k) ≡ raise (record { message = codes "value is not of type " ++ n; place = s.place; path = p })
-  kind_other (inl e) = ap (λ o. value_part (of_kind s n p d o)) e
-  kind_other (inr e) = ap (λ o. value_part (of_kind s n p d o)) e
+  kind_other (Some kind.Scalar) e = cc
+  kind_other (Some kind.Enum) e = cc
+  kind_other (Some kind.Object) e = cc
+  kind_other (Some kind.Interface) e = cc
+  kind_other (Some kind.Union) e = cc
+  kind_other (Some kind.InputObject) e = refl
+  kind_other None e = refl
+
+pub abstract_kind : (n : List ℕ) (k : Option TypeKind) → kind_from n k ≡ value.Abstract → IsAbstract k
+abstract_kind n (Some kind.Scalar) e = cc
+abstract_kind n (Some kind.Enum) e = cc
+abstract_kind n (Some kind.Object) e = cc
+abstract_kind n (Some kind.Interface) e = inl refl
+abstract_kind n (Some kind.Union) e = inr refl
+abstract_kind n (Some kind.InputObject) e = cc
+abstract_kind n None e = cc
+
+-- ---- values that are written at once
+
+pub int_present : (d y : Data) → as_int d ≡ Some y → is_null d ≡ false
+int_present json.null y e = cc
+int_present (json.boolean b) y e = refl
+int_present (json.number x) y e = refl
+int_present (json.string x) y e = refl
+int_present (json.array ds) y e = refl
+int_present (json.object ms) y e = refl
+
+pub string_present : (d y : Data) → as_string d ≡ Some y → is_null d ≡ false
+string_present json.null y e = cc
+string_present (json.boolean b) y e = refl
+string_present (json.number x) y e = refl
+string_present (json.string x) y e = refl
+string_present (json.array ds) y e = refl
+string_present (json.object ms) y e = refl
+
+pub id_present : (d y : Data) → as_id d ≡ Some y → is_null d ≡ false
+id_present json.null y e = cc
+id_present (json.boolean b) y e = refl
+id_present (json.number x) y e = refl
+id_present (json.string x) y e = refl
+id_present (json.array ds) y e = refl
+id_present (json.object ms) y e = refl
+
+pub boolean_present : (d y : Data) → as_boolean d ≡ Some y → is_null d ≡ false
+boolean_present json.null y e = cc
+boolean_present (json.boolean b) y e = refl
+boolean_present (json.number x) y e = refl
+boolean_present (json.string x) y e = refl
+boolean_present (json.array ds) y e = refl
+boolean_present (json.object ms) y e = refl
+
+module _ (s : Site) (p : Path) where
+  pub direct_is : (t : Written) (c : Scalar) (d y : Data) → is_list t ≡ false → kind_from (name_in t) (s.types.kind (name_in t)) ≡ value.Scalar c
+      → as_scalar c d ≡ Some y → is_null d ≡ false → value_part (complete s t p d) ≡ plain (compact_text y)
+  direct_is (named n) c d y l k e null = ap value_part (present_named s p n d null) ∙ kind_scalar s n p d (s.types.kind n) c k ∙ ap (leaf_at n s.place p) e
+  direct_is (listed t) c d y l k e null = cc
+  direct_is (required t) c d y l k e null = ap value_part (within_marks s p t d null) ∙ direct_is t c d y l k e null
+
+-- such a value in its place
+pub placed_direct : (t : Written) (r : Part) (text : List ℕ) → r ≡ plain text → placed_part t r ≡ plain text
+placed_direct (named n) r text e = ap caught e
+placed_direct (listed t) r text e = ap caught e
+placed_direct (required t) r text e = e
 
 module _ (s : Site) (each : Path → Data → Reply Data) (p : Path) where
   pub no_array : (d : Data) → as_array d ≡ None → on_list s each p d ≡ fault s p (codes "value is not a list")
@@ -114,6 +204,12 @@ module _ (s : Site) (each : Path → Data → Reply Data) (p : Path) where
   no_array (json.string x) e = refl
   no_array (json.array ds) e = cc
   no_array (json.object ms) e = refl
+
+-- an item that is written at once
+pub direct_item : (t : Written) (s : Site) (i : ℕ) (c : Scalar) (d y : Data) (p : Path) → is_list t ≡ false → kind_from (name_in t) (s.types.kind (name_in t)) ≡ value.Scalar c
+    → as_scalar c d ≡ Some y → is_null d ≡ false → content_of_item t s i d p ≡ plain (compact_text y)
+direct_item t s i c d y p l k e null = placed_direct t (value_part (complete s t (p ++ index i ∷ []) d)) (compact_text y)
+    (direct_is s (p ++ index i ∷ []) t c d y l k e null)
 
 -- ---- parts one by one
 

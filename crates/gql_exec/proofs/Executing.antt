@@ -6,7 +6,6 @@ use Rattle.std.proofs.lemmas.Slice.Eq.{bytes_eq-Decides}
 use Rattle.gql_inputs.specs.InputTypes.{is_non_null, item_of, name_in}
 use Rattle.gql_intro.specs.Nodes.{Node, query_root}
 use Rattle.json.specs.Print.{quoted}
-use Rattle.gql_text.specs.declared.place.Place.{Place}
 use Rattle.gql_collect.specs.Nodes.{FileSelection}
 use Rattle.gql_types.specs.Schemas.{kind_named}
 use Rattle.gql_types.specs.Written.{Written, named, listed, required, written}
@@ -15,7 +14,9 @@ use Rattle.serde_json.specs.Data as json
 use Rattle.serde_json.specs.Data.{Data}
 use Rattle.serde_json.specs.Find.{as_null}
 use Rattle.serde_json.specs.View.{items_of, view}
+use Rattle.serde_json.specs.Written.{compact_text}
 use Rattle.serde_json.specs.declared.value.Value.{Value}
+use Rattle.gql_exec.specs.Direct.{IsDirect}
 use Rattle.gql_exec.specs.Execution.{Fields, Object, Plan, plan, PlannedField, Site, Types, among, by_source, complete, described, execute, is_null, of_kind, on_answer, on_list, stored, value_of}
 use Rattle.gql_exec.specs.Execution as execution
 use Rattle.gql_exec.specs.Parts.{Part, caught, plain, raise}
@@ -25,15 +26,16 @@ use Rattle.gql_exec.specs.Resolution.{resolved}
 use Rattle.gql_exec.specs.States.{Executes, Follows, path_of}
 use Rattle.gql_exec.specs.Tables.{Has, IsRight, StandFor, StandsFor, called_of, fields_at, pairs_of, planned_of}
 use Rattle.gql_exec.specs.Texts.{value_part}
-use Rattle.gql_exec.specs.ValueParts.{Does, IsAbstract, Keeps, answer_part, called_part, source_part, item_at, list_part, object_part, placed_part, site_of}
+use Rattle.gql_exec.specs.ValueParts.{Does, IsAbstract, IsAsked, Keeps, answer_part, called_part, source_part, item_at, list_part, object_part, placed_part, site_of}
 use Rattle.gql_exec.specs.declared.ended.Ended.{Ended}
 use Rattle.gql_exec.specs.declared.planning.Called.TheVariants as called
 use Rattle.gql_exec.specs.declared.planning.FieldPlan.{FieldPlan}
 use Rattle.gql_exec.specs.declared.planning.Source.TheVariants as source
 use Rattle.gql_exec.specs.declared.refusal.ExecRefusal.{ExecRefusal}
 use Rattle.gql_exec.specs.declared.run.Run.{Run}
+use Rattle.gql_exec.specs.declared.site.Site.{Site as FieldSite}
 use Rattle.gql_exec.specs.declared.table.Table.{Table}
-use Rattle.gql_exec.proofs.Completing.{items_at, list_is, object_is, present_list, present_named}
+use Rattle.gql_exec.proofs.Completing.{direct_is, items_at, list_is, object_is, present_list, present_named}
 use Rattle.gql_exec.proofs.Entries.{grows_same, grows_twice}
 use Rattle.gql_exec.proofs.Grouped.{paired}
 
@@ -42,6 +44,12 @@ use Rattle.gql_exec.proofs.Grouped.{paired}
 pub keeps_same : (g : Basis) (t : Table) (r : Part) (result : Result Ended ExecRefusal) (s u : Run) → IsRight g t → Executes r result s u → OnOk result (Keeps g t t s u)
 keeps_same g t r (Ok e) s u right done = record { right = right; grows = grows_same t; left = omega (arith, done.follows.left) }
 keeps_same g t r (Err e) s u right done = tt
+
+-- after steps that write
+pub keeps_direct : (g : Basis) (t : Table) (r : Part) (result : Result Ended ExecRefusal) (s m u : Run) → IsRight g t → m.left ≤ s.left → Executes r result m u
+    → OnOk result (Keeps g t t s u)
+keeps_direct g t r (Ok e) s m u right less done = record { right = right; grows = grows_same t; left = omega (arith, less, done.follows.left) }
+keeps_direct g t r (Err e) s m u right less done = tt
 
 pub keeps_twice : (g : Basis) (a b c : Table) (s t u : Run) → Keeps g a b s t → Keeps g b c t u → Keeps g a c s u
 keeps_twice g a b c s t u h k = record { right = k.right; grows = grows_twice a b c h.grows k.grows; left = omega (arith, h.left, k.left) }
@@ -201,62 +209,68 @@ not_null (json.string s) e = refl
 not_null (json.array ds) e = refl
 not_null (json.object ms) e = refl
 
-module _ (g : Basis) (place : Place) (xs : List FileSelection) (result : Result Ended ExecRefusal) (s u : Run) where
+module _ (g : Basis) (here : FieldSite) (xs : List FileSelection) (result : Result Ended ExecRefusal) (s u : Run) where
   pub at_null : (t : Written) (d : Data) → is_some (as_null d) ≡ true
-      → ((site : Site) → site.place ≡ place → Executes (value_part (complete site t (path_of s) json.null)) result s u)
-      → Does g place (name_in t) xs (λ site. value_part (complete site t (path_of s) d)) result s u
-  at_null t d e h = λ x i. subst (λ y. Executes (value_part (complete (site_of (types_of g) place x) t (path_of s) y)) result s u) (sym (null_is d e))
-      (h (site_of (types_of g) place x) refl)
+      → ((site : Site) → site.place ≡ here.place → Executes (value_part (complete site t (path_of s) json.null)) result s u)
+      → Does g here (name_in t) xs (λ site. value_part (complete site t (path_of s) d)) result s u
+  at_null t d e h = λ x i. subst (λ y. Executes (value_part (complete (site_of (types_of g) here.place x) t (path_of s) y)) result s u) (sym (null_is d e))
+      (h (site_of (types_of g) here.place x) refl)
 
   -- resolved to nothing
   pub at_nothing : (t : Written) (d : Data) → d ≡ json.null
-      → ((site : Site) → site.place ≡ place → Executes (value_part (complete site t (path_of s) json.null)) result s u)
-      → Does g place (name_in t) xs (λ site. value_part (complete site t (path_of s) d)) result s u
-  at_nothing t d e h = λ x i. subst (λ y. Executes (value_part (complete (site_of (types_of g) place x) t (path_of s) y)) result s u) (sym e)
-      (h (site_of (types_of g) place x) refl)
+      → ((site : Site) → site.place ≡ here.place → Executes (value_part (complete site t (path_of s) json.null)) result s u)
+      → Does g here (name_in t) xs (λ site. value_part (complete site t (path_of s) d)) result s u
+  at_nothing t d e h = λ x i. subst (λ y. Executes (value_part (complete (site_of (types_of g) here.place x) t (path_of s) y)) result s u) (sym e)
+      (h (site_of (types_of g) here.place x) refl)
 
   pub at_unmarked : (t v : Written) (d : Data) → ((site : Site) (p : Path) (y : Data) → is_null y ≡ false → complete site t p y ≡ complete site v p y)
       → name_in t ≡ name_in v → is_null d ≡ false
-      → Does g place (name_in v) xs (λ site. value_part (complete site v (path_of s) d)) result s u
-      → Does g place (name_in t) xs (λ site. value_part (complete site t (path_of s) d)) result s u
-  at_unmarked t v d same name e h = λ x i. as_part (value_part (complete (site_of (types_of g) place x) t (path_of s) d))
-      (value_part (complete (site_of (types_of g) place x) v (path_of s) d)) result s u
-      (ap value_part (same (site_of (types_of g) place x) (path_of s) d e)) (h x (subst (λ n. IsPlan g n xs x) name i))
+      → Does g here (name_in v) xs (λ site. value_part (complete site v (path_of s) d)) result s u
+      → Does g here (name_in t) xs (λ site. value_part (complete site t (path_of s) d)) result s u
+  at_unmarked t v d same name e h = λ x i. as_part (value_part (complete (site_of (types_of g) here.place x) t (path_of s) d))
+      (value_part (complete (site_of (types_of g) here.place x) v (path_of s) d)) result s u
+      (ap value_part (same (site_of (types_of g) here.place x) (path_of s) d e)) (h x (subst (λ n. IsAsked g here n xs x) name i))
 
   pub at_named : (t : Written) (n : List ℕ) (d : Data) → t ≡ named n → is_null d ≡ false
-      → Does g place n xs (λ site. value_part (of_kind site n (path_of s) d (kind_named g.given.schema n))) result s u
-      → Does g place (name_in t) xs (λ site. value_part (complete site t (path_of s) d)) result s u
-  at_named t n d e null h = subst (λ w. Does g place (name_in w) xs (λ site. value_part (complete site w (path_of s) d)) result s u) (sym e)
-      (λ x i. as_part (value_part (complete (site_of (types_of g) place x) (named n) (path_of s) d))
-      (value_part (of_kind (site_of (types_of g) place x) n (path_of s) d (kind_named g.given.schema n))) result s u
-      (ap value_part (present_named (site_of (types_of g) place x) (path_of s) n d null)) (h x i))
+      → Does g here n xs (λ site. value_part (of_kind site n (path_of s) d (kind_named g.given.schema n))) result s u
+      → Does g here (name_in t) xs (λ site. value_part (complete site t (path_of s) d)) result s u
+  at_named t n d e null h = subst (λ w. Does g here (name_in w) xs (λ site. value_part (complete site w (path_of s) d)) result s u) (sym e)
+      (λ x i. as_part (value_part (complete (site_of (types_of g) here.place x) (named n) (path_of s) d))
+      (value_part (of_kind (site_of (types_of g) here.place x) n (path_of s) d (kind_named g.given.schema n))) result s u
+      (ap value_part (present_named (site_of (types_of g) here.place x) (path_of s) n d null)) (h x i))
 
   pub at_list : (t v : Written) (d : Data) → t ≡ listed v → is_null d ≡ false
-      → Does g place (name_in v) xs (λ site. value_part (on_list site (item_at site v) (path_of s) d)) result s u
-      → Does g place (name_in t) xs (λ site. value_part (complete site t (path_of s) d)) result s u
-  at_list t v d e null h = subst (λ w. Does g place (name_in w) xs (λ site. value_part (complete site w (path_of s) d)) result s u) (sym e)
-      (λ x i. as_part (value_part (complete (site_of (types_of g) place x) (listed v) (path_of s) d))
-      (value_part (on_list (site_of (types_of g) place x) (item_at (site_of (types_of g) place x) v) (path_of s) d)) result s u
-      (ap value_part (present_list (site_of (types_of g) place x) (path_of s) v d null)) (h x i))
+      → Does g here (name_in v) xs (λ site. value_part (on_list site (item_at site v) (path_of s) d)) result s u
+      → Does g here (name_in t) xs (λ site. value_part (complete site t (path_of s) d)) result s u
+  at_list t v d e null h = subst (λ w. Does g here (name_in w) xs (λ site. value_part (complete site w (path_of s) d)) result s u) (sym e)
+      (λ x i. as_part (value_part (complete (site_of (types_of g) here.place x) (listed v) (path_of s) d))
+      (value_part (on_list (site_of (types_of g) here.place x) (item_at (site_of (types_of g) here.place x) v) (path_of s) d)) result s u
+      (ap value_part (present_list (site_of (types_of g) here.place x) (path_of s) v d null)) (h x i))
 
   -- a list whose items are these
   pub at_array : (v : Written) (d : Data) (ds : List Data) → d ≡ json.array (items_of ds)
-      → Does g place (name_in v) xs (λ site. list_part v site ds (path_of s)) result s u
-      → Does g place (name_in v) xs (λ site. value_part (on_list site (item_at site v) (path_of s) d)) result s u
-  at_array v d ds e h = λ x i. as_part (value_part (on_list (site_of (types_of g) place x) (item_at (site_of (types_of g) place x) v) (path_of s) d))
-      (list_part v (site_of (types_of g) place x) ds (path_of s)) result s u
-      (ap (λ y. value_part (on_list (site_of (types_of g) place x) (item_at (site_of (types_of g) place x) v) (path_of s) y)) e
-      ∙ list_is (site_of (types_of g) place x) v (path_of s) ds) (h x i)
+      → Does g here (name_in v) xs (λ site. list_part v site ds (path_of s)) result s u
+      → Does g here (name_in v) xs (λ site. value_part (on_list site (item_at site v) (path_of s) d)) result s u
+  at_array v d ds e h = λ x i. as_part (value_part (on_list (site_of (types_of g) here.place x) (item_at (site_of (types_of g) here.place x) v) (path_of s) d))
+      (list_part v (site_of (types_of g) here.place x) ds (path_of s)) result s u
+      (ap (λ y. value_part (on_list (site_of (types_of g) here.place x) (item_at (site_of (types_of g) here.place x) v) (path_of s) y)) e
+      ∙ list_is (site_of (types_of g) here.place x) v (path_of s) ds) (h x i)
 
   -- items that arguments keep
   pub at_items : (t v : Written) (d : Data) (ds : List Data) → item_of t ≡ Some v → name_in v ≡ name_in t → d ≡ json.array (items_of ds)
-      → Does g place (name_in v) xs (λ site. list_part v site ds (path_of s)) result s u
-      → Does g place (name_in t) xs (λ site. value_part (complete site t (path_of s) d)) result s u
-  at_items t v d ds e name is h = λ x i. as_part (value_part (complete (site_of (types_of g) place x) t (path_of s) d))
-      (list_part v (site_of (types_of g) place x) ds (path_of s)) result s u
-      (ap (λ y. value_part (complete (site_of (types_of g) place x) t (path_of s) y)) is
-      ∙ ap value_part (items_at (site_of (types_of g) place x) (path_of s) t v (items_of ds) e) ∙ list_is (site_of (types_of g) place x) v (path_of s) ds)
-      (h x (subst (λ n. IsPlan g n xs x) (sym name) i))
+      → Does g here (name_in v) xs (λ site. list_part v site ds (path_of s)) result s u
+      → Does g here (name_in t) xs (λ site. value_part (complete site t (path_of s) d)) result s u
+  at_items t v d ds e name is h = λ x i. as_part (value_part (complete (site_of (types_of g) here.place x) t (path_of s) d))
+      (list_part v (site_of (types_of g) here.place x) ds (path_of s)) result s u
+      (ap (λ y. value_part (complete (site_of (types_of g) here.place x) t (path_of s) y)) is
+      ∙ ap value_part (items_at (site_of (types_of g) here.place x) (path_of s) t v (items_of ds) e) ∙ list_is (site_of (types_of g) here.place x) v (path_of s) ds)
+      (h x (subst (λ n. IsAsked g here n xs x) (sym name) i))
+
+  -- a value that is written at once
+  pub at_direct : (t : Written) (d y : Data) → IsDirect here.kind t d y → Executes (plain (compact_text y)) result s u
+      → Does g here (name_in t) xs (λ site. value_part (complete site t (path_of s) d)) result s u
+  at_direct t d y is done = λ x i. as_part (value_part (complete (site_of (types_of g) here.place x) t (path_of s) d)) (plain (compact_text y)) result s u
+      (direct_is (site_of (types_of g) here.place x) (path_of s) t is.scalar d y is.not_list (sym i.kind ∙ is.kind_is) is.value is.present) done
 
 -- the name within the type of the items
 pub name_of_items : (t v : Written) → item_of t ≡ Some v → name_in v ≡ name_in t

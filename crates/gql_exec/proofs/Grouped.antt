@@ -8,6 +8,7 @@ use Rattle.gql_collect.specs.Groups.{Group}
 use Rattle.gql_collect.specs.Nodes.{FieldNode, FileSelection}
 use Rattle.gql_inputs.specs.InputTypes.{name_in}
 use Rattle.gql_exec.specs.Execution.{PlannedField, Plan, Fields, no_fields, field}
+use Rattle.gql_exec.specs.Kinds.{kind_in}
 use Rattle.gql_exec.specs.Plans.{Basis, FieldOf, IsPlan, IsPlanned, ArePlanned, defined, field_of, field_of_nodes, planned}
 use Rattle.gql_exec.specs.Tables.{PlansGroup, ArePairs, StandsFor, StandFor, Planning, Hold, pairs_of, planned_of}
 use Rattle.gql_exec.specs.declared.planning.FieldPlan.{FieldPlan}
@@ -74,6 +75,7 @@ one_more g t groups fs group n rest d f planning nodes has plans qs h =
     subst (StandFor g (fs ++ f ∷ [])) (sym s.is) (stand_more g fs s.before f s.last (planning s.before s.are) (record {
       planned = p.is ∙ sym is;
       label = plans.label ∙ ap (λ (r : PlannedField). quoted r.response_name ++ codes ":") (sym p.is);
+      kind = plans.kind ∙ ap (λ (r : PlannedField). kind_in g.given.schema (name_in r.of_type)) (is ∙ sym p.is);
       below = subst (λ xs. IsPlan g (name_in s.last.0.of_type) xs s.last.1) (sym plans.sets) s.below;
     }))
 

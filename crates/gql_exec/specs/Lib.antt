@@ -1,6 +1,8 @@
+pub mod Direct
 pub mod Ended
 pub mod Examples
 pub mod Execution
+pub mod Kinds
 pub mod Laws
 pub mod LeafParts
 pub mod Leaves

@@ -14,6 +14,7 @@ use Rattle.gql_types.specs.Written.{written}
 use Rattle.serde_json.specs.Data.{Data}
 use Rattle.serde_json.specs.View.{view}
 use Rattle.gql_exec.specs.Execution.{Arguments, given, refused, PlannedField, Plan, Fields, no_fields, field}
+use Rattle.gql_exec.specs.Kinds.{kind_in}
 use Rattle.gql_exec.specs.Plans.{Basis, FieldOf, IsPlan, IsPlanned, defined, planned}
 use Rattle.gql_exec.specs.declared.planning.Called.{Called}
 use Rattle.gql_exec.specs.declared.planning.Called.TheVariants as called
@@ -48,6 +49,7 @@ pub record PlansGroup (g : Basis) (d : FieldOf) (group : Group) (f : FieldPlan) 
       → group.nodes ≡ first ∷ others
       → ArgumentsCome g.given.schema d.definition.arguments first.field.arguments g.given.values o
       → planned_of f ≡ planned group first d o
+  pub kind : f.kind ≡ kind_in g.given.schema (name_in (written f.of_type.now))
   pub sets : all_selections f.sets.items ≡ selections_below group.nodes
 
 -- a field of a plan, with the plan of what it selects
@@ -71,6 +73,7 @@ ArePairs g t _ _ = ⊥
 pub record StandsFor (g : Basis) (f : FieldPlan) (q : PlannedField × Plan) : Type 0 where
   pub planned : q.0 ≡ planned_of f
   pub label : f.label.items ≡ quoted q.0.response_name ++ codes ":"
+  pub kind : f.kind ≡ kind_in g.given.schema (name_in q.0.of_type)
   pub below : IsPlan g (name_in q.0.of_type) (all_selections f.sets.items) q.1
 
 -- these are the fields of a plan, as the table has them, one by one

@@ -20,6 +20,7 @@ use Rattle.serde_json.specs.Data.{Data}
 use Rattle.serde_json.specs.View.{items_of, view}
 use Rattle.serde_json.specs.declared.value.Value.{Value}
 use Rattle.gql_exec.specs.Execution.{Object, PlannedField, Plan, Types, Site, by_source, complete, execute, on_answer, on_node, placed, value_of}
+use Rattle.gql_exec.specs.Kinds.{kind_in}
 use Rattle.gql_exec.specs.Parts.{Part, plain, followed_by, within, all, numbered, after_comma, counted, settled, caught}
 use Rattle.gql_exec.specs.Plans.{Basis, IsPlan, types_of}
 use Rattle.gql_exec.specs.Replies.{Path, key, index, Reply}
@@ -33,6 +34,7 @@ use Rattle.gql_exec.specs.declared.resolve.Resolved.{Resolved}
 use Rattle.gql_exec.specs.declared.resolve.Resolved.TheVariants as found
 use Rattle.gql_exec.specs.declared.run.Run.{Run}
 use Rattle.gql_exec.specs.declared.refusal.ExecRefusal.{ExecRefusal}
+use Rattle.gql_exec.specs.declared.site.Site.{Site as FieldSite}
 use Rattle.gql_exec.specs.declared.table.Slot.{Slot}
 use Rattle.gql_exec.specs.declared.table.Table.{Table}
 
@@ -167,11 +169,17 @@ IsAbstract o = (o ≡ Some kind.Interface) ⊎ (o ≡ Some kind.Union)
 
 -- ---- calls
 
+-- a value is completed here at the type of this name, and x is the plan of what its field selects
+pub record IsAsked (g : Basis) (here : FieldSite) (name : List ℕ) (xs : List FileSelection)
+    (x : Plan) : Type 0 where
+  pub kind : here.kind ≡ kind_in g.given.schema name
+  pub plan : IsPlan g name xs x
+
 -- what a call does for selections, by each plan that they have
-abbrev pub Does : Basis → Place → List ℕ → List FileSelection → (Site → Part)
+abbrev pub Does : Basis → FieldSite → List ℕ → List FileSelection → (Site → Part)
     → Result Ended ExecRefusal → Run → Run → Type 0
-Does g place name xs part result old new = (x : Plan) → IsPlan g name xs x
-    → Executes (part (site_of (types_of g) place x)) result old new
+Does g here name xs part result old new = (x : Plan) → IsAsked g here name xs x
+    → Executes (part (site_of (types_of g) here.place x)) result old new
 
 -- what is true after each call: the table is right and has its old entries, and no completed value
 -- is uncounted

@@ -1,5 +1,4 @@
-//! The execution of fields on objects, and the completion of their values (GraphQL specification,
-//! 4, 6.3, 6.4.3 and 6.4.4).
+//! The execution of fields, and of their values (GraphQL specification, 4, 6.3, 6.4.3 and 6.4.4).
 ghost use Rattle.std.specs.Prelude.{◌≡◌, ◌<◌, List, ℕ, length, codes, false, true, Some, OnOk};
 ghost use Rattle.serde_json.specs.Find.{get};
 ghost use Rattle.serde_json.specs.View.{view};
@@ -14,13 +13,15 @@ ghost use Rattle.gql_exec.specs.Plans.{IsPlan, is_met, possible_in, types_of};
 ghost use Rattle.gql_exec.specs.States.{Executes, path_of};
 ghost use Rattle.gql_exec.specs.Tables.{InTable, IsRight, Pair, StandFor, StandsFor, below_at, fields_at};
 ghost use Rattle.gql_exec.specs.Texts.{value_part};
+ghost use Rattle.gql_exec.specs.declared.kinds.ValueKind.TheVariants as kind;
 ghost use Rattle.gql_exec.specs.ValueParts as part;
 ghost use Rattle.gql_exec.specs.ValueParts.{Does, IsAt, IsOf, Keeps, items_in, resolved_in};
 
+use crate::direct::{direct_value, write_direct};
 use crate::ended::Ended;
 use crate::introspection::{introspect, write_flag, write_literal, write_locations, write_name};
 use crate::items::ListItems;
-use crate::kinds::type_name;
+use crate::kinds::{ValueKind, type_name};
 use crate::leaves::{Leaf, complete_enum, complete_scalar};
 use crate::nulls::{complete_null, without_mark, write_null};
 use crate::object::ObjectRef;
@@ -31,12 +32,11 @@ use crate::resolve::{Resolved, resolve};
 use crate::run::{Reason, Run};
 use crate::setting::Setting;
 use crate::site::Site;
-use crate::steps::{count, cut_to_null, raise, write, write_comma};
+use crate::steps::{count, cut_to_null, raise, write, write_byte, write_comma};
 use crate::table::{Slot, Table};
 use gql_ast::TypeRef;
 use gql_inputs::{is_non_null, item_of, name_in};
 use gql_intro::{IntroAnswer, IntroNode, IntroNodes};
-use gql_types::TypeKind;
 use serde_json::Value;
 use std::alloc::Global;
 
@@ -58,9 +58,9 @@ pub fn execute_object<'d>(
         → Executes (part.object_part (types_of (basis setting.now)) (object_of object.entry) qs
         (path_of run.old)) result run.old run.new }
 {
-    write(run, b"{")?;
+    write_byte(run, b'{')?;
     let ended = execute_fields(alloc, setting, table, entry, object, run)?;
-    write(run, b"}")?;
+    write_byte(run, b'}')?;
     Ok(ended)
 }
 
@@ -82,11 +82,12 @@ fn execute_fields<'d>(
         → Executes (part.fields_part (types_of (basis setting.now)) (object_of object.entry) qs
         (path_of run.old)) result run.old run.new }
 {
+    let shared = table.fields(entry)?;
+    let fields = shared.get();
     let mut ended = Ended::Written;
-    for i in 0..table.count(entry) {
+    for i in 0..fields.len() {
         let slot = Slot { entry, field: i };
-        let field = table.field(slot)?;
-        let field_ended = execute_field(alloc, setting, table, slot, field.get(), object, run)?;
+        let field_ended = execute_field(alloc, setting, table, slot, &fields[i], object, run)?;
         ended = ended.and(field_ended);
     }
     Ok(ended)
@@ -239,6 +240,7 @@ fn call_stored<'d>(
             let site = Site {
                 slot,
                 place: field.place,
+                kind: field.kind,
             };
             complete_resolved(alloc, setting, table, site, of_type, &resolved, run)
         }
@@ -274,6 +276,7 @@ fn call_node<'d>(
     let site = Site {
         slot,
         place: field.place,
+        kind: field.kind,
     };
     complete_answer(alloc, setting, table, site, name.as_str(), answer, run)
 }
@@ -292,7 +295,7 @@ fn complete_answer<'d>(
     requires right { IsRight (basis setting.now) table.old }
     requires within { InTable table.old site.slot }
     ensures keeps { OnOk result (Keeps (basis setting.now) table.old table.new run.old run.new) }
-    ensures does { Does (basis setting.now) site.place name.now (below_at table.old site.slot)
+    ensures does { Does (basis setting.now) site name.now (below_at table.old site.slot)
         (λ s. value_part (spec.on_answer s name.now (path_of run.old)
         (answer_of setting.now.context.schema.now answer.entry))) result run.old run.new }
 {
@@ -327,14 +330,14 @@ fn complete_nodes<'d>(
     requires right { IsRight (basis setting.now) table.old }
     requires within { InTable table.old site.slot }
     ensures keeps { OnOk result (Keeps (basis setting.now) table.old table.new run.old run.new) }
-    ensures does { Does (basis setting.now) site.place name.now (below_at table.old site.slot)
+    ensures does { Does (basis setting.now) site name.now (below_at table.old site.slot)
         (λ s. part.node_list_part name.now s
         (part.nodes_in setting.now.context.schema.now nodes.entry) (path_of run.old))
         result run.old run.new }
 {
-    write(run, b"[")?;
+    write_byte(run, b'[')?;
     let ended = list_nodes(alloc, setting, table, site, name, nodes, run)?;
-    write(run, b"]")?;
+    write_byte(run, b']')?;
     Ok(ended)
 }
 
@@ -352,7 +355,7 @@ fn list_nodes<'d>(
     requires right { IsRight (basis setting.now) table.old }
     requires within { InTable table.old site.slot }
     ensures keeps { OnOk result (Keeps (basis setting.now) table.old table.new run.old run.new) }
-    ensures does { Does (basis setting.now) site.place name.now (below_at table.old site.slot)
+    ensures does { Does (basis setting.now) site name.now (below_at table.old site.slot)
         (λ s. part.nodes_part name.now s
         (part.nodes_in setting.now.context.schema.now nodes.entry) (path_of run.old))
         result run.old run.new }
@@ -385,7 +388,7 @@ fn list_node<'d>(
     requires right { IsRight (basis setting.now) table.old }
     requires within { InTable table.old site.slot }
     ensures keeps { OnOk result (Keeps (basis setting.now) table.old table.new run.old run.new) }
-    ensures does { Does (basis setting.now) site.place name.now (below_at table.old site.slot)
+    ensures does { Does (basis setting.now) site name.now (below_at table.old site.slot)
         (λ s. part.node_part name.now s (path_of run.old) i (node_of node.entry))
         result run.old run.new }
 {
@@ -409,7 +412,7 @@ fn node_content<'d>(
     requires right { IsRight (basis setting.now) table.old }
     requires within { InTable table.old site.slot }
     ensures keeps { OnOk result (Keeps (basis setting.now) table.old table.new run.old run.new) }
-    ensures does { Does (basis setting.now) site.place name.now (below_at table.old site.slot)
+    ensures does { Does (basis setting.now) site name.now (below_at table.old site.slot)
         (λ s. part.content_of_node name.now s i (node_of node.entry) (path_of run.old))
         result run.old run.new }
 {
@@ -436,7 +439,7 @@ fn complete_resolved<'d>(
     requires within { InTable table.old site.slot }
     requires of { IsOf (written of_type.now) resolved.now }
     ensures keeps { OnOk result (Keeps (basis setting.now) table.old table.new run.old run.new) }
-    ensures does { Does (basis setting.now) site.place (name_of_type (written of_type.now))
+    ensures does { Does (basis setting.now) site (name_of_type (written of_type.now))
         (below_at table.old site.slot)
         (λ s. value_part (spec.complete s (written of_type.now) (path_of run.old)
         (resolved_in resolved.now))) result run.old run.new }
@@ -471,11 +474,14 @@ fn complete<'d>(
     requires right { IsRight (basis setting.now) table.old }
     requires within { InTable table.old site.slot }
     ensures keeps { OnOk result (Keeps (basis setting.now) table.old table.new run.old run.new) }
-    ensures does { Does (basis setting.now) site.place (name_of_type (written of_type.now))
+    ensures does { Does (basis setting.now) site (name_of_type (written of_type.now))
         (below_at table.old site.slot)
         (λ s. value_part (spec.complete s (written of_type.now) (path_of run.old)
         (view value.now))) result run.old run.new }
 {
+    if let Some(found) = direct_value(site.kind, of_type, value) {
+        return write_direct(run, found);
+    }
     if value.is_null() {
         return complete_null(alloc, site.place, of_type, run);
     }
@@ -499,7 +505,7 @@ fn complete_present<'d>(
     requires nullable { is_non_null (written of_type.now) ≡ false }
     requires present { spec.is_null (view value.now) ≡ false }
     ensures keeps { OnOk result (Keeps (basis setting.now) table.old table.new run.old run.new) }
-    ensures does { Does (basis setting.now) site.place (name_of_type (written of_type.now))
+    ensures does { Does (basis setting.now) site (name_of_type (written of_type.now))
         (below_at table.old site.slot)
         (λ s. value_part (spec.complete s (written of_type.now) (path_of run.old)
         (view value.now))) result run.old run.new }
@@ -529,7 +535,7 @@ fn complete_named<'d>(
     requires right { IsRight (basis setting.now) table.old }
     requires within { InTable table.old site.slot }
     ensures keeps { OnOk result (Keeps (basis setting.now) table.old table.new run.old run.new) }
-    ensures does { Does (basis setting.now) site.place name.now (below_at table.old site.slot)
+    ensures does { Does (basis setting.now) site name.now (below_at table.old site.slot)
         (λ s. value_part (spec.of_kind s name.now (path_of run.old) (view value.now)
         (kind_named setting.now.context.schema.now name.now))) result run.old run.new }
 {
@@ -537,16 +543,12 @@ fn complete_named<'d>(
         name,
         place: site.place,
     };
-    match setting.context.schema.kind(name) {
-        Some(TypeKind::Scalar) => complete_scalar(alloc, leaf, value, run),
-        Some(TypeKind::Enum) => complete_enum(alloc, setting.context.schema, leaf, value, run),
-        Some(TypeKind::Object) => complete_object(alloc, setting, table, site, name, value, run),
-        Some(TypeKind::Interface) => {
-            complete_abstract(alloc, setting, table, site, name, value, run)
-        }
-        Some(TypeKind::Union) => complete_abstract(alloc, setting, table, site, name, value, run),
-        Some(TypeKind::InputObject) => raise(alloc, run, site.place, Reason::NotOfType(name)),
-        None => raise(alloc, run, site.place, Reason::NotOfType(name)),
+    match site.kind {
+        ValueKind::Scalar(scalar) => complete_scalar(alloc, scalar, leaf, value, run),
+        ValueKind::Enum => complete_enum(alloc, setting.context.schema, leaf, value, run),
+        ValueKind::Object => complete_object(alloc, setting, table, site, name, value, run),
+        ValueKind::Abstract => complete_abstract(alloc, setting, table, site, name, value, run),
+        ValueKind::NoOutput => raise(alloc, run, site.place, Reason::NotOfType(name)),
     }
 }
 
@@ -564,7 +566,7 @@ fn complete_object<'d>(
     requires right { IsRight (basis setting.now) table.old }
     requires within { InTable table.old site.slot }
     ensures keeps { OnOk result (Keeps (basis setting.now) table.old table.new run.old run.new) }
-    ensures does { Does (basis setting.now) site.place name.now (below_at table.old site.slot)
+    ensures does { Does (basis setting.now) site name.now (below_at table.old site.slot)
         (λ s. value_part (spec.on_object s name.now (path_of run.old) (view value.now)))
         result run.old run.new }
 {
@@ -589,9 +591,9 @@ fn complete_abstract<'d>(
 ) -> Result<Ended, ExecRefusal>
     requires right { IsRight (basis setting.now) table.old }
     requires within { InTable table.old site.slot }
-    requires composite { part.IsAbstract (kind_named setting.now.context.schema.now name.now) }
+    requires composite { site.kind ≡ kind.Abstract }
     ensures keeps { OnOk result (Keeps (basis setting.now) table.old table.new run.old run.new) }
-    ensures does { Does (basis setting.now) site.place name.now (below_at table.old site.slot)
+    ensures does { Does (basis setting.now) site name.now (below_at table.old site.slot)
         (λ s. value_part (spec.on_abstract s name.now (path_of run.old) (view value.now)
         (spec.among (possible_in setting.now.context.schema.now name.now)
         (get (codes "__typename") (view value.now))))) result run.old run.new }
@@ -642,7 +644,7 @@ fn complete_list<'d>(
     requires right { IsRight (basis setting.now) table.old }
     requires within { InTable table.old site.slot }
     ensures keeps { OnOk result (Keeps (basis setting.now) table.old table.new run.old run.new) }
-    ensures does { Does (basis setting.now) site.place (name_of_type (written item.now))
+    ensures does { Does (basis setting.now) site (name_of_type (written item.now))
         (below_at table.old site.slot)
         (λ s. value_part (spec.on_list s (part.item_at s (written item.now)) (path_of run.old)
         (view value.now))) result run.old run.new }
@@ -673,14 +675,14 @@ fn complete_items<'d>(
     requires right { IsRight (basis setting.now) table.old }
     requires within { InTable table.old site.slot }
     ensures keeps { OnOk result (Keeps (basis setting.now) table.old table.new run.old run.new) }
-    ensures does { Does (basis setting.now) site.place (name_of_type (written item.now))
+    ensures does { Does (basis setting.now) site (name_of_type (written item.now))
         (below_at table.old site.slot)
         (λ s. part.list_part (written item.now) s (items_in items.entry) (path_of run.old))
         result run.old run.new }
 {
-    write(run, b"[")?;
+    write_byte(run, b'[')?;
     let ended = list_items(alloc, setting, table, site, item, items, run)?;
-    write(run, b"]")?;
+    write_byte(run, b']')?;
     Ok(ended)
 }
 
@@ -698,7 +700,7 @@ fn list_items<'d>(
     requires right { IsRight (basis setting.now) table.old }
     requires within { InTable table.old site.slot }
     ensures keeps { OnOk result (Keeps (basis setting.now) table.old table.new run.old run.new) }
-    ensures does { Does (basis setting.now) site.place (name_of_type (written item.now))
+    ensures does { Does (basis setting.now) site (name_of_type (written item.now))
         (below_at table.old site.slot)
         (λ s. part.items_part (written item.now) s (items_in items.entry) (path_of run.old))
         result run.old run.new }
@@ -726,13 +728,16 @@ fn list_item<'d>(
     requires right { IsRight (basis setting.now) table.old }
     requires within { InTable table.old site.slot }
     ensures keeps { OnOk result (Keeps (basis setting.now) table.old table.new run.old run.new) }
-    ensures does { Does (basis setting.now) site.place (name_of_type (written item.now))
+    ensures does { Does (basis setting.now) site (name_of_type (written item.now))
         (below_at table.old site.slot)
         (λ s. part.item_part (written item.now) s (path_of run.old) i (view value.now))
         result run.old run.new }
 {
     write_comma(run, i)?;
     count(run)?;
+    if let Some(found) = direct_value(site.kind, item, value) {
+        return write_direct(run, found);
+    }
     item_content(alloc, setting, table, site, item, i, value, run)
 }
 
@@ -751,7 +756,7 @@ fn item_content<'d>(
     requires right { IsRight (basis setting.now) table.old }
     requires within { InTable table.old site.slot }
     ensures keeps { OnOk result (Keeps (basis setting.now) table.old table.new run.old run.new) }
-    ensures does { Does (basis setting.now) site.place (name_of_type (written item.now))
+    ensures does { Does (basis setting.now) site (name_of_type (written item.now))
         (below_at table.old site.slot)
         (λ s. part.content_of_item (written item.now) s i (view value.now) (path_of run.old))
         result run.old run.new }
@@ -778,7 +783,7 @@ fn place_item<'d>(
     requires right { IsRight (basis setting.now) table.old }
     requires within { InTable table.old site.slot }
     ensures keeps { OnOk result (Keeps (basis setting.now) table.old table.new run.old run.new) }
-    ensures does { Does (basis setting.now) site.place (name_of_type (written item.now))
+    ensures does { Does (basis setting.now) site (name_of_type (written item.now))
         (below_at table.old site.slot)
         (λ s. part.placed_part (written item.now) (value_part (spec.complete s (written item.now)
         (path_of run.old) (view value.now)))) result run.old run.new }

@@ -21,7 +21,7 @@ use crate::leaves::write_truth;
 use crate::refusal::ExecRefusal;
 use crate::run::Run;
 use crate::setting::Setting;
-use crate::steps::{count, write, write_comma, write_text, write_text_bytes};
+use crate::steps::{count, write_byte, write_comma, write_text, write_text_bytes};
 use gql_ast::{DirectiveLocation, Literal, print_literal};
 use gql_intro::{IntroAnswer, IntroArguments, IntroNode, intro_resolve, location_name};
 use serde_json::Value;
@@ -151,8 +151,8 @@ pub fn write_locations(
     ensures { Executes (name_list_part (map name_of_location locations.now))
         result run.old run.new }
 {
-    write(run, b"[")?;
+    write_byte(run, b'[')?;
     let ended = list_locations(run, locations)?;
-    write(run, b"]")?;
+    write_byte(run, b']')?;
     Ok(ended)
 }

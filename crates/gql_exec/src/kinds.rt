@@ -1,4 +1,5 @@
-//! The values of enums, and the possible types of abstract types.
+//! What the values of named types are: the values of enums, and the possible types of abstract
+//! types.
 ghost use Rattle.std.specs.Prelude.{◌≡◌, codes, bytes_eq, map, option_map};
 ghost use Rattle.gql_ast.specs.declared.type_system.EnumValueDefinition.{EnumValueDefinition as AValue};
 ghost use Rattle.gql_built_in.specs.declared.sited.Sited.{Sited as ASited};
@@ -6,11 +7,40 @@ ghost use Rattle.std.specs.List.{list_any};
 ghost use Rattle.serde_json.specs.Find.{get};
 ghost use Rattle.serde_json.specs.View.{view};
 ghost use Rattle.gql_exec.specs.Execution.{among};
+ghost use Rattle.gql_exec.specs.Kinds.{kind_in};
 ghost use Rattle.gql_exec.specs.Plans as plans;
 
 use gql_ast::{EnumValueDefinition, Shared, Text};
-use gql_types::{Named, Schema, Sited};
+use gql_inputs::{Scalar, scalar_named};
+use gql_types::{Named, Schema, Sited, TypeKind};
 use serde_json::Value;
+
+/// What the values of a named type are.
+#[derive(Clone, Copy)]
+pub enum ValueKind {
+    Scalar(Scalar),
+    Enum,
+    Object,
+    /// Objects of the possible types of an interface or a union.
+    Abstract,
+    /// The type is an input object, or there is no type of the name.
+    NoOutput,
+}
+
+/// What the values of the type of this name are.
+pub fn value_kind(schema: &Schema, name: &str) -> ValueKind
+    ensures { result ≡ kind_in schema.now name.now }
+{
+    match schema.kind(name) {
+        Some(TypeKind::Scalar) => ValueKind::Scalar(scalar_named(name)),
+        Some(TypeKind::Enum) => ValueKind::Enum,
+        Some(TypeKind::Object) => ValueKind::Object,
+        Some(TypeKind::Interface) => ValueKind::Abstract,
+        Some(TypeKind::Union) => ValueKind::Abstract,
+        Some(TypeKind::InputObject) => ValueKind::NoOutput,
+        None => ValueKind::NoOutput,
+    }
+}
 
 /// Whether a value of that name is among these.
 #[tactic(auto, using(crate::proofs::Enums::found_any))]

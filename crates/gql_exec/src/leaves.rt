@@ -14,7 +14,7 @@ use crate::kinds::is_enum_value;
 use crate::refusal::ExecRefusal;
 use crate::run::{Reason, Run};
 use crate::steps::{raise, write, write_any, write_text, write_whole};
-use gql_inputs::{Scalar, scalar_named};
+use gql_inputs::Scalar;
 use gql_text::Place;
 use gql_types::Schema;
 use serde_json::Value;
@@ -35,7 +35,7 @@ fn not_of_type(alloc: Global, leaf: Leaf<'_>, run: &mut Run<'_>) -> Result<Ended
 }
 
 /// Whether an integer is one of 32 bits.
-fn is_of_32_bits(whole: i64) -> bool
+pub fn is_of_32_bits(whole: i64) -> bool
     ensures { result ≡ spec.is_of_32_bits whole }
 {
     -2_147_483_648 <= whole && whole < 2_147_483_648
@@ -151,14 +151,15 @@ fn complete_boolean(
 /// Completes a value of a scalar.
 pub fn complete_scalar(
     alloc: Global,
+    scalar: Scalar,
     leaf: Leaf<'_>,
     value: &Value,
     run: &mut Run<'_>,
 ) -> Result<Ended, ExecRefusal>
     ensures { Executes (leaf_part leaf.entry (path_of run.old)
-        (spec.scalar_value leaf.entry.name.now (view value.now))) result run.old run.new }
+        (spec.as_scalar scalar (view value.now))) result run.old run.new }
 {
-    match scalar_named(leaf.name) {
+    match scalar {
         Scalar::Int => complete_int(alloc, leaf, value, run),
         Scalar::Id => complete_id(alloc, leaf, value, run),
         Scalar::String => complete_string(alloc, leaf, value, run),

@@ -2,6 +2,7 @@
 #![tactic(auto)]
 
 mod credit;
+mod direct;
 mod ended;
 mod equal_sets;
 mod executor;

@@ -14,11 +14,13 @@ ghost use Rattle.gql_exec.specs.Objects.{basis, field_in};
 ghost use Rattle.gql_exec.specs.Plans as plans;
 ghost use Rattle.gql_exec.specs.Tables.{Hold, Planning, StandFor, called_of, PlansGroup};
 
+use crate::kinds::{ValueKind, value_kind};
 use crate::setting::Setting;
 use crate::strings::write_string;
-use gql_ast::{Field, FieldDefinition, OperationKind, Shared, Text, TypeRef};
+use gql_ast::{Field, FieldDefinition, OperationKind, Text, TypeRef};
 use gql_coerce::{CoerceFault, CoercedValue, Refusal, coerce_arguments, laws, path_text};
 use gql_collect::{Context, Group, SelectionSet, collect};
+use gql_inputs::name_in;
 use gql_text::Place;
 use gql_types::Schema;
 use std::alloc::{AllocError, Global};
@@ -60,6 +62,8 @@ pub struct FieldPlan<'d> {
     pub source: Source,
     pub arguments: Called,
     pub of_type: &'d TypeRef,
+    /// What the values of the type's name are.
+    pub kind: ValueKind,
     /// The selection sets of its nodes, which are collected as one.
     pub sets: Vec<SelectionSet<'d>>,
 }
@@ -201,6 +205,10 @@ fn field_plan<'d>(
         source,
         arguments,
         of_type: &definition.of_type,
+        kind: value_kind(
+            setting.context.schema,
+            name_in(&definition.of_type).as_str(),
+        ),
         sets,
     })
 }
@@ -212,7 +220,7 @@ fn add_field<'d>(
     of_type: &str,
     name: &'d str,
     group: &Group<'d>,
-    fields: &mut Vec<Shared<FieldPlan<'d>>>,
+    fields: &mut Vec<FieldPlan<'d>>,
 ) -> Result<(), AllocError>
     ensures { OnOk result ((groups : List AGroup)
         → Planning (basis setting.now) of_type.now groups fields.old.items
@@ -224,7 +232,7 @@ fn add_field<'d>(
         return Ok(());
     };
     let field = field_plan(alloc, setting, found, name, group)?;
-    fields.push(Shared::new(alloc, field)?)?;
+    fields.push(field)?;
     Ok(())
 }
 
@@ -234,7 +242,7 @@ pub fn planned_fields<'d>(
     setting: &Setting<'d, '_>,
     of_type: &str,
     sets: &[SelectionSet<'d>],
-) -> Result<Vec<Shared<FieldPlan<'d>>>, AllocError>
+) -> Result<Vec<FieldPlan<'d>>, AllocError>
     ensures { IfOk result (λ fields. Hold (basis setting.now) of_type.now
         (all_selections sets.now) fields.items) }
 {

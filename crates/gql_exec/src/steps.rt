@@ -1,5 +1,5 @@
 //! The smallest steps of an execution.
-ghost use Rattle.std.specs.Prelude.{◌≡◌, ◌++◌, take, codes, string_bytes, IfOk, OnOk, IfErr};
+ghost use Rattle.std.specs.Prelude.{◌≡◌, ◌++◌, ◌∷◌, [], take, codes, string_bytes, IfOk, OnOk, IfErr};
 ghost use Rattle.std.specs.Fmt.{signed_decimal};
 ghost use Rattle.json.specs.Print.{quoted};
 ghost use Rattle.serde_json.specs.View.{view};
@@ -26,13 +26,26 @@ pub fn write(run: &mut Run<'_>, bytes: &[u8]) -> Result<(), ExecRefusal>
     Ok(())
 }
 
+/// Writes one byte.
+pub fn write_byte(run: &mut Run<'_>, byte: u8) -> Result<(), ExecRefusal>
+    ensures follows { OnOk result (Follows (plain (byte ∷ [])) run.old run.new) }
+    ensures err { IfErr result (λ e. e ≡ ExecRefusal.Memory) }
+{
+    run.out.push(byte)?;
+    Ok(())
+}
+
 /// Writes a comma, but not before the first part.
 #[tactic(auto, using(crate::proofs::Parts::comma_first, crate::proofs::Parts::comma_later))]
 pub fn write_comma(run: &mut Run<'_>, i: usize) -> Result<(), ExecRefusal>
     ensures follows { OnOk result (Follows (comma i) run.old run.new) }
     ensures err { IfErr result (λ e. e ≡ ExecRefusal.Memory) }
 {
-    if i == 0 { Ok(()) } else { write(run, b",") }
+    if i == 0 {
+        Ok(())
+    } else {
+        write_byte(run, b',')
+    }
 }
 
 /// Writes a string.

@@ -1,7 +1,6 @@
 //! The fields that were planned in an execution, once for each list of selection sets and each type
 //! of objects.
 ghost use Rattle.std.specs.Prelude.{◌≡◌, ◌<◌, ◌++◌, ◌∷◌, [], length, IfOk, IfSome, IsTrue, OnOk};
-ghost use Rattle.std.proofs.Common.{get_or};
 ghost use Rattle.gql_collect.specs.Borrowed.{all_selections};
 ghost use Rattle.gql_exec.specs.Objects.{basis};
 ghost use Rattle.gql_exec.specs.Tables.{FoundAt, Grows, Has, InTable, IsEmpty, IsFor, IsMadeFor, IsRight, Leads, below_at, fields_at};
@@ -31,7 +30,7 @@ pub struct Entry<'d> {
     pub of_type: Text,
     /// The selection sets that, taken as one, ask for these fields.
     pub sets: Vec<SelectionSet<'d>>,
-    pub fields: Vec<Shared<FieldPlan<'d>>>,
+    pub fields: Shared<Vec<FieldPlan<'d>>>,
     /// Where the first field is among all fields.
     pub first: usize,
 }
@@ -80,24 +79,14 @@ impl<'d> Table<'d> {
         }
     }
 
-    /// The number of fields of an entry.
+    /// The fields of an entry.
     #[tactic(auto, using(crate::proofs::Entries::fields_here))]
-    pub fn count(&self, entry: usize) -> usize
+    pub fn fields(&self, entry: usize) -> Result<Shared<Vec<FieldPlan<'d>>>, AllocError>
         requires { entry < length self.now.entries.items }
-        ensures { result ≡ length (fields_at self.now.entries.items entry) }
+        ensures { IfOk result (λ fields. fields.items
+            ≡ fields_at self.now.entries.items entry) }
     {
-        self.entries[entry].fields.len()
-    }
-
-    /// A field of an entry.
-    #[tactic(auto, using(crate::proofs::Entries::fields_here))]
-    pub fn field(&self, slot: Slot) -> Result<Shared<FieldPlan<'d>>, AllocError>
-        requires { InTable self.now slot }
-        ensures { IfOk result (λ field. field
-            ≡ get_or (fields_at self.now.entries.items slot.entry) slot.field field) }
-    {
-        let entry = &self.entries[slot.entry];
-        entry.fields[slot.field].clone()
+        self.entries[entry].fields.clone()
     }
 
     /// Where a field is among all fields, if there is such a number.
@@ -232,7 +221,7 @@ impl<'d> Table<'d> {
         ensures links { self.new.links ≡ self.old.links }
         ensures number { IfOk result (λ k. k ≡ length self.old.entries.items) }
     {
-        for _i in 0..entry.fields.len() {
+        for _i in 0..entry.fields.get().len() {
             self.last.push(0)?;
         }
         let number = self.entries.len();
@@ -261,7 +250,7 @@ impl<'d> Table<'d> {
         let entry = Entry {
             of_type: Text::from_str(alloc, of_type)?,
             sets: Vec::from_slice(alloc, sets)?,
-            fields,
+            fields: Shared::new(alloc, fields)?,
             first: self.last.len(),
         };
         let number = self.add(entry)?;
@@ -308,8 +297,9 @@ impl<'d> Table<'d> {
         ensures has { IfOk result (λ k. Has (basis setting.now) self.new k of_type.now
             (below_at self.old slot)) }
     {
-        let field = self.field(slot)?;
-        let number = self.entry_for(alloc, setting, of_type, field.get().sets.as_slice())?;
+        let fields = self.fields(slot.entry)?;
+        let field = &fields.get()[slot.field];
+        let number = self.entry_for(alloc, setting, of_type, field.sets.as_slice())?;
         let before = self.last_link(slot);
         self.add_link(Link {
             slot,

@@ -5,10 +5,10 @@ use Rattle.gql_types.specs.Written.{written}
 use Rattle.gql_exec.specs.Execution.{Plan}
 use Rattle.gql_exec.specs.Objects.{basis, object_of}
 use Rattle.gql_exec.specs.Parts.{all, numbered}
-use Rattle.gql_exec.specs.Plans.{IsPlan, types_of}
+use Rattle.gql_exec.specs.Plans.{types_of}
 use Rattle.gql_exec.specs.States.{Done, path_of}
 use Rattle.gql_exec.specs.Tables.{Pair, StandFor, below_at, fields_at}
-use Rattle.gql_exec.specs.ValueParts.{Keeps, field_part, node_part, nodes_in, item_part, items_in, site_of}
+use Rattle.gql_exec.specs.ValueParts.{IsAsked, Keeps, field_part, node_part, nodes_in, item_part, items_in, site_of}
 use Rattle.gql_exec.proofs.executor.+execute.Given as goal
 
 abbrev pub decreases-execute_field : goal.decreases-execute_field
@@ -102,7 +102,7 @@ abbrev pub invariant-list_items-loop-i : goal.invariant-list_items-loop-i
 invariant-list_items-loop-i l = record {
   keeps : Keeps (basis l.setting) l.initial.table l.table l.initial.run l.run;
   count : l.i-end ≡ length (items_in l.items);
-  done : (x : Plan) → IsPlan (basis l.setting) (name_in (written l.item)) (below_at l.initial.table l.site.slot) x
+  done : (x : Plan) → IsAsked (basis l.setting) l.site (name_in (written l.item)) (below_at l.initial.table l.site.slot) x
       → Done (all (numbered (item_part (written l.item) (site_of (types_of (basis l.setting)) l.site.place x) (path_of l.initial.run)) 0
       (take l.i (items_in l.items)))) l.ended l.initial.run l.run;
 }
@@ -114,7 +114,7 @@ invariant-list_nodes-loop-i l = record {
   no_more : l.listed ≤ l.i;
   rest : drop l.listed (nodes_in l.setting.context.schema.now l.nodes)
       ≡ flat_map option_to_list (drop l.i (elements l.setting.context.schema.now l.nodes));
-  done : (x : Plan) → IsPlan (basis l.setting) l.name (below_at l.initial.table l.site.slot) x
+  done : (x : Plan) → IsAsked (basis l.setting) l.site l.name (below_at l.initial.table l.site.slot) x
       → Done (all (numbered (node_part l.name (site_of (types_of (basis l.setting)) l.site.place x) (path_of l.initial.run)) 0
       (take l.listed (nodes_in l.setting.context.schema.now l.nodes)))) l.ended l.initial.run l.run;
 }

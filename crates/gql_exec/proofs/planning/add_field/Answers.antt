@@ -20,7 +20,7 @@ returns c = λ groups h.
     let group : Group = record { key = c.args.name.now; nodes = nodes_in c.args.group.now } in
     let g = basis c.args.setting.now in
     let pushed : c.push.new.self.items ≡ c.args.fields.now.items ++ c.in_ok-field.field ∷ [] =
-    c.in_ok-push.ensures.items ∙ ap (λ f. c.args.fields.now.items ++ f ∷ []) c.in_ok-new.ensures in
+    c.in_ok-push.ensures.items in
     subst (λ fs. Planning g c.args.of_type.now (groups ++ group ∷ []) fs) (sym pushed)
     (one_more g c.args.of_type.now groups c.args.fields.now.items group (node_of c.args.group.now.first) (others_of c.args.group.now.others.items) (field_in c.in-Some.found) c.in_ok-field.field h refl
     (ap (field_of g c.args.of_type.now) (sym c.as_str-first.ensures) ∙ sym c.in_ok-found.ensures ∙ ap (option_map field_in) c.in-Some.is)
