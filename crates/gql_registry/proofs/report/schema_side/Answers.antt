@@ -1,6 +1,8 @@
 use Rattle.std.proofs.Common.{◌∙◌, rules, ap}
 use Rattle.gql_facts.specs.Tables.{tables_of}
 use Rattle.gql_intro.specs.Made.{made_of}
+use Rattle.gql_registry.specs.Keeping.{IsSideOf}
+use Rattle.gql_registry.proofs.Mapped.{ok_of_error}
 use Rattle.gql_registry.proofs.report.schema_side.Goals as goal
 
 pub schema_faults-requires : goal.schema_faults-requires
@@ -16,7 +18,7 @@ pub returns-in_err-facts : goal.returns-in_err-facts
 returns-in_err-facts c = search rules
 
 pub returns-in_err-made : goal.returns-in_err-made
-returns-in_err-made c = search rules
+returns-in_err-made c = ok_of_error c.from_residual-in_err-made.result (IsSideOf c.args.files.now) _ c.from_residual-in_err-made.ensures.1
 
 pub returns : goal.returns
 returns c = record {
