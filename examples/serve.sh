@@ -7,7 +7,7 @@ set -eu
 cd "$(dirname "$0")/../crates/gqlreg"
 port=${1:-8080} connections=${2:-1000000}
 if [ -x out/gqlreg ]; then
-    # A value in which default values nest deep is dropped by recursion, which takes stack.
+    # Introspection may nest as deep as fragments lead, and is executed by recursion.
     ulimit -s unlimited 2> /dev/null || true
     exec out/gqlreg serve --port "$port" --connections "$connections"
 fi
