@@ -1,5 +1,6 @@
 //! A credit for comparisons of selections: each name and each value costs one, and a long text
 //! more. Comparisons that cost more than is left are not made.
+//! It bounds time alone: no result of an execution depends on it.
 
 use gql_ast::{
     Argument, Directive, Field, InlineFragment, Literal, ObjectField, Selection, Spread,

@@ -42,7 +42,8 @@ fn mixed_text(key: usize, text: &str) -> usize {
     key
 }
 
-/// A key for selection sets and a type: where the sets are, and the name of the type.
+/// A key for selection sets and a type: where the sets are, and the name of the type. It only says
+/// where to look; whether sets are equal is for `are_equal_sets`.
 pub fn key_of(of_type: &str, sets: &[SelectionSet<'_>]) -> usize {
     let mut key = mixed_text(sets.len(), of_type);
     for set in sets {
@@ -56,8 +57,8 @@ fn is_alike(set: &SelectionSet<'_>, other: &SelectionSet<'_>) -> bool {
     start(set) == start(other) && set.selections.len() == other.selections.len()
 }
 
-/// Whether these selection sets are as many, and start at the same offsets. This takes no time to
-/// speak of; sets of one document that pass it are equal.
+/// Whether these selection sets are as many, and start at the same offsets. Nothing rests on it: it
+/// only saves comparisons of sets that differ.
 pub fn are_alike(sets: &[SelectionSet<'_>], others: &[SelectionSet<'_>]) -> bool {
     if sets.len() != others.len() {
         return false;

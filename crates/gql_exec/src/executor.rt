@@ -145,8 +145,7 @@ fn execute_content<'d>(
     Ok(ended)
 }
 
-/// The value of a field at its place: if a null bubbles up to a nullable place, the text is cut
-/// back to the beginning of the value.
+/// The value of a field at its place. Where a null bubbles up to a nullable place, it stays there.
 #[cycle(execute)]
 fn place_field<'d>(
     alloc: Global,
@@ -768,8 +767,7 @@ fn item_content<'d>(
     Ok(ended)
 }
 
-/// The value of an item at its place: if a null bubbles up to a nullable place, the text is cut
-/// back to the beginning of the item.
+/// The value of an item at its place. Where a null bubbles up to a nullable place, it stays there.
 #[cycle(execute)]
 fn place_item<'d>(
     alloc: Global,
