@@ -15,7 +15,6 @@ use std::alloc::{AllocError, Global};
 
 /// The forms of a definition (GraphQL specification, 2.2). Each shares its tree, so that a copy
 /// costs no walk.
-#[derive(Drop)]
 pub enum Tree {
     Operation(Shared<Operation>),
     Fragment(Shared<Fragment>),
@@ -24,6 +23,20 @@ pub enum Tree {
     Directive(Shared<DirectiveDefinition>),
     SchemaExtension(Shared<SchemaExtension>),
     TypeExtension(Shared<TypeExtension>),
+}
+
+impl Drop for Tree {
+    fn drop(self) {
+        match self {
+            Tree::Operation(_) => {}
+            Tree::Fragment(_) => {}
+            Tree::Schema(_) => {}
+            Tree::Type(_) => {}
+            Tree::Directive(_) => {}
+            Tree::SchemaExtension(_) => {}
+            Tree::TypeExtension(_) => {}
+        }
+    }
 }
 
 impl Tree {
@@ -59,17 +72,27 @@ impl Tree {
 }
 
 /// A definition and the file that it is in.
-#[derive(Drop)]
 pub struct Definition {
     pub file: FileName,
     pub tree: Tree,
 }
 
+impl Drop for Definition {
+    fn drop(self) {
+        let Definition { file: _, tree: _ } = self;
+    }
+}
+
 /// What identifies a definition: its file, and the offset of its first token there.
-#[derive(Drop)]
 pub struct DefinitionId {
     pub file: FileName,
     pub offset: usize,
+}
+
+impl Drop for DefinitionId {
+    fn drop(self) {
+        let DefinitionId { file: _, offset: _ } = self;
+    }
 }
 
 impl Definition {
@@ -95,7 +118,12 @@ impl Definition {
 }
 
 /// The definitions of a file, in their order (GraphQL specification, 2.2).
-#[derive(Drop)]
 pub struct Document {
     pub definitions: Items<Definition>,
+}
+
+impl Drop for Document {
+    fn drop(self) {
+        let Document { definitions: _ } = self;
+    }
 }

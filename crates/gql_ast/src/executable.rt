@@ -28,11 +28,20 @@ pub struct Field {
 }
 
 /// A spread of a named fragment (GraphQL specification, 2.8). Its place is that of its `...`.
-#[derive(Drop)]
 pub struct Spread {
     pub place: Place,
     pub name: Name,
     pub directives: Items<Directive>,
+}
+
+impl Drop for Spread {
+    fn drop(self) {
+        let Spread {
+            place: _,
+            name: _,
+            directives: _,
+        } = self;
+    }
 }
 
 /// A fragment without a name (GraphQL specification, 2.8.2). Its place is that of its `...`.
@@ -55,7 +64,6 @@ pub enum Selection {
 }
 
 /// A variable of an operation (GraphQL specification, 2.10). Its place is that of its `$`.
-#[derive(Drop)]
 pub struct VariableDefinition {
     pub place: Place,
     pub name: Name,
@@ -64,8 +72,19 @@ pub struct VariableDefinition {
     pub directives: Items<Directive>,
 }
 
+impl Drop for VariableDefinition {
+    fn drop(self) {
+        let VariableDefinition {
+            place: _,
+            name: _,
+            of_type: _,
+            default: _,
+            directives: _,
+        } = self;
+    }
+}
+
 /// An operation (GraphQL specification, 2.3). Its place is that of its first token.
-#[derive(Drop)]
 pub struct Operation {
     pub place: Place,
     pub kind: OperationKind,
@@ -75,12 +94,36 @@ pub struct Operation {
     pub selections: Items<Selection>,
 }
 
+impl Drop for Operation {
+    fn drop(self) {
+        let Operation {
+            place: _,
+            kind: _,
+            name: _,
+            variables: _,
+            directives: _,
+            selections: _,
+        } = self;
+    }
+}
+
 /// A named fragment (GraphQL specification, 2.8). Its place is that of its first token.
-#[derive(Drop)]
 pub struct Fragment {
     pub place: Place,
     pub name: Name,
     pub condition: Name,
     pub directives: Items<Directive>,
     pub selections: Items<Selection>,
+}
+
+impl Drop for Fragment {
+    fn drop(self) {
+        let Fragment {
+            place: _,
+            name: _,
+            condition: _,
+            directives: _,
+            selections: _,
+        } = self;
+    }
 }

@@ -17,11 +17,21 @@ pub enum FileSide {
 }
 
 /// A place in a file.
-#[derive(Debug, Drop)]
+#[derive(Debug)]
 pub struct FilePlace {
     pub side: FileSide,
     pub file: FileName,
     pub place: Place,
+}
+
+impl Drop for FilePlace {
+    fn drop(self) {
+        let FilePlace {
+            side: _,
+            file: _,
+            place: _,
+        } = self;
+    }
 }
 
 impl FilePlace {
@@ -39,12 +49,23 @@ impl FilePlace {
 
 /// A fault: the rule that is broken, the text that it is about, its places (none, one or two), and
 /// the definition that owns it. A fault of the schema has no owner.
-#[derive(Debug, Drop)]
+#[derive(Debug)]
 pub struct Fault {
     pub rule: Rule,
     pub about: Text,
     pub places: Items<FilePlace>,
     pub owner: Option<FilePlace>,
+}
+
+impl Drop for Fault {
+    fn drop(self) {
+        let Fault {
+            rule: _,
+            about: _,
+            places: _,
+            owner: _,
+        } = self;
+    }
 }
 
 fn copy_owner(owner: &Option<FilePlace>) -> Option<FilePlace>

@@ -14,9 +14,15 @@ use std::marker::Model;
 
 /// The name of a file: 1 to 64 letters, digits, `_`, `.` and `-`, held in place and ordered by
 /// bytes. Contracts see the list of its bytes.
-#[derive(Debug, Drop)]
+#[derive(Debug)]
 pub struct FileName {
     text: ArrayString<64>,
+}
+
+impl Drop for FileName {
+    fn drop(self) {
+        let FileName { text: _ } = self;
+    }
 }
 
 impl Model for FileName {

@@ -14,9 +14,14 @@ use std::marker::Model;
 
 /// A finite map from names of files. Contracts see the list of names and values, in the order of
 /// the bytes of names.
-#[derive(Drop)]
 pub struct FileMap<T> {
     entries: BTreeMap<FileName, T>,
+}
+
+impl<T: Drop> Drop for FileMap<T> {
+    fn drop(self) {
+        let FileMap { entries: _ } = self;
+    }
 }
 
 impl<T> Model for FileMap<T> {
@@ -106,10 +111,18 @@ impl<T: Drop> FileMap<Shared<T>> {
 }
 
 /// The files that are present: schema files, which are one schema together, and document files.
-#[derive(Drop)]
 pub struct Files {
     pub schema: FileMap<Shared<Document>>,
     pub documents: FileMap<Shared<Document>>,
+}
+
+impl Drop for Files {
+    fn drop(self) {
+        let Files {
+            schema: _,
+            documents: _,
+        } = self;
+    }
 }
 
 impl Files {

@@ -63,17 +63,31 @@ pub struct ObjectField {
 }
 
 /// An argument of a field or of a directive (GraphQL specification, 2.6).
-#[derive(Drop)]
 pub struct Argument {
     pub name: Name,
     pub value: Literal,
 }
 
+impl Drop for Argument {
+    fn drop(self) {
+        let Argument { name: _, value: _ } = self;
+    }
+}
+
 /// A directive that is applied to a node (GraphQL specification, 2.12). Its place is that of its
 /// `@`.
-#[derive(Drop)]
 pub struct Directive {
     pub place: Place,
     pub name: Name,
     pub arguments: Items<Argument>,
+}
+
+impl Drop for Directive {
+    fn drop(self) {
+        let Directive {
+            place: _,
+            name: _,
+            arguments: _,
+        } = self;
+    }
 }

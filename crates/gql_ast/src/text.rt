@@ -17,11 +17,17 @@ use std::marker::Model;
 
 /// A text that a tree owns, which contracts see as the list of its bytes. A text of at most 24
 /// bytes is held in place, so that it takes no memory of its own and its copy takes none either.
-#[derive(Debug, Drop)]
+#[derive(Debug)]
 pub struct Text {
     short: ArrayString<24>,
     /// The text, if it is longer; else empty.
     long: String,
+}
+
+impl Drop for Text {
+    fn drop(self) {
+        let Text { short: _, long: _ } = self;
+    }
 }
 
 impl Model for Text {
@@ -116,10 +122,16 @@ impl Hash for Text {
 }
 
 /// A name with its place in a file (GraphQL specification, 2.1.9).
-#[derive(Debug, Drop)]
+#[derive(Debug)]
 pub struct Name {
     pub place: Place,
     pub text: Text,
+}
+
+impl Drop for Name {
+    fn drop(self) {
+        let Name { place: _, text: _ } = self;
+    }
 }
 
 impl Name {
@@ -128,6 +140,14 @@ impl Name {
         ensures { result.now ≡ self.now.text }
     {
         self.text.as_str()
+    }
+
+    /// The name's text, without its place.
+    pub fn into_text(self) -> Text
+        ensures { result ≡ self.text }
+    {
+        let Name { place: _, text } = self;
+        text
     }
 
     /// An equal name, at the same place.

@@ -12,11 +12,19 @@ use smallvec::SmallVec;
 use std::alloc::{AllocError, Global};
 
 /// The fields of one response name, in their order. A group of up to three allocates nothing.
-#[derive(Drop)]
 pub struct Group<'a> {
     pub first: FieldNode<'a>,
     /// The fields after the first.
     pub others: SmallVec<Option<FieldNode<'a>>, 2>,
+}
+
+impl Drop for Group<'_> {
+    fn drop(self) {
+        let Group {
+            first: _,
+            others: _,
+        } = self;
+    }
 }
 
 /// The groups of a selection set by their response names, in the order of the names' first fields.

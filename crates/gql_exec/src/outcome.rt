@@ -11,17 +11,31 @@ pub enum Step<'d> {
 
 /// An error of an answer (GraphQL specification, 7.1.2). The place is the start of the first node
 /// of its field; a request error has that of its variable, and no path.
-#[derive(Drop)]
 pub struct ResponseError<'d> {
     pub message: String,
     pub place: Place,
     pub path: Option<Vec<Step<'d>>>,
 }
 
+impl Drop for ResponseError<'_> {
+    fn drop(self) {
+        let ResponseError {
+            message: _,
+            place: _,
+            path: _,
+        } = self;
+    }
+}
+
 /// What the execution of an operation comes to: the text of its data, which a request error does
 /// not have, and the errors in their order.
-#[derive(Drop)]
 pub struct Outcome<'d> {
     pub data: Option<Vec<u8>>,
     pub errors: Vec<ResponseError<'d>>,
+}
+
+impl Drop for Outcome<'_> {
+    fn drop(self) {
+        let Outcome { data: _, errors: _ } = self;
+    }
 }

@@ -8,11 +8,20 @@ use gql_types::{DefinedInput, DefinedInputs, HasName, Named, TypeKind, WrittenTy
 use std::alloc::AllocError;
 
 /// An argument or an input field (GraphQL specification, 3.6.1, 3.10).
-#[derive(Drop)]
 pub struct InputFact {
     pub name: Text,
     pub of_type: WrittenType,
     pub has_default: bool,
+}
+
+impl Drop for InputFact {
+    fn drop(self) {
+        let InputFact {
+            name: _,
+            of_type: _,
+            has_default: _,
+        } = self;
+    }
 }
 
 impl HasName for InputFact {
@@ -33,29 +42,53 @@ impl DefinedInput for InputFact {
 }
 
 /// A field of an object or an interface (3.6, 3.7).
-#[derive(Drop)]
 pub struct FieldFact {
     pub of_type: WrittenType,
     pub arguments: DefinedInputs<InputFact>,
 }
 
+impl Drop for FieldFact {
+    fn drop(self) {
+        let FieldFact {
+            of_type: _,
+            arguments: _,
+        } = self;
+    }
+}
+
 /// A directive (3.13).
-#[derive(Drop)]
 pub struct DirectiveFact {
     pub locations: Items<DirectiveLocation>,
     pub is_repeatable: bool,
     pub arguments: DefinedInputs<InputFact>,
 }
 
+impl Drop for DirectiveFact {
+    fn drop(self) {
+        let DirectiveFact {
+            locations: _,
+            is_repeatable: _,
+            arguments: _,
+        } = self;
+    }
+}
+
 /// A fragment, as it is written in its file (2.8).
-#[derive(Drop)]
 pub struct FragmentFact {
     pub file: FileName,
     pub fragment: Shared<Fragment>,
 }
 
+impl Drop for FragmentFact {
+    fn drop(self) {
+        let FragmentFact {
+            file: _,
+            fragment: _,
+        } = self;
+    }
+}
+
 /// The answer to a key. A copy shares what the fact holds.
-#[derive(Drop)]
 pub enum Fact {
     /// Nothing has that name, or what has it is of another kind.
     Absent,
@@ -71,6 +104,22 @@ pub enum Fact {
     /// The name of a root operation type.
     Root(Shared<Text>),
     Fragment(FragmentFact),
+}
+
+impl Drop for Fact {
+    fn drop(self) {
+        match self {
+            Fact::Absent => {}
+            Fact::Kind(_) => {}
+            Fact::Field(_) => {}
+            Fact::Possible(_) => {}
+            Fact::Input(_) => {}
+            Fact::Enum(_) => {}
+            Fact::Directive(_) => {}
+            Fact::Root(_) => {}
+            Fact::Fragment(_) => {}
+        }
+    }
 }
 
 impl FragmentFact {

@@ -19,9 +19,14 @@ impl HasName for FragmentFact {
 
 /// The fragments of all document files, in the order of the files' names. The first of each name
 /// counts.
-#[derive(Drop)]
 pub struct Fragments {
     pub all: Named<FragmentFact>,
+}
+
+impl Drop for Fragments {
+    fn drop(self) {
+        let Fragments { all: _ } = self;
+    }
 }
 
 fn add_fragment(definition: &Definition, found: &mut Vec<FragmentFact>) -> Result<(), AllocError>

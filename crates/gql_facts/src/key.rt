@@ -10,7 +10,6 @@ use std::alloc::AllocError;
 use std::hash::{Hash, Hasher};
 
 /// A question that has one answer, a `Fact`. Names are compared by their bytes.
-#[derive(Drop)]
 pub enum Key {
     /// The kind of the type of this name (GraphQL specification, 3.4).
     KindOf(Text),
@@ -28,6 +27,24 @@ pub enum Key {
     RootOf(OperationKind),
     /// The fragment of this name (2.8).
     FragmentOf(Text),
+}
+
+impl Drop for Key {
+    fn drop(self) {
+        match self {
+            Key::KindOf(_) => {}
+            Key::FieldOf {
+                of_type: _,
+                field: _,
+            } => {}
+            Key::PossibleOf(_) => {}
+            Key::InputOf(_) => {}
+            Key::EnumOf(_) => {}
+            Key::DirectiveOf(_) => {}
+            Key::RootOf(_) => {}
+            Key::FragmentOf(_) => {}
+        }
+    }
 }
 
 impl Key {

@@ -44,10 +44,10 @@ fn keep_variable(
     ensures { OnOk result (keys.new.keys
         ≡ add_keys keys.old.keys (spec.variable_reads variable.now)) }
 {
-    let of_type = WrittenType::of(alloc, &variable.of_type)?.name;
-    keep(Key::KindOf(of_type.copy()?), keys)?;
-    keep(Key::InputOf(of_type.copy()?), keys)?;
-    keep(Key::EnumOf(of_type), keys)?;
+    let of_type = WrittenType::of(alloc, &variable.of_type)?;
+    keep(Key::KindOf(of_type.name.copy()?), keys)?;
+    keep(Key::InputOf(of_type.name.copy()?), keys)?;
+    keep(Key::EnumOf(of_type.name.copy()?), keys)?;
     keep_directives(variable.directives.as_slice(), keys)
 }
 

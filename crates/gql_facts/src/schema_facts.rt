@@ -74,12 +74,22 @@ impl HasName for DirectiveEntry {
 }
 
 /// The facts of a schema. They are made once; an answer is a look-up, and shares the fact.
-#[derive(Drop)]
 pub struct SchemaFacts {
     pub types: Named<TypeEntry>,
     pub directives: Named<DirectiveEntry>,
     pub roots: Items<RootEntry>,
     pub meta: MetaFields,
+}
+
+impl Drop for SchemaFacts {
+    fn drop(self) {
+        let SchemaFacts {
+            types: _,
+            directives: _,
+            roots: _,
+            meta: _,
+        } = self;
+    }
 }
 
 fn input_fact(alloc: Global, definition: &InputValueDefinition) -> Result<InputFact, AllocError>

@@ -15,10 +15,18 @@ use indexmap::IndexSet;
 use std::alloc::{AllocError, Global};
 
 /// What a definition reads, and the fragments that it reaches.
-#[derive(Drop)]
 pub struct Walk {
     pub keys: IndexSet<Key>,
     pub members: Vec<FragmentFact>,
+}
+
+impl Drop for Walk {
+    fn drop(self) {
+        let Walk {
+            keys: _,
+            members: _,
+        } = self;
+    }
 }
 
 fn keep_type(name: &Text, keys: &mut IndexSet<Key>) -> Result<(), AllocError>

@@ -8,12 +8,21 @@ use http::StatusCode;
 use std::alloc::AllocError;
 
 /// An answer: its status, the methods of the route if that is 405, and its body.
-#[derive(Drop)]
 pub struct Answer {
     pub status: StatusCode,
     pub allow: Option<Allow>,
     pub body: Vec<u8>,
     ghost answered: { IsTrue (is_answered status) },
+}
+
+impl Drop for Answer {
+    fn drop(self) {
+        let Answer {
+            status: _,
+            allow: _,
+            body: _,
+        } = self;
+    }
 }
 
 /// How an answer ends: whether the connection closes after it, and whether its body is left out.

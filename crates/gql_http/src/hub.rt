@@ -20,7 +20,6 @@ pub enum OpenRefusal {
 }
 
 /// The result of feeding a piece of bytes.
-#[derive(Drop)]
 pub struct Fed {
     /// The answers to the requests that the piece completed, in their order.
     pub out: Vec<u8>,
@@ -30,12 +29,31 @@ pub struct Fed {
     pub memory: bool,
 }
 
+impl Drop for Fed {
+    fn drop(self) {
+        let Fed {
+            out: _,
+            closed: _,
+            memory: _,
+        } = self;
+    }
+}
+
 /// The registry and the connections to it, each with the bytes of an unfinished request.
-#[derive(Drop)]
 pub struct Hub {
     alloc: Global,
     registry: Registry,
     framers: [Option<Framer>; 16],
+}
+
+impl Drop for Hub {
+    fn drop(self) {
+        let Hub {
+            alloc: _,
+            registry: _,
+            framers: _,
+        } = self;
+    }
 }
 
 impl Hub {

@@ -17,7 +17,6 @@ use std::collections::BTreeMap;
 
 /// The schema as introspection shows it. It is made once for a schema, and is valid as long as the
 /// schema is.
-#[derive(Drop)]
 pub struct IntroSchema {
     /// The names of the types, in the order of their bytes.
     types: Items<Text>,
@@ -26,6 +25,18 @@ pub struct IntroSchema {
     has_id: bool,
     description: Option<Text>,
     meta: MetaFields,
+}
+
+impl Drop for IntroSchema {
+    fn drop(self) {
+        let IntroSchema {
+            types: _,
+            has_int: _,
+            has_id: _,
+            description: _,
+            meta: _,
+        } = self;
+    }
 }
 
 /// Whether introspection shows a type of that name.

@@ -11,10 +11,18 @@ use gql_types::{HasName, Named};
 use std::alloc::{AllocError, Global};
 
 /// An operation that has a name.
-#[derive(Drop)]
 pub struct NamedOperation {
     pub name: Text,
     pub definition: Definition,
+}
+
+impl Drop for NamedOperation {
+    fn drop(self) {
+        let NamedOperation {
+            name: _,
+            definition: _,
+        } = self;
+    }
 }
 
 impl HasName for NamedOperation {
@@ -27,10 +35,15 @@ impl HasName for NamedOperation {
 
 /// The operations of all document files, in the order of the files' names. Of those of one name,
 /// the first counts.
-#[derive(Drop)]
 pub struct Operations {
     named: Named<NamedOperation>,
     all: Vec<Definition>,
+}
+
+impl Drop for Operations {
+    fn drop(self) {
+        let Operations { named: _, all: _ } = self;
+    }
 }
 
 /// Adds a definition that is an operation.

@@ -21,7 +21,7 @@ fn variable(alloc: Global, cursor: &mut Cursor<'_>) -> Result<Literal, ParseErro
     let name = name(alloc, cursor)?;
     Ok(Literal::Variable {
         place: mark.place,
-        name: name.text,
+        name: name.into_text(),
     })
 }
 

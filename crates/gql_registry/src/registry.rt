@@ -39,12 +39,22 @@ pub struct Reply {
 
 /// The files that services and clients have put, a verdict on each definition of the document
 /// files, the data that operations are executed on, and how many edits were accepted.
-#[derive(Drop)]
 pub struct Registry {
     alloc: Global,
     kept: Kept,
     stored: Value,
     revision: u64,
+}
+
+impl Drop for Registry {
+    fn drop(self) {
+        let Registry {
+            alloc: _,
+            kept: _,
+            stored: _,
+            revision: _,
+        } = self;
+    }
 }
 
 /// Whether a file of that name has room.

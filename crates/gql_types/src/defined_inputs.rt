@@ -18,10 +18,18 @@ pub trait DefinedInput: HasName {
 
 /// Arguments or input fields in their order, with a look-up of the first of a name, and of the
 /// required ones. Contracts see the list of all.
-#[derive(Drop)]
 pub struct DefinedInputs<T: DefinedInput> {
     all: Named<T>,
     required: Vec<usize>,
+}
+
+impl<T: DefinedInput + Drop> Drop for DefinedInputs<T> {
+    fn drop(self) {
+        let DefinedInputs {
+            all: _,
+            required: _,
+        } = self;
+    }
 }
 
 impl<T: DefinedInput> Model for DefinedInputs<T> {

@@ -32,11 +32,19 @@ const FEW: usize = 16;
 
 /// Things in their order, with a look-up of the first of a name. Contracts see the list of the
 /// things.
-#[derive(Drop)]
 pub struct Named<T: HasName> {
     things: Vec<T>,
     /// Where the first of each name is; none for few things.
     first: Option<HashMap<String, usize>>,
+}
+
+impl<T: HasName + Drop> Drop for Named<T> {
+    fn drop(self) {
+        let Named {
+            things: _,
+            first: _,
+        } = self;
+    }
 }
 
 impl<T: HasName> Model for Named<T> {

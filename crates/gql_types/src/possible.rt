@@ -17,10 +17,18 @@ use std::collections::BTreeMap;
 
 /// A composite type and the objects that its values may be, each once, in the order of the bytes of
 /// their names.
-#[derive(Drop)]
 pub struct PossibleTypes {
     pub of_type: Text,
     pub types: Items<Text>,
+}
+
+impl Drop for PossibleTypes {
+    fn drop(self) {
+        let PossibleTypes {
+            of_type: _,
+            types: _,
+        } = self;
+    }
 }
 
 impl HasName for PossibleTypes {

@@ -15,11 +15,20 @@ use std::alloc::{AllocError, Global};
 /// A root operation type: the kind of its operations, where its entry begins, and its name in the
 /// entry. If the schema has no definition, a type named Query, Mutation or Subscription is one
 /// without an entry, and the name is that of the type's definition.
-#[derive(Drop)]
 pub struct Root {
     pub kind: OperationKind,
     pub entry: Option<Place>,
     pub name: Sited<Name>,
+}
+
+impl Drop for Root {
+    fn drop(self) {
+        let Root {
+            kind: _,
+            entry: _,
+            name: _,
+        } = self;
+    }
 }
 
 fn add_entries(

@@ -21,12 +21,22 @@ use gql_built_in::Sited;
 use std::alloc::{AllocError, Global};
 
 /// All schema files as one schema. Look-ups borrow what `assemble` made, and allocate nothing.
-#[derive(Drop)]
 pub struct Schema {
     types: Named<SchemaType>,
     directives: Named<Sited<Shared<DirectiveDefinition>>>,
     roots: Items<Root>,
     possible: Named<PossibleTypes>,
+}
+
+impl Drop for Schema {
+    fn drop(self) {
+        let Schema {
+            types: _,
+            directives: _,
+            roots: _,
+            possible: _,
+        } = self;
+    }
 }
 
 impl HasName for Sited<Shared<DirectiveDefinition>> {

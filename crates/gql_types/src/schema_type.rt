@@ -24,7 +24,6 @@ use std::alloc::{AllocError, Global};
 
 /// A type: its first definition, the extensions of its kind in their order, and the parts of all of
 /// these, those of the definition first (GraphQL specification, 3.4).
-#[derive(Drop)]
 pub struct SchemaType {
     pub definition: Sited<Shared<TypeDefinition>>,
     pub extensions: Items<Sited<Shared<TypeExtension>>>,
@@ -39,6 +38,21 @@ pub struct SchemaType {
     pub values: Named<Sited<Shared<EnumValueDefinition>>>,
     /// The fields of an input object (3.10).
     pub input_fields: DefinedInputs<Sited<Shared<InputValueDefinition>>>,
+}
+
+impl Drop for SchemaType {
+    fn drop(self) {
+        let SchemaType {
+            definition: _,
+            extensions: _,
+            kind: _,
+            interfaces: _,
+            fields: _,
+            members: _,
+            values: _,
+            input_fields: _,
+        } = self;
+    }
 }
 
 impl HasName for Sited<Shared<TypeExtension>> {

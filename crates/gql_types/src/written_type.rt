@@ -18,10 +18,18 @@ pub enum Wrapper {
 
 /// A type as it is written: its wrappers from the outside in, and the name within them. `[Int!]`
 /// has the wrappers List and NonNull.
-#[derive(Drop)]
 pub struct WrittenType {
     pub wrappers: Items<Wrapper>,
     pub name: Text,
+}
+
+impl Drop for WrittenType {
+    fn drop(self) {
+        let WrittenType {
+            wrappers: _,
+            name: _,
+        } = self;
+    }
 }
 
 impl Same for Wrapper {

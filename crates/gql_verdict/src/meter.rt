@@ -6,9 +6,14 @@ use std::alloc::{AllocError, Global};
 use std::marker::Model;
 
 /// The definitions that were examined, in the order in which they were. Contracts see their list.
-#[derive(Drop)]
 pub struct Meter {
     entries: Vec<DefinitionId>,
+}
+
+impl Drop for Meter {
+    fn drop(self) {
+        let Meter { entries: _ } = self;
+    }
 }
 
 impl Model for Meter {

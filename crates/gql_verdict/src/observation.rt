@@ -10,10 +10,15 @@ use indexmap::IndexSet;
 use std::alloc::{AllocError, Global};
 
 /// A key, and the answer that it had; an absence is an answer, too.
-#[derive(Drop)]
 pub struct Observation {
     pub key: Key,
     pub fact: Fact,
+}
+
+impl Drop for Observation {
+    fn drop(self) {
+        let Observation { key: _, fact: _ } = self;
+    }
 }
 
 /// The answers to these keys.

@@ -44,9 +44,14 @@ fn add_slot(alloc: Global, slot: &Slot, found: &mut Vec<Fault>) -> Result<(), Al
 
 /// A verdict for each definition of the document files, in their order. Contracts see the list of
 /// the verdicts.
-#[derive(Drop)]
 pub struct Shelf {
     slots: Vec<Slot>,
+}
+
+impl Drop for Shelf {
+    fn drop(self) {
+        let Shelf { slots: _ } = self;
+    }
 }
 
 impl Model for Shelf {

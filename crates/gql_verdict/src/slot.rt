@@ -10,10 +10,18 @@ use std::cmp::Ordering;
 use std::mem;
 
 /// A verdict, or the index of a verdict that is kept.
-#[derive(Drop)]
 pub enum Slot {
     Here(Verdict),
     At(usize),
+}
+
+impl Drop for Slot {
+    fn drop(self) {
+        match self {
+            Slot::Here(_) => {}
+            Slot::At(_) => {}
+        }
+    }
 }
 
 /// The order of a definition, and of a name.

@@ -11,10 +11,18 @@ use std::alloc::{AllocError, Global};
 
 /// The answers that an edit may have changed: all of them, or only the fragments of these names. An
 /// edit of a document file touches only the fragments that the file has or had.
-#[derive(Drop)]
 pub enum Touched {
     All,
     Fragments(Named<Text>),
+}
+
+impl Drop for Touched {
+    fn drop(self) {
+        match self {
+            Touched::All => {}
+            Touched::Fragments(_) => {}
+        }
+    }
 }
 
 /// Adds the name of a definition that is a fragment.

@@ -17,11 +17,20 @@ use std::marker::Model;
 
 /// A definition, its faults, and the answers that these depend on. Wherever a world gives the same
 /// answers, the faults are the same. Only `examine` makes one.
-#[derive(Drop)]
 pub struct Verdict {
     def: Definition,
     faults: Vec<Fault>,
     observations: Vec<Observation>,
+}
+
+impl Drop for Verdict {
+    fn drop(self) {
+        let Verdict {
+            def: _,
+            faults: _,
+            observations: _,
+        } = self;
+    }
 }
 
 impl Model for Verdict {
