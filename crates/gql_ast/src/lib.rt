@@ -2,6 +2,9 @@
 //!
 //! Contracts see a tree as plain data: two trees are equal exactly if they are the same tree
 //! with the same places.
+//!
+//! A type that is not recursive has its `Drop` written out. A derived one would be proved again in
+//! each crate above.
 #![tactic(auto)]
 
 mod definition;
