@@ -84,15 +84,10 @@ impl Drop for Definition {
 }
 
 /// What identifies a definition: its file, and the offset of its first token there.
+#[derive(Drop)]
 pub struct DefinitionId {
     pub file: FileName,
     pub offset: usize,
-}
-
-impl Drop for DefinitionId {
-    fn drop(self) {
-        let DefinitionId { file: _, offset: _ } = self;
-    }
 }
 
 impl Definition {

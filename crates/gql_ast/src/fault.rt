@@ -17,21 +17,11 @@ pub enum FileSide {
 }
 
 /// A place in a file.
-#[derive(Debug)]
+#[derive(Debug, Drop)]
 pub struct FilePlace {
     pub side: FileSide,
     pub file: FileName,
     pub place: Place,
-}
-
-impl Drop for FilePlace {
-    fn drop(self) {
-        let FilePlace {
-            side: _,
-            file: _,
-            place: _,
-        } = self;
-    }
 }
 
 impl FilePlace {

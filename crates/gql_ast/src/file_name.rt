@@ -14,15 +14,9 @@ use std::marker::Model;
 
 /// The name of a file: 1 to 64 letters, digits, `_`, `.` and `-`, held in place and ordered by
 /// bytes. Contracts see the list of its bytes.
-#[derive(Debug)]
+#[derive(Debug, Drop)]
 pub struct FileName {
     text: ArrayString<64>,
-}
-
-impl Drop for FileName {
-    fn drop(self) {
-        let FileName { text: _ } = self;
-    }
 }
 
 impl Model for FileName {
