@@ -5,14 +5,21 @@ ghost use Rattle.serde_json.specs.Data.{put, array, object};
 ghost use Rattle.serde_json.specs.View.{view, items_view, members_view};
 
 use crate::coerced_value::CoercedValue;
-use crate::take_apart::take_apart;
+use crate::take_apart::{drop_of_levels, take_apart};
 use serde_json::{Map, Value};
 use std::alloc::{AllocError, Global};
 use std::marker::Model;
 
+/// How many levels a list or an object has at most: so many so far, and a part of this many.
+fn levels_with(levels: usize, part: usize) -> usize {
+    levels.max(part.saturating_add(1))
+}
+
 /// The items that a list has so far.
 pub struct CoercedItems {
     values: Vec<Value>,
+    /// How many levels the list has at most, itself included.
+    levels: usize,
 }
 
 impl Model for CoercedItems {
@@ -30,8 +37,8 @@ impl Model for CoercedItems {
 
 impl Drop for CoercedItems {
     fn drop(self) {
-        let CoercedItems { values } = self;
-        take_apart(Value::from(values));
+        let CoercedItems { values, levels } = self;
+        drop_of_levels(Value::from(values), levels);
     }
 }
 
@@ -42,6 +49,7 @@ impl CoercedItems {
     {
         CoercedItems {
             values: Vec::new(alloc),
+            levels: 1,
         }
     }
 
@@ -49,6 +57,7 @@ impl CoercedItems {
     pub fn push(&mut self, item: CoercedValue) -> Result<(), AllocError>
         ensures { OnOk result (self.new ≡ self.old ++ item ∷ []) }
     {
+        self.levels = levels_with(self.levels, item.levels());
         match self.values.push(item.into_value()) {
             Ok(()) => Ok(()),
             Err(failed) => {
@@ -69,14 +78,16 @@ impl CoercedItems {
     pub fn into_value(self) -> CoercedValue
         ensures { view result ≡ array (items_view self) }
     {
-        let CoercedItems { values } = self;
-        CoercedValue::new(Value::from(values))
+        let CoercedItems { values, levels } = self;
+        CoercedValue::of_levels(Value::from(values), levels)
     }
 }
 
 /// The members that an object has so far.
 pub struct CoercedMembers {
     values: Map<String, Value>,
+    /// How many levels the object has at most, itself included.
+    levels: usize,
 }
 
 impl Model for CoercedMembers {
@@ -95,8 +106,8 @@ impl Model for CoercedMembers {
 
 impl Drop for CoercedMembers {
     fn drop(self) {
-        let CoercedMembers { values } = self;
-        take_apart(Value::from(values));
+        let CoercedMembers { values, levels } = self;
+        drop_of_levels(Value::from(values), levels);
     }
 }
 
@@ -107,6 +118,7 @@ impl CoercedMembers {
     {
         CoercedMembers {
             values: Map::new(alloc),
+            levels: 1,
         }
     }
 
@@ -116,6 +128,7 @@ impl CoercedMembers {
         ensures { OnOk result (members_view self.new
             ≡ put (string_bytes name) (view value) (members_view self.old)) }
     {
+        self.levels = levels_with(self.levels, value.levels());
         match self.values.insert(name, value.into_value()) {
             Ok(Some(before)) => {
                 take_apart(before);
@@ -134,7 +147,7 @@ impl CoercedMembers {
     pub fn into_value(self) -> CoercedValue
         ensures { view result ≡ object (members_view self) }
     {
-        let CoercedMembers { values } = self;
-        CoercedValue::new(Value::from(values))
+        let CoercedMembers { values, levels } = self;
+        CoercedValue::of_levels(Value::from(values), levels)
     }
 }

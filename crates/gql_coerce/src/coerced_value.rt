@@ -1,14 +1,16 @@
 //! The value that an input comes to.
 ghost use Rattle.std.specs.Prelude.{◌≡◌};
 
-use crate::take_apart::take_apart;
+use crate::take_apart::{drop_of_levels, levels_of};
 use serde_json::Value;
 use std::marker::Model;
 
-/// The value that an input comes to. It nests as deep as memory allows: it is dropped without
-/// recursion, and without an allocation.
+/// The value that an input comes to. It nests as deep as memory allows: one of many levels is
+/// dropped without recursion, and without an allocation.
 pub struct CoercedValue {
     value: Value,
+    /// How many levels of lists and objects it has at most.
+    levels: usize,
 }
 
 impl Model for CoercedValue {
@@ -25,8 +27,8 @@ impl Model for CoercedValue {
 
 impl Drop for CoercedValue {
     fn drop(self) {
-        let CoercedValue { value } = self;
-        take_apart(value);
+        let CoercedValue { value, levels } = self;
+        drop_of_levels(value, levels);
     }
 }
 
@@ -35,7 +37,15 @@ impl CoercedValue {
     pub fn new(value: Value) -> CoercedValue
         ensures { result ≡ value }
     {
-        CoercedValue { value }
+        let levels = levels_of(&value);
+        CoercedValue { value, levels }
+    }
+
+    /// A list or an object that has at most this many levels.
+    pub(crate) fn of_levels(value: Value, levels: usize) -> CoercedValue
+        ensures { result ≡ value }
+    {
+        CoercedValue { value, levels }
     }
 
     /// The value.
@@ -45,11 +55,16 @@ impl CoercedValue {
         &self.value
     }
 
+    /// How many levels of lists and objects it has at most.
+    pub(crate) fn levels(&self) -> usize {
+        self.levels
+    }
+
     /// The value itself. As such it is dropped with recursion.
     pub(crate) fn into_value(self) -> Value
         ensures { result ≡ self }
     {
-        let CoercedValue { value } = self;
+        let CoercedValue { value, levels: _ } = self;
         value
     }
 }

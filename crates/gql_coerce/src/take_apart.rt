@@ -1,7 +1,11 @@
 //! Drops values part by part. There is no recursion, so the stack does not limit how deep they nest,
-//! and no allocation, so this cannot fail.
+//! and no allocation, so this cannot fail. A value of few levels is dropped with recursion, which is
+//! faster.
 use serde_json::Value;
 use std::mem;
+
+/// How many levels of lists and objects are dropped with recursion at most.
+const FEW_LEVELS: usize = 64;
 
 // Whether a value is a list or an object that has a part.
 fn has_part(value: &Value) -> bool {
@@ -64,5 +68,20 @@ pub fn take_apart(value: Value) {
                 None => return,
             }
         }
+    }
+}
+
+/// How many levels of lists and objects a value has at most: none if it has no part, else a number
+/// past all others.
+pub fn levels_of(value: &Value) -> usize {
+    if has_part(value) { usize::MAX } else { 0 }
+}
+
+/// Drops a value that has at most this many levels of lists and objects.
+pub fn drop_of_levels(value: Value, levels: usize) {
+    if levels > FEW_LEVELS {
+        take_apart(value);
+    } else {
+        let _of_few_levels = value;
     }
 }
