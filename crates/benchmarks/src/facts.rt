@@ -130,10 +130,10 @@ fn keys(alloc: Global, question: Question) -> Result<Vec<Key>, AllocError> {
 fn answered(alloc: Global, world: &mut Present<'_>, keys: &[Key]) -> u64 {
     let mut found: u64 = 0;
     for key in keys {
-        match world.fact(alloc, key) {
-            Ok(Fact::Absent) => (),
-            Ok(_) => found = found.wrapping_add(1),
-            Err(_) => (),
+        if let Ok(fact) = world.fact(alloc, key) {
+            if !matches!(&fact, Fact::Absent) {
+                found = found.wrapping_add(1);
+            }
         }
     }
     found
