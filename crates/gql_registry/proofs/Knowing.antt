@@ -1,19 +1,36 @@
 -- What is known before an edit, from the verdicts that are kept.
-use Rattle.std.proofs.Common.{◌≡◌, List, [], None, refl}
+use Rattle.std.specs.Prelude.{true, false}
+use Rattle.std.proofs.Common.{◌≡◌, List, [], None, refl, sym, subst, Contains}
+use Rattle.gql_ast.specs.declared.definition.Definition.{Definition}
 use Rattle.gql_ast.specs.declared.files.Files.{Files}
 use Rattle.gql_facts.specs.Facts.{fact_of}
 use Rattle.gql_facts.specs.ListMembers.{Contains-nil}
-use Rattle.gql_registry.specs.Keeping.{IsKept, IsShelfOf}
+use Rattle.gql_registry.specs.Keeping.{IsKept, IsKnownBefore, IsShelfOf}
 use Rattle.gql_verdict.specs.DocumentEdits.{ChangesOnly}
-use Rattle.gql_verdict.specs.TouchedFacts.{IsKnown}
+use Rattle.gql_verdict.specs.FileOrder.{AreFilesPlaced}
 use Rattle.gql_verdict.specs.Verdicts.{Judgement}
 use Rattle.gql_verdict.specs.declared.touched.Touched.{Touched}
-use Rattle.gql_verdict.specs.declared.touched.Touched.TheVariants.{All, Fragments}
+use Rattle.gql_verdict.specs.declared.touched.Touched.TheVariants.{All, File}
 
--- the verdicts held in the files before the edit, which changes no other answers
-pub known : (before after : Files) (shelf : List Judgement) (t : Touched) → IsShelfOf before shelf → ChangesOnly t before after → IsKnown (fact_of after) shelf t
-known before after shelf All current only = tt
-known before after shelf (Fragments names) current only = (fact_of before, record { held = current.holds; unchanged = only })
+-- the verdicts held in the files before the edit, which changes no other answers, and no definitions
+-- of other files
+pub known : (before after : Files) (shelf : List Judgement) (t : Touched) → AreFilesPlaced after.documents → IsShelfOf before shelf → ChangesOnly t before after → IsKnownBefore after shelf t
+known before after shelf All placed current only = tt
+known before after shelf (File edit) placed current only = (
+  λ d c other. subst (λ (ds : List Definition). Contains ds d) (sym current.each) (only.definitions placed d c other),
+  fact_of before,
+  record { held = current.holds; unchanged = only.answers },
+)
+
+differs : true ≡ false → ⊥
+differs e = cc
+
+-- an edit that may have changed everything
+pub all_changed : (before after : Files) → ChangesOnly All before after
+all_changed before after = record {
+  answers = λ k untouched. absurd (differs untouched);
+  definitions = λ placed d c untouched. absurd (differs untouched);
+}
 
 -- without files nothing is to be kept
 pub none_kept : (shelf : List Judgement) → shelf ≡ [] → IsKept (record { schema = []; documents = [] }) None shelf

@@ -19,7 +19,9 @@ use Rattle.gql_verdict.specs.Definitions.{all_definitions}
 use Rattle.gql_verdict.specs.FileOrder.{AreFilesPlaced}
 use Rattle.gql_verdict.specs.Plans.{IsPlanned}
 use Rattle.gql_verdict.specs.Shelves.{IsCurrent, IsWork, IsFaultOfAny}
+use Rattle.gql_verdict.specs.TouchedFacts.{IsKnown}
 use Rattle.gql_verdict.specs.Verdicts.{Judgement}
+use Rattle.gql_verdict.specs.declared.touched.Touched.{Touched}
 use Rattle.gql_verdict.specs.declared.slot.Slot.{Slot}
 
 -- files, and the verdicts that are kept
@@ -34,6 +36,10 @@ nothing_kept = record { files = record { schema = []; documents = [] }; shelf = 
 -- one verdict for each definition of the document files; each holds
 abbrev pub IsShelfOf : Files → List Judgement → Type 0
 IsShelfOf files = IsCurrent (fact_of files) (all_definitions files.documents)
+
+-- what is known of an edit that makes these files, from the verdicts before it
+abbrev pub IsKnownBefore : Files → List Judgement → Touched → Type 0
+IsKnownBefore files = IsKnown (fact_of files) (all_definitions files.documents)
 
 -- what an edit that makes these files may examine
 abbrev pub IsWorkOn : Files → List Judgement → List DefinitionId → List DefinitionId → Type 0

@@ -5,14 +5,13 @@ ghost use Rattle.serde_json.specs.View.{view};
 ghost use Rattle.gql_registry.specs.Calls.{Answers, answer_of};
 ghost use Rattle.gql_registry.specs.Changes.{IsChangeOf, IsChangeTo, IsReportLength};
 ghost use Rattle.gql_registry.specs.Keeping.{AreFactsOf, AreSchemaFaults, IsPlanFor, IsShelfOf};
-ghost use Rattle.gql_registry.specs.Keeping.{IsIndexOf, IsKnownOf, IsSideOf, IsWorkOn, nothing_kept};
+ghost use Rattle.gql_registry.specs.Keeping.{IsIndexOf, IsKnownBefore, IsKnownOf, IsSideOf, IsWorkOn};
+ghost use Rattle.gql_registry.specs.Keeping.{nothing_kept};
 ghost use Rattle.gql_registry.specs.Plans.{IsPlannedFor};
 ghost use Rattle.gql_registry.specs.Report.{IsReport};
 ghost use Rattle.gql_facts.specs.Facts as facts;
-ghost use Rattle.gql_facts.specs.Facts.{fact_of};
 ghost use Rattle.gql_registry.specs.Sides as spec;
 ghost use Rattle.gql_verdict.specs.FileOrder.{AreFilesPlaced};
-ghost use Rattle.gql_verdict.specs.TouchedFacts.{IsKnown};
 
 use crate::calling::answer_call;
 use crate::change::{Change, change_by_put, change_by_removal};
@@ -100,7 +99,7 @@ fn prepared_verdicts(
     requires schema { AreFactsOf files.now schema.now }
     requires fragments { fragments.now.all ≡ facts.fragments files.now.documents }
     requires placed { AreFilesPlaced files.now.documents }
-    requires known { IsKnown (fact_of files.now) shelf.now touched.now }
+    requires known { IsKnownBefore files.now shelf.now touched.now }
     ensures planned { IfOk result (IsPlanFor files.now shelf.now) }
     ensures work { IsWorkOn files.now shelf.now meter.old meter.new }
 {
@@ -201,7 +200,7 @@ fn verdicts_for(
     requires schema { IsSideOf change.now.files schema.now }
     requires index { IsIndexOf change.now.files index.now }
     requires placed { AreFilesPlaced change.now.files.documents }
-    requires known { IsKnown (fact_of change.now.files) shelf.now change.now.touched }
+    requires known { IsKnownBefore change.now.files shelf.now change.now.touched }
     ensures planned { IfOk result (IsPlanFor change.now.files shelf.now) }
     ensures work { IsWorkOn change.now.files shelf.now meter.old meter.new }
 {
@@ -227,7 +226,7 @@ fn plan_change(
 ) -> Result<Planned, AllocError>
     requires schema { IfSome change.now.schema (IsSideOf change.now.files) }
     requires placed { AreFilesPlaced change.now.files.documents }
-    requires known { IsKnown (fact_of change.now.files) shelf.now change.now.touched }
+    requires known { IsKnownBefore change.now.files shelf.now change.now.touched }
     ensures planned { IfOk result (IsPlannedFor change.now.files shelf.now) }
     ensures work { IsWorkOn change.now.files shelf.now meter.old meter.new }
 {

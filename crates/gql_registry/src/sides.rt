@@ -84,13 +84,13 @@ pub fn touched_by_put(
     ensures { IfOk result (λ touched. ChangesOnly touched files.now
         (spec.with_put side files.now name.now document.now)) }
 {
-    // The law that such an edit changes no other answers.
+    // The law that such an edit changes no other answers, and no definitions of other files.
     laws::put_document();
     match side {
         FileSide::Schema => Ok(Touched::All),
         FileSide::Documents => match files.documents.get(name) {
-            Some(before) => Touched::by_edit(alloc, Some(before.get()), Some(document)),
-            None => Touched::by_edit(alloc, None, Some(document)),
+            Some(before) => Touched::by_edit(alloc, name, Some(before.get()), Some(document)),
+            None => Touched::by_edit(alloc, name, None, Some(document)),
         },
     }
 }
@@ -105,13 +105,13 @@ pub fn touched_by_removal(
     ensures { IfOk result (λ touched. ChangesOnly touched files.now
         (spec.with_removed side files.now name.now)) }
 {
-    // The law that such an edit changes no other answers.
+    // The law that such an edit changes no other answers, and no definitions of other files.
     laws::remove_document();
     match side {
         FileSide::Schema => Ok(Touched::All),
         FileSide::Documents => match files.documents.get(name) {
-            Some(before) => Touched::by_edit(alloc, Some(before.get()), None),
-            None => Touched::by_edit(alloc, None, None),
+            Some(before) => Touched::by_edit(alloc, name, Some(before.get()), None),
+            None => Touched::by_edit(alloc, name, None, None),
         },
     }
 }

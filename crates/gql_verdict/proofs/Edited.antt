@@ -1,20 +1,27 @@
--- An edit of a document file changes no fragment but those that the file has or had.
-use Rattle.std.specs.Prelude.{◌≡◌, ℕ, List, [], ◌∷◌, ◌++◌, flat_map, find, refl, bytes_eq, is_some, Bool, true, false, Option, Some, None, option_map}
+-- An edit of a document file changes no fragment but those that the file has or had, and no
+-- definitions of other files.
+use Rattle.std.specs.Prelude.{◌≡◌, ◌⊎◌, ℕ, List, [], ◌∷◌, ◌++◌, flat_map, find, refl, bytes_eq, is_some, Bool, true, false, Option, Some, None, option_map, Contains}
+use Rattle.std.specs.Cmp.Lexicographic.{texts_ties, same_text, other_text}
+use Rattle.std.specs.Ordering.{is_eq}
 use Rattle.std.specs.BTreeMap.{is_at}
 use Rattle.std.specs.Option.{option_or}
 use Rattle.std.specs.declared.cmp.Ordering.{Ordering}
 use Rattle.std.specs.declared.cmp.Ordering.TheVariants.{Less, Equal, Greater}
-use Rattle.std.proofs.Common.{ap, sym, ◌∙◌}
+use Rattle.std.proofs.Common.{ap, sym, ◌∙◌, subst, inl, inr}
 use Rattle.std.proofs.lemmas.List.Folds.{find-append}
 use Rattle.gql_ast.specs.FileMaps.{file_named, name_order, with_file, without_file}
 use Rattle.gql_ast.specs.declared.definition.Definition.{Definition}
 use Rattle.gql_ast.specs.declared.definition.Document.{Document}
 use Rattle.gql_ast.specs.declared.files.Files.{Files}
-use Rattle.gql_facts.specs.Facts.{answer, fragment_in, fragments}
-use Rattle.gql_facts.specs.ListMembers.{find_map}
+use Rattle.gql_facts.specs.Facts.{answer, fact_of, fragment_in, fragments}
+use Rattle.gql_facts.specs.ListMembers.{find_map, Contains-cases, Contains-here, Contains-there, Contains-flat_map, Contains-flat_map_from}
 use Rattle.gql_facts.specs.declared.fact.Fact.TheVariants as fact
 use Rattle.gql_facts.specs.declared.fact.FragmentFact.{FragmentFact}
+use Rattle.gql_facts.specs.declared.key.Key.{Key}
 use Rattle.gql_facts.specs.declared.key.Key.TheVariants as key
+use Rattle.gql_verdict.specs.Definitions.{all_definitions}
+use Rattle.gql_verdict.specs.FileOrder.{AreFilesPlaced}
+use Rattle.gql_verdict.specs.TouchedFacts.{touches}
 use Rattle.gql_verdict.specs.DocumentEdits.{name_of, fragment_name_in, fragment_names, touched_by, with_document, without_document, ChangesOnly}
 
 -- what is found in neither of two parts
@@ -122,28 +129,104 @@ apart n xs ys e =
     let f : is_some (option_or (find (bytes_eq n) xs) (find (bytes_eq n) ys)) ≡ false = sym (ap is_some (find-append (bytes_eq n) xs ys)) ∙ e in
     (ap is_some (none_first (find (bytes_eq n) xs) (find (bytes_eq n) ys) f), ap is_some (none_second (find (bytes_eq n) xs) (find (bytes_eq n) ys) f))
 
-pub put_changes_only : (files : Files) (name : List ℕ) (document : Document)
-    → ChangesOnly (touched_by (file_named files.documents name) (Some document)) files (with_document files name document)
-put_changes_only files name document (key.FragmentOf n) untouched =
+put_answers : (files : Files) (name : List ℕ) (document : Document) (k : Key)
+    → touches (touched_by name (file_named files.documents name) (Some document)) k ≡ false
+    → fact_of (with_document files name document) k ≡ fact_of files k
+put_answers files name document (key.FragmentOf n) untouched =
     let names = apart n (fragment_names (file_named files.documents name)) (fragment_names (Some document)) untouched in
     ap (answer fact.Fragment) (put n name document files.documents (no_fragment n document.definitions names.1) (no_fragment_in n (file_named files.documents name) names.0))
-put_changes_only files name document (key.KindOf t) untouched = refl
-put_changes_only files name document (key.FieldOf t f) untouched = refl
-put_changes_only files name document (key.PossibleOf t) untouched = refl
-put_changes_only files name document (key.InputOf t) untouched = refl
-put_changes_only files name document (key.EnumOf t) untouched = refl
-put_changes_only files name document (key.DirectiveOf t) untouched = refl
-put_changes_only files name document (key.RootOf k) untouched = refl
+put_answers files name document (key.KindOf t) untouched = refl
+put_answers files name document (key.FieldOf t f) untouched = refl
+put_answers files name document (key.PossibleOf t) untouched = refl
+put_answers files name document (key.InputOf t) untouched = refl
+put_answers files name document (key.EnumOf t) untouched = refl
+put_answers files name document (key.DirectiveOf t) untouched = refl
+put_answers files name document (key.RootOf k) untouched = refl
 
-pub remove_changes_only : (files : Files) (name : List ℕ)
-    → ChangesOnly (touched_by (file_named files.documents name) None) files (without_document files name)
-remove_changes_only files name (key.FragmentOf n) untouched =
+remove_answers : (files : Files) (name : List ℕ) (k : Key)
+    → touches (touched_by name (file_named files.documents name) None) k ≡ false
+    → fact_of (without_document files name) k ≡ fact_of files k
+remove_answers files name (key.FragmentOf n) untouched =
     let names = apart n (fragment_names (file_named files.documents name)) [] untouched in
     ap (answer fact.Fragment) (removed n name files.documents (no_fragment_in n (file_named files.documents name) names.0))
-remove_changes_only files name (key.KindOf t) untouched = refl
-remove_changes_only files name (key.FieldOf t f) untouched = refl
-remove_changes_only files name (key.PossibleOf t) untouched = refl
-remove_changes_only files name (key.InputOf t) untouched = refl
-remove_changes_only files name (key.EnumOf t) untouched = refl
-remove_changes_only files name (key.DirectiveOf t) untouched = refl
-remove_changes_only files name (key.RootOf k) untouched = refl
+remove_answers files name (key.KindOf t) untouched = refl
+remove_answers files name (key.FieldOf t f) untouched = refl
+remove_answers files name (key.PossibleOf t) untouched = refl
+remove_answers files name (key.InputOf t) untouched = refl
+remove_answers files name (key.EnumOf t) untouched = refl
+remove_answers files name (key.DirectiveOf t) untouched = refl
+remove_answers files name (key.RootOf k) untouched = refl
+
+-- ---- definitions of other files
+
+abbrev File : Type 0
+File = List ℕ × Document
+
+abbrev name_in : File → List ℕ
+name_in f = f.0
+
+-- names that compare as equal are one
+same_name : (a b : List ℕ) → name_order a b ≡ Equal → a ≡ b
+same_name a b is = same_text a b (sym (texts_ties a b ∙ ap is_eq is))
+
+-- a file of another name was there before a file was put
+put_keeps : (name : List ℕ) (document : Document) (es : List File) (f : File)
+    → Contains (with_file es name document) f → (name_in f ≡ name) ⊎ Contains es f
+put_keeps name document [] f h = elim (Contains-cases f (name, document) [] h) [ inl q ↦ inl (ap name_in q) | inr t ↦ inr t ]
+put_keeps name document (e ∷ es) f h = by (name_order name e.0) refl (put_keeps name document es f) h
+  where
+    by : (o : Ordering) → name_order name e.0 ≡ o → (Contains (with_file es name document) f → (name_in f ≡ name) ⊎ Contains es f)
+        → Contains (with_file (e ∷ es) name document) f → (name_in f ≡ name) ⊎ Contains (e ∷ es) f
+    by Less is rest h =
+        let g : Contains ((name, document) ∷ e ∷ es) f = rw is at h in
+        elim (Contains-cases f (name, document) (e ∷ es) g) [ inl q ↦ inl (ap name_in q) | inr t ↦ inr t ]
+    by Equal is rest h =
+        let g : Contains ((e.0, document) ∷ es) f = rw is at h in
+        elim (Contains-cases f (e.0, document) es g) [ inl q ↦ inl (ap name_in q ∙ sym (same_name name e.0 is)) | inr t ↦ inr (Contains-there f e es t) ]
+    by Greater is rest h =
+        let g : Contains (e ∷ with_file es name document) f = rw is at h in
+        elim (Contains-cases f e (with_file es name document) g) [
+          | inl q ↦ inr (subst (λ x. Contains (e ∷ es) x) (sym q) (Contains-here e es))
+          | inr t ↦ elim (rest t) [ inl n ↦ inl n | inr u ↦ inr (Contains-there f e es u) ]
+        ]
+
+-- each file was there before one was removed
+removal_keeps : (name : List ℕ) (es : List File) (f : File) → Contains (without_file es name) f → Contains es f
+removal_keeps name [] f h = h
+removal_keeps name (e ∷ es) f h = by (is_at (name_order name) e.0) refl (removal_keeps name es f) h
+  where
+    by : (b : Bool) → is_at (name_order name) e.0 ≡ b → (Contains (without_file es name) f → Contains es f)
+        → Contains (without_file (e ∷ es) name) f → Contains (e ∷ es) f
+    by true is rest h = let g : Contains es f = rw is at h in Contains-there f e es g
+    by false is rest h =
+        let g : Contains (e ∷ without_file es name) f = rw is at h in
+        elim (Contains-cases f e (without_file es name) g) [
+          | inl q ↦ subst (λ x. Contains (e ∷ es) x) (sym q) (Contains-here e es)
+          | inr t ↦ Contains-there f e es (rest t)
+        ]
+
+abbrev definitions_in : File → List Definition
+definitions_in f = f.1.definitions
+
+put_definitions : (files : Files) (name : List ℕ) (document : Document) → AreFilesPlaced (with_file files.documents name document)
+    → (d : Definition) → Contains (all_definitions (with_file files.documents name document)) d → bytes_eq d.file name ≡ false → Contains (all_definitions files.documents) d
+put_definitions files name document placed d c other =
+    let r = Contains-flat_map_from definitions_in (with_file files.documents name document) d c in
+    elim (put_keeps name document files.documents r.0 r.1) [
+      | inl q ↦ absurd (other_text d.file name (sym other) ((placed r.0 r.1).named d r.2 ∙ q))
+      | inr t ↦ Contains-flat_map definitions_in files.documents r.0 d t r.2
+    ]
+
+removal_definitions : (files : Files) (name : List ℕ)
+    → (d : Definition) → Contains (all_definitions (without_file files.documents name)) d → Contains (all_definitions files.documents) d
+removal_definitions files name d c =
+    let r = Contains-flat_map_from definitions_in (without_file files.documents name) d c in
+    Contains-flat_map definitions_in files.documents r.0 d (removal_keeps name files.documents r.0 r.1) r.2
+
+pub put_changes_only : (files : Files) (name : List ℕ) (document : Document)
+    → ChangesOnly (touched_by name (file_named files.documents name) (Some document)) files (with_document files name document)
+put_changes_only files name document = record { answers = put_answers files name document; definitions = put_definitions files name document }
+
+pub remove_changes_only : (files : Files) (name : List ℕ)
+    → ChangesOnly (touched_by name (file_named files.documents name) None) files (without_document files name)
+remove_changes_only files name = record { answers = remove_answers files name; definitions = λ placed d c other. removal_definitions files name d c }

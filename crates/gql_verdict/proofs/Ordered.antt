@@ -1,5 +1,5 @@
 -- Verdicts in file order, and the search for one.
-use Rattle.std.specs.Prelude.{◌≡◌, ◌⊎◌, ◌<◌, ◌≤◌, ◌+◌, ℕ, zero, suc, List, [], ◌∷◌, length, map, refl, Contains, Result, Ok, Err, false}
+use Rattle.std.specs.Prelude.{◌≡◌, ◌⊎◌, ◌<◌, ◌≤◌, ◌+◌, ℕ, zero, suc, List, [], ◌∷◌, length, map, refl, Contains, Result, Ok, Err, Some, false}
 use Rattle.std.specs.List.Sorted.{IsSearchInRange, IsBinarySearchResult, IsNonDecreasingBy, IsSortedBy}
 use Rattle.std.specs.Cmp.{IsTotalOrder}
 use Rattle.std.specs.Ordering.{is_lt, ordering_index, ordering_reverse}
@@ -18,7 +18,7 @@ use Rattle.gql_ast.specs.declared.definition.DefinitionId.{DefinitionId}
 use Rattle.gql_verdict.specs.FileOrder.{InFileOrder, IsBefore, id_order}
 use Rattle.gql_verdict.specs.Shelves.{defs}
 use Rattle.gql_verdict.specs.Plans.{IsAt}
-use Rattle.gql_verdict.specs.Slots.{verdicts, IsInOrder, IsFound, slot_order}
+use Rattle.gql_verdict.specs.Slots.{verdicts, HasId, IsInOrder, IsFound, slot_order}
 use Rattle.gql_verdict.specs.Verdicts.{Judgement}
 use Rattle.gql_verdict.specs.declared.slot.Slot.{Slot}
 use Rattle.gql_verdict.specs.declared.slot.Slot.TheVariants.{Here, At}
@@ -140,3 +140,12 @@ found_at slots id (Err i) o within at = λ v c p.
       | inl h ↦ elim h [ inl l ↦ below l | inr q ↦ above (omega (arith, q)) ]
       | inr l ↦ above (omega (arith, l))
     ]
+
+-- what is at an index, and of that name
+pub found_near : (slots : List Slot) (near : ℕ) (id : DefinitionId) (s : Slot) → near < length slots → s ≡ get_or slots near s → HasId s id → IsFound slots id (Some near)
+found_near slots near id (Here v) within is h = (v, record { within = within; is = λ z. get_or_default slots near z (Here v) within ∙ sym is }, h)
+found_near slots near id (At j) within is h = absurd h
+
+-- two definitions with one file and one offset have one name
+pub same_id : (d e : Definition) → (id_of d).offset ≡ (id_of e).offset → d.file ≡ e.file → id_of d ≡ id_of e
+same_id d e offset file = ap (λ n. id_from (n, (id_of d).offset)) file ∙ ap (λ o. id_from (e.file, o)) offset

@@ -9,16 +9,17 @@ use Rattle.gql_ast.specs.declared.definition.DefinitionId.{DefinitionId}
 use Rattle.gql_facts.specs.Worlds.{Facts}
 use Rattle.gql_facts.specs.declared.fact.Fact.{Fact}
 use Rattle.gql_verdict.specs.declared.observation.Observation.{Observation}
-use Rattle.gql_facts.specs.ListMembers.{Contains-nil, either}
+use Rattle.gql_facts.specs.ListMembers.{Contains-nil, Contains-here, Contains-cases, either}
 use Rattle.gql_verdict.specs.Verdicts.{Hold, Judgement}
 use Rattle.gql_verdict.specs.Shelves.{IsDue, IsBroken, Picks, pick_none, skip, pick, IsWork, IsStepWork}
-use Rattle.gql_verdict.specs.TouchedFacts.{touches, HoldWhere, IsKnown}
+use Rattle.gql_verdict.specs.TouchedFacts.{touches, touches_definition, HoldWhere, IsKnown}
 use Rattle.gql_verdict.specs.declared.touched.Touched.{Touched}
-use Rattle.gql_verdict.specs.declared.touched.Touched.TheVariants.{All, Fragments}
+use Rattle.gql_verdict.specs.declared.touched.Touched.TheVariants.{All, File}
 use Rattle.gql_verdict.specs.Plans.{IsAt, IsStep}
 use Rattle.gql_verdict.specs.Slots.{verdicts, IsInOrder, IsFound}
 use Rattle.gql_verdict.specs.declared.slot.Slot.{Slot}
 use Rattle.gql_verdict.specs.declared.slot.Slot.TheVariants.{Here, At}
+use Rattle.gql_verdict.proofs.Members.{Contains-map_from}
 use Rattle.gql_verdict.proofs.Seen.{take_next}
 use Rattle.gql_verdict.proofs.Ordered.{same_verdict, kept_at}
 
@@ -66,12 +67,30 @@ pub not_same : (F : Facts) (G : Facts) (o : Observation) (f : Fact) (b : Bool) �
 not_same F G o f b e told same n h = differs b (same.1 (told ∙ (ap (λ (H : Facts). H o.key) e ∙ h))) n
 
 -- all that was observed holds, where it holds in what the edit may have changed
-pub holds_all : (F : Facts) (kept : List Judgement) (t : Touched) → IsKnown F kept t → (v : Judgement) → Contains kept v → HoldWhere F t v.observations → Hold F v.observations
-holds_all F kept All known v c h = λ o m. h o m refl
-holds_all F kept (Fragments names) known v c h = λ o m. elim (either (touches (Fragments names) o.key)) [
+pub holds_all : (F : Facts) (ds : List Definition) (kept : List Judgement) (t : Touched) → IsKnown F ds kept t → (v : Judgement) → Contains kept v → HoldWhere F t v.observations → Hold F v.observations
+holds_all F ds kept All known v c h = λ o m. h o m refl
+holds_all F ds kept (File edit) known v c h = λ o m. elim (either (touches (File edit) o.key)) [
   | inl y ↦ h o m y
-  | inr n ↦ known.1.unchanged o.key n ∙ known.1.held v c o m
+  | inr n ↦ known.2.unchanged o.key n ∙ known.2.held v c o m
 ]
+
+-- what is known of an edit is known of each definition
+pub known_of_one : (F : Facts) (ds : List Definition) (d : Definition) (kept : List Judgement) (t : Touched) → Contains ds d → IsKnown F ds kept t → IsKnown F (d ∷ []) kept t
+known_of_one F ds d kept All c known = tt
+known_of_one F ds d kept (File edit) c known = (
+  λ e h. known.0 e (elim (Contains-cases e d [] h) [ inl q ↦ subst (λ x. Contains ds x) (sym q) c | inr t ↦ absurd (Contains-nil e t) ]),
+  known.1,
+  known.2,
+)
+
+-- the verdict on a definition of its name is on a definition that is not touched
+pub same_if_untouched : (F : Facts) (slots : List Slot) → IsInOrder slots → (t : Touched) (d : Definition) → IsKnown F (d ∷ []) (verdicts slots) t
+    → (j : ℕ) (v w : Judgement) → IsAt slots j v → v ≡ w → id_of v.def ≡ id_of d → touches_definition t d ≡ false → w.def ≡ d
+same_if_untouched F slots o All d known j v w at e p u = absurd (differs true refl u)
+same_if_untouched F slots o (File edit) d known j v w at e p u =
+    let m = Contains-map_from (λ (x : Judgement). x.def) (verdicts slots) d (known.0 d (Contains-here d []) u) in
+    let q : m.0 ≡ v = same_verdict (verdicts slots) o.order m.0 v m.1 (kept_at slots o j v at) (ap id_of m.2 ∙ sym p) in
+    ap (λ (x : Judgement). x.def) (sym (q ∙ e)) ∙ m.2
 
 -- nothing was found for d
 pub none_kept : (F : Facts) (slots : List Slot) (d : Definition) → IsFound slots (id_of d) None → IsDue F (verdicts slots) d
@@ -85,10 +104,10 @@ found_bad F slots o d j v at p (inl other) = inl (λ w c e.
 found_bad F slots o d j v at p (inr broken) = inr (v, kept_at slots o j v at, broken.0, broken.1)
 
 -- the verdict found there is of d and holds
-pub found_good : (F : Facts) (slots : List Slot) → IsInOrder slots → (t : Touched) → IsKnown F (verdicts slots) t → (d : Definition) (j : ℕ) (v w : Judgement) → IsAt slots j v → v ≡ w → (w.def ≡ d) × HoldWhere F t w.observations → IsStep F slots d (At j)
-found_good F slots o t known d j v w at e good =
+pub found_good : (F : Facts) (slots : List Slot) → IsInOrder slots → (t : Touched) (d : Definition) → IsKnown F (d ∷ []) (verdicts slots) t → (j : ℕ) (v w : Judgement) → IsAt slots j v → v ≡ w → (w.def ≡ d) × HoldWhere F t w.observations → IsStep F slots d (At j)
+found_good F slots o t d known j v w at e good =
     let g : (v.def ≡ d) × HoldWhere F t v.observations = subst (λ (z : Judgement). (z.def ≡ d) × HoldWhere F t z.observations) (sym e) good in
-    (v, at, record { def = g.0; holds = holds_all F (verdicts slots) t known v (kept_at slots o j v at) g.1 })
+    (v, at, record { def = g.0; holds = holds_all F (d ∷ []) (verdicts slots) t known v (kept_at slots o j v at) g.1 })
 
 -- what was read at an index is the verdict there
 pub read_at : (slots : List Slot) (j : ℕ) (v w : Judgement) (s : Slot) → IsAt slots j v → s ≡ get_or slots j s → s ≡ Here w → v ≡ w

@@ -1,5 +1,5 @@
 -- Definitions with their names, and names that occur more than once.
-use Rattle.std.specs.Prelude.{ℕ, List, [], ◌∷◌, flat_map, Option, Some, None, if◌then◌else◌}
+use Rattle.std.specs.Prelude.{◌≡◌, ℕ, List, [], ◌∷◌, flat_map, Option, Some, None, false, if◌then◌else◌}
 use Rattle.gql_ast.specs.declared.definition.Definition.{Definition}
 use Rattle.gql_ast.specs.declared.definition.Tree.{Tree}
 use Rattle.gql_ast.specs.declared.fault.Fault.{Fault}
@@ -26,6 +26,10 @@ named_by name_of = flat_map (λ (d : Definition). with_name d (name_of d.tree))
 -- the text of the name
 abbrev pub text_of : Named → List ℕ
 text_of n = n.name.text
+
+-- no name occurs more than once
+abbrev pub IsEachOnce : List Named → Type 0
+IsEachOnce all = (name : List ℕ) → is_repeated text_of all name ≡ false
 
 -- a fault at the name of a definition, which owns it
 abbrev pub fault_of_name : Rule → Named → Fault

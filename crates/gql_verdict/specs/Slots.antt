@@ -18,6 +18,11 @@ abbrev pub slot_order : Slot → DefinitionId → Ordering
 slot_order (Here v) id = id_order (id_of v.def) id
 slot_order (At j) id = Less
 
+-- the slot has the verdict on the definition of this name
+abbrev pub HasId : Slot → DefinitionId → Type 0
+HasId (Here v) id = id_of v.def ≡ id
+HasId (At j) id = ⊥
+
 -- the verdicts that are in these slots
 abbrev pub verdicts : List Slot → List Judgement
 verdicts [] = []

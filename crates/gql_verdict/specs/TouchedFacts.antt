@@ -1,8 +1,10 @@
--- Which facts an edit may have changed.
+-- Which facts and which definitions an edit may have changed.
 use Rattle.std.specs.Prelude.{◌≡◌, List, Contains, Bool, true, false, bytes_eq, find, is_some}
+use Rattle.gql_ast.specs.declared.definition.Definition.{Definition}
 use Rattle.gql_facts.specs.Worlds.{Facts}
 use Rattle.gql_facts.specs.declared.key.Key.{Key}
 use Rattle.gql_facts.specs.declared.key.Key.TheVariants as key
+use Rattle.gql_verdict.specs.Shelves.{defs}
 use Rattle.gql_verdict.specs.Verdicts.{Hold, Judgement}
 use Rattle.gql_verdict.specs.declared.observation.Observation.{Observation}
 use Rattle.gql_verdict.specs.declared.touched.Touched.{Touched}
@@ -11,8 +13,13 @@ use Rattle.gql_verdict.specs.declared.touched.Touched.TheVariants as touched
 -- whether the answer to this key may have changed
 abbrev pub touches : Touched → Key → Bool
 touches touched.All k = true
-touches (touched.Fragments names) (key.FragmentOf n) = is_some (find (bytes_eq n) names)
-touches (touched.Fragments names) _ = false
+touches (touched.File edit) (key.FragmentOf n) = is_some (find (bytes_eq n) edit.fragments)
+touches (touched.File edit) _ = false
+
+-- whether this definition may have changed: every one may, or only those of the edited file
+abbrev pub touches_definition : Touched → Definition → Bool
+touches_definition touched.All d = true
+touches_definition (touched.File edit) d = bytes_eq d.file edit.file
 
 -- these observations hold, of those whose answers may have changed
 abbrev pub HoldWhere : Facts → Touched → List Observation → Type 0
@@ -26,8 +33,16 @@ pub record IsEarlier (facts : Facts) (kept : List Judgement) (t : Touched) (befo
   pub held : (v : Judgement) → Contains kept v → Hold before v.observations
   pub unchanged : (k : Key) → touches t k ≡ false → facts k ≡ before k
 
--- there were such facts before the edit, unless every answer may have changed
-abbrev pub IsKnown : Facts → List Judgement → Touched → Type 0
-IsKnown facts kept touched.All = Unit {0}
-IsKnown facts kept (touched.Fragments names) =
-    (before : Facts) × IsEarlier facts kept (touched.Fragments names) before
+-- every definition that is not touched has a verdict that is kept, place included
+abbrev pub AreOthersKept : List Definition → List Judgement → Touched → Type 0
+AreOthersKept definitions kept t = (d : Definition) → Contains definitions d
+    → touches_definition t d ≡ false → Contains (defs kept) d
+
+-- What is known of an edit that leaves these facts and these definitions: there were such facts
+-- before it, and each definition of another file has a verdict. Nothing is known of an edit that may
+-- have changed everything.
+abbrev pub IsKnown : Facts → List Definition → List Judgement → Touched → Type 0
+IsKnown facts definitions kept touched.All = Unit {0}
+IsKnown facts definitions kept (touched.File edit) =
+    AreOthersKept definitions kept (touched.File edit)
+    × (before : Facts) × IsEarlier facts kept (touched.File edit) before

@@ -19,16 +19,17 @@ pub fn same_faults()
 {}
 
 /// A document file that is put changes only the answers for the fragments that it has, or that the
-/// file of its name had.
+/// file of its name had, and no definitions of other files.
 pub fn put_document()
     ensures { (files : Files) → (name : List ℕ) → (document : Document)
-        → ChangesOnly (touched_by (file_named files.documents name) (Some document))
+        → ChangesOnly (touched_by name (file_named files.documents name) (Some document))
         files (with_document files name document) }
 {}
 
-/// A document file that is removed changes only the answers for the fragments that it had.
+/// A document file that is removed changes only the answers for the fragments that it had, and no
+/// definitions of other files.
 pub fn remove_document()
     ensures { (files : Files) → (name : List ℕ)
-        → ChangesOnly (touched_by (file_named files.documents name) None)
+        → ChangesOnly (touched_by name (file_named files.documents name) None)
         files (without_document files name) }
 {}

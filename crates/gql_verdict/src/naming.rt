@@ -1,5 +1,5 @@
 //! Definitions with their names, and names that occur more than once.
-ghost use Rattle.std.specs.Prelude.{◌≡◌, ◌++◌, ◌∷◌, [], IfOk, OnOk, map, option_map, bytes_eq, nat_lt, unwrap_or, if◌then◌else◌};
+ghost use Rattle.std.specs.Prelude.{◌≡◌, ◌++◌, ◌∷◌, ◌||◌, [], ℕ, List, false, IfOk, OnOk, map, option_map, bytes_eq, is_some, nat_lt, unwrap_or, if◌then◌else◌};
 ghost use Rattle.std.specs.HashMap as hash;
 ghost use Rattle.gql_verdict.specs.Borrowed.{named};
 ghost use Rattle.gql_verdict.specs.Definitions.{operation_name as name_of_operation, fragment_name as name_of_fragment};
@@ -85,6 +85,33 @@ pub fn add_fault_of_name(
     add_fault_of(alloc, &owner_of(one.definition), rule, one.name, faults)
 }
 
+/// Adds a name to a set. Returns whether the set had it.
+fn put_name<'t>(set: &mut HashMap<&'t str, ()>, name: &'t str) -> Result<bool, AllocError>
+    ensures had { IfOk result (λ had.
+        had ≡ is_some (hash.get_by (λ k. bytes_eq name.now k.now) set.old)) }
+    ensures names { OnOk result ((q : List ℕ) →
+        is_some (hash.get_by (λ k. bytes_eq q k.now) set.new)
+        ≡ (is_some (hash.get_by (λ k. bytes_eq q k.now) set.old) || bytes_eq q name.now)) }
+{
+    let old = set.insert(name, ())?;
+    Ok(old.is_some())
+}
+
+/// Whether some name occurs more than once. It is looked up once for each definition.
+fn has_repeated(alloc: Global, all: &[NamedDefinition<'_>]) -> Result<bool, AllocError>
+    ensures { IfOk result (λ repeated.
+        repeated ≡ false → spec.IsEachOnce (map named all.now)) }
+{
+    let mut set: HashMap<&str, ()> = HashMap::with_capacity(alloc, all.len())?;
+    for one in all {
+        let had = put_name(&mut set, one.name.as_str())?;
+        if had {
+            return Ok(true);
+        }
+    }
+    Ok(false)
+}
+
 /// Adds the fault of a definition whose name occurs more than once, by these counts.
 fn add_if_repeated(
     alloc: Global,
@@ -105,7 +132,7 @@ fn add_if_repeated(
     Ok(())
 }
 
-/// Adds a fault at each name that occurs more than once.
+/// Adds a fault at each name that occurs more than once. Names are counted only if there is one.
 pub fn add_repeated(
     alloc: Global,
     rule: Rule,
@@ -115,6 +142,10 @@ pub fn add_repeated(
     ensures { OnOk result (faults.new.items ≡ faults.old.items
         ++ spec.repeated_faults rule (map named all.now)) }
 {
+    let repeated = has_repeated(alloc, all)?;
+    if !repeated {
+        return Ok(());
+    }
     let counts = counts(alloc, all)?;
     for one in all {
         add_if_repeated(alloc, rule, &counts, one, faults)?;

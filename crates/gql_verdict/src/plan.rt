@@ -1,18 +1,18 @@
 //! Which verdicts are kept, and which definitions are examined.
-ghost use Rattle.std.specs.Prelude.{◌≡◌, ◌↔◌, ◌⊎◌, IfOk, IsTrue, MatchBool, MatchOption, map};
+ghost use Rattle.std.specs.Prelude.{◌≡◌, ◌↔◌, ◌⊎◌, ◌∷◌, [], false, IfOk, IsTrue, MatchBool, MatchOption, map};
 ghost use Rattle.std.specs.List.{AllZip};
 ghost use Rattle.gql_verdict.specs.Definitions.{all_definitions as definitions_of};
 ghost use Rattle.gql_verdict.specs.FileOrder.{AreFilesPlaced, InFileOrder};
 ghost use Rattle.gql_verdict.specs.Shelves.{IsBroken, IsDue, IsStepWork, IsWork};
 ghost use Rattle.gql_verdict.specs.Plans.{IsStep};
 ghost use Rattle.gql_verdict.specs.Slots.{IsInOrder, verdicts};
-ghost use Rattle.gql_verdict.specs.TouchedFacts.{HoldWhere, IsKnown};
+ghost use Rattle.gql_verdict.specs.TouchedFacts.{HoldWhere, IsKnown, touches_definition};
 ghost use Rattle.gql_verdict.specs.declared.slot.Slot.TheVariants.{At};
 
 use crate::definitions::all_definitions;
 use crate::meter::Meter;
 use crate::observation::Observation;
-use crate::slot::{Slot, find};
+use crate::slot::{Slot, find_near};
 use crate::touched::Touched;
 use crate::verdict::{Verdict, examine};
 use gql_ast::{Definition, Files, Same};
@@ -60,6 +60,19 @@ fn observations_hold<W: World>(
     Ok(true)
 }
 
+/// Whether a verdict is on this definition. One that the edit does not touch need not be compared.
+fn is_on(verdict: &Verdict, definition: &Definition, touched: &Touched) -> bool
+    requires { touches_definition touched.now definition.now ≡ false
+        → verdict.now.def ≡ definition.now }
+    ensures { IsTrue result ↔ (verdict.now.def ≡ definition.now) }
+{
+    if touched.touches_definition(definition) {
+        verdict.is_of(definition)
+    } else {
+        true
+    }
+}
+
 /// Whether a verdict is on this definition, and still holds.
 fn is_good<W: World>(
     alloc: Global,
@@ -68,6 +81,8 @@ fn is_good<W: World>(
     definition: &Definition,
     touched: &Touched,
 ) -> Result<bool, AllocError>
+    requires same { touches_definition touched.now definition.now ≡ false
+        → verdict.now.def ≡ definition.now }
     ensures facts { W.facts world.new ≡ W.facts world.old }
     ensures names { W.names world.new ≡ W.names world.old }
     ensures lent { W.lent world.new ≡ W.lent world.old }
@@ -78,23 +93,25 @@ fn is_good<W: World>(
         ⊎ ((verdict.now.def ≡ definition.now)
         × IsBroken (W.facts world.old) verdict.now.observations))) }
 {
-    if !verdict.is_of(definition) {
+    if !is_on(verdict, definition, touched) {
         return Ok(false);
     }
     let hold = observations_hold(alloc, world, verdict.observations(), touched)?;
     Ok(hold)
 }
 
-/// The index of the verdict that a definition keeps, if it still holds.
+/// The index of the verdict that a definition keeps, if it still holds. It is likely to be `near`.
 fn kept_verdict<W: World>(
     alloc: Global,
     world: &mut W,
     kept: &[Slot],
+    near: usize,
     definition: &Definition,
     touched: &Touched,
 ) -> Result<Option<usize>, AllocError>
     requires order { IsInOrder kept.now }
-    requires known { IsKnown (W.facts world.old) (verdicts kept.now) touched.now }
+    requires known { IsKnown (W.facts world.old) (definition.now ∷ []) (verdicts kept.now)
+        touched.now }
     ensures facts { W.facts world.new ≡ W.facts world.old }
     ensures names { W.names world.new ≡ W.names world.old }
     ensures lent { W.lent world.new ≡ W.lent world.old }
@@ -102,7 +119,7 @@ fn kept_verdict<W: World>(
         (IsDue (W.facts world.old) (verdicts kept.now) definition.now)
         (λ j. IsStep (W.facts world.old) kept.now definition.now (At j))) }
 {
-    let Some(j) = find(kept, &definition.id()) else {
+    let Some(j) = find_near(kept, near, definition) else {
         return Ok(None);
     };
     match &kept[j] {
@@ -114,17 +131,19 @@ fn kept_verdict<W: World>(
     }
 }
 
-/// The verdict that a definition keeps, or a new one.
+/// The verdict that a definition keeps, or a new one. The kept one is likely to be `near`.
 fn step<W: World>(
     alloc: Global,
     world: &mut W,
     kept: &[Slot],
+    near: usize,
     definition: &Definition,
     touched: &Touched,
     meter: &mut Meter,
 ) -> Result<Slot, AllocError>
     requires order { IsInOrder kept.now }
-    requires known { IsKnown (W.facts world.old) (verdicts kept.now) touched.now }
+    requires known { IsKnown (W.facts world.old) (definition.now ∷ []) (verdicts kept.now)
+        touched.now }
     ensures facts { W.facts world.new ≡ W.facts world.old }
     ensures names { W.names world.new ≡ W.names world.old }
     ensures lent { W.lent world.new ≡ W.lent world.old }
@@ -132,12 +151,20 @@ fn step<W: World>(
     ensures work { IsStepWork (W.facts world.old) (verdicts kept.now) definition.now
         meter.old meter.new }
 {
-    match kept_verdict(alloc, world, kept, definition, touched)? {
+    match kept_verdict(alloc, world, kept, near, definition, touched)? {
         Some(j) => Ok(Slot::At(j)),
         None => {
             let verdict = examine(alloc, world, definition, meter)?;
             Ok(Slot::Here(verdict))
         }
+    }
+}
+
+/// Where the verdict on the next definition is likely to be, after this step.
+fn near_after(step: &Slot, near: usize) -> usize {
+    match step {
+        Slot::At(j) => j.saturating_add(1),
+        Slot::Here(_) => near,
     }
 }
 
@@ -151,7 +178,8 @@ fn plan_all<W: World>(
     meter: &mut Meter,
 ) -> Result<Vec<Slot>, AllocError>
     requires order { IsInOrder kept.now }
-    requires known { IsKnown (W.facts world.old) (verdicts kept.now) touched.now }
+    requires known { IsKnown (W.facts world.old) (map (λ d. d.now) definitions.now)
+        (verdicts kept.now) touched.now }
     ensures facts { W.facts world.new ≡ W.facts world.old }
     ensures names { W.names world.new ≡ W.names world.old }
     ensures lent { W.lent world.new ≡ W.lent world.old }
@@ -161,8 +189,10 @@ fn plan_all<W: World>(
         (map (λ d. d.now) definitions.now) meter.old meter.new }
 {
     let mut steps = Vec::new(alloc);
+    let mut near = 0;
     for definition in definitions {
-        let next = step(alloc, world, kept, definition, touched, meter)?;
+        let next = step(alloc, world, kept, near, definition, touched, meter)?;
+        near = near_after(&next, near);
         steps.push(next)?;
     }
     Ok(steps)
@@ -179,7 +209,8 @@ pub fn plan<W: World>(
     meter: &mut Meter,
 ) -> Result<Vec<Slot>, AllocError>
     requires order { IsInOrder kept.now }
-    requires known { IsKnown (W.facts world.old) (verdicts kept.now) touched.now }
+    requires known { IsKnown (W.facts world.old) (definitions_of files.now.documents)
+        (verdicts kept.now) touched.now }
     ensures facts { W.facts world.new ≡ W.facts world.old }
     ensures names { W.names world.new ≡ W.names world.old }
     ensures lent { W.lent world.new ≡ W.lent world.old }

@@ -119,7 +119,8 @@ impl Shelf {
         meter: &mut Meter,
     ) -> Result<Prepared, AllocError>
         requires placed { AreFilesPlaced files.now.documents }
-        requires known { IsKnown (W.facts world.old) self.now touched.now }
+        requires known { IsKnown (W.facts world.old) (definitions_of files.now.documents)
+            self.now touched.now }
         ensures facts { W.facts world.new ≡ W.facts world.old }
         ensures names { W.names world.new ≡ W.names world.old }
         ensures lent { W.lent world.new ≡ W.lent world.old }
@@ -174,7 +175,8 @@ impl Shelf {
         meter: &mut Meter,
     ) -> Result<(), AllocError>
         requires placed { AreFilesPlaced files.now.documents }
-        requires known { IsKnown (W.facts world.old) self.old touched.now }
+        requires known { IsKnown (W.facts world.old) (definitions_of files.now.documents)
+            self.old touched.now }
         ensures facts { W.facts world.new ≡ W.facts world.old }
         ensures names { W.names world.new ≡ W.names world.old }
         ensures lent { W.lent world.new ≡ W.lent world.old }

@@ -1,11 +1,11 @@
 //! Verdicts of a shelf, in the order of their definitions.
-ghost use Rattle.std.specs.Prelude.{◌≡◌, map};
+ghost use Rattle.std.specs.Prelude.{◌≡◌, ◌↔◌, IsTrue, map, Some};
 ghost use Rattle.gql_ast.specs.Trees.{id_of};
 ghost use Rattle.gql_verdict.specs.FileOrder.{id_order};
-ghost use Rattle.gql_verdict.specs.Slots.{IsApart, IsFound, IsInOrder, resolve, slot_order};
+ghost use Rattle.gql_verdict.specs.Slots.{HasId, IsApart, IsFound, IsInOrder, resolve, slot_order};
 
 use crate::verdict::Verdict;
-use gql_ast::{Definition, DefinitionId};
+use gql_ast::{Definition, DefinitionId, Same};
 use std::cmp::Ordering;
 use std::mem;
 
@@ -33,7 +33,24 @@ fn definition_order(definition: &Definition, id: &DefinitionId) -> Ordering
     by_file.then(by_place)
 }
 
+/// Whether two definitions have one name: the same file, and the same offset there.
+fn has_same_id(definition: &Definition, other: &Definition) -> bool
+    ensures { IsTrue result ↔ (id_of definition.now ≡ id_of other.now) }
+{
+    definition.tree.place().offset == other.tree.place().offset && definition.file.same(&other.file)
+}
+
 impl Slot {
+    /// Whether the slot has the verdict on a definition of the name of this one.
+    fn has_id(&self, definition: &Definition) -> bool
+        ensures { IsTrue result ↔ HasId self.now (id_of definition.now) }
+    {
+        match self {
+            Slot::Here(verdict) => has_same_id(verdict.def(), definition),
+            Slot::At(_) => false,
+        }
+    }
+
     /// The order of the definition in the slot, and of a name.
     fn order_to(&self, id: &DefinitionId) -> Ordering
         ensures { result ≡ slot_order self.now id.now }
@@ -51,6 +68,29 @@ pub fn find(slots: &[Slot], id: &DefinitionId) -> Option<usize>
     ensures { IsFound slots.now id.now result }
 {
     slots.binary_search_by(|slot| slot.order_to(id)).ok()
+}
+
+/// Whether the verdict at an index is on the definition of the name of this one.
+fn is_near(slots: &[Slot], near: usize, definition: &Definition) -> bool
+    ensures { IsTrue result → IsFound slots.now (id_of definition.now) (Some near) }
+{
+    if near < slots.len() {
+        slots[near].has_id(definition)
+    } else {
+        false
+    }
+}
+
+/// The index of the verdict on the definition of the name of this one. The index `near`, where the
+/// verdict is likely to be, is tried first.
+pub fn find_near(slots: &[Slot], near: usize, definition: &Definition) -> Option<usize>
+    requires { IsInOrder slots.now }
+    ensures { IsFound slots.now (id_of definition.now) result }
+{
+    if is_near(slots, near, definition) {
+        return Some(near);
+    }
+    find(slots, &definition.id())
 }
 
 /// The verdict of a slot.

@@ -83,7 +83,7 @@ fn name_set<'t>(alloc: Global, names: &[&'t Name]) -> Result<HashMap<&'t str, ()
         is_some (hash.get_by (λ k. bytes_eq q k.now) set)
         ≡ is_spread (map (λ n. n.now.text) names.now) q) }
 {
-    let mut set: HashMap<&'t str, ()> = HashMap::new(alloc);
+    let mut set: HashMap<&'t str, ()> = HashMap::with_capacity(alloc, names.len())?;
     for name in names {
         add_name(&mut set, name.as_str())?;
     }

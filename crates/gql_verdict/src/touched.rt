@@ -4,23 +4,38 @@ ghost use Rattle.std.specs.Option.{option_copied};
 ghost use Rattle.gql_verdict.specs.DocumentEdits as edits;
 ghost use Rattle.gql_verdict.specs.TouchedFacts as spec;
 
-use gql_ast::{Definition, Document, Text, Tree};
+use gql_ast::{Definition, Document, FileName, Text, Tree};
 use gql_facts::Key;
 use gql_types::Named;
 use std::alloc::{AllocError, Global};
 
-/// The answers that an edit may have changed: all of them, or only the fragments of these names. An
-/// edit of a document file touches only the fragments that the file has or had.
+/// The edit of a document file: the file's name, and the names of the fragments that it has or had.
+pub struct FileEdit {
+    pub file: FileName,
+    pub fragments: Named<Text>,
+}
+
+impl Drop for FileEdit {
+    fn drop(self) {
+        let FileEdit {
+            file: _,
+            fragments: _,
+        } = self;
+    }
+}
+
+/// What an edit may have changed: everything, or only what the edit of one document file changes.
+/// That is the definitions of the file, and the fragments that it has or had.
 pub enum Touched {
     All,
-    Fragments(Named<Text>),
+    File(FileEdit),
 }
 
 impl Drop for Touched {
     fn drop(self) {
         match self {
             Touched::All => {}
-            Touched::Fragments(_) => {}
+            Touched::File(_) => {}
         }
     }
 }
@@ -59,19 +74,23 @@ fn add_file(document: Option<&Document>, names: &mut Vec<Text>) -> Result<(), Al
 }
 
 impl Touched {
-    /// What the edit of a document file touches, by the file before and after it.
+    /// What the edit of the document file of that name touches, by the file before and after it.
     pub fn by_edit(
         alloc: Global,
+        name: &FileName,
         before: Option<&Document>,
         after: Option<&Document>,
     ) -> Result<Touched, AllocError>
-        ensures { IfOk result (λ touched. touched
-            ≡ edits.touched_by (option_copied before.entry) (option_copied after.entry)) }
+        ensures { IfOk result (λ touched. touched ≡ edits.touched_by name.now
+            (option_copied before.entry) (option_copied after.entry)) }
     {
         let mut names = Vec::new(alloc);
         add_file(before, &mut names)?;
         add_file(after, &mut names)?;
-        Ok(Touched::Fragments(Named::new(alloc, names)?))
+        Ok(Touched::File(FileEdit {
+            file: name.copy(),
+            fragments: Named::new(alloc, names)?,
+        }))
     }
 
     /// Whether the answer to a key may have changed.
@@ -80,10 +99,20 @@ impl Touched {
     {
         match self {
             Touched::All => true,
-            Touched::Fragments(names) => match key {
-                Key::FragmentOf(name) => names.get(name.as_str()).is_some(),
+            Touched::File(edit) => match key {
+                Key::FragmentOf(name) => edit.fragments.get(name.as_str()).is_some(),
                 _ => false,
             },
         }
+    }
+
+    /// Whether a definition may have changed. One of another file than the edited one has not.
+    pub fn touches_definition(&self, definition: &Definition) -> bool
+        ensures { result ≡ spec.touches_definition self.now definition.now }
+    {
+        let Touched::File(edit) = self else {
+            return true;
+        };
+        definition.file == edit.file
     }
 }

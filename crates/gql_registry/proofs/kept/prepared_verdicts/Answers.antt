@@ -14,7 +14,7 @@ pub prepare-requires-clause-known : goal.prepare-requires-clause-known
 prepare-requires-clause-known c =
     let files = c.args.files.now in
     let same = c.new-world.ensures.answers (schema_of files) files.documents c.requires.schema c.requires.fragments in
-    subst (λ v. IsKnown v c.args.shelf.now c.args.touched.now) (sym same) c.requires.known
+    subst (λ v. IsKnown v (all_definitions files.documents) c.args.shelf.now c.args.touched.now) (sym same) c.requires.known
 
 pub returns-in_err-prepared-clause-planned : goal.returns-in_err-prepared-clause-planned
 returns-in_err-prepared-clause-planned c = search rules

@@ -1,8 +1,14 @@
 use Rattle.std.proofs.Common.{◌++◌, ◌∷◌, [], ◌∙◌, ap, sym, map, bytes_eq, nat_lt, if◌then◌else◌}
 use Rattle.gql_verdict.specs.Borrowed.{named}
 use Rattle.gql_verdict.specs.Naming.{Named, fault_if_repeated, fault_of_name, text_of}
-use Rattle.gql_verdict.proofs.Adding.{count_map, mapped_step}
+use Rattle.gql_verdict.proofs.Adding.{append_none, count_map, mapped_step, none_repeated}
 use Rattle.gql_verdict.proofs.naming.add_repeated.Goals as goal
+
+pub returns-then-not-repeated : goal.returns-then-not-repeated
+returns-then-not-repeated c =
+    let base = c.args.faults.now.items in
+    sym (append_none base)
+    ∙ ap (λ l. base ++ l) (sym (none_repeated c.args.rule (map named c.args.all.now) (c.in_ok-repeated.ensures c.if-not-repeated.true)))
 
 pub loop-one-preserved : goal.loop-one-preserved
 loop-one-preserved c =

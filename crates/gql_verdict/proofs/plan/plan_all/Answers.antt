@@ -1,4 +1,4 @@
-use Rattle.std.proofs.Common.{refl, sym, ◌∙◌, subst, List, [], map, ◌+◌, Bor}
+use Rattle.std.proofs.Common.{refl, sym, ◌∙◌, subst, List, [], ◌∷◌, map, ◌+◌, Bor}
 use Rattle.std.specs.List.{AllZip}
 use Rattle.gql_facts.specs.Worlds.{Facts}
 use Rattle.gql_verdict.specs.Shelves.{IsStepWork}
@@ -7,7 +7,8 @@ use Rattle.gql_verdict.specs.Slots.{verdicts}
 use Rattle.gql_verdict.specs.declared.slot.Slot.{Slot}
 use Rattle.gql_ast.specs.declared.definition.Definition.{Definition}
 use Rattle.gql_verdict.proofs.Seen.{made_within, made_item}
-use Rattle.gql_verdict.proofs.Steps.{work_none, work_all, work_more, zip_more}
+use Rattle.gql_verdict.specs.TouchedFacts.{IsKnown}
+use Rattle.gql_verdict.proofs.Steps.{work_none, work_all, work_more, zip_more, known_of_one}
 use Rattle.gql_verdict.proofs.plan.plan_all.Goals as goal
 
 pub loop-definition-init : goal.loop-definition-init
@@ -20,6 +21,18 @@ loop-definition-init g c =
       steps = subst (λ (ss : List Slot). AllZip (IsStep F c.args.kept.now) [] ss) (sym c.new-steps.ensures.items) tt;
       work = work_none F (verdicts c.args.kept.now) (map (λ (b : Bor Definition). b.now) c.args.definitions.now) c.args.meter.now;
     }
+
+pub step-requires-clause-known : goal.step-requires-clause-known
+step-requires-clause-known g c =
+    let F = g.W.World.facts c.args.world.now in
+    let vs = verdicts c.args.kept.now in
+    let ds = map (λ (b : Bor Definition). b.now) c.args.definitions.now in
+    let i = c.loop-definition.definition-index in
+    let d = c.definition-item.result.now in
+    let lt = made_within (λ (b : Bor Definition). b.now) c.args.definitions.now i c.definition-item.result c.loop-definition-test.true c.definition-item.is in
+    let item = made_item (λ (b : Bor Definition). b.now) c.args.definitions.now i c.definition-item.result c.loop-definition-test.true c.definition-item.is in
+    subst (λ (G : Facts). IsKnown G (d ∷ []) vs c.args.touched.now) (sym c.loop-definition.invariant.same_facts)
+    (known_of_one F ds d vs c.args.touched.now (i, lt, sym item) c.requires.known)
 
 pub returns-in_err-next-clause-work : goal.returns-in_err-next-clause-work
 returns-in_err-next-clause-work g c =

@@ -15,7 +15,7 @@ plan_change-requires-clause-placed c = c.requires.placed
 
 pub plan_change-requires-clause-known : goal.plan_change-requires-clause-known
 plan_change-requires-clause-known c =
-    known c.self.inside.files c.args.change.files c.self.inside.shelf c.args.change.touched c.self.invariant.current
+    known c.self.inside.files c.args.change.files c.self.inside.shelf c.args.change.touched c.requires.placed c.self.invariant.current
     (subst (λ (k : Keeping). ChangesOnly c.args.change.touched k.files c.args.change.files) (sym c.self.view_is) c.requires.touched)
 
 pub returns-in_err-planned-clause-files : goal.returns-in_err-planned-clause-files

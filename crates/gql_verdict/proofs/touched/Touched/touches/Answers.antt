@@ -3,5 +3,5 @@ use Rattle.gql_verdict.proofs.Adding.{there_is}
 use Rattle.gql_verdict.proofs.touched.Touched.touches.Goals as goal
 
 pub returns-in-FragmentOf : goal.returns-in-FragmentOf
-returns-in-FragmentOf c = rw (c.in-Fragments.is, c.in-FragmentOf.is)
-    (c.is_some.ensures ∙ there_is c.get.result ∙ ap is_some (c.get.ensures ∙ ap (λ n. find (bytes_eq n) c.in-Fragments.names) c.as_str.ensures))
+returns-in-FragmentOf c = rw (c.in-File.is, c.in-FragmentOf.is)
+    (c.is_some.ensures ∙ there_is c.get.result ∙ ap is_some (c.get.ensures ∙ ap (λ n. find (bytes_eq n) c.in-File.edit.fragments) c.as_str.ensures))
