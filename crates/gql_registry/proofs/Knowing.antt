@@ -1,5 +1,4 @@
 -- What is known before an edit, from the verdicts that are kept.
-use Rattle.std.specs.Prelude.{true, false}
 use Rattle.std.proofs.Common.{◌≡◌, List, [], None, refl, sym, subst, Contains}
 use Rattle.gql_ast.specs.declared.definition.Definition.{Definition}
 use Rattle.gql_ast.specs.declared.files.Files.{Files}
@@ -21,16 +20,6 @@ known before after shelf (File edit) placed current only = (
   fact_of before,
   record { held = current.holds; unchanged = only.answers },
 )
-
-differs : true ≡ false → ⊥
-differs e = cc
-
--- an edit that may have changed everything
-pub all_changed : (before after : Files) → ChangesOnly All before after
-all_changed before after = record {
-  answers = λ k untouched. absurd (differs untouched);
-  definitions = λ placed d c untouched. absurd (differs untouched);
-}
 
 -- without files nothing is to be kept
 pub none_kept : (shelf : List Judgement) → shelf ≡ [] → IsKept (record { schema = []; documents = [] }) None shelf
