@@ -29,6 +29,8 @@ use Rattle.gql_exec.specs.declared.frame.Group.{Group}
 use Rattle.gql_exec.specs.declared.frame.Group.TheVariants as group
 use Rattle.gql_exec.specs.declared.frame.ItemsFrame.{ItemsFrame}
 use Rattle.gql_exec.specs.declared.frame.NodesFrame.{NodesFrame}
+use Rattle.gql_exec.specs.declared.frame.Reached.{Reached}
+use Rattle.gql_exec.specs.declared.frame.Reached.TheVariants as reached
 use Rattle.gql_exec.specs.declared.frame.Turn.{Turn}
 use Rattle.gql_exec.specs.declared.outcome.Step.TheVariants as step
 use Rattle.gql_exec.specs.declared.planning.FieldPlan.{FieldPlan}
@@ -39,7 +41,7 @@ use Rattle.gql_exec.specs.declared.table.Table.{Table}
 use Rattle.gql_exec.proofs.Doing.{stepped}
 use Rattle.gql_exec.proofs.Entries.{below_still, fields_still, in_still, no_shorter}
 use Rattle.gql_exec.proofs.Executing.{At as AtField, stand_at}
-use Rattle.gql_exec.proofs.Holes.{at_still}
+use Rattle.gql_exec.proofs.Holes.{at_still, hole_stops, opens_lift}
 use Rattle.gql_exec.proofs.Midway.{midway_ends, midway_more, midway_path, midway_stops, numbered_at, numbered_length, numbered_within}
 use Rattle.gql_exec.proofs.Picked.{after_picked, here_rest, none_left, within_rest}
 
@@ -55,9 +57,31 @@ pub turns_stopped : (g : Basis) (t : Table) (whole : Part) (start : Run) (result
 turns_stopped g t whole start (Ok x) stop u e h = absurd e
 turns_stopped g t whole start (Err x) stop u e h = λ is. h (sym e ∙ is)
 
+pub begins_ended : (g : Basis) (t : Table) (r : Part) (s u : Run) (x : Begun) (e : Ended) → x ≡ begun.Ended e → Begins g t r (Ok x) s u → Done r e s u
+begins_ended g t r s u x e is h = subst (λ y. Begins g t r (Ok y) s u) is h
+
+pub begins_within : (g : Basis) (t : Table) (r : Part) (s u : Run) (x : Begun) (a : Around) (i : Group) → x ≡ begun.Within a i → Begins g t r (Ok x) s u → Opens g t a i r s u
+begins_within g t r s u x a i is h = subst (λ y. Begins g t r (Ok y) s u) is h
+
+pub node_lift : (g : Basis) (t : Table) (q r : Part) (result : Result (Around × Group) ExecRefusal) (here before now : Run)
+    → ((result : Result Ended ExecRefusal) (u : Run) → Executes q result here u → Executes r result before u) → BeginsNode g t q result here now → BeginsNode g t r result before now
+node_lift g t q r (Ok w) here before now lift b = opens_lift g t w.0 w.1 q r here before now lift b
+node_lift g t q r (Err stop) here before now lift b = lift (Err stop) now b
+
 pub opens_hole : (g : Basis) (t : Table) (a : Around) (i : Group) (p : Part) (start : Run) (r : Part) (before now : Run) → Hole a p start r before → (now ≡ start) × Enters g t i p start
     → Opens g t a i r before now
 opens_hole g t a i p start r before now hole e = subst (λ z. Opens g t a i r before z) (sym e.0) (record { inner = p; hole = hole; enters = e.1 })
+
+-- what is reached for the value of a field or an item
+module _ (g : Basis) (u : Table) (a : Around) (p : Part) (start : Run) (r : Part) (before : Run) (hole : Hole a p start r before) (now : Run) where
+  pub content_inner : (x : Reached) (i : Group) → x ≡ reached.Inner i → Reaches g u p (Ok x) start now → Opens g u a i r before now
+  content_inner x i is h = opens_hole g u a i p start r before now hole (subst (λ y. Reaches g u p (Ok y) start now) is h)
+
+  pub content_stops : (stop : ExecRefusal) → Reaches g u p (Err stop) start now → stop ≡ TooHeavy → before.left < r.weight
+  content_stops stop h is = hole_stops a p start r before hole (h is)
+
+pub content_ended : (g : Basis) (u : Table) (p : Part) (start now : Run) (x : Reached) (e : Ended) → x ≡ reached.Ended e → Reaches g u p (Ok x) start now → Done p e start now
+content_ended g u p start now x e is h = subst (λ y. Reaches g u p (Ok y) start now) is h
 
 -- ---- the values of fields and items
 

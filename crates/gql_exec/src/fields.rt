@@ -41,9 +41,11 @@ fn begin_content<'d, 'v>(
         → Begins (basis setting.now) table.new (part.content_part (types_of (basis setting.now))
         (object_of object.entry) q (path_of run.old)) result run.old run.new }
 {
+    let mark = run.out.len();
+    let depth = run.path.len();
     let around = Around {
-        mark: run.out.len(),
-        depth: run.path.len(),
+        mark,
+        depth,
         is_required: is_non_null(field.of_type),
         is_field: true,
         outer: run.raised,

@@ -47,9 +47,11 @@ fn begin_content<'d, 'v>(
         (λ s. part.content_of_item (written item.now) s i (view value.now) (path_of run.old))
         result run.old run.new }
 {
+    let mark = run.out.len();
+    let depth = run.path.len();
     let around = Around {
-        mark: run.out.len(),
-        depth: run.path.len(),
+        mark,
+        depth,
         is_required: is_non_null(item),
         is_field: false,
         outer: false,

@@ -43,9 +43,11 @@ fn begin_content<'d, 'v>(
         (λ s. part.content_of_node name.now s i (node_of node.entry) (path_of run.old))
         result run.old run.new }
 {
+    let mark = run.out.len();
+    let depth = run.path.len();
     let around = Around {
-        mark: run.out.len(),
-        depth: run.path.len(),
+        mark,
+        depth,
         is_required: true,
         is_field: false,
         outer: false,
