@@ -29,7 +29,7 @@ use Rattle.gql_exec.specs.Tables.{Has, IsRight, StandFor, StandsFor, called_of, 
 use Rattle.gql_exec.specs.Texts.{value_part}
 use Rattle.gql_exec.specs.ValueParts.{IsAbstract, IsAsked, answer_part, called_part, source_part, item_at, list_part, object_part, placed_part, site_of}
 use Rattle.gql_exec.specs.declared.ended.Ended.{Ended}
-use Rattle.gql_exec.specs.declared.ended.Ended.TheVariants.{Written}
+use Rattle.gql_exec.specs.declared.ended.Ended.TheVariants as how
 use Rattle.gql_exec.specs.declared.frame.FieldsFrame.{FieldsFrame}
 use Rattle.gql_exec.specs.declared.frame.Group.TheVariants as group
 use Rattle.gql_exec.specs.declared.frame.Reached.{Reached}
@@ -139,7 +139,7 @@ entry_stands g table k t name xs by_type has met is = let p = is t met in has.ho
 
 -- an object whose fields none is executed of yet
 pub on_entry : (g : Basis) (table : Table) (k : ℕ) (t name : List ℕ) (xs : List FileSelection) (x : Plan) (o : ObjectRef) (f : FieldsFrame) (s : Run)
-    → Has g table k t xs → is_met g t name ≡ true → IsPlan g name xs x → f ≡ record { entry = k; object = o; next = 0; ended = Written }
+    → Has g table k t xs → is_met g t name ≡ true → IsPlan g name xs x → f ≡ record { entry = k; object = o; next = 0; ended = how.Written }
     → Enters g table (group.Fields f) (value_part (execute (types_of g) x t (path_of s) (object_of o))) s
 on_entry g table k t name xs (plan by_type) o f s has met is e =
     subst (λ h. Enters g table (group.Fields h) (value_part (execute (types_of g) (plan by_type) t (path_of s) (object_of o))) s) (sym e)
@@ -147,7 +147,7 @@ on_entry g table k t name xs (plan by_type) o f s has met is e =
       pairs = pairs_of (by_type t);
       within = has.within;
       stand = entry_stands g table k t name xs by_type has met is;
-      midway = midway_starts (codes "{") (codes "}") (field_parts g (record { entry = k; object = o; next = 0; ended = Written }) (pairs_of (by_type t)) s)
+      midway = midway_starts (codes "{") (codes "}") (field_parts g (record { entry = k; object = o; next = 0; ended = how.Written }) (pairs_of (by_type t)) s)
           (value_part (execute (types_of g) (plan by_type) t (path_of s) (object_of o))) s m opens (object_is (types_of g) by_type t (path_of s) (object_of o));
     })
 

@@ -1,6 +1,7 @@
 -- Values within fields and items, and the groups that wait for them.
-use Rattle.std.proofs.Common.{◌≡◌, ℕ, zero, suc, ◌<◌, List, [], ◌∷◌, ◌++◌, Bool, true, false, length, take, codes, map, reverse, Result, Ok, Err, refl, sym, ap, ◌∙◌, arith, subst, if◌then◌else◌}
+use Rattle.std.proofs.Common.{◌≡◌, ℕ, zero, suc, ◌<◌, List, [], ◌∷◌, ◌++◌, Bool, true, false, get_or, length, take, codes, map, reverse, Result, Ok, Err, refl, sym, ap, ◌∙◌, arith, subst, if◌then◌else◌}
 use Rattle.std.specs.List.{All}
+use Rattle.std.specs.Result.{IsErrAnd}
 use Rattle.std.proofs.lemmas.List.{reverse-append}
 use Rattle.std.proofs.lemmas.List.Elements.{All-append}
 use Rattle.gql_collect.specs.Nodes.{FileSelection}
@@ -8,7 +9,7 @@ use Rattle.gql_inputs.specs.InputTypes.{name_in}
 use Rattle.gql_types.specs.Written.{written}
 use Rattle.gql_exec.specs.Ended.{both}
 use Rattle.gql_exec.specs.Execution.{Plan}
-use Rattle.gql_exec.specs.Frames.{At, AtFields, AtItems, AtNodes, Begins, Enters, FitsFrame, Hole, Inside, Opens, Pauses, RaisedAt, Reaches, Suspends, Turns, Waits, Holds, and_ended, content_by, placed_by}
+use Rattle.gql_exec.specs.Frames.{Advances, At, AtFields, AtItems, AtNodes, Begins, Enters, Fits, FitsFrame, Hole, Inside, Opens, Pauses, RaisedAt, Reaches, Suspends, Turns, Waits, Holds, and_ended, content_by, placed_by}
 use Rattle.gql_exec.specs.Parts.{Part, caught, settled}
 use Rattle.gql_exec.specs.Plans.{Basis}
 use Rattle.gql_exec.specs.States.{Done, Executes}
@@ -195,3 +196,55 @@ module _ (g : Basis) (t : Table) where
         reaches = (refl, p.enters);
         inside = subst (λ ys. Inside g t ys p.inner now whole start) (sym more) (inside_more fs f p.inner now inner began whole start p.suspends inside);
       }
+
+-- ---- frames that fit a table
+
+module _ (a b : Table) (more : Grows a b) where
+  fits_still : (i : Group) → Fits a i → Fits b i
+  fits_still (group.Fields f) h = omega (arith, h, no_shorter a b more)
+  fits_still (group.Items f) h = in_still a b f.site.slot more h
+  fits_still (group.Nodes f) h = (in_still a b f.site.slot more h.0, h.1)
+
+  pub all_still : (fs : List Frame) → All (FitsFrame a) fs → All (FitsFrame b) fs
+  all_still fs all k d w = fits_frame (get_or fs k d) (all k d w)
+    where
+    fits_frame : (f : Frame) → FitsFrame a f → FitsFrame b f
+    fits_frame f h = fits_still f.group h
+
+all_cons : (t : Table) (x : Frame) (fs : List Frame) → FitsFrame t x → All (FitsFrame t) fs → All (FitsFrame t) (x ∷ fs)
+all_cons t x fs p a zero d w = p
+all_cons t x fs p a (suc k) d w = a k d (omega (arith, w))
+
+pub all_init : (t : Table) (fs : List Frame) (f : Frame) → All (FitsFrame t) (fs ++ f ∷ []) → (All (FitsFrame t) fs) × FitsFrame t f
+all_init t [] f a = (λ k d w. absurd (omega (arith, w)), a 0 f (omega arith))
+all_init t (x ∷ fs) f a = let r = all_init t fs f (λ k d w. a (suc k) d (omega (arith, w))) in
+    (all_cons t x fs (a 0 x (omega arith)) r.0, r.1)
+
+-- ---- steps of the walk
+
+module _ (g : Basis) (t u : Table) (more : Grows t u) where
+  -- an object or a list is entered
+  pub enter_inside : (fs : List Frame) (r : Reached) (i : Group) (now : Run) (whole : Part) (start : Run) → r ≡ reached.Inner i → Holds g t fs r now whole start
+      → (p : Part) × Enters g t i p now × Inside g t fs p now whole start × Inside g u fs p now whole start
+  enter_inside fs r i now whole start is h =
+      let e : (now ≡ h.began) × Enters g t i h.inner h.began = subst (λ x. Reaches g t h.inner (Ok x) h.began now) is h.reaches in
+      let inside : Inside g t fs h.inner now whole start = subst (λ z. Inside g t fs h.inner z whole start) (sym e.0) h.inside in
+      (h.inner, subst (λ z. Enters g t i h.inner z) (sym e.0) e.1, inside, waits_still g t u more (reverse fs) h.inner now whole start inside)
+
+  -- a value has ended, for which this frame waits
+  pub resume_inside : (fs gs : List Frame) (f : Frame) (r : Reached) (e : Ended) (now : Run) (whole : Part) (start : Run) → r ≡ reached.Ended e → gs ≡ fs ++ f ∷ [] → Holds g t gs r now whole start
+      → (inner : Part) × (began : Run) × (p : Part) × (s : Run) × Suspends g t f inner began p s × Done inner e began now × Inside g t fs p s whole start × Inside g u fs p s whole start
+  resume_inside fs gs f r e now whole start is more_is h =
+      let d : Done h.inner e h.began now = subst (λ x. Reaches g t h.inner (Ok x) h.began now) is h.reaches in
+      let w : Waits g t (f ∷ reverse fs) h.inner h.began whole start = inside_less g t fs f h.inner h.began whole start (subst (λ ys. Inside g t ys h.inner h.began whole start) more_is h.inside) in
+      (h.inner, h.began, w.0, w.1, w.2, d, w.3, waits_still g t u more (reverse fs) w.0 w.1 whole start w.3)
+
+pub advances_stopped : (g : Basis) (t : Table) (fs : List Frame) (result : Result Reached ExecRefusal) (stop : ExecRefusal) (now : Run) (whole : Part) (start : Run)
+    → IsErrAnd result (λ e. e ≡ stop) → (stop ≡ TooHeavy → start.left < whole.weight) → Advances g t fs result now whole start
+advances_stopped g t fs (Ok x) stop now whole start e h = absurd e
+advances_stopped g t fs (Err x) stop now whole start e h = λ is. h (sym e ∙ is)
+
+-- nothing waits for the first object
+pub holds_first : (g : Basis) (t : Table) (fs : List Frame) (i : Group) (now : Run) (whole : Part) → fs ≡ [] → Enters g t i whole now → Holds g t fs (reached.Inner i) now whole now
+holds_first g t fs i now whole none enters = subst (λ ys. Holds g t ys (reached.Inner i) now whole now) (sym none)
+    (record { inner = whole; began = now; reaches = (refl, enters); inside = (refl, refl) })

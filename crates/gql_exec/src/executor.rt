@@ -176,7 +176,7 @@ pub fn execute_object<'d>(
 ) -> Result<Ended, ExecRefusal>
     requires right { IsRight (basis setting.now) table.old }
     requires within { entry < length table.old.entries.items }
-    ensures { (qs : List Pair)
+    ensures does { (qs : List Pair)
         → StandFor (basis setting.now) (fields_at table.old.entries.items entry) qs
         → Executes (part.object_part (types_of (basis setting.now)) (object_of object.entry) qs
         (path_of run.old)) result run.old run.new }
