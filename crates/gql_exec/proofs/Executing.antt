@@ -24,7 +24,7 @@ use Rattle.gql_exec.specs.Parts.{Part, caught, plain, raise}
 use Rattle.gql_exec.specs.Plans.{Basis, IsPlan, defined, is_met, is_met_by, is_possible_by, possible_in, types_of}
 use Rattle.gql_exec.specs.Replies.{Path}
 use Rattle.gql_exec.specs.Resolution.{resolved}
-use Rattle.gql_exec.specs.States.{path_of}
+use Rattle.gql_exec.specs.States.{Executes, path_of}
 use Rattle.gql_exec.specs.Tables.{Has, IsRight, StandFor, StandsFor, called_of, fields_at, pairs_of, planned_of}
 use Rattle.gql_exec.specs.Texts.{value_part}
 use Rattle.gql_exec.specs.ValueParts.{IsAbstract, IsAsked, answer_part, called_part, source_part, item_at, list_part, object_part, placed_part, site_of}
@@ -137,11 +137,19 @@ pub entry_stands : (g : Basis) (table : Table) (k : ℕ) (t name : List ℕ) (xs
     → IsPlan g name xs (plan by_type) → StandFor g (fields_at table.entries.items k) (pairs_of (by_type t))
 entry_stands g table k t name xs by_type has met is = let p = is t met in has.holds p.0 p.1 (pairs_of (by_type t)) (paired g t (defined g t p.0) (by_type t) p.2)
 
+pub on_entry : (g : Basis) (table : Table) (k : ℕ) (t name : List ℕ) (xs : List FileSelection) (x : Plan) (d : Object) (result : Result Ended ExecRefusal) (s u : Run)
+    → Has g table k t xs → is_met g t name ≡ true → IsPlan g name xs x
+    → ((qs : List (PlannedField × Plan)) → StandFor g (fields_at table.entries.items k) qs → Executes (object_part (types_of g) d qs (path_of s)) result s u)
+    → Executes (value_part (execute (types_of g) x t (path_of s) d)) result s u
+on_entry g table k t name xs (plan by_type) d result s u has met is does =
+    subst (λ r. Executes r result s u) (sym (object_is (types_of g) by_type t (path_of s) d))
+    (does (pairs_of (by_type t)) (entry_stands g table k t name xs by_type has met is))
+
 -- an object whose fields none is executed of yet
-pub on_entry : (g : Basis) (table : Table) (k : ℕ) (t name : List ℕ) (xs : List FileSelection) (x : Plan) (o : ObjectRef) (f : FieldsFrame) (s : Run)
+pub enters_entry : (g : Basis) (table : Table) (k : ℕ) (t name : List ℕ) (xs : List FileSelection) (x : Plan) (o : ObjectRef) (f : FieldsFrame) (s : Run)
     → Has g table k t xs → is_met g t name ≡ true → IsPlan g name xs x → f ≡ record { entry = k; object = o; next = 0; ended = how.Written }
     → Enters g table (group.Fields f) (value_part (execute (types_of g) x t (path_of s) (object_of o))) s
-on_entry g table k t name xs (plan by_type) o f s has met is e =
+enters_entry g table k t name xs (plan by_type) o f s has met is e =
     subst (λ h. Enters g table (group.Fields h) (value_part (execute (types_of g) (plan by_type) t (path_of s) (object_of o))) s) (sym e)
     (λ m opens. record {
       pairs = pairs_of (by_type t);

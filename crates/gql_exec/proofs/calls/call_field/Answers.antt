@@ -27,3 +27,6 @@ returns-in-Described-clause-does c = λ q h.
     ∙ called_described (types_of (basis c.args.setting.now)) q (path_of c.args.run.now) c.args.field.now _ h.planned c.in-Given.is (node_of c.in-Described.node)
     ∙ ap (λ v. answer_part (types_of (basis c.args.setting.now)) (view v) (node_of c.in-Described.node) q (path_of c.args.run.now)) (sym c.get-arguments.ensures))
     (c.call_node.ensures.does q h)
+
+pub returns-in-Refused-clause-keeps : goal.returns-in-Refused-clause-keeps
+returns-in-Refused-clause-keeps c = c.done.ensures.keeps (basis c.args.setting.now) c.args.table.now c.requires.right

@@ -10,6 +10,7 @@ use Rattle.gql_exec.specs.Tables.{below_at}
 use Rattle.gql_exec.specs.Texts.{value_part}
 use Rattle.gql_exec.specs.ValueParts.{IsAsked, answer_part, site_of}
 use Rattle.gql_exec.proofs.Executing.{answer_at, as_part}
+use Rattle.gql_exec.specs.declared.site.Site.{Site as FieldSite}
 use Rattle.gql_exec.proofs.calls.call_node.Goals as goal
 
 pub returns-clause-does : goal.returns-clause-does
@@ -25,3 +26,5 @@ returns-clause-does c = λ q h.
     (c.complete_answer.ensures.does q.1
     (subst (λ n. IsAsked g here n (below_at c.args.table.now c.args.slot) q.1) (ap (λ (e : PlannedField). name_in e.of_type) h.planned ∙ sym (c.as_str.ensures ∙ c.name_in-name.ensures))
     (record { kind = h.kind; plan = subst (λ xs. IsPlan g (name_in q.0.of_type) xs q.1) (sym c.requires.at.below) h.below })))
+
+

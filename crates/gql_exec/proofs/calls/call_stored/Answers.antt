@@ -10,6 +10,7 @@ use Rattle.gql_exec.specs.Tables.{below_at}
 use Rattle.gql_exec.specs.Texts.{value_part}
 use Rattle.gql_exec.specs.ValueParts.{IsAsked, source_part, resolved_in, site_of}
 use Rattle.gql_exec.proofs.Executing.{as_part, source_stored}
+use Rattle.gql_exec.specs.declared.site.Site.{Site as FieldSite}
 use Rattle.gql_exec.proofs.calls.call_stored.Goals as goal
 
 pub returns-in_ok-resolved-in-Stored-clause-does : goal.returns-in_ok-resolved-in-Stored-clause-does
@@ -26,3 +27,6 @@ returns-in_ok-resolved-in-Stored-clause-does c = λ q h.
     (c.complete_resolved.ensures.does q.1
     (subst (λ n. IsAsked g here n (below_at c.args.table.now c.args.slot) q.1) (ap (λ (e : PlannedField). name_in e.of_type) h.planned)
     (record { kind = h.kind; plan = subst (λ xs. IsPlan g (name_in q.0.of_type) xs q.1) (sym c.requires.at.below) h.below })))
+
+pub returns-in-TypeName-clause-keeps : goal.returns-in-TypeName-clause-keeps
+returns-in-TypeName-clause-keeps c = c.done.ensures.keeps (basis c.args.setting.now) c.args.table.now c.requires.right

@@ -61,3 +61,24 @@ pub returns-in-Nodes-clause-does : goal.returns-in-Nodes-clause-does
 returns-in-Nodes-clause-does c = at_nodes (basis c.args.setting.now) c.args.table.now c.args.site c.args.name.now (below_at c.args.table.now c.args.site.slot)
     (Ok c.enter_nodes.result) c.args.run.now c.args.run.now
     (answer_of c.args.setting.now.context.schema.now c.args.answer) (nodes_in c.args.setting.now.context.schema.now c.in-Nodes.nodes) (ap (answer_of c.args.setting.now.context.schema.now) c.in-Nodes.is) (c.enter_nodes.ensures.does (basis c.args.setting.now) c.args.table.now c.args.run.now c.requires.within)
+
+pub returns-in-Null-clause-keeps : goal.returns-in-Null-clause-keeps
+returns-in-Null-clause-keeps c = c.done.ensures.keeps (basis c.args.setting.now) c.args.table.now c.requires.right
+
+pub returns-in-Text-clause-keeps : goal.returns-in-Text-clause-keeps
+returns-in-Text-clause-keeps c = c.done-in-Text.ensures.keeps (basis c.args.setting.now) c.args.table.now c.requires.right
+
+pub returns-in-Boolean-clause-keeps : goal.returns-in-Boolean-clause-keeps
+returns-in-Boolean-clause-keeps c = c.done-in-Boolean.ensures.keeps (basis c.args.setting.now) c.args.table.now c.requires.right
+
+pub returns-in-EnumValue-clause-keeps : goal.returns-in-EnumValue-clause-keeps
+returns-in-EnumValue-clause-keeps c = c.done-in-EnumValue.ensures.keeps (basis c.args.setting.now) c.args.table.now c.requires.right
+
+pub returns-in-Literal-clause-keeps : goal.returns-in-Literal-clause-keeps
+returns-in-Literal-clause-keeps c = c.done-in-Literal.ensures.keeps (basis c.args.setting.now) c.args.table.now c.requires.right
+
+pub returns-in-Locations-clause-keeps : goal.returns-in-Locations-clause-keeps
+returns-in-Locations-clause-keeps c = c.done-in-Locations.ensures.keeps (basis c.args.setting.now) c.args.table.now c.requires.right
+
+pub returns-in-Nodes-clause-keeps : goal.returns-in-Nodes-clause-keeps
+returns-in-Nodes-clause-keeps c = c.enter_nodes.ensures.keeps (basis c.args.setting.now) c.args.table.now c.requires.right c.requires.within

@@ -14,3 +14,9 @@ returns-clause-does c = at_array (basis c.args.setting.now) c.args.table.now c.a
     (written c.args.item.now) (view c.args.value.now) (map view c.as_slice.result.now)
     (is_array (view c.args.value.now) (items_view c.in-Some.values.now.items) (sym c.as_array.ensures ∙ ap (option_map (λ (v : Bor (Vec Value Global)). items_view v.now.items)) c.in-Some.is)
     ∙ ap (λ vs. json.array (items_view vs)) (sym c.as_slice.ensures.value)) (c.enter_items.ensures.does (basis c.args.setting.now) c.args.table.now c.args.run.now c.requires.within)
+
+pub returns-in_default-clause-keeps : goal.returns-in_default-clause-keeps
+returns-in_default-clause-keeps c = c.done.ensures.keeps (basis c.args.setting.now) c.args.table.now c.requires.right
+
+pub returns-clause-keeps : goal.returns-clause-keeps
+returns-clause-keeps c = c.enter_items.ensures.keeps (basis c.args.setting.now) c.args.table.now c.requires.right c.requires.within

@@ -64,3 +64,12 @@ returns-in-Abstract-clause-does c = λ x a.
     let site = site_of (types_of g) c.args.site.place x in
     as_part g c.complete_abstract.new.table (value_part (of_kind site n p d (kind_named g.given.schema n))) (value_part (on_abstract site n p d (among (possible_in g.given.schema n) (get (codes "__typename") d)))) c.complete_abstract.result c.args.run.now c.complete_abstract.new.run
     (kind_abstract site n p d (kind_named g.given.schema n) (sym a.kind ∙ c.in-Abstract.is)) (c.complete_abstract.ensures.does x a)
+
+pub returns-in-Scalar-clause-keeps : goal.returns-in-Scalar-clause-keeps
+returns-in-Scalar-clause-keeps c = c.done.ensures.keeps (basis c.args.setting.now) c.args.table.now c.requires.right
+
+pub returns-in-Enum-clause-keeps : goal.returns-in-Enum-clause-keeps
+returns-in-Enum-clause-keeps c = c.done-in-Enum.ensures.keeps (basis c.args.setting.now) c.args.table.now c.requires.right
+
+pub returns-in-NoOutput-clause-keeps : goal.returns-in-NoOutput-clause-keeps
+returns-in-NoOutput-clause-keeps c = c.done-in-NoOutput.ensures.keeps (basis c.args.setting.now) c.args.table.now c.requires.right

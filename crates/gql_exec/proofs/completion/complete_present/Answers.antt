@@ -17,3 +17,6 @@ returns-in-List-clause-does c = at_list (basis c.args.setting.now) c.complete_li
 
 pub returns-in-NonNull-clause-does : goal.returns-in-NonNull-clause-does
 returns-in-NonNull-clause-does c = λ x i. absurd (true≢false (sym (ap is_non_null (ap written c.in-NonNull.is ∙ written_non_null c.in-NonNull.field-0)) ∙ c.requires.nullable))
+
+pub returns-in-NonNull-clause-keeps : goal.returns-in-NonNull-clause-keeps
+returns-in-NonNull-clause-keeps c = c.done.ensures.keeps (basis c.args.setting.now) c.args.table.now c.requires.right

@@ -11,5 +11,5 @@ returns-clause-does c = λ inner began whole start s done. c.run_group.ensures.d
 
 pub returns-in_err-ended-clause-does : goal.returns-in_err-ended-clause-does
 returns-in_err-ended-clause-does c = λ inner began whole start s done.
-    turns_stopped (basis c.args.setting.now) c.args.table.now whole start c.from_residual-in_err-ended.result c.in_err-ended.field-0.0 c.close.new.run c.from_residual-in_err-ended.ensures.1
+    turns_stopped (basis c.args.setting.now) c.args.table.now whole start c.from_residual.result c.in_err-ended.field-0.0 c.close.new.run c.from_residual.ensures.1
     (λ heavy. s.stops (c.in_err-ended.ensures inner began s.part s.before s.hole done heavy))

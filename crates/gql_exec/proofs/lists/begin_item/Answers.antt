@@ -24,14 +24,14 @@ returns-clause-does c = λ x i.
     c.in_ok-write_comma.ensures.follows c.in_ok-count.ensures.follows y)
     (c.begin_content.ensures.does x i)
 
-pub returns-in_ok-write_direct-in-Some-clause-does : goal.returns-in_ok-write_direct-in-Some-clause-does
-returns-in_ok-write_direct-in-Some-clause-does c = λ x a.
+pub returns-in-Some-clause-does : goal.returns-in-Some-clause-does
+returns-in-Some-clause-does c = λ x a.
     let item = written c.args.item.now in
     let d = view c.args.value.now in
     let site = site_of (types_of (basis c.args.setting.now)) c.args.site.place x in
     let is = c.in-Some.ensures in
     counted-executes c.args.i (λ p. content_of_item item site c.args.i d p)
-    (Ok c.in_ok-write_direct-in-Some.field-0) c.args.run.now c.write_comma.new.run c.count.new.run c.write_direct.new.run c.in_ok-write_comma.ensures.follows c.in_ok-count.ensures.follows
-    (subst (λ r. Executes r (Ok c.in_ok-write_direct-in-Some.field-0) c.count.new.run c.write_direct.new.run)
+    (Ok c.in_ok-write_direct.field-0) c.args.run.now c.write_comma.new.run c.count.new.run c.write_direct.new.run c.in_ok-write_comma.ensures.follows c.in_ok-count.ensures.follows
+    (subst (λ r. Executes r (Ok c.in_ok-write_direct.field-0) c.count.new.run c.write_direct.new.run)
     (sym (direct_item item site c.args.i is.scalar d (data_of c.in-Some.found) (path_of c.count.new.run) is.not_list (sym a.kind ∙ is.kind_is) is.value is.present))
-    c.in_ok-write_direct-in-Some.ensures)
+    c.in_ok-write_direct.ensures)

@@ -12,20 +12,20 @@ returns-in_ok-write_byte-in-None-clause-does c = λ whole start at.
     nodes_end g c.args.table.now f whole start c.args.run.now at (subst (NextIs (elements g.given.schema f.nodes) f.passed) c.in-None.is c.next_node.ensures.is)
     c.write_byte.new.run c.in_ok-write_byte-in-None.ensures.follows
 
-pub returns-in_ok-begin_node-in-Some-clause-does : goal.returns-in_ok-begin_node-in-Some-clause-does
-returns-in_ok-begin_node-in-Some-clause-does c = λ whole start at.
+pub returns-in_ok-around-in-Some-clause-does : goal.returns-in_ok-around-in-Some-clause-does
+returns-in_ok-around-in-Some-clause-does c = λ whole start at.
     let g = basis c.args.setting.now in
     let f = c.args.frame in
     let is = subst (NextIs (elements g.given.schema f.nodes) f.passed) c.in-Some.is c.next_node.ensures.is in
     node_pauses g c.args.table.now f whole start c.args.run.now at (node_of c.in-Some.node) c.in-Some.passed is
-    c.begin_node.new.table c.in_ok-begin_node-in-Some.around c.in_ok-begin_node-in-Some.inner c.begin_node.new.run c.in_ok-begin_node-in-Some.ensures.keeps.grows
-    (c.in_ok-begin_node-in-Some.ensures.does at.plan at.asked)
+    c.begin_node.new.table c.in_ok-around-in-Some.around c.in_ok-around-in-Some.inner c.begin_node.new.run c.in_ok-around-in-Some.ensures.keeps.grows
+    (c.in_ok-around-in-Some.ensures.does at.plan at.asked)
 
-pub returns-in_err-begin_node-in-Some-clause-does : goal.returns-in_err-begin_node-in-Some-clause-does
-returns-in_err-begin_node-in-Some-clause-does c = λ whole start at.
+pub returns-in_err-around-in-Some-clause-does : goal.returns-in_err-around-in-Some-clause-does
+returns-in_err-around-in-Some-clause-does c = λ whole start at.
     let g = basis c.args.setting.now in
     let f = c.args.frame in
     let is = subst (NextIs (elements g.given.schema f.nodes) f.passed) c.in-Some.is c.next_node.ensures.is in
-    turns_stopped g c.begin_node.new.table whole start c.from_residual-in_err-begin_node-in-Some.result c.in_err-begin_node-in-Some.field-0.0 c.begin_node.new.run c.from_residual-in_err-begin_node-in-Some.ensures.1
+    turns_stopped g c.begin_node.new.table whole start c.from_residual.result c.in_err-around-in-Some.field-0.0 c.begin_node.new.run c.from_residual.ensures.1
     (λ heavy. node_stops g c.args.table.now f whole start c.args.run.now at (node_of c.in-Some.node) c.in-Some.passed is
-    (c.in_err-begin_node-in-Some.ensures.does at.plan at.asked heavy))
+    (c.in_err-around-in-Some.ensures.does at.plan at.asked heavy))
