@@ -17,8 +17,7 @@ pub steps-preserved : goal.steps-preserved
 steps-preserved c =
     let inv = c.steps.invariant in
     let k = c.in_ok-reached.ensures.keeps in
-    let r = λ qs. object_part (types_of (basis c.args.setting.now)) (object_of c.args.object) qs (path_of c.args.run.now) in
-    record { right = k.0; fits = k.2; reached = k.3; holds = λ qs h. c.in_ok-reached.ensures.does (r qs) c.args.run.now (inv.holds qs h) }
+    record { right = k.0; fits = k.2; reached = k.3; holds = λ qs h. c.in_ok-reached.ensures.does (object_part (types_of (basis c.args.setting.now)) (object_of c.args.object) qs (path_of c.args.run.now)) c.args.run.now (inv.holds qs h) }
 
 pub returns-in-Some : goal.returns-in-Some
 returns-in-Some c = record { does = λ qs h.
@@ -32,8 +31,8 @@ steps-init c =
     let f : FieldsFrame = record { entry = c.args.entry; object = c.args.object; next = 0; ended = Written } in
     record {
       right = c.requires.right;
-      fits = subst (All (FitsFrame c.args.table.now)) (sym c.new.ensures.items) (λ k d w. absurd (omega (arith, w)));
+      fits = subst (All (FitsFrame c.args.table.now)) (sym c.new-stack.ensures.items) (λ k d w. absurd (omega (arith, w)));
       reached = c.requires.within;
-      holds = λ qs h. holds_first g c.args.table.now c.new.result.items (group.Fields f) s (object_part (types_of g) (object_of c.args.object) qs (path_of s)) c.new.ensures.items
+      holds = λ qs h. holds_first g c.args.table.now c.new-stack.result.items (group.Fields f) s (object_part (types_of g) (object_of c.args.object) qs (path_of s)) c.new-stack.ensures.items
           (λ m opens. record { pairs = qs; within = c.requires.within; stand = h; midway = midway_starts (codes "{") (codes "}") (field_parts g f qs s) (object_part (types_of g) (object_of c.args.object) qs (path_of s)) s m opens refl });
     }
