@@ -177,7 +177,8 @@ placed_by required r = if required then r else caught r
 
 -- what is written for the content of a field or an item, by that for its value
 abbrev pub content_by : Around → Part → Part
-content_by a r = if a.is_field then settled (placed_by a.is_required r) else placed_by a.is_required r
+content_by a r = if a.is_field then settled (placed_by a.is_required r)
+    else placed_by a.is_required r
 
 -- whether the field has an error, for the content of a field that begins or of an item
 abbrev pub RaisedAt : Bool → Bool → Bool → Bool → Type 0
@@ -231,7 +232,8 @@ Reaches g t r (Ok (reached.Ended ended)) old new = Done r ended old new
 Reaches g t r (Ok (reached.Inner i)) old new = (new ≡ old) × Enters g t i r old
 Reaches g t r (Err stop) old new = stop ≡ TooHeavy → old.left < r.weight
 
--- a field or an item has been done; or a group is to be entered for its value; or a call has stopped
+-- a field or an item has been done; or a group is to be entered for its value; or a call has
+-- stopped
 abbrev pub Begins : Basis → Table → Part → Result Begun ExecRefusal → Run → Run → Type 0
 Begins g t r (Ok (begun.Ended ended)) old new = Done r ended old new
 Begins g t r (Ok (begun.Within a i)) old new = Opens g t a i r old new

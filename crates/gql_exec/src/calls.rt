@@ -1,5 +1,5 @@
-//! The values of fields (GraphQL specification, 4, 6.4.2 and 6.4.3), up to the objects and the lists
-//! that are to be entered.
+//! The values of fields (GraphQL specification, 4, 6.4.2 and 6.4.3), up to the objects and the
+//! lists that are to be entered.
 ghost use Rattle.std.specs.Prelude.{◌≡◌};
 ghost use Rattle.serde_json.specs.View.{view};
 ghost use Rattle.gql_intro.specs.Borrowed.{answer_of, node_of};
@@ -48,7 +48,8 @@ pub fn call_field<'d, 'v>(
     requires at { IsAt table.old slot field.now }
     ensures keeps { Keeps (basis setting.now) table.old table.new result }
     ensures does { (q : Pair) → StandsFor (basis setting.now) field.now q
-        → Reaches (basis setting.now) table.new (part.called_part (types_of (basis setting.now)) (object_of object.entry) q
+        → Reaches (basis setting.now) table.new (part.called_part
+        (types_of (basis setting.now)) (object_of object.entry) q
         (path_of run.old)) result run.old run.new }
 {
     match &field.arguments {
@@ -84,7 +85,8 @@ fn call_stored<'d, 'v>(
     requires at { IsAt table.old slot field.now }
     ensures keeps { Keeps (basis setting.now) table.old table.new result }
     ensures does { (q : Pair) → StandsFor (basis setting.now) field.now q
-        → Reaches (basis setting.now) table.new (part.source_part (types_of (basis setting.now)) (view arguments.now)
+        → Reaches (basis setting.now) table.new (part.source_part
+        (types_of (basis setting.now)) (view arguments.now)
         (view value.now) q (path_of run.old)) result run.old run.new }
 {
     match &field.source {
@@ -121,7 +123,8 @@ fn call_node<'d, 'v>(
     requires at { IsAt table.old slot field.now }
     ensures keeps { Keeps (basis setting.now) table.old table.new result }
     ensures does { (q : Pair) → StandsFor (basis setting.now) field.now q
-        → Reaches (basis setting.now) table.new (part.answer_part (types_of (basis setting.now)) (view arguments.now)
+        → Reaches (basis setting.now) table.new (part.answer_part
+        (types_of (basis setting.now)) (view arguments.now)
         (node_of node.entry) q (path_of run.old)) result run.old run.new }
 {
     let answer = introspect(setting, node, field.name, arguments);

@@ -1,5 +1,5 @@
-//! The completion of values (GraphQL specification, 6.4.3), up to the objects and the lists that are
-//! to be entered.
+//! The completion of values (GraphQL specification, 6.4.3), up to the objects and the lists that
+//! are to be entered.
 ghost use Rattle.std.specs.Prelude.{◌≡◌, List, ℕ, codes, false, true, Ok, IfOk};
 ghost use Rattle.serde_json.specs.Find.{get};
 ghost use Rattle.serde_json.specs.View.{view};

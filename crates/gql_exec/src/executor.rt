@@ -113,8 +113,8 @@ fn push_turn<'d, 'v>(
     }
 }
 
-/// Enters an object or a list, or goes on with the one around a value that has ended. The last value
-/// of all stays as it is.
+/// Enters an object or a list, or goes on with the one around a value that has ended. The last
+/// value of all stays as it is.
 fn advance<'d, 'v>(
     alloc: Global,
     setting: &Setting<'d, '_>,
