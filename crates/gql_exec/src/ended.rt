@@ -12,6 +12,7 @@ pub enum Ended {
 
 impl Ended {
     /// How two parts of one value end.
+    #[inline]
     pub fn and(self, next: Ended) -> Ended
         ensures { result ≡ both self next }
     {

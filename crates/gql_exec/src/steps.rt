@@ -18,6 +18,7 @@ use serde_json::Value;
 use std::alloc::{AllocError, Global};
 
 /// Writes bytes as they are.
+#[inline]
 pub fn write(run: &mut Run<'_>, bytes: &[u8]) -> Result<(), ExecRefusal>
     ensures follows { OnOk result (Follows (plain bytes.now) run.old run.new) }
     ensures err { IfErr result (λ e. e ≡ ExecRefusal.Memory) }
@@ -27,6 +28,7 @@ pub fn write(run: &mut Run<'_>, bytes: &[u8]) -> Result<(), ExecRefusal>
 }
 
 /// Writes one byte.
+#[inline]
 pub fn write_byte(run: &mut Run<'_>, byte: u8) -> Result<(), ExecRefusal>
     ensures follows { OnOk result (Follows (plain (byte ∷ [])) run.old run.new) }
     ensures err { IfErr result (λ e. e ≡ ExecRefusal.Memory) }
@@ -37,6 +39,7 @@ pub fn write_byte(run: &mut Run<'_>, byte: u8) -> Result<(), ExecRefusal>
 
 /// Writes a comma, but not before the first part.
 #[tactic(auto, using(crate::proofs::Parts::comma_first, crate::proofs::Parts::comma_later))]
+#[inline]
 pub fn write_comma(run: &mut Run<'_>, i: usize) -> Result<(), ExecRefusal>
     ensures follows { OnOk result (Follows (comma i) run.old run.new) }
     ensures err { IfErr result (λ e. e ≡ ExecRefusal.Memory) }
@@ -67,6 +70,7 @@ pub fn write_text_bytes(run: &mut Run<'_>, text: &[u8]) -> Result<(), ExecRefusa
 }
 
 /// Writes a whole number.
+#[inline]
 pub fn write_whole(run: &mut Run<'_>, number: i64) -> Result<(), ExecRefusal>
     ensures follows { OnOk result (Follows (plain (signed_decimal number)) run.old run.new) }
     ensures err { IfErr result (λ e. e ≡ ExecRefusal.Memory) }
@@ -87,6 +91,7 @@ pub fn write_any(run: &mut Run<'_>, value: &Value) -> Result<(), ExecRefusal>
 }
 
 /// Counts one value, unless the limit is reached.
+#[inline]
 pub fn count(run: &mut Run<'_>) -> Result<(), ExecRefusal>
     ensures follows { OnOk result (Follows one run.old run.new) }
     ensures err { IfErr result (λ e. run.old.left ≡ 0) }

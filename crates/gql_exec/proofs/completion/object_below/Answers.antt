@@ -1,0 +1,10 @@
+use Rattle.std.proofs.Common.{refl}
+use Rattle.gql_exec.specs.Objects.{basis}
+use Rattle.gql_exec.specs.Tables.{below_at}
+use Rattle.gql_exec.specs.declared.ended.Ended.TheVariants.{Written}
+use Rattle.gql_exec.proofs.Executing.{enters_entry}
+use Rattle.gql_exec.proofs.completion.object_below.Goals as goal
+
+pub returns-clause-enters : goal.returns-clause-enters
+returns-clause-enters c = λ now name met x i. enters_entry (basis c.args.setting.now) c.at.new.self c.in_ok-entry.entry c.args.of_type.now name
+    (below_at c.args.table.now c.args.slot) x c.args.object (record { entry = c.in_ok-entry.entry; object = c.args.object; next = 0; ended = Written }) now c.in_ok-entry.ensures.has met i refl

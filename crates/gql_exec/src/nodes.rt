@@ -1,0 +1,135 @@
+//! The nodes of lists of introspection (GraphQL specification, 4.2).
+ghost use Rattle.std.specs.Prelude.{◌≡◌, ◌<◌, ◌≤◌, IfOk, IfSome};
+ghost use Rattle.gql_intro.specs.Borrowed.{elements, node_of};
+ghost use Rattle.gql_exec.specs.Frames.{AtNodes, DoesBeginNode, Fits, Kept, KeepsTurn, NextIs, Turns};
+ghost use Rattle.gql_exec.specs.Objects.{basis};
+ghost use Rattle.gql_exec.specs.Parts.{Part};
+ghost use Rattle.gql_exec.specs.States.{path_of};
+ghost use Rattle.gql_exec.specs.Tables.{InTable, IsRight, below_at};
+ghost use Rattle.gql_exec.specs.ValueParts as part;
+ghost use Rattle.gql_exec.specs.declared.run.Run.{Run as ARun};
+
+use crate::completion::object_below;
+use crate::frame::{Around, Frame, Group, NodesFrame, Turn};
+use crate::object::ObjectRef;
+use crate::outcome::Step;
+use crate::refusal::ExecRefusal;
+use crate::run::Run;
+use crate::setting::Setting;
+use crate::site::Site;
+use crate::steps::{count, write_byte, write_comma};
+use crate::table::Table;
+use gql_intro::{IntroNode, IntroNodes};
+use gql_types::Schema;
+use std::alloc::Global;
+
+/// A node of a list, at its path.
+fn begin_content<'d, 'v>(
+    alloc: Global,
+    setting: &Setting<'d, '_>,
+    table: &mut Table<'d>,
+    site: Site,
+    name: &'d str,
+    i: usize,
+    node: IntroNode<'d>,
+    run: &mut Run<'d>,
+) -> Result<(Around, Group<'d, 'v>), ExecRefusal>
+    requires right { IsRight (basis setting.now) table.old }
+    requires within { InTable table.old site.slot }
+    ensures keeps { IfOk result (λ w. Kept (basis setting.now) table.old table.new
+        (Fits table.new w.1)) }
+    ensures does { DoesBeginNode (basis setting.now) table.new site name.now
+        (below_at table.old site.slot)
+        (λ s. part.content_of_node name.now s i (node_of node.entry) (path_of run.old))
+        result run.old run.new }
+{
+    let mark = run.out.len();
+    let depth = run.path.len();
+    let around = Around {
+        mark,
+        depth,
+        is_required: true,
+        is_field: false,
+        outer: false,
+    };
+    run.path.push(Step::Index(i))?;
+    let object = ObjectRef::Described(node);
+    let group = object_below(alloc, setting, table, site.slot, name, object)?;
+    Ok((around, group))
+}
+
+/// A node of a list, with its comma.
+fn begin_node<'d, 'v>(
+    alloc: Global,
+    setting: &Setting<'d, '_>,
+    table: &mut Table<'d>,
+    site: Site,
+    name: &'d str,
+    i: usize,
+    node: IntroNode<'d>,
+    run: &mut Run<'d>,
+) -> Result<(Around, Group<'d, 'v>), ExecRefusal>
+    requires right { IsRight (basis setting.now) table.old }
+    requires within { InTable table.old site.slot }
+    ensures keeps { IfOk result (λ w. Kept (basis setting.now) table.old table.new
+        (Fits table.new w.1)) }
+    ensures does { DoesBeginNode (basis setting.now) table.new site name.now
+        (below_at table.old site.slot)
+        (λ s. part.node_part name.now s (path_of run.old) i (node_of node.entry))
+        result run.old run.new }
+{
+    write_comma(run, i)?;
+    count(run)?;
+    begin_content(alloc, setting, table, site, name, i, node, run)
+}
+
+/// The next node of a list, from this element on, and how many elements are passed with it.
+fn next_node<'d>(
+    schema: &'d Schema,
+    nodes: IntroNodes<'d>,
+    passed: usize,
+) -> Option<(usize, IntroNode<'d>)>
+    ensures is { NextIs (elements schema.now nodes.entry) passed result }
+    ensures later { IfSome result (λ found. passed < found.0) }
+{
+    for i in passed..nodes.len() {
+        if let Some(node) = nodes.get(schema, i) {
+            return Some((i + 1, node));
+        }
+    }
+    None
+}
+
+/// Goes on with the nodes of a list: the next one is to be entered, or all are done.
+pub fn run_nodes<'d, 'v>(
+    alloc: Global,
+    setting: &Setting<'d, '_>,
+    table: &mut Table<'d>,
+    frame: NodesFrame<'d>,
+    run: &mut Run<'d>,
+) -> Result<Turn<'d, 'v>, ExecRefusal>
+    requires right { IsRight (basis setting.now) table.old }
+    requires within { InTable table.old frame.site.slot }
+    requires no_more { frame.next ≤ frame.passed }
+    ensures keeps { KeepsTurn (basis setting.now) table.old table.new result }
+    ensures does { (whole : Part) (start : ARun)
+        → AtNodes (basis setting.now) table.old frame.entry whole start run.old
+        → Turns (basis setting.now) table.new whole start result run.new }
+{
+    let NodesFrame { site, name, next, .. } = frame;
+    match next_node(setting.context.schema, frame.nodes, frame.passed) {
+        Some((passed, node)) => {
+            let (around, inner) = begin_node(alloc, setting, table, site, name, next, node, run)?;
+            let group = Group::Nodes(NodesFrame {
+                passed,
+                next: next + 1,
+                ..frame
+            });
+            Ok(Turn::Within(Frame { group, around }, inner))
+        }
+        None => {
+            write_byte(run, b']')?;
+            Ok(Turn::Ended(frame.ended))
+        }
+    }
+}
