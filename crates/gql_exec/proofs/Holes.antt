@@ -174,9 +174,9 @@ module _ (g : Basis) (t : Table) where
   pub all_more : (fs : List Frame) (f : Frame) → All (FitsFrame t) fs → FitsFrame t f → All (FitsFrame t) (fs ++ f ∷ [])
   all_more fs f all fit = All-append (FitsFrame t) fs (f ∷ []) all (only f fit)
     where
-    only : (f : Frame) → FitsFrame t f → All (FitsFrame t) (f ∷ [])
-    only f fit zero d w = fit
-    only f fit (suc k) d w = absurd (omega (arith, w))
+      only : (f : Frame) → FitsFrame t f → All (FitsFrame t) (f ∷ [])
+      only f fit zero d w = fit
+      only f fit (suc k) d w = absurd (omega (arith, w))
 
   pub push_ended : (fs : List Frame) (e : Ended) (x : Turn) (inner : Part) (began now : Run) (whole : Part) (start : Run) → x ≡ turn.Ended e → Inside g t fs inner began whole start
       → Turns g t inner began (Ok x) now → Holds g t fs (reached.Ended e) now whole start
@@ -208,8 +208,8 @@ module _ (a b : Table) (more : Grows a b) where
   pub all_still : (fs : List Frame) → All (FitsFrame a) fs → All (FitsFrame b) fs
   all_still fs all k d w = fits_frame (get_or fs k d) (all k d w)
     where
-    fits_frame : (f : Frame) → FitsFrame a f → FitsFrame b f
-    fits_frame f h = fits_still f.group h
+      fits_frame : (f : Frame) → FitsFrame a f → FitsFrame b f
+      fits_frame f h = fits_still f.group h
 
 all_cons : (t : Table) (x : Frame) (fs : List Frame) → FitsFrame t x → All (FitsFrame t) fs → All (FitsFrame t) (x ∷ fs)
 all_cons t x fs p a zero d w = p

@@ -185,9 +185,7 @@ fn complete_named<'d, 'v>(
     };
     match site.kind {
         ValueKind::Scalar(scalar) => done(complete_scalar(alloc, scalar, leaf, value, run)),
-        ValueKind::Enum => {
-            done(complete_enum(alloc, setting.context.schema, leaf, value, run))
-        }
+        ValueKind::Enum => { done(complete_enum(alloc, setting.context.schema, leaf, value, run)) }
         ValueKind::Object => {
             return complete_object(alloc, setting, table, site, name, value, run);
         }

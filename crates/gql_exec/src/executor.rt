@@ -28,6 +28,7 @@ use crate::table::Table;
 use std::alloc::{AllocError, Global};
 
 /// Goes on with an object or a list.
+#[inline(always)]
 fn run_group<'d, 'v>(
     alloc: Global,
     setting: &Setting<'d, '_>,
@@ -50,6 +51,7 @@ fn run_group<'d, 'v>(
 }
 
 /// Enters an object or a list.
+#[inline(always)]
 fn enter<'d, 'v>(
     alloc: Global,
     setting: &Setting<'d, '_>,
@@ -69,6 +71,7 @@ fn enter<'d, 'v>(
 }
 
 /// Goes on with an object or a list, after the value within it has ended.
+#[inline(always)]
 fn resume<'d, 'v>(
     alloc: Global,
     setting: &Setting<'d, '_>,
@@ -91,6 +94,7 @@ fn resume<'d, 'v>(
 }
 
 /// Puts an object or a list on the stack that goes on after the one within it.
+#[inline(always)]
 fn push_turn<'d, 'v>(
     stack: &mut Vec<Frame<'d, 'v>>,
     turn: Turn<'d, 'v>,
@@ -115,6 +119,7 @@ fn push_turn<'d, 'v>(
 
 /// Enters an object or a list, or goes on with the one around a value that has ended. The last
 /// value of all stays as it is.
+#[inline(always)]
 fn advance<'d, 'v>(
     alloc: Global,
     setting: &Setting<'d, '_>,
@@ -149,17 +154,12 @@ fn advance<'d, 'v>(
 }
 
 /// How the last value of all has ended, if it has.
+#[inline(always)]
 fn last_ended(stack: &[Frame<'_, '_>], reached: &Reached<'_, '_>) -> Option<Ended>
     ensures { IfSome result (λ ended. (stack.now ≡ []) × (reached.now ≡ AReached.Ended ended)) }
 {
     match reached {
-        Reached::Ended(ended) => {
-            if stack.is_empty() {
-                Some(*ended)
-            } else {
-                None
-            }
-        }
+        Reached::Ended(ended) => { if stack.is_empty() { Some(*ended) } else { None } }
         Reached::Inner(_) => None,
     }
 }

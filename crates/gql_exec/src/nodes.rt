@@ -116,7 +116,12 @@ pub fn run_nodes<'d, 'v>(
         → AtNodes (basis setting.now) table.old frame.entry whole start run.old
         → Turns (basis setting.now) table.new whole start result run.new }
 {
-    let NodesFrame { site, name, next, .. } = frame;
+    let NodesFrame {
+        site,
+        name,
+        next,
+        ..
+    } = frame;
     match next_node(setting.context.schema, frame.nodes, frame.passed) {
         Some((passed, node)) => {
             let (around, inner) = begin_node(alloc, setting, table, site, name, next, node, run)?;

@@ -26,5 +26,3 @@ returns-clause-does c = λ q h.
     (c.complete_answer.ensures.does q.1
     (subst (λ n. IsAsked g here n (below_at c.args.table.now c.args.slot) q.1) (ap (λ (e : PlannedField). name_in e.of_type) h.planned ∙ sym (c.as_str.ensures ∙ c.name_in-name.ensures))
     (record { kind = h.kind; plan = subst (λ xs. IsPlan g (name_in q.0.of_type) xs q.1) (sym c.requires.at.below) h.below })))
-
-

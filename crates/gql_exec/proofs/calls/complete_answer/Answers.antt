@@ -19,37 +19,37 @@ use Rattle.gql_exec.proofs.calls.complete_answer.Goals as goal
 pub returns-in-Null-clause-does : goal.returns-in-Null-clause-does
 returns-in-Null-clause-does c = at_answer (basis c.args.setting.now) c.args.table.now c.args.site c.args.name.now (below_at c.args.table.now c.args.site.slot)
     c.done.result c.args.run.now c.write_null.new.run
-    (answer_of c.args.setting.now.context.schema.now c.args.answer) (intro.null) (plain (codes "null")) (ap (answer_of c.args.setting.now.context.schema.now) c.in-Null.is) (λ site. refl) 
+    (answer_of c.args.setting.now.context.schema.now c.args.answer) (intro.null) (plain (codes "null")) (ap (answer_of c.args.setting.now.context.schema.now) c.in-Null.is) (λ site. refl)
     (c.done.ensures.does (basis c.args.setting.now) c.args.table.now (plain (codes "null")) c.args.run.now c.write_null.new.run c.write_null.ensures)
 
 pub returns-in-Text-clause-does : goal.returns-in-Text-clause-does
 returns-in-Text-clause-does c = at_answer (basis c.args.setting.now) c.args.table.now c.args.site c.args.name.now (below_at c.args.table.now c.args.site.slot)
     c.done-in-Text.result c.args.run.now c.write_name.new.run
-    (answer_of c.args.setting.now.context.schema.now c.args.answer) (intro.text c.in-Text.text.now) (plain (quoted c.in-Text.text.now)) (ap (answer_of c.args.setting.now.context.schema.now) c.in-Text.is) (λ site. refl) 
+    (answer_of c.args.setting.now.context.schema.now c.args.answer) (intro.text c.in-Text.text.now) (plain (quoted c.in-Text.text.now)) (ap (answer_of c.args.setting.now.context.schema.now) c.in-Text.is) (λ site. refl)
     (c.done-in-Text.ensures.does (basis c.args.setting.now) c.args.table.now (plain (quoted c.in-Text.text.now)) c.args.run.now c.write_name.new.run c.write_name.ensures)
 
 pub returns-in-Boolean-clause-does : goal.returns-in-Boolean-clause-does
 returns-in-Boolean-clause-does c = at_answer (basis c.args.setting.now) c.args.table.now c.args.site c.args.name.now (below_at c.args.table.now c.args.site.slot)
     c.done-in-Boolean.result c.args.run.now c.write_flag.new.run
-    (answer_of c.args.setting.now.context.schema.now c.args.answer) (intro.truth c.in-Boolean.truth) (plain (compact_text (json.boolean c.in-Boolean.truth))) (ap (answer_of c.args.setting.now.context.schema.now) c.in-Boolean.is) (λ site. refl) 
+    (answer_of c.args.setting.now.context.schema.now c.args.answer) (intro.truth c.in-Boolean.truth) (plain (compact_text (json.boolean c.in-Boolean.truth))) (ap (answer_of c.args.setting.now.context.schema.now) c.in-Boolean.is) (λ site. refl)
     (c.done-in-Boolean.ensures.does (basis c.args.setting.now) c.args.table.now (plain (compact_text (json.boolean c.in-Boolean.truth))) c.args.run.now c.write_flag.new.run c.write_flag.ensures)
 
 pub returns-in-EnumValue-clause-does : goal.returns-in-EnumValue-clause-does
 returns-in-EnumValue-clause-does c = at_answer (basis c.args.setting.now) c.args.table.now c.args.site c.args.name.now (below_at c.args.table.now c.args.site.slot)
     c.done-in-EnumValue.result c.args.run.now c.write_name-in-EnumValue.new.run
-    (answer_of c.args.setting.now.context.schema.now c.args.answer) (intro.enum_name c.in-EnumValue.value.now) (plain (quoted c.in-EnumValue.value.now)) (ap (answer_of c.args.setting.now.context.schema.now) c.in-EnumValue.is) (λ site. refl) 
+    (answer_of c.args.setting.now.context.schema.now c.args.answer) (intro.enum_name c.in-EnumValue.value.now) (plain (quoted c.in-EnumValue.value.now)) (ap (answer_of c.args.setting.now.context.schema.now) c.in-EnumValue.is) (λ site. refl)
     (c.done-in-EnumValue.ensures.does (basis c.args.setting.now) c.args.table.now (plain (quoted c.in-EnumValue.value.now)) c.args.run.now c.write_name-in-EnumValue.new.run c.write_name-in-EnumValue.ensures)
 
 pub returns-in-Literal-clause-does : goal.returns-in-Literal-clause-does
 returns-in-Literal-clause-does c = at_answer (basis c.args.setting.now) c.args.table.now c.args.site c.args.name.now (below_at c.args.table.now c.args.site.slot)
     c.done-in-Literal.result c.args.run.now c.write_literal.new.run
-    (answer_of c.args.setting.now.context.schema.now c.args.answer) (intro.text (literal_text c.in-Literal.literal.now)) (plain (quoted (literal_text c.in-Literal.literal.now))) (ap (answer_of c.args.setting.now.context.schema.now) c.in-Literal.is) (λ site. refl) 
+    (answer_of c.args.setting.now.context.schema.now c.args.answer) (intro.text (literal_text c.in-Literal.literal.now)) (plain (quoted (literal_text c.in-Literal.literal.now))) (ap (answer_of c.args.setting.now.context.schema.now) c.in-Literal.is) (λ site. refl)
     (c.done-in-Literal.ensures.does (basis c.args.setting.now) c.args.table.now (plain (quoted (literal_text c.in-Literal.literal.now))) c.args.run.now c.write_literal.new.run c.write_literal.ensures)
 
 pub returns-in-Locations-clause-does : goal.returns-in-Locations-clause-does
 returns-in-Locations-clause-does c = at_answer (basis c.args.setting.now) c.args.table.now c.args.site c.args.name.now (below_at c.args.table.now c.args.site.slot)
     c.done-in-Locations.result c.args.run.now c.write_locations.new.run
-    (answer_of c.args.setting.now.context.schema.now c.args.answer) (intro.enum_names (map location_name c.in-Locations.locations.now)) (name_list_part (map location_name c.in-Locations.locations.now)) (ap (answer_of c.args.setting.now.context.schema.now) c.in-Locations.is) (λ site. answer_names site c.args.name.now (path_of c.args.run.now) (map location_name c.in-Locations.locations.now)) 
+    (answer_of c.args.setting.now.context.schema.now c.args.answer) (intro.enum_names (map location_name c.in-Locations.locations.now)) (name_list_part (map location_name c.in-Locations.locations.now)) (ap (answer_of c.args.setting.now.context.schema.now) c.in-Locations.is) (λ site. answer_names site c.args.name.now (path_of c.args.run.now) (map location_name c.in-Locations.locations.now))
     (c.done-in-Locations.ensures.does (basis c.args.setting.now) c.args.table.now (name_list_part (map location_name c.in-Locations.locations.now)) c.args.run.now c.write_locations.new.run c.write_locations.ensures)
 
 pub returns-in-Node-clause-does : goal.returns-in-Node-clause-does

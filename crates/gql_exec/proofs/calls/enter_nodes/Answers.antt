@@ -10,11 +10,13 @@ use Rattle.gql_exec.proofs.calls.enter_nodes.Goals as goal
 
 pub returns-clause-does : goal.returns-clause-does
 returns-clause-does c = λ g t now within x asked.
-    let f : NodesFrame = record { site = c.args.site; name = c.args.name; nodes = c.args.nodes; passed = 0; next = 0; ended = Written } in
-    (refl, λ m opens. record {
-      plan = x;
-      within = within;
-      asked = asked;
-      rest = refl;
-      midway = midway_starts (codes "[") (codes "]") (node_parts g f x now) (node_list_part c.args.name.now (site_of (types_of g) c.args.site.place x) (nodes_in g.given.schema c.args.nodes) (path_of now)) now m opens refl;
-    })
+    let f : NodesFrame = record { site = c.args.site; name = c.args.name; nodes = c.args.nodes; passed = 0; next = 0; ended = Written } in (
+      refl,
+      λ m opens. record {
+        plan = x;
+        within = within;
+        asked = asked;
+        rest = refl;
+        midway = midway_starts (codes "[") (codes "]") (node_parts g f x now) (node_list_part c.args.name.now (site_of (types_of g) c.args.site.place x) (nodes_in g.given.schema c.args.nodes) (path_of now)) now m opens refl;
+      },
+    )

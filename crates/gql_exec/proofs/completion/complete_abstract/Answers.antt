@@ -23,9 +23,11 @@ returns-clause-does c = λ x a.
     let chosen : among names found ≡ Some c.in-Some.of_type.now = sym c.type_name.ensures ∙ ap (option_map (λ (m : Bor (List ℕ)). m.now)) c.in-Some.is in
     as_part g c.object_below.new.table (value_part (on_abstract (site_of (types_of g) c.args.site.place x) n (path_of c.args.run.now) d (among names found)))
     (value_part (execute (types_of g) x c.in-Some.of_type.now (path_of c.args.run.now) (stored d))) (Ok (reached.Inner c.in_ok-group.group)) c.args.run.now c.args.run.now
-    (ap (λ o. value_part (on_abstract (site_of (types_of g) c.args.site.place x) n (path_of c.args.run.now) d o)) chosen)
-    (refl, c.in_ok-group.ensures.enters c.args.run.now n (met_abstract g c.in-Some.of_type.now n
-    (abstract_kind n (kind_named g.given.schema n) (sym a.kind ∙ c.requires.composite)) (among_is names found c.in-Some.of_type.now chosen)) x a.plan)
+    (ap (λ o. value_part (on_abstract (site_of (types_of g) c.args.site.place x) n (path_of c.args.run.now) d o)) chosen) (
+      refl,
+      c.in_ok-group.ensures.enters c.args.run.now n (met_abstract g c.in-Some.of_type.now n
+          (abstract_kind n (kind_named g.given.schema n) (sym a.kind ∙ c.requires.composite)) (among_is names found c.in-Some.of_type.now chosen)) x a.plan,
+    )
 
 pub returns-in_default-clause-keeps : goal.returns-in_default-clause-keeps
 returns-in_default-clause-keeps c = c.done.ensures.keeps (basis c.args.setting.now) c.args.table.now c.requires.right

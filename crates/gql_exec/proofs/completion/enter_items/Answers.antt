@@ -11,10 +11,12 @@ use Rattle.gql_exec.proofs.completion.enter_items.Goals as goal
 
 pub returns-clause-does : goal.returns-clause-does
 returns-clause-does c = λ g t now within x asked.
-    let f : ItemsFrame = record { site = c.args.site; item = c.args.item; items = c.args.items; next = 0; ended = Written } in
-    (refl, λ m opens. record {
-      plan = x;
-      within = within;
-      asked = asked;
-      midway = midway_starts (codes "[") (codes "]") (item_parts g f x now) (list_part (written c.args.item.now) (site_of (types_of g) c.args.site.place x) (items_in c.args.items) (path_of now)) now m opens refl;
-    })
+    let f : ItemsFrame = record { site = c.args.site; item = c.args.item; items = c.args.items; next = 0; ended = Written } in (
+      refl,
+      λ m opens. record {
+        plan = x;
+        within = within;
+        asked = asked;
+        midway = midway_starts (codes "[") (codes "]") (item_parts g f x now) (list_part (written c.args.item.now) (site_of (types_of g) c.args.site.place x) (items_in c.args.items) (path_of now)) now m opens refl;
+      },
+    )

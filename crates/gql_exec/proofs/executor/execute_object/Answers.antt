@@ -20,9 +20,11 @@ steps-preserved c =
     record { right = k.0; fits = k.2; reached = k.3; holds = λ qs h. c.in_ok-reached.ensures.does (object_part (types_of (basis c.args.setting.now)) (object_of c.args.object) qs (path_of c.args.run.now)) c.args.run.now (inv.holds qs h) }
 
 pub returns-in-Some : goal.returns-in-Some
-returns-in-Some c = record { does = λ qs h.
-    holds_end (basis c.args.setting.now) c.steps.table c.steps.stack.items c.steps.reached c.in-Some.ended c.steps.run
-    (object_part (types_of (basis c.args.setting.now)) (object_of c.args.object) qs (path_of c.args.run.now)) c.args.run.now (search rules) c.in-Some.ensures.1 (c.steps.invariant.holds qs h) }
+returns-in-Some c = record {
+  does = λ qs h.
+      holds_end (basis c.args.setting.now) c.steps.table c.steps.stack.items c.steps.reached c.in-Some.ended c.steps.run
+      (object_part (types_of (basis c.args.setting.now)) (object_of c.args.object) qs (path_of c.args.run.now)) c.args.run.now (search rules) c.in-Some.ensures.1 (c.steps.invariant.holds qs h);
+}
 
 pub steps-init : goal.steps-init
 steps-init c =

@@ -18,7 +18,7 @@ returns-in-Inner-clause-does c = λ q h.
     let t : Run = record { out = s.out; errors = s.errors; path = c.push.new.self; left = s.left; raised = false } in
     let a : Around = record { mark = c.len-mark.result; depth = c.len-depth.result; is_required = c.is_non_null.result; is_field = true; outer = s.raised } in
     let hole = field_hole s t c.len-mark.result c.len-depth.result c.is_non_null.result s.raised (omega (arith, c.len-mark.ensures, s.out.ok.0)) (omega (arith, c.len-depth.ensures, s.path.ok.0)) refl refl refl
-        (types_of g) o q c.args.field.now h.planned c.is_non_null.ensures refl refl (search rules) in
+    (types_of g) o q c.args.field.now h.planned c.is_non_null.ensures refl refl (search rules) in
     content_inner g c.call_field.new.table a (called_part (types_of g) o q (path_of t)) t (content_part (types_of g) o q (path_of s)) s hole c.call_field.new.run
     _ c.in-Inner.group c.in-Inner.is (c.in_ok-ended.ensures.does q h)
 
@@ -29,7 +29,7 @@ returns-in_ok-close-in-Ended-clause-does c = λ q h.
     let s = c.args.run.now in
     let t : Run = record { out = s.out; errors = s.errors; path = c.push.new.self; left = s.left; raised = false } in
     let hole = field_hole s t c.len-mark.result c.len-depth.result c.is_non_null.result s.raised (omega (arith, c.len-mark.ensures, s.out.ok.0)) (omega (arith, c.len-depth.ensures, s.path.ok.0)) refl refl refl
-        (types_of g) o q c.args.field.now h.planned c.is_non_null.ensures refl refl (search rules) in
+    (types_of g) o q c.args.field.now h.planned c.is_non_null.ensures refl refl (search rules) in
     c.in_ok-close-in-Ended.ensures (called_part (types_of g) o q (path_of t)) t (content_part (types_of g) o q (path_of s)) s hole
     (content_ended g c.call_field.new.table (called_part (types_of g) o q (path_of t)) t c.call_field.new.run _ c.in-Ended.ended c.in-Ended.is (c.in_ok-ended.ensures.does q h))
 
@@ -40,7 +40,7 @@ returns-in_err-close-in-Ended-clause-does c = λ q h.
     let s = c.args.run.now in
     let t : Run = record { out = s.out; errors = s.errors; path = c.push.new.self; left = s.left; raised = false } in
     let hole = field_hole s t c.len-mark.result c.len-depth.result c.is_non_null.result s.raised (omega (arith, c.len-mark.ensures, s.out.ok.0)) (omega (arith, c.len-depth.ensures, s.path.ok.0)) refl refl refl
-        (types_of g) o q c.args.field.now h.planned c.is_non_null.ensures refl refl (search rules) in
+    (types_of g) o q c.args.field.now h.planned c.is_non_null.ensures refl refl (search rules) in
     begins_stopped g c.call_field.new.table (content_part (types_of g) o q (path_of s)) c.from_residual-in_err-close-in-Ended.result c.in_err-close-in-Ended.field-0.0 s c.close.new.run c.from_residual-in_err-close-in-Ended.ensures.1
     (c.in_err-close-in-Ended.ensures (called_part (types_of g) o q (path_of t)) t (content_part (types_of g) o q (path_of s)) s hole
     (content_ended g c.call_field.new.table (called_part (types_of g) o q (path_of t)) t c.call_field.new.run _ c.in-Ended.ended c.in-Ended.is (c.in_ok-ended.ensures.does q h)))

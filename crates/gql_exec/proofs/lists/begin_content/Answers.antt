@@ -21,7 +21,7 @@ returns-in-Inner-clause-does c = λ x i.
     let t : Run = record { out = s.out; errors = s.errors; path = c.push.new.self; left = s.left; raised = s.raised } in
     let a : Around = record { mark = c.len-mark.result; depth = c.len-depth.result; is_required = c.is_non_null.result; is_field = false; outer = false } in
     let hole = item_hole s t c.len-mark.result c.len-depth.result c.is_non_null.result false (omega (arith, c.len-mark.ensures, s.out.ok.0)) (omega (arith, c.len-depth.ensures, s.path.ok.0)) refl refl refl
-        (written c.args.item.now) site c.args.i d c.is_non_null.ensures refl (search rules) in
+    (written c.args.item.now) site c.args.i d c.is_non_null.ensures refl (search rules) in
     content_inner g c.complete.new.table a (value_part (complete site (written c.args.item.now) (path_of t) d)) t (content_of_item (written c.args.item.now) site c.args.i d (path_of s)) s hole c.complete.new.run
     _ c.in-Inner.group c.in-Inner.is (c.in_ok-ended.ensures.does x i)
 
@@ -33,7 +33,7 @@ returns-in_ok-close-in-Ended-clause-does c = λ x i.
     let s = c.args.run.now in
     let t : Run = record { out = s.out; errors = s.errors; path = c.push.new.self; left = s.left; raised = s.raised } in
     let hole = item_hole s t c.len-mark.result c.len-depth.result c.is_non_null.result false (omega (arith, c.len-mark.ensures, s.out.ok.0)) (omega (arith, c.len-depth.ensures, s.path.ok.0)) refl refl refl
-        (written c.args.item.now) site c.args.i d c.is_non_null.ensures refl (search rules) in
+    (written c.args.item.now) site c.args.i d c.is_non_null.ensures refl (search rules) in
     c.in_ok-close-in-Ended.ensures (value_part (complete site (written c.args.item.now) (path_of t) d)) t (content_of_item (written c.args.item.now) site c.args.i d (path_of s)) s hole
     (content_ended g c.complete.new.table (value_part (complete site (written c.args.item.now) (path_of t) d)) t c.complete.new.run _ c.in-Ended.ended c.in-Ended.is (c.in_ok-ended.ensures.does x i))
 
@@ -45,7 +45,7 @@ returns-in_err-close-in-Ended-clause-does c = λ x i.
     let s = c.args.run.now in
     let t : Run = record { out = s.out; errors = s.errors; path = c.push.new.self; left = s.left; raised = s.raised } in
     let hole = item_hole s t c.len-mark.result c.len-depth.result c.is_non_null.result false (omega (arith, c.len-mark.ensures, s.out.ok.0)) (omega (arith, c.len-depth.ensures, s.path.ok.0)) refl refl refl
-        (written c.args.item.now) site c.args.i d c.is_non_null.ensures refl (search rules) in
+    (written c.args.item.now) site c.args.i d c.is_non_null.ensures refl (search rules) in
     begins_stopped g c.complete.new.table (content_of_item (written c.args.item.now) site c.args.i d (path_of s)) c.from_residual-in_err-close-in-Ended.result c.in_err-close-in-Ended.field-0.0 s c.close.new.run c.from_residual-in_err-close-in-Ended.ensures.1
     (c.in_err-close-in-Ended.ensures (value_part (complete site (written c.args.item.now) (path_of t) d)) t (content_of_item (written c.args.item.now) site c.args.i d (path_of s)) s hole
     (content_ended g c.complete.new.table (value_part (complete site (written c.args.item.now) (path_of t) d)) t c.complete.new.run _ c.in-Ended.ended c.in-Ended.is (c.in_ok-ended.ensures.does x i)))
