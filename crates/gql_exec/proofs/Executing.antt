@@ -1,6 +1,7 @@
 -- How calls of an execution come together.
-use Rattle.std.proofs.Common.{◌≡◌, ◌||◌, ℕ, zero, suc, ◌<◌, ◌≤◌, inl, inr, List, [], ◌∷◌, Bool, true, false, length, get_or, String, Global, string_bytes, Option, Some, None, Result, Ok, Err, bytes_eq, codes, is_some, refl, sym, ap, subst, ◌∙◌, arith, if◌then◌else◌}
+use Rattle.std.proofs.Common.{◌≡◌, ◌||◌, ℕ, zero, suc, ◌<◌, ◌≤◌, inl, inr, List, [], ◌∷◌, Bool, true, false, length, get_or, String, Global, string_bytes, Option, Some, None, Result, Ok, Err, bytes_eq, is_some, refl, sym, ap, subst, ◌∙◌, arith, if◌then◌else◌}
 use Rattle.std.specs.List.{list_any}
+use Rattle.std.specs.Result.{OnOk}
 use Rattle.std.proofs.lemmas.Slice.Eq.{bytes_eq-Decides}
 use Rattle.gql_inputs.specs.InputTypes.{is_non_null, item_of, name_in}
 use Rattle.gql_intro.specs.Nodes.{Node, query_root}
@@ -18,22 +19,15 @@ use Rattle.serde_json.specs.declared.value.Value.{Value}
 use Rattle.gql_exec.specs.Direct.{IsDirect}
 use Rattle.gql_exec.specs.Execution.{Fields, Object, Plan, plan, PlannedField, Site, Types, among, by_source, complete, described, execute, is_null, of_kind, on_answer, on_list, stored, value_of}
 use Rattle.gql_exec.specs.Execution as execution
-use Rattle.gql_exec.specs.Frames.{Does, Enters, Kept, Reaches, field_parts}
-use Rattle.gql_exec.specs.Objects.{object_of}
 use Rattle.gql_exec.specs.Parts.{Part, caught, plain, raise}
 use Rattle.gql_exec.specs.Plans.{Basis, IsPlan, defined, is_met, is_met_by, is_possible_by, possible_in, types_of}
 use Rattle.gql_exec.specs.Replies.{Path}
 use Rattle.gql_exec.specs.Resolution.{resolved}
-use Rattle.gql_exec.specs.States.{Executes, path_of}
+use Rattle.gql_exec.specs.States.{Executes, Follows, path_of}
 use Rattle.gql_exec.specs.Tables.{Has, IsRight, StandFor, StandsFor, called_of, fields_at, pairs_of, planned_of}
 use Rattle.gql_exec.specs.Texts.{value_part}
-use Rattle.gql_exec.specs.ValueParts.{IsAbstract, IsAsked, answer_part, called_part, source_part, item_at, list_part, object_part, placed_part, site_of}
+use Rattle.gql_exec.specs.ValueParts.{Does, IsAbstract, IsAsked, Keeps, answer_part, called_part, source_part, item_at, list_part, object_part, placed_part, site_of}
 use Rattle.gql_exec.specs.declared.ended.Ended.{Ended}
-use Rattle.gql_exec.specs.declared.ended.Ended.TheVariants as how
-use Rattle.gql_exec.specs.declared.frame.FieldsFrame.{FieldsFrame}
-use Rattle.gql_exec.specs.declared.frame.Group.TheVariants as group
-use Rattle.gql_exec.specs.declared.frame.Reached.{Reached}
-use Rattle.gql_exec.specs.declared.object.ObjectRef.{ObjectRef}
 use Rattle.gql_exec.specs.declared.planning.Called.TheVariants as called
 use Rattle.gql_exec.specs.declared.planning.FieldPlan.{FieldPlan}
 use Rattle.gql_exec.specs.declared.planning.Source.TheVariants as source
@@ -44,22 +38,37 @@ use Rattle.gql_exec.specs.declared.table.Table.{Table}
 use Rattle.gql_exec.proofs.Completing.{direct_is, items_at, list_is, object_is, present_list, present_named}
 use Rattle.gql_exec.proofs.Entries.{grows_same, grows_twice}
 use Rattle.gql_exec.proofs.Grouped.{paired}
-use Rattle.gql_exec.proofs.Midway.{midway_starts}
 
 -- ---- what is kept
 
-pub kept_same : (g : Basis) (t : Table) (Fit : Type 0) → IsRight g t → Fit → Kept g t t Fit
-kept_same g t Fit right fit = record { right = right; grows = grows_same t; fits = fit }
+pub keeps_same : (g : Basis) (t : Table) (r : Part) (result : Result Ended ExecRefusal) (s u : Run) → IsRight g t → Executes r result s u → OnOk result (Keeps g t t s u)
+keeps_same g t r (Ok e) s u right done = record { right = right; grows = grows_same t; left = omega (arith, done.follows.left) }
+keeps_same g t r (Err e) s u right done = tt
 
-pub kept_on : (g : Basis) (a b : Table) (Fit More : Type 0) → (Fit → More) → Kept g a b Fit → Kept g a b More
-kept_on g a b Fit More f k = record { right = k.right; grows = k.grows; fits = f k.fits }
+-- after steps that write
+pub keeps_direct : (g : Basis) (t : Table) (r : Part) (result : Result Ended ExecRefusal) (s m u : Run) → IsRight g t → m.left ≤ s.left → Executes r result m u
+    → OnOk result (Keeps g t t s u)
+keeps_direct g t r (Ok e) s m u right less done = record { right = right; grows = grows_same t; left = omega (arith, less, done.follows.left) }
+keeps_direct g t r (Err e) s m u right less done = tt
 
-pub kept_twice : (g : Basis) (a b c : Table) (Fit More : Type 0) → Kept g a b Fit → Kept g b c More → Kept g a c More
-kept_twice g a b c Fit More h k = record { right = k.right; grows = grows_twice a b c h.grows k.grows; fits = k.fits }
+pub keeps_twice : (g : Basis) (a b c : Table) (s t u : Run) → Keeps g a b s t → Keeps g b c t u → Keeps g a c s u
+keeps_twice g a b c s t u h k = record { right = k.right; grows = grows_twice a b c h.grows k.grows; left = omega (arith, h.left, k.left) }
 
-module _ (g : Basis) (t : Table) where
-  pub as_part : (a b : Part) (result : Result Reached ExecRefusal) (old now : Run) → a ≡ b → Reaches g t b result old now → Reaches g t a result old now
-  as_part a b result old now e h = subst (λ r. Reaches g t r result old now) (sym e) h
+-- with as many values left
+pub keeps_left : (g : Basis) (a b : Table) (s t u v : Run) → Keeps g a b t u → t.left ≤ s.left → v.left ≤ u.left → Keeps g a b s v
+keeps_left g a b s t u v k h l = record { right = k.right; grows = k.grows; left = omega (arith, k.left, h, l) }
+
+-- a part between brackets
+pub keeps_within : (g : Basis) (a b : Table) (before after : List ℕ) (s t u v : Run) → Follows (plain before) s t → Keeps g a b t u → Follows (plain after) u v → Keeps g a b s v
+keeps_within g a b before after s t u v opens k closes = record { right = k.right; grows = k.grows; left = omega (arith, k.left, opens.left, closes.left) }
+
+-- what is kept from an earlier state on
+pub keeps_later : (g : Basis) (a b : Table) (result : Result Ended ExecRefusal) (s t u : Run) → t.left ≤ s.left → OnOk result (Keeps g a b t u) → OnOk result (Keeps g a b s u)
+keeps_later g a b (Ok e) s t u h k = record { right = k.right; grows = k.grows; left = omega (arith, k.left, h) }
+keeps_later g a b (Err e) s t u h k = tt
+
+pub as_part : (a b : Part) (result : Result Ended ExecRefusal) (s t : Run) → a ≡ b → Executes b result s t → Executes a result s t
+as_part a b result s t e h = subst (λ r. Executes r result s t) (sym e) h
 
 -- ---- fields
 
@@ -145,20 +154,6 @@ on_entry g table k t name xs (plan by_type) d result s u has met is does =
     subst (λ r. Executes r result s u) (sym (object_is (types_of g) by_type t (path_of s) d))
     (does (pairs_of (by_type t)) (entry_stands g table k t name xs by_type has met is))
 
--- an object whose fields none is executed of yet
-pub enters_entry : (g : Basis) (table : Table) (k : ℕ) (t name : List ℕ) (xs : List FileSelection) (x : Plan) (o : ObjectRef) (f : FieldsFrame) (s : Run)
-    → Has g table k t xs → is_met g t name ≡ true → IsPlan g name xs x → f ≡ record { entry = k; object = o; next = 0; ended = how.Written }
-    → Enters g table (group.Fields f) (value_part (execute (types_of g) x t (path_of s) (object_of o))) s
-enters_entry g table k t name xs (plan by_type) o f s has met is e =
-    subst (λ h. Enters g table (group.Fields h) (value_part (execute (types_of g) (plan by_type) t (path_of s) (object_of o))) s) (sym e)
-    (λ m opens. record {
-      pairs = pairs_of (by_type t);
-      within = has.within;
-      stand = entry_stands g table k t name xs by_type has met is;
-      midway = midway_starts (codes "{") (codes "}") (field_parts g (record { entry = k; object = o; next = 0; ended = how.Written }) (pairs_of (by_type t)) s)
-          (value_part (execute (types_of g) (plan by_type) t (path_of s) (object_of o))) s m opens (object_is (types_of g) by_type t (path_of s) (object_of o));
-    })
-
 pub bytes_same : (n : List ℕ) → bytes_eq n n ≡ true
 bytes_same n = (bytes_eq-Decides n n).1 refl
 
@@ -214,67 +209,67 @@ not_null (json.string s) e = refl
 not_null (json.array ds) e = refl
 not_null (json.object ms) e = refl
 
-module _ (g : Basis) (table : Table) (here : FieldSite) (xs : List FileSelection) (result : Result Reached ExecRefusal) (s u : Run) where
+module _ (g : Basis) (here : FieldSite) (xs : List FileSelection) (result : Result Ended ExecRefusal) (s u : Run) where
   pub at_null : (t : Written) (d : Data) → is_some (as_null d) ≡ true
-      → ((site : Site) → site.place ≡ here.place → Reaches g table (value_part (complete site t (path_of s) json.null)) result s u)
-      → Does g table here (name_in t) xs (λ site. value_part (complete site t (path_of s) d)) result s u
-  at_null t d e h = λ x i. subst (λ y. Reaches g table (value_part (complete (site_of (types_of g) here.place x) t (path_of s) y)) result s u) (sym (null_is d e))
+      → ((site : Site) → site.place ≡ here.place → Executes (value_part (complete site t (path_of s) json.null)) result s u)
+      → Does g here (name_in t) xs (λ site. value_part (complete site t (path_of s) d)) result s u
+  at_null t d e h = λ x i. subst (λ y. Executes (value_part (complete (site_of (types_of g) here.place x) t (path_of s) y)) result s u) (sym (null_is d e))
       (h (site_of (types_of g) here.place x) refl)
 
   -- resolved to nothing
   pub at_nothing : (t : Written) (d : Data) → d ≡ json.null
-      → ((site : Site) → site.place ≡ here.place → Reaches g table (value_part (complete site t (path_of s) json.null)) result s u)
-      → Does g table here (name_in t) xs (λ site. value_part (complete site t (path_of s) d)) result s u
-  at_nothing t d e h = λ x i. subst (λ y. Reaches g table (value_part (complete (site_of (types_of g) here.place x) t (path_of s) y)) result s u) (sym e)
+      → ((site : Site) → site.place ≡ here.place → Executes (value_part (complete site t (path_of s) json.null)) result s u)
+      → Does g here (name_in t) xs (λ site. value_part (complete site t (path_of s) d)) result s u
+  at_nothing t d e h = λ x i. subst (λ y. Executes (value_part (complete (site_of (types_of g) here.place x) t (path_of s) y)) result s u) (sym e)
       (h (site_of (types_of g) here.place x) refl)
 
   pub at_unmarked : (t v : Written) (d : Data) → ((site : Site) (p : Path) (y : Data) → is_null y ≡ false → complete site t p y ≡ complete site v p y)
       → name_in t ≡ name_in v → is_null d ≡ false
-      → Does g table here (name_in v) xs (λ site. value_part (complete site v (path_of s) d)) result s u
-      → Does g table here (name_in t) xs (λ site. value_part (complete site t (path_of s) d)) result s u
-  at_unmarked t v d same name e h = λ x i. as_part g table (value_part (complete (site_of (types_of g) here.place x) t (path_of s) d))
+      → Does g here (name_in v) xs (λ site. value_part (complete site v (path_of s) d)) result s u
+      → Does g here (name_in t) xs (λ site. value_part (complete site t (path_of s) d)) result s u
+  at_unmarked t v d same name e h = λ x i. as_part (value_part (complete (site_of (types_of g) here.place x) t (path_of s) d))
       (value_part (complete (site_of (types_of g) here.place x) v (path_of s) d)) result s u
       (ap value_part (same (site_of (types_of g) here.place x) (path_of s) d e)) (h x (subst (λ n. IsAsked g here n xs x) name i))
 
   pub at_named : (t : Written) (n : List ℕ) (d : Data) → t ≡ named n → is_null d ≡ false
-      → Does g table here n xs (λ site. value_part (of_kind site n (path_of s) d (kind_named g.given.schema n))) result s u
-      → Does g table here (name_in t) xs (λ site. value_part (complete site t (path_of s) d)) result s u
-  at_named t n d e null h = subst (λ w. Does g table here (name_in w) xs (λ site. value_part (complete site w (path_of s) d)) result s u) (sym e)
-      (λ x i. as_part g table (value_part (complete (site_of (types_of g) here.place x) (named n) (path_of s) d))
+      → Does g here n xs (λ site. value_part (of_kind site n (path_of s) d (kind_named g.given.schema n))) result s u
+      → Does g here (name_in t) xs (λ site. value_part (complete site t (path_of s) d)) result s u
+  at_named t n d e null h = subst (λ w. Does g here (name_in w) xs (λ site. value_part (complete site w (path_of s) d)) result s u) (sym e)
+      (λ x i. as_part (value_part (complete (site_of (types_of g) here.place x) (named n) (path_of s) d))
       (value_part (of_kind (site_of (types_of g) here.place x) n (path_of s) d (kind_named g.given.schema n))) result s u
       (ap value_part (present_named (site_of (types_of g) here.place x) (path_of s) n d null)) (h x i))
 
   pub at_list : (t v : Written) (d : Data) → t ≡ listed v → is_null d ≡ false
-      → Does g table here (name_in v) xs (λ site. value_part (on_list site (item_at site v) (path_of s) d)) result s u
-      → Does g table here (name_in t) xs (λ site. value_part (complete site t (path_of s) d)) result s u
-  at_list t v d e null h = subst (λ w. Does g table here (name_in w) xs (λ site. value_part (complete site w (path_of s) d)) result s u) (sym e)
-      (λ x i. as_part g table (value_part (complete (site_of (types_of g) here.place x) (listed v) (path_of s) d))
+      → Does g here (name_in v) xs (λ site. value_part (on_list site (item_at site v) (path_of s) d)) result s u
+      → Does g here (name_in t) xs (λ site. value_part (complete site t (path_of s) d)) result s u
+  at_list t v d e null h = subst (λ w. Does g here (name_in w) xs (λ site. value_part (complete site w (path_of s) d)) result s u) (sym e)
+      (λ x i. as_part (value_part (complete (site_of (types_of g) here.place x) (listed v) (path_of s) d))
       (value_part (on_list (site_of (types_of g) here.place x) (item_at (site_of (types_of g) here.place x) v) (path_of s) d)) result s u
       (ap value_part (present_list (site_of (types_of g) here.place x) (path_of s) v d null)) (h x i))
 
   -- a list whose items are these
   pub at_array : (v : Written) (d : Data) (ds : List Data) → d ≡ json.array (items_of ds)
-      → Does g table here (name_in v) xs (λ site. list_part v site ds (path_of s)) result s u
-      → Does g table here (name_in v) xs (λ site. value_part (on_list site (item_at site v) (path_of s) d)) result s u
-  at_array v d ds e h = λ x i. as_part g table (value_part (on_list (site_of (types_of g) here.place x) (item_at (site_of (types_of g) here.place x) v) (path_of s) d))
+      → Does g here (name_in v) xs (λ site. list_part v site ds (path_of s)) result s u
+      → Does g here (name_in v) xs (λ site. value_part (on_list site (item_at site v) (path_of s) d)) result s u
+  at_array v d ds e h = λ x i. as_part (value_part (on_list (site_of (types_of g) here.place x) (item_at (site_of (types_of g) here.place x) v) (path_of s) d))
       (list_part v (site_of (types_of g) here.place x) ds (path_of s)) result s u
       (ap (λ y. value_part (on_list (site_of (types_of g) here.place x) (item_at (site_of (types_of g) here.place x) v) (path_of s) y)) e
       ∙ list_is (site_of (types_of g) here.place x) v (path_of s) ds) (h x i)
 
   -- items that arguments keep
   pub at_items : (t v : Written) (d : Data) (ds : List Data) → item_of t ≡ Some v → name_in v ≡ name_in t → d ≡ json.array (items_of ds)
-      → Does g table here (name_in v) xs (λ site. list_part v site ds (path_of s)) result s u
-      → Does g table here (name_in t) xs (λ site. value_part (complete site t (path_of s) d)) result s u
-  at_items t v d ds e name is h = λ x i. as_part g table (value_part (complete (site_of (types_of g) here.place x) t (path_of s) d))
+      → Does g here (name_in v) xs (λ site. list_part v site ds (path_of s)) result s u
+      → Does g here (name_in t) xs (λ site. value_part (complete site t (path_of s) d)) result s u
+  at_items t v d ds e name is h = λ x i. as_part (value_part (complete (site_of (types_of g) here.place x) t (path_of s) d))
       (list_part v (site_of (types_of g) here.place x) ds (path_of s)) result s u
       (ap (λ y. value_part (complete (site_of (types_of g) here.place x) t (path_of s) y)) is
       ∙ ap value_part (items_at (site_of (types_of g) here.place x) (path_of s) t v (items_of ds) e) ∙ list_is (site_of (types_of g) here.place x) v (path_of s) ds)
       (h x (subst (λ n. IsAsked g here n xs x) (sym name) i))
 
   -- a value that is written at once
-  pub at_direct : (t : Written) (d y : Data) → IsDirect here.kind t d y → Reaches g table (plain (compact_text y)) result s u
-      → Does g table here (name_in t) xs (λ site. value_part (complete site t (path_of s) d)) result s u
-  at_direct t d y is done = λ x i. as_part g table (value_part (complete (site_of (types_of g) here.place x) t (path_of s) d)) (plain (compact_text y)) result s u
+  pub at_direct : (t : Written) (d y : Data) → IsDirect here.kind t d y → Executes (plain (compact_text y)) result s u
+      → Does g here (name_in t) xs (λ site. value_part (complete site t (path_of s) d)) result s u
+  at_direct t d y is done = λ x i. as_part (value_part (complete (site_of (types_of g) here.place x) t (path_of s) d)) (plain (compact_text y)) result s u
       (direct_is (site_of (types_of g) here.place x) (path_of s) t is.scalar d y is.not_list (sym i.kind ∙ is.kind_is) is.value is.present) done
 
 -- the name within the type of the items

@@ -8,15 +8,12 @@ pub mod Enums
 pub mod Escapes
 pub mod Executing
 pub mod Grouped
-pub mod Holes
 pub mod Introspecting
 pub mod Leaving
 pub mod Listing
-pub mod Midway
 pub mod Parts
 pub mod Picked
 pub mod Resolving
-pub mod Running
 pub mod SomePlan
 pub mod SomeResponse
 pub mod Starting

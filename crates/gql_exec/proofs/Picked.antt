@@ -53,7 +53,7 @@ module _ {A : Type 0} where
   pub after_picked : (xs : List A) (k : ℕ) (x : A) (rest : List A) → drop k xs ≡ x ∷ rest → drop (k + 1) xs ≡ rest
   after_picked xs k x rest e = ap (λ n. drop n xs) (add-one k) ∙ after_rest xs k x rest e
 
-  pub none_left : (xs : List A) (k : ℕ) → drop k xs ≡ [] → length xs ≤ k
+  none_left : (xs : List A) (k : ℕ) → drop k xs ≡ [] → length xs ≤ k
   none_left [] k e = omega arith
   none_left (y ∷ ys) zero e = cc
   none_left (y ∷ ys) (suc k) e = omega (arith, none_left ys k e)

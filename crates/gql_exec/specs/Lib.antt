@@ -2,7 +2,6 @@ pub mod Direct
 pub mod Ended
 pub mod Examples
 pub mod Execution
-pub mod Frames
 pub mod Kinds
 pub mod Laws
 pub mod LeafParts

@@ -1,6 +1,6 @@
 -- Helper definitions for private contracts: what is written for the fields of an object, and for
 -- values.
-use Rattle.std.specs.Prelude.{◌≡◌, ℕ, List, [], ◌∷◌, ◌++◌, codes, map, flat_map, option_to_list, IsTrue, if◌then◌else◌, Option, Some}
+use Rattle.std.specs.Prelude.{◌≡◌, ℕ, ◌≤◌, List, [], ◌∷◌, ◌++◌, codes, map, flat_map, option_to_list, IsTrue, if◌then◌else◌, Option, Some, Result}
 use Rattle.std.proofs.Common.{◌⊎◌}
 use Rattle.std.specs.Borrow.{Bor}
 use Rattle.json.specs.Print.{quoted}
@@ -24,13 +24,16 @@ use Rattle.gql_exec.specs.Kinds.{kind_in}
 use Rattle.gql_exec.specs.Parts.{Part, plain, followed_by, within, all, numbered, after_comma, counted, settled, caught}
 use Rattle.gql_exec.specs.Plans.{Basis, IsPlan, types_of}
 use Rattle.gql_exec.specs.Replies.{Path, key, index, Reply}
-use Rattle.gql_exec.specs.Tables.{InTable, below_at}
+use Rattle.gql_exec.specs.States.{Executes}
+use Rattle.gql_exec.specs.Tables.{IsRight, Grows, InTable, below_at}
 use Rattle.gql_exec.specs.Texts.{value_part}
+use Rattle.gql_exec.specs.declared.ended.Ended.{Ended}
 use Rattle.gql_exec.specs.declared.items.ListItems.{ListItems}
-use Rattle.gql_exec.specs.declared.items.ListItems.TheVariants as items
 use Rattle.gql_exec.specs.declared.planning.FieldPlan.{FieldPlan}
 use Rattle.gql_exec.specs.declared.resolve.Resolved.{Resolved}
 use Rattle.gql_exec.specs.declared.resolve.Resolved.TheVariants as found
+use Rattle.gql_exec.specs.declared.run.Run.{Run}
+use Rattle.gql_exec.specs.declared.refusal.ExecRefusal.{ExecRefusal}
 use Rattle.gql_exec.specs.declared.site.Site.{Site as FieldSite}
 use Rattle.gql_exec.specs.declared.table.Slot.{Slot}
 use Rattle.gql_exec.specs.declared.table.Table.{Table}
@@ -95,10 +98,14 @@ IsOf t found.Null = Unit {0}
 IsOf t (found.Value v) = Unit {0}
 IsOf t (found.Items vs) = IsTrue (is_list t)
 
+-- the items that are kept of these, or all if none are
+abbrev pub items_from : List Data → List (Bor Value) → List Data
+items_from ds [] = ds
+items_from ds (v ∷ vs) = map (λ (x : Bor Value). view x.now) (v ∷ vs)
+
 -- the items of a list that is completed
 abbrev pub items_in : ListItems → List Data
-items_in (items.All vs) = map view vs.now
-items_in (items.Kept vs) = map (λ (v : Bor Value). view v.now) vs.items
+items_in l = items_from (map view l.all.now) l.kept.now
 
 -- an item in its place
 abbrev pub item_at : Site → Written → Path → Data → Reply Data
@@ -167,6 +174,19 @@ pub record IsAsked (g : Basis) (here : FieldSite) (name : List ℕ) (xs : List F
     (x : Plan) : Type 0 where
   pub kind : here.kind ≡ kind_in g.given.schema name
   pub plan : IsPlan g name xs x
+
+-- what a call does for selections, by each plan that they have
+abbrev pub Does : Basis → FieldSite → List ℕ → List FileSelection → (Site → Part)
+    → Result Ended ExecRefusal → Run → Run → Type 0
+Does g here name xs part result old new = (x : Plan) → IsAsked g here name xs x
+    → Executes (part (site_of (types_of g) here.place x)) result old new
+
+-- what is true after each call: the table is right and has its old entries, and no completed value
+-- is uncounted
+pub record Keeps (g : Basis) (a b : Table) (old new : Run) : Type 0 where
+  pub right : IsRight g b
+  pub grows : Grows a b
+  pub left : new.left ≤ old.left
 
 -- this field is in this slot of the table
 pub record IsAt (t : Table) (s : Slot) (f : FieldPlan) : Type 0 where

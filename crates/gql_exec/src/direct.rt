@@ -29,7 +29,6 @@ pub enum Direct<'v> {
 }
 
 /// A value as an Int, if it is one.
-#[inline]
 fn direct_int<'v>(value: &'v Value) -> Option<Direct<'v>>
     ensures { IfSome result (λ x. spec.as_int (view value.now) ≡ Some (data_of x)) }
 {
@@ -46,7 +45,6 @@ fn direct_int<'v>(value: &'v Value) -> Option<Direct<'v>>
 }
 
 /// A value as a String, if it is one.
-#[inline]
 fn direct_text<'v>(value: &'v Value) -> Option<Direct<'v>>
     ensures string { IfSome result (λ x. spec.as_string (view value.now) ≡ Some (data_of x)) }
     ensures id { IfSome result (λ x. spec.as_id (view value.now) ≡ Some (data_of x)) }
@@ -58,7 +56,6 @@ fn direct_text<'v>(value: &'v Value) -> Option<Direct<'v>>
 }
 
 /// A value as a Boolean, if it is one.
-#[inline]
 fn direct_truth<'v>(value: &'v Value) -> Option<Direct<'v>>
     ensures { IfSome result (λ x. spec.as_boolean (view value.now) ≡ Some (data_of x)) }
 {
@@ -70,7 +67,6 @@ fn direct_truth<'v>(value: &'v Value) -> Option<Direct<'v>>
 
 /// A value as one of a scalar, if it is written as it is. A custom scalar is left to
 /// `complete_scalar`, and so is an ID that is an integer.
-#[inline]
 fn direct_scalar<'v>(scalar: Scalar, value: &'v Value) -> Option<Direct<'v>>
     ensures value { IfSome result (λ x. spec.as_scalar scalar (view value.now) ≡ Some (data_of x)) }
     ensures present { IfSome result (λ x. is_null (view value.now) ≡ false) }
@@ -85,7 +81,6 @@ fn direct_scalar<'v>(scalar: Scalar, value: &'v Value) -> Option<Direct<'v>>
 }
 
 /// A value in a place of a type, if it is one of a built-in scalar and is written as it is.
-#[inline]
 pub fn direct_value<'v>(kind: ValueKind, of_type: &TypeRef, value: &'v Value) -> Option<Direct<'v>>
     ensures { IfSome result
         (λ x. IsDirect kind (written of_type.now) (view value.now) (data_of x)) }
@@ -106,7 +101,6 @@ pub fn direct_value<'v>(kind: ValueKind, of_type: &TypeRef, value: &'v Value) ->
 }
 
 /// Writes a value of a built-in scalar.
-#[inline]
 pub fn write_direct(run: &mut Run<'_>, direct: Direct<'_>) -> Result<Ended, ExecRefusal>
     ensures { Executes (plain (compact_text (data_of direct.entry))) result run.old run.new }
 {

@@ -12,7 +12,6 @@ pub enum Ended {
 
 impl Ended {
     /// How two parts of one value end.
-    #[inline]
     pub fn and(self, next: Ended) -> Ended
         ensures { result ≡ both self next }
     {

@@ -1,171 +1,47 @@
-//! The execution of an object with all that is within it. The objects and the lists around the
-//! present value are on a stack of its own, so that only memory limits how deep an answer nests.
-ghost use Rattle.std.specs.Prelude.{◌≡◌, ◌<◌, List, [], length, IfOk, IfSome, Ok};
-ghost use Rattle.std.specs.List.{All};
-ghost use Rattle.gql_exec.specs.Frames.{Advances, At, Enters, Fits, FitsFrame, FitsReached, FitsTurn, Holds, Inside, KeepsTurn, Suspends, Turns};
+//! The execution of fields, and of their values (GraphQL specification, 4, 6.3, 6.4.3 and 6.4.4).
+ghost use Rattle.std.specs.Prelude.{◌≡◌, ◌<◌, List, ℕ, length, codes, false, true, Some, OnOk};
+ghost use Rattle.serde_json.specs.Find.{get};
+ghost use Rattle.serde_json.specs.View.{view};
+ghost use Rattle.gql_inputs.specs.InputTypes.{is_non_null, name_in as name_of_type};
+ghost use Rattle.gql_intro.specs.Borrowed.{answer_of, node_of};
+ghost use Rattle.gql_types.specs.Schemas.{kind_named};
+ghost use Rattle.gql_types.specs.Written.{written};
+ghost use Rattle.gql_exec.specs.Execution as spec;
+ghost use Rattle.gql_exec.specs.Execution.{Plan};
 ghost use Rattle.gql_exec.specs.Objects.{basis, object_of};
-ghost use Rattle.gql_exec.specs.Parts.{Part};
-ghost use Rattle.gql_exec.specs.Plans.{Basis, types_of};
-ghost use Rattle.gql_exec.specs.States.{Done, Executes, path_of};
-ghost use Rattle.gql_exec.specs.Tables.{Grows, IsRight, Pair, StandFor, fields_at};
+ghost use Rattle.gql_exec.specs.Plans.{IsPlan, is_met, possible_in, types_of};
+ghost use Rattle.gql_exec.specs.States.{Executes, path_of};
+ghost use Rattle.gql_exec.specs.Tables.{InTable, IsRight, Pair, StandFor, StandsFor, below_at, fields_at};
+ghost use Rattle.gql_exec.specs.Texts.{value_part};
+ghost use Rattle.gql_exec.specs.declared.kinds.ValueKind.TheVariants as kind;
 ghost use Rattle.gql_exec.specs.ValueParts as part;
-ghost use Rattle.gql_exec.specs.declared.frame.Reached.TheVariants as AReached;
-ghost use Rattle.gql_exec.specs.declared.run.Run.{Run as ARun};
-ghost use Rattle.gql_exec.specs.declared.table.Table.{Table as ATable};
+ghost use Rattle.gql_exec.specs.ValueParts.{Does, IsAt, IsOf, Keeps, items_in, resolved_in};
 
-use crate::around::close;
+use crate::direct::{direct_value, write_direct};
 use crate::ended::Ended;
-use crate::fields::run_fields;
-use crate::frame::{FieldsFrame, Frame, Group, Reached, Turn};
-use crate::lists::run_items;
-use crate::nodes::run_nodes;
+use crate::introspection::{introspect, write_flag, write_literal, write_locations, write_name};
+use crate::items::ListItems;
+use crate::kinds::{ValueKind, type_name};
+use crate::leaves::{Leaf, complete_enum, complete_scalar};
+use crate::nulls::{complete_null, without_mark, write_null};
 use crate::object::ObjectRef;
+use crate::outcome::Step;
+use crate::planning::{Called, FieldPlan, Source};
 use crate::refusal::ExecRefusal;
-use crate::run::Run;
+use crate::resolve::{Resolved, resolve};
+use crate::run::{Reason, Run};
 use crate::setting::Setting;
-use crate::steps::write_byte;
-use crate::table::Table;
-use std::alloc::{AllocError, Global};
+use crate::site::Site;
+use crate::steps::{count, cut_to_null, open_object, raise, write, write_byte, write_comma};
+use crate::table::{Slot, Table};
+use gql_ast::TypeRef;
+use gql_inputs::{is_non_null, item_of, name_in};
+use gql_intro::{IntroAnswer, IntroNode, IntroNodes};
+use serde_json::Value;
+use std::alloc::Global;
 
-/// Goes on with an object or a list.
-#[inline(always)]
-fn run_group<'d, 'v>(
-    alloc: Global,
-    setting: &Setting<'d, '_>,
-    table: &mut Table<'d>,
-    group: Group<'d, 'v>,
-    run: &mut Run<'d>,
-) -> Result<Turn<'d, 'v>, ExecRefusal>
-    requires right { IsRight (basis setting.now) table.old }
-    requires fits { Fits table.old group }
-    ensures keeps { KeepsTurn (basis setting.now) table.old table.new result }
-    ensures does { (whole : Part) (start : ARun)
-        → At (basis setting.now) table.old group.entry whole start run.old
-        → Turns (basis setting.now) table.new whole start result run.new }
-{
-    match group {
-        Group::Fields(fields) => run_fields(alloc, setting, table, fields, run),
-        Group::Items(items) => run_items(alloc, setting, table, items, run),
-        Group::Nodes(nodes) => run_nodes(alloc, setting, table, nodes, run),
-    }
-}
-
-/// Enters an object or a list.
-#[inline(always)]
-fn enter<'d, 'v>(
-    alloc: Global,
-    setting: &Setting<'d, '_>,
-    table: &mut Table<'d>,
-    group: Group<'d, 'v>,
-    run: &mut Run<'d>,
-) -> Result<Turn<'d, 'v>, ExecRefusal>
-    requires right { IsRight (basis setting.now) table.old }
-    requires fits { Fits table.old group }
-    ensures keeps { KeepsTurn (basis setting.now) table.old table.new result }
-    ensures does { (whole : Part)
-        → Enters (basis setting.now) table.old group.entry whole run.old
-        → Turns (basis setting.now) table.new whole run.old result run.new }
-{
-    write_byte(run, group.opening())?;
-    run_group(alloc, setting, table, group, run)
-}
-
-/// Goes on with an object or a list, after the value within it has ended.
-#[inline(always)]
-fn resume<'d, 'v>(
-    alloc: Global,
-    setting: &Setting<'d, '_>,
-    table: &mut Table<'d>,
-    frame: Frame<'d, 'v>,
-    ended: Ended,
-    run: &mut Run<'d>,
-) -> Result<Turn<'d, 'v>, ExecRefusal>
-    requires right { IsRight (basis setting.now) table.old }
-    requires fits { Fits table.old frame.group }
-    ensures keeps { KeepsTurn (basis setting.now) table.old table.new result }
-    ensures does { (inner : Part) (began : ARun) (whole : Part) (start : ARun)
-        → Suspends (basis setting.now) table.old frame.entry inner began whole start
-        → Done inner ended began run.old
-        → Turns (basis setting.now) table.new whole start result run.new }
-{
-    let Frame { group, around } = frame;
-    let ended = close(run, around, ended)?;
-    run_group(alloc, setting, table, group.and(ended), run)
-}
-
-/// Puts an object or a list on the stack that goes on after the one within it.
-#[inline(always)]
-fn push_turn<'d, 'v>(
-    stack: &mut Vec<Frame<'d, 'v>>,
-    turn: Turn<'d, 'v>,
-) -> Result<Reached<'d, 'v>, AllocError>
-    ensures fits { IfOk result (λ reached. (t : ATable) → All (FitsFrame t) stack.old.items
-        → FitsTurn t turn.entry
-        → (All (FitsFrame t) stack.new.items) × FitsReached t reached) }
-    ensures does { IfOk result (λ reached. (g : Basis) (t : ATable) (whole : Part) (start : ARun)
-        (inner : Part) (began now : ARun)
-        → Inside g t stack.old.items inner began whole start
-        → Turns g t inner began (Ok turn.entry) now
-        → Holds g t stack.new.items reached now whole start) }
-{
-    match turn {
-        Turn::Ended(ended) => Ok(Reached::Ended(ended)),
-        Turn::Within(frame, group) => {
-            stack.push(frame)?;
-            Ok(Reached::Inner(group))
-        }
-    }
-}
-
-/// Enters an object or a list, or goes on with the one around a value that has ended. The last
-/// value of all stays as it is.
-#[inline(always)]
-fn advance<'d, 'v>(
-    alloc: Global,
-    setting: &Setting<'d, '_>,
-    table: &mut Table<'d>,
-    stack: &mut Vec<Frame<'d, 'v>>,
-    reached: Reached<'d, 'v>,
-    run: &mut Run<'d>,
-) -> Result<Reached<'d, 'v>, ExecRefusal>
-    requires right { IsRight (basis setting.now) table.old }
-    requires fits { All (FitsFrame table.old) stack.old.items }
-    requires reached { FitsReached table.old reached }
-    ensures keeps { IfOk result (λ next. IsRight (basis setting.now) table.new
-        × Grows table.old table.new × (All (FitsFrame table.new) stack.new.items)
-        × FitsReached table.new next) }
-    ensures does { (whole : Part) (start : ARun)
-        → Holds (basis setting.now) table.old stack.old.items reached.entry run.old whole start
-        → Advances (basis setting.now) table.new stack.new.items result run.new whole start }
-{
-    match reached {
-        Reached::Inner(group) => {
-            let turn = enter(alloc, setting, table, group, run)?;
-            Ok(push_turn(stack, turn)?)
-        }
-        Reached::Ended(ended) => match stack.pop() {
-            Some(frame) => {
-                let turn = resume(alloc, setting, table, frame, ended, run)?;
-                Ok(push_turn(stack, turn)?)
-            }
-            None => Ok(Reached::Ended(ended)),
-        },
-    }
-}
-
-/// How the last value of all has ended, if it has.
-#[inline(always)]
-fn last_ended(stack: &[Frame<'_, '_>], reached: &Reached<'_, '_>) -> Option<Ended>
-    ensures { IfSome result (λ ended. (stack.now ≡ []) × (reached.now ≡ AReached.Ended ended)) }
-{
-    match reached {
-        Reached::Ended(ended) => { if stack.is_empty() { Some(*ended) } else { None } }
-        Reached::Inner(_) => None,
-    }
-}
-
-/// Executes the fields of an entry of the table on an object. It gives up after 2^64 - 1 steps,
-/// which no run reaches.
+/// Executes the fields of an entry of the table on an object.
+#[cycle(execute)]
 pub fn execute_object<'d>(
     alloc: Global,
     setting: &Setting<'d, '_>,
@@ -176,23 +52,749 @@ pub fn execute_object<'d>(
 ) -> Result<Ended, ExecRefusal>
     requires right { IsRight (basis setting.now) table.old }
     requires within { entry < length table.old.entries.items }
+    ensures keeps { OnOk result (Keeps (basis setting.now) table.old table.new run.old run.new) }
     ensures does { (qs : List Pair)
         → StandFor (basis setting.now) (fields_at table.old.entries.items entry) qs
         → Executes (part.object_part (types_of (basis setting.now)) (object_of object.entry) qs
         (path_of run.old)) result run.old run.new }
 {
-    let mut stack = Vec::new(alloc);
-    let mut reached = Reached::Inner(Group::Fields(FieldsFrame {
-        entry,
-        object,
-        next: 0,
-        ended: Ended::Written,
-    }));
-    'steps: for _ in 0..u64::MAX {
-        if let Some(ended) = last_ended(stack.as_slice(), &reached) {
-            return Ok(ended);
-        }
-        reached = advance(alloc, setting, table, &mut stack, reached, run)?;
+    open_object(run)?;
+    let ended = execute_fields(alloc, setting, table, entry, object, run)?;
+    write_byte(run, b'}')?;
+    Ok(ended)
+}
+
+/// Executes the fields of an entry, one after another, also after an error.
+#[cycle(execute)]
+fn execute_fields<'d>(
+    alloc: Global,
+    setting: &Setting<'d, '_>,
+    table: &mut Table<'d>,
+    entry: usize,
+    object: ObjectRef<'d, '_>,
+    run: &mut Run<'d>,
+) -> Result<Ended, ExecRefusal>
+    requires right { IsRight (basis setting.now) table.old }
+    requires within { entry < length table.old.entries.items }
+    ensures keeps { OnOk result (Keeps (basis setting.now) table.old table.new run.old run.new) }
+    ensures does { (qs : List Pair)
+        → StandFor (basis setting.now) (fields_at table.old.entries.items entry) qs
+        → Executes (part.fields_part (types_of (basis setting.now)) (object_of object.entry) qs
+        (path_of run.old)) result run.old run.new }
+{
+    let shared = table.fields(entry)?;
+    let fields = shared.get();
+    let mut ended = Ended::Written;
+    for i in 0..fields.len() {
+        let slot = Slot { entry, field: i };
+        let field_ended = execute_field(alloc, setting, table, slot, &fields[i], object, run)?;
+        ended = ended.and(field_ended);
     }
-    Err(ExecRefusal::Memory)
+    Ok(ended)
+}
+
+/// Executes a field, with its comma and its name.
+#[cycle(execute)]
+fn execute_field<'d>(
+    alloc: Global,
+    setting: &Setting<'d, '_>,
+    table: &mut Table<'d>,
+    slot: Slot,
+    field: &FieldPlan<'d>,
+    object: ObjectRef<'d, '_>,
+    run: &mut Run<'d>,
+) -> Result<Ended, ExecRefusal>
+    requires right { IsRight (basis setting.now) table.old }
+    requires at { IsAt table.old slot field.now }
+    ensures keeps { OnOk result (Keeps (basis setting.now) table.old table.new run.old run.new) }
+    ensures does { (q : Pair) → StandsFor (basis setting.now) field.now q
+        → Executes (part.field_part (types_of (basis setting.now)) (object_of object.entry)
+        (path_of run.old) slot.field q) result run.old run.new }
+{
+    write_comma(run, slot.field)?;
+    count(run)?;
+    write(run, field.label.as_slice())?;
+    execute_content(alloc, setting, table, slot, field, object, run)
+}
+
+/// The value of a field, at its path. It has its own errors.
+#[cycle(execute)]
+fn execute_content<'d>(
+    alloc: Global,
+    setting: &Setting<'d, '_>,
+    table: &mut Table<'d>,
+    slot: Slot,
+    field: &FieldPlan<'d>,
+    object: ObjectRef<'d, '_>,
+    run: &mut Run<'d>,
+) -> Result<Ended, ExecRefusal>
+    requires right { IsRight (basis setting.now) table.old }
+    requires at { IsAt table.old slot field.now }
+    ensures keeps { OnOk result (Keeps (basis setting.now) table.old table.new run.old run.new) }
+    ensures does { (q : Pair) → StandsFor (basis setting.now) field.now q
+        → Executes (part.content_part (types_of (basis setting.now)) (object_of object.entry) q
+        (path_of run.old)) result run.old run.new }
+{
+    let outer = run.raised;
+    let depth = run.path.len();
+    run.raised = false;
+    run.path.push(Step::Key(field.response_name))?;
+    let ended = place_field(alloc, setting, table, slot, field, object, run)?;
+    run.path.truncate(depth);
+    run.raised = outer;
+    Ok(ended)
+}
+
+/// The value of a field at its place. Where a null bubbles up to a nullable place, it stays there.
+#[cycle(execute)]
+fn place_field<'d>(
+    alloc: Global,
+    setting: &Setting<'d, '_>,
+    table: &mut Table<'d>,
+    slot: Slot,
+    field: &FieldPlan<'d>,
+    object: ObjectRef<'d, '_>,
+    run: &mut Run<'d>,
+) -> Result<Ended, ExecRefusal>
+    requires right { IsRight (basis setting.now) table.old }
+    requires at { IsAt table.old slot field.now }
+    ensures keeps { OnOk result (Keeps (basis setting.now) table.old table.new run.old run.new) }
+    ensures does { (q : Pair) → StandsFor (basis setting.now) field.now q
+        → Executes (part.placed_part q.0.of_type (part.called_part
+        (types_of (basis setting.now)) (object_of object.entry) q (path_of run.old)))
+        result run.old run.new }
+{
+    if is_non_null(field.of_type) {
+        return call_field(alloc, setting, table, slot, field, object, run);
+    }
+    let mark = run.out.len();
+    match call_field(alloc, setting, table, slot, field, object, run)? {
+        Ended::Written => Ok(Ended::Written),
+        Ended::Bubbled => {
+            cut_to_null(run, mark)?;
+            Ok(Ended::Written)
+        }
+    }
+}
+
+/// The value of a field, called with its arguments; arguments that are refused are an error.
+#[cycle(execute)]
+fn call_field<'d>(
+    alloc: Global,
+    setting: &Setting<'d, '_>,
+    table: &mut Table<'d>,
+    slot: Slot,
+    field: &FieldPlan<'d>,
+    object: ObjectRef<'d, '_>,
+    run: &mut Run<'d>,
+) -> Result<Ended, ExecRefusal>
+    requires right { IsRight (basis setting.now) table.old }
+    requires at { IsAt table.old slot field.now }
+    ensures keeps { OnOk result (Keeps (basis setting.now) table.old table.new run.old run.new) }
+    ensures does { (q : Pair) → StandsFor (basis setting.now) field.now q
+        → Executes (part.called_part (types_of (basis setting.now)) (object_of object.entry) q
+        (path_of run.old)) result run.old run.new }
+{
+    match &field.arguments {
+        Called::Refused(message) => {
+            raise(alloc, run, field.place, Reason::Refused(message.as_str()))
+        }
+        Called::Given(given) => {
+            let arguments = given.get();
+            match object {
+                ObjectRef::Stored(value) => {
+                    call_stored(alloc, setting, table, slot, field, arguments, value, run)
+                }
+                ObjectRef::Described(node) => {
+                    call_node(alloc, setting, table, slot, field, arguments, node, run)
+                }
+            }
+        }
+    }
+}
+
+/// The value of a field of an object of the data, called with these arguments.
+#[cycle(execute)]
+fn call_stored<'d>(
+    alloc: Global,
+    setting: &Setting<'d, '_>,
+    table: &mut Table<'d>,
+    slot: Slot,
+    field: &FieldPlan<'d>,
+    arguments: &Value,
+    value: &Value,
+    run: &mut Run<'d>,
+) -> Result<Ended, ExecRefusal>
+    requires right { IsRight (basis setting.now) table.old }
+    requires at { IsAt table.old slot field.now }
+    ensures keeps { OnOk result (Keeps (basis setting.now) table.old table.new run.old run.new) }
+    ensures does { (q : Pair) → StandsFor (basis setting.now) field.now q
+        → Executes (part.source_part (types_of (basis setting.now)) (view arguments.now)
+        (view value.now) q (path_of run.old)) result run.old run.new }
+{
+    match &field.source {
+        Source::Stored => {
+            let of_type = field.of_type;
+            let resolved = resolve(alloc, field.name, of_type, arguments, value)?;
+            let site = Site {
+                slot,
+                place: field.place,
+                kind: field.kind,
+            };
+            complete_resolved(alloc, setting, table, site, of_type, &resolved, run)
+        }
+        Source::TypeName(name) => write_name(run, name.as_str()),
+        Source::Root => {
+            let root = IntroNode::QueryRoot;
+            call_node(alloc, setting, table, slot, field, arguments, root, run)
+        }
+    }
+}
+
+/// The value of a field of a node of introspection, called with these arguments.
+#[cycle(execute)]
+fn call_node<'d>(
+    alloc: Global,
+    setting: &Setting<'d, '_>,
+    table: &mut Table<'d>,
+    slot: Slot,
+    field: &FieldPlan<'d>,
+    arguments: &Value,
+    node: IntroNode<'d>,
+    run: &mut Run<'d>,
+) -> Result<Ended, ExecRefusal>
+    requires right { IsRight (basis setting.now) table.old }
+    requires at { IsAt table.old slot field.now }
+    ensures keeps { OnOk result (Keeps (basis setting.now) table.old table.new run.old run.new) }
+    ensures does { (q : Pair) → StandsFor (basis setting.now) field.now q
+        → Executes (part.answer_part (types_of (basis setting.now)) (view arguments.now)
+        (node_of node.entry) q (path_of run.old)) result run.old run.new }
+{
+    let answer = introspect(setting, node, field.name, arguments);
+    let name = name_in(field.of_type);
+    let site = Site {
+        slot,
+        place: field.place,
+        kind: field.kind,
+    };
+    complete_answer(alloc, setting, table, site, name.as_str(), answer, run)
+}
+
+/// Completes what introspection answers; its nodes have the type of this name.
+#[cycle(execute)]
+fn complete_answer<'d>(
+    alloc: Global,
+    setting: &Setting<'d, '_>,
+    table: &mut Table<'d>,
+    site: Site,
+    name: &str,
+    answer: IntroAnswer<'d>,
+    run: &mut Run<'d>,
+) -> Result<Ended, ExecRefusal>
+    requires right { IsRight (basis setting.now) table.old }
+    requires within { InTable table.old site.slot }
+    ensures keeps { OnOk result (Keeps (basis setting.now) table.old table.new run.old run.new) }
+    ensures does { Does (basis setting.now) site name.now (below_at table.old site.slot)
+        (λ s. value_part (spec.on_answer s name.now (path_of run.old)
+        (answer_of setting.now.context.schema.now answer.entry))) result run.old run.new }
+{
+    match answer {
+        IntroAnswer::Null => write_null(run),
+        IntroAnswer::Text(text) => write_name(run, text),
+        IntroAnswer::Boolean(truth) => write_flag(run, truth),
+        IntroAnswer::EnumValue(value) => write_name(run, value),
+        IntroAnswer::Literal(literal) => write_literal(alloc, literal, run),
+        IntroAnswer::Node(node) => {
+            let object = ObjectRef::Described(node);
+            execute_below(alloc, setting, table, site.slot, name, object, run)
+        }
+        IntroAnswer::Nodes(nodes) => {
+            complete_nodes(alloc, setting, table, site, name, nodes, run)
+        }
+        IntroAnswer::Locations(locations) => write_locations(run, locations),
+    }
+}
+
+/// Completes the nodes of a list.
+#[cycle(execute)]
+fn complete_nodes<'d>(
+    alloc: Global,
+    setting: &Setting<'d, '_>,
+    table: &mut Table<'d>,
+    site: Site,
+    name: &str,
+    nodes: IntroNodes<'d>,
+    run: &mut Run<'d>,
+) -> Result<Ended, ExecRefusal>
+    requires right { IsRight (basis setting.now) table.old }
+    requires within { InTable table.old site.slot }
+    ensures keeps { OnOk result (Keeps (basis setting.now) table.old table.new run.old run.new) }
+    ensures does { Does (basis setting.now) site name.now (below_at table.old site.slot)
+        (λ s. part.node_list_part name.now s
+        (part.nodes_in setting.now.context.schema.now nodes.entry) (path_of run.old))
+        result run.old run.new }
+{
+    write_byte(run, b'[')?;
+    let ended = list_nodes(alloc, setting, table, site, name, nodes, run)?;
+    write_byte(run, b']')?;
+    Ok(ended)
+}
+
+/// Completes the nodes of a list, one after another.
+#[cycle(execute)]
+fn list_nodes<'d>(
+    alloc: Global,
+    setting: &Setting<'d, '_>,
+    table: &mut Table<'d>,
+    site: Site,
+    name: &str,
+    nodes: IntroNodes<'d>,
+    run: &mut Run<'d>,
+) -> Result<Ended, ExecRefusal>
+    requires right { IsRight (basis setting.now) table.old }
+    requires within { InTable table.old site.slot }
+    ensures keeps { OnOk result (Keeps (basis setting.now) table.old table.new run.old run.new) }
+    ensures does { Does (basis setting.now) site name.now (below_at table.old site.slot)
+        (λ s. part.nodes_part name.now s
+        (part.nodes_in setting.now.context.schema.now nodes.entry) (path_of run.old))
+        result run.old run.new }
+{
+    let mut ended = Ended::Written;
+    let mut listed: usize = 0;
+    for i in 0..nodes.len() {
+        let Some(node) = nodes.get(setting.context.schema, i) else {
+            continue;
+        };
+        let node_ended = list_node(alloc, setting, table, site, name, listed, node, run)?;
+        ended = ended.and(node_ended);
+        listed += 1;
+    }
+    Ok(ended)
+}
+
+/// Completes a node of a list, with its comma.
+#[cycle(execute)]
+fn list_node<'d>(
+    alloc: Global,
+    setting: &Setting<'d, '_>,
+    table: &mut Table<'d>,
+    site: Site,
+    name: &str,
+    i: usize,
+    node: IntroNode<'d>,
+    run: &mut Run<'d>,
+) -> Result<Ended, ExecRefusal>
+    requires right { IsRight (basis setting.now) table.old }
+    requires within { InTable table.old site.slot }
+    ensures keeps { OnOk result (Keeps (basis setting.now) table.old table.new run.old run.new) }
+    ensures does { Does (basis setting.now) site name.now (below_at table.old site.slot)
+        (λ s. part.node_part name.now s (path_of run.old) i (node_of node.entry))
+        result run.old run.new }
+{
+    write_comma(run, i)?;
+    count(run)?;
+    node_content(alloc, setting, table, site, name, i, node, run)
+}
+
+/// A node of a list, at its path.
+#[cycle(execute)]
+fn node_content<'d>(
+    alloc: Global,
+    setting: &Setting<'d, '_>,
+    table: &mut Table<'d>,
+    site: Site,
+    name: &str,
+    i: usize,
+    node: IntroNode<'d>,
+    run: &mut Run<'d>,
+) -> Result<Ended, ExecRefusal>
+    requires right { IsRight (basis setting.now) table.old }
+    requires within { InTable table.old site.slot }
+    ensures keeps { OnOk result (Keeps (basis setting.now) table.old table.new run.old run.new) }
+    ensures does { Does (basis setting.now) site name.now (below_at table.old site.slot)
+        (λ s. part.content_of_node name.now s i (node_of node.entry) (path_of run.old))
+        result run.old run.new }
+{
+    let depth = run.path.len();
+    run.path.push(Step::Index(i))?;
+    let object = ObjectRef::Described(node);
+    let ended = execute_below(alloc, setting, table, site.slot, name, object, run)?;
+    run.path.truncate(depth);
+    Ok(ended)
+}
+
+/// Completes what a field was resolved to.
+#[cycle(execute)]
+fn complete_resolved<'d>(
+    alloc: Global,
+    setting: &Setting<'d, '_>,
+    table: &mut Table<'d>,
+    site: Site,
+    of_type: &TypeRef,
+    resolved: &Resolved<'_>,
+    run: &mut Run<'d>,
+) -> Result<Ended, ExecRefusal>
+    requires right { IsRight (basis setting.now) table.old }
+    requires within { InTable table.old site.slot }
+    requires of { IsOf (written of_type.now) resolved.now }
+    ensures keeps { OnOk result (Keeps (basis setting.now) table.old table.new run.old run.new) }
+    ensures does { Does (basis setting.now) site (name_of_type (written of_type.now))
+        (below_at table.old site.slot)
+        (λ s. value_part (spec.complete s (written of_type.now) (path_of run.old)
+        (resolved_in resolved.now))) result run.old run.new }
+{
+    match resolved {
+        Resolved::Null => complete_null(alloc, site.place, of_type, run),
+        Resolved::Value(value) => complete(alloc, setting, table, site, of_type, *value, run),
+        Resolved::Items(found) => match item_of(of_type) {
+            Some(item) => {
+                let items = ListItems {
+                    all: &[],
+                    kept: found.as_slice(),
+                };
+                complete_items(alloc, setting, table, site, item, items, run)
+            }
+            None => raise(alloc, run, site.place, Reason::NotAList),
+        },
+    }
+}
+
+/// Completes a value (CompleteValue).
+#[cycle(execute)]
+fn complete<'d>(
+    alloc: Global,
+    setting: &Setting<'d, '_>,
+    table: &mut Table<'d>,
+    site: Site,
+    of_type: &TypeRef,
+    value: &Value,
+    run: &mut Run<'d>,
+) -> Result<Ended, ExecRefusal>
+    requires right { IsRight (basis setting.now) table.old }
+    requires within { InTable table.old site.slot }
+    ensures keeps { OnOk result (Keeps (basis setting.now) table.old table.new run.old run.new) }
+    ensures does { Does (basis setting.now) site (name_of_type (written of_type.now))
+        (below_at table.old site.slot)
+        (λ s. value_part (spec.complete s (written of_type.now) (path_of run.old)
+        (view value.now))) result run.old run.new }
+{
+    if let Some(found) = direct_value(site.kind, of_type, value) {
+        return write_direct(run, found);
+    }
+    if value.is_null() {
+        return complete_null(alloc, site.place, of_type, run);
+    }
+    let nullable = without_mark(of_type);
+    complete_present(alloc, setting, table, site, nullable, value, run)
+}
+
+/// Completes a value that is not null, at a type without a Non-Null mark.
+#[cycle(execute)]
+fn complete_present<'d>(
+    alloc: Global,
+    setting: &Setting<'d, '_>,
+    table: &mut Table<'d>,
+    site: Site,
+    of_type: &TypeRef,
+    value: &Value,
+    run: &mut Run<'d>,
+) -> Result<Ended, ExecRefusal>
+    requires right { IsRight (basis setting.now) table.old }
+    requires within { InTable table.old site.slot }
+    requires nullable { is_non_null (written of_type.now) ≡ false }
+    requires present { spec.is_null (view value.now) ≡ false }
+    ensures keeps { OnOk result (Keeps (basis setting.now) table.old table.new run.old run.new) }
+    ensures does { Does (basis setting.now) site (name_of_type (written of_type.now))
+        (below_at table.old site.slot)
+        (λ s. value_part (spec.complete s (written of_type.now) (path_of run.old)
+        (view value.now))) result run.old run.new }
+{
+    match of_type {
+        TypeRef::Named(name) => {
+            complete_named(alloc, setting, table, site, name.as_str(), value, run)
+        }
+        TypeRef::List { item, .. } => {
+            complete_list(alloc, setting, table, site, item.get(), value, run)
+        }
+        TypeRef::NonNull(_) => raise(alloc, run, site.place, Reason::NullForNonNull),
+    }
+}
+
+/// Completes a value at the type of a name.
+#[cycle(execute)]
+fn complete_named<'d>(
+    alloc: Global,
+    setting: &Setting<'d, '_>,
+    table: &mut Table<'d>,
+    site: Site,
+    name: &str,
+    value: &Value,
+    run: &mut Run<'d>,
+) -> Result<Ended, ExecRefusal>
+    requires right { IsRight (basis setting.now) table.old }
+    requires within { InTable table.old site.slot }
+    ensures keeps { OnOk result (Keeps (basis setting.now) table.old table.new run.old run.new) }
+    ensures does { Does (basis setting.now) site name.now (below_at table.old site.slot)
+        (λ s. value_part (spec.of_kind s name.now (path_of run.old) (view value.now)
+        (kind_named setting.now.context.schema.now name.now))) result run.old run.new }
+{
+    let leaf = Leaf {
+        name,
+        place: site.place,
+    };
+    match site.kind {
+        ValueKind::Scalar(scalar) => complete_scalar(alloc, scalar, leaf, value, run),
+        ValueKind::Enum => complete_enum(alloc, setting.context.schema, leaf, value, run),
+        ValueKind::Object => complete_object(alloc, setting, table, site, name, value, run),
+        ValueKind::Abstract => complete_abstract(alloc, setting, table, site, name, value, run),
+        ValueKind::NoOutput => raise(alloc, run, site.place, Reason::NotOfType(name)),
+    }
+}
+
+/// Completes a value at an object type.
+#[cycle(execute)]
+fn complete_object<'d>(
+    alloc: Global,
+    setting: &Setting<'d, '_>,
+    table: &mut Table<'d>,
+    site: Site,
+    name: &str,
+    value: &Value,
+    run: &mut Run<'d>,
+) -> Result<Ended, ExecRefusal>
+    requires right { IsRight (basis setting.now) table.old }
+    requires within { InTable table.old site.slot }
+    ensures keeps { OnOk result (Keeps (basis setting.now) table.old table.new run.old run.new) }
+    ensures does { Does (basis setting.now) site name.now (below_at table.old site.slot)
+        (λ s. value_part (spec.on_object s name.now (path_of run.old) (view value.now)))
+        result run.old run.new }
+{
+    if value.is_object() {
+        let object = ObjectRef::Stored(value);
+        execute_below(alloc, setting, table, site.slot, name, object, run)
+    } else {
+        raise(alloc, run, site.place, Reason::NotAnObject)
+    }
+}
+
+/// Completes a value at an interface or a union (ResolveAbstractType).
+#[cycle(execute)]
+fn complete_abstract<'d>(
+    alloc: Global,
+    setting: &Setting<'d, '_>,
+    table: &mut Table<'d>,
+    site: Site,
+    name: &str,
+    value: &Value,
+    run: &mut Run<'d>,
+) -> Result<Ended, ExecRefusal>
+    requires right { IsRight (basis setting.now) table.old }
+    requires within { InTable table.old site.slot }
+    requires composite { site.kind ≡ kind.Abstract }
+    ensures keeps { OnOk result (Keeps (basis setting.now) table.old table.new run.old run.new) }
+    ensures does { Does (basis setting.now) site name.now (below_at table.old site.slot)
+        (λ s. value_part (spec.on_abstract s name.now (path_of run.old) (view value.now)
+        (spec.among (possible_in setting.now.context.schema.now name.now)
+        (get (codes "__typename") (view value.now))))) result run.old run.new }
+{
+    match type_name(setting.context.schema, name, value) {
+        Some(of_type) => {
+            let object = ObjectRef::Stored(value);
+            execute_below(alloc, setting, table, site.slot, of_type, object, run)
+        }
+        None => raise(alloc, run, site.place, Reason::NoPossibleType(name)),
+    }
+}
+
+/// Executes what is selected below a field on an object of a type.
+#[cycle(execute)]
+fn execute_below<'d>(
+    alloc: Global,
+    setting: &Setting<'d, '_>,
+    table: &mut Table<'d>,
+    slot: Slot,
+    of_type: &str,
+    object: ObjectRef<'d, '_>,
+    run: &mut Run<'d>,
+) -> Result<Ended, ExecRefusal>
+    requires right { IsRight (basis setting.now) table.old }
+    requires within { InTable table.old slot }
+    ensures keeps { OnOk result (Keeps (basis setting.now) table.old table.new run.old run.new) }
+    ensures does { (name : List ℕ) → is_met (basis setting.now) of_type.now name ≡ true
+        → (x : Plan) → IsPlan (basis setting.now) name (below_at table.old slot) x
+        → Executes (value_part (spec.execute (types_of (basis setting.now)) x of_type.now
+        (path_of run.old) (object_of object.entry))) result run.old run.new }
+{
+    let entry = table.at(alloc, setting, slot, of_type)?;
+    execute_object(alloc, setting, table, entry, object, run)
+}
+
+/// Completes a value at a list type.
+#[cycle(execute)]
+fn complete_list<'d>(
+    alloc: Global,
+    setting: &Setting<'d, '_>,
+    table: &mut Table<'d>,
+    site: Site,
+    item: &TypeRef,
+    value: &Value,
+    run: &mut Run<'d>,
+) -> Result<Ended, ExecRefusal>
+    requires right { IsRight (basis setting.now) table.old }
+    requires within { InTable table.old site.slot }
+    ensures keeps { OnOk result (Keeps (basis setting.now) table.old table.new run.old run.new) }
+    ensures does { Does (basis setting.now) site (name_of_type (written item.now))
+        (below_at table.old site.slot)
+        (λ s. value_part (spec.on_list s (part.item_at s (written item.now)) (path_of run.old)
+        (view value.now))) result run.old run.new }
+{
+    match value.as_array() {
+        Some(values) => {
+            let items = ListItems {
+                all: values.as_slice(),
+                kept: &[],
+            };
+            complete_items(alloc, setting, table, site, item, items, run)
+        }
+        None => raise(alloc, run, site.place, Reason::NotAList),
+    }
+}
+
+/// Completes the items of a list.
+#[cycle(execute)]
+fn complete_items<'d>(
+    alloc: Global,
+    setting: &Setting<'d, '_>,
+    table: &mut Table<'d>,
+    site: Site,
+    item: &TypeRef,
+    items: ListItems<'_>,
+    run: &mut Run<'d>,
+) -> Result<Ended, ExecRefusal>
+    requires right { IsRight (basis setting.now) table.old }
+    requires within { InTable table.old site.slot }
+    ensures keeps { OnOk result (Keeps (basis setting.now) table.old table.new run.old run.new) }
+    ensures does { Does (basis setting.now) site (name_of_type (written item.now))
+        (below_at table.old site.slot)
+        (λ s. part.list_part (written item.now) s (items_in items.entry) (path_of run.old))
+        result run.old run.new }
+{
+    write_byte(run, b'[')?;
+    let ended = list_items(alloc, setting, table, site, item, items, run)?;
+    write_byte(run, b']')?;
+    Ok(ended)
+}
+
+/// Completes items, one after another, also after an error.
+#[cycle(execute)]
+fn list_items<'d>(
+    alloc: Global,
+    setting: &Setting<'d, '_>,
+    table: &mut Table<'d>,
+    site: Site,
+    item: &TypeRef,
+    items: ListItems<'_>,
+    run: &mut Run<'d>,
+) -> Result<Ended, ExecRefusal>
+    requires right { IsRight (basis setting.now) table.old }
+    requires within { InTable table.old site.slot }
+    ensures keeps { OnOk result (Keeps (basis setting.now) table.old table.new run.old run.new) }
+    ensures does { Does (basis setting.now) site (name_of_type (written item.now))
+        (below_at table.old site.slot)
+        (λ s. part.items_part (written item.now) s (items_in items.entry) (path_of run.old))
+        result run.old run.new }
+{
+    let mut ended = Ended::Written;
+    for i in 0..items.count() {
+        let value = items.item(i);
+        ended = ended.and(list_item(alloc, setting, table, site, item, i, value, run)?);
+    }
+    Ok(ended)
+}
+
+/// Completes an item, with its comma.
+#[cycle(execute)]
+fn list_item<'d>(
+    alloc: Global,
+    setting: &Setting<'d, '_>,
+    table: &mut Table<'d>,
+    site: Site,
+    item: &TypeRef,
+    i: usize,
+    value: &Value,
+    run: &mut Run<'d>,
+) -> Result<Ended, ExecRefusal>
+    requires right { IsRight (basis setting.now) table.old }
+    requires within { InTable table.old site.slot }
+    ensures keeps { OnOk result (Keeps (basis setting.now) table.old table.new run.old run.new) }
+    ensures does { Does (basis setting.now) site (name_of_type (written item.now))
+        (below_at table.old site.slot)
+        (λ s. part.item_part (written item.now) s (path_of run.old) i (view value.now))
+        result run.old run.new }
+{
+    write_comma(run, i)?;
+    count(run)?;
+    if let Some(found) = direct_value(site.kind, item, value) {
+        return write_direct(run, found);
+    }
+    item_content(alloc, setting, table, site, item, i, value, run)
+}
+
+/// The value of an item, at its path.
+#[cycle(execute)]
+fn item_content<'d>(
+    alloc: Global,
+    setting: &Setting<'d, '_>,
+    table: &mut Table<'d>,
+    site: Site,
+    item: &TypeRef,
+    i: usize,
+    value: &Value,
+    run: &mut Run<'d>,
+) -> Result<Ended, ExecRefusal>
+    requires right { IsRight (basis setting.now) table.old }
+    requires within { InTable table.old site.slot }
+    ensures keeps { OnOk result (Keeps (basis setting.now) table.old table.new run.old run.new) }
+    ensures does { Does (basis setting.now) site (name_of_type (written item.now))
+        (below_at table.old site.slot)
+        (λ s. part.content_of_item (written item.now) s i (view value.now) (path_of run.old))
+        result run.old run.new }
+{
+    let depth = run.path.len();
+    run.path.push(Step::Index(i))?;
+    let ended = place_item(alloc, setting, table, site, item, value, run)?;
+    run.path.truncate(depth);
+    Ok(ended)
+}
+
+/// The value of an item at its place. Where a null bubbles up to a nullable place, it stays there.
+#[cycle(execute)]
+fn place_item<'d>(
+    alloc: Global,
+    setting: &Setting<'d, '_>,
+    table: &mut Table<'d>,
+    site: Site,
+    item: &TypeRef,
+    value: &Value,
+    run: &mut Run<'d>,
+) -> Result<Ended, ExecRefusal>
+    requires right { IsRight (basis setting.now) table.old }
+    requires within { InTable table.old site.slot }
+    ensures keeps { OnOk result (Keeps (basis setting.now) table.old table.new run.old run.new) }
+    ensures does { Does (basis setting.now) site (name_of_type (written item.now))
+        (below_at table.old site.slot)
+        (λ s. part.placed_part (written item.now) (value_part (spec.complete s (written item.now)
+        (path_of run.old) (view value.now)))) result run.old run.new }
+{
+    if is_non_null(item) {
+        return complete(alloc, setting, table, site, item, value, run);
+    }
+    let start = run.out.len();
+    match complete(alloc, setting, table, site, item, value, run)? {
+        Ended::Written => Ok(Ended::Written),
+        Ended::Bubbled => {
+            cut_to_null(run, start)?;
+            Ok(Ended::Written)
+        }
+    }
 }

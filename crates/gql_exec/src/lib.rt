@@ -1,24 +1,17 @@
 //! The execution of operations (GraphQL specification, 6).
 #![tactic(auto)]
 
-mod around;
-mod calls;
-mod completion;
 mod credit;
 mod direct;
 mod ended;
 mod equal_sets;
 mod executor;
-mod fields;
 mod filter;
-mod frame;
 mod introspection;
 mod items;
 mod kinds;
 pub mod laws;
 mod leaves;
-mod lists;
-mod nodes;
 mod nulls;
 mod object;
 mod outcome;

@@ -18,7 +18,6 @@ use serde_json::Value;
 use std::alloc::{AllocError, Global};
 
 /// Writes bytes as they are.
-#[inline]
 pub fn write(run: &mut Run<'_>, bytes: &[u8]) -> Result<(), ExecRefusal>
     ensures follows { OnOk result (Follows (plain bytes.now) run.old run.new) }
     ensures err { IfErr result (λ e. e ≡ ExecRefusal.Memory) }
@@ -28,7 +27,6 @@ pub fn write(run: &mut Run<'_>, bytes: &[u8]) -> Result<(), ExecRefusal>
 }
 
 /// Writes one byte.
-#[inline]
 pub fn write_byte(run: &mut Run<'_>, byte: u8) -> Result<(), ExecRefusal>
     ensures follows { OnOk result (Follows (plain (byte ∷ [])) run.old run.new) }
     ensures err { IfErr result (λ e. e ≡ ExecRefusal.Memory) }
@@ -37,9 +35,25 @@ pub fn write_byte(run: &mut Run<'_>, byte: u8) -> Result<(), ExecRefusal>
     Ok(())
 }
 
+/// How many steps the path to an object has at most. An execution recurses once for each object
+/// within another, so that one that nests deeper could end the stack.
+const MOST_STEPS: usize = 2_000;
+
+/// Writes the bracket that opens an object. Where the path to the object is too long, the execution
+/// gives up, as if an allocation had failed. Data nest at most 127 deep, so that only introspection
+/// comes to this.
+pub fn open_object(run: &mut Run<'_>) -> Result<(), ExecRefusal>
+    ensures follows { OnOk result (Follows (plain (codes "{")) run.old run.new) }
+    ensures err { IfErr result (λ e. e ≡ ExecRefusal.Memory) }
+{
+    if run.path.len() > MOST_STEPS {
+        return Err(ExecRefusal::Memory);
+    }
+    write_byte(run, b'{')
+}
+
 /// Writes a comma, but not before the first part.
 #[tactic(auto, using(crate::proofs::Parts::comma_first, crate::proofs::Parts::comma_later))]
-#[inline]
 pub fn write_comma(run: &mut Run<'_>, i: usize) -> Result<(), ExecRefusal>
     ensures follows { OnOk result (Follows (comma i) run.old run.new) }
     ensures err { IfErr result (λ e. e ≡ ExecRefusal.Memory) }
@@ -70,7 +84,6 @@ pub fn write_text_bytes(run: &mut Run<'_>, text: &[u8]) -> Result<(), ExecRefusa
 }
 
 /// Writes a whole number.
-#[inline]
 pub fn write_whole(run: &mut Run<'_>, number: i64) -> Result<(), ExecRefusal>
     ensures follows { OnOk result (Follows (plain (signed_decimal number)) run.old run.new) }
     ensures err { IfErr result (λ e. e ≡ ExecRefusal.Memory) }
@@ -91,7 +104,6 @@ pub fn write_any(run: &mut Run<'_>, value: &Value) -> Result<(), ExecRefusal>
 }
 
 /// Counts one value, unless the limit is reached.
-#[inline]
 pub fn count(run: &mut Run<'_>) -> Result<(), ExecRefusal>
     ensures follows { OnOk result (Follows one run.old run.new) }
     ensures err { IfErr result (λ e. run.old.left ≡ 0) }
