@@ -1,5 +1,5 @@
 -- The first of each name in a list with one more at its end.
-use Rattle.std.proofs.Common.{◌≡◌, ◌++◌, ℕ, List, [], ◌∷◌, Bool, not, ◌||◌, ◌+◌, ◌<◌, length, get_or, take, map, filter, bytes_eq, refl, ap, ◌∙◌, cond, arith}
+use Rattle.std.proofs.Common.{◌≡◌, ◌++◌, ℕ, List, [], ◌∷◌, Bool, true, false, not, ◌||◌, ◌+◌, ◌<◌, length, get_or, take, map, filter, find, bytes_eq, refl, ap, ◌∙◌, cond, arith}
 use Rattle.std.proofs.lemmas.List.{take_more}
 use Rattle.std.proofs.lemmas.Slice.Eq.{bytes_eq-Decides}
 use Rattle.std.proofs.lemmas.Grind.{common_steps}
@@ -39,3 +39,18 @@ filter_map of test (x ∷ xs) = grind (arith, common_steps, filter_map of test x
 pub firsts_map : {A B : Type 0} (of : A → B) (name : B → List ℕ) (xs : List A) → firsts_by name (map of xs) ≡ map of (firsts_by (λ x. name (of x)) xs)
 firsts_map of name [] = refl
 firsts_map of name (x ∷ xs) = rw (firsts_map of name xs) (ap (λ ys. of x ∷ ys) (filter_map of (λ y. not (bytes_eq (name (of x)) (name y))) (firsts_by (λ x. name (of x)) xs)))
+
+-- what depends on names alone is found among the first of each name
+module _ {A : Type 0} (name : A → List ℕ) (test : List ℕ → Bool) where
+  past_name : (n : List ℕ) (xs : List A) → test n ≡ false → find (λ y. test (name y)) (filter (λ y. not (bytes_eq n (name y))) xs) ≡ find (λ y. test (name y)) xs
+  past_name n [] isnt = refl
+  past_name n (y ∷ ys) isnt = grind (arith, common_steps, bytes_eq-Decides n (name y), past_name n ys isnt, isnt)
+
+  by_test : (b : Bool) (x : A) (xs : List A) → test (name x) ≡ b → find (λ y. test (name y)) (firsts_by name xs) ≡ find (λ y. test (name y)) xs
+      → find (λ y. test (name y)) (firsts_by name (x ∷ xs)) ≡ find (λ y. test (name y)) (x ∷ xs)
+  by_test true x xs is more = grind (arith, common_steps, is)
+  by_test false x xs is more = grind (arith, common_steps, is, past_name (name x) (firsts_by name xs) is, more)
+
+  pub found_first : (xs : List A) → find (λ y. test (name y)) (firsts_by name xs) ≡ find (λ y. test (name y)) xs
+  found_first [] = refl
+  found_first (x ∷ xs) = by_test (test (name x)) x xs refl (found_first xs)

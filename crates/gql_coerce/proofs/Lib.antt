@@ -3,6 +3,7 @@ pub mod Found
 pub mod Containing
 pub mod LiteralFields
 pub mod Reading
+pub mod Once
 pub mod ListSteps
 pub mod ObjectSteps
 pub mod Walking

@@ -4,11 +4,9 @@ use Rattle.gql_ast.specs.declared.literal.ObjectField.{ObjectField}
 use Rattle.gql_ast.specs.declared.type_system.InputValueDefinition.{InputValueDefinition}
 use Rattle.gql_built_in.specs.declared.sited.Sited.{Sited}
 use Rattle.serde_json.specs.Data.{Data}
-use Rattle.gql_coerce.specs.Coercion.{Entry, Entries, are, unknown, no_object}
-use Rattle.gql_coerce.specs.Inputs.{literal}
+use Rattle.gql_coerce.specs.Coercion.{Entry}
+use Rattle.gql_coerce.specs.Inputs.{Field, firsts, literal, literal_field}
 use Rattle.gql_coerce.specs.declared.literal_entries.LiteralEntry.{LiteralEntry}
-use Rattle.gql_coerce.specs.declared.literal_entries.LiteralEntries.{LiteralEntries}
-use Rattle.gql_coerce.specs.declared.literal_entries.LiteralEntries.TheVariants as entries
 
 -- a member that an object is to have
 abbrev pub entry_of : Data → LiteralEntry → Entry
@@ -18,11 +16,9 @@ entry_of vs e = record {
   given = option_map (λ x. literal vs x.now) e.given;
 }
 
--- what an object is made of
-abbrev pub entries_of : Data → LiteralEntries → Entries
-entries_of vs (entries.Are es) = are (map (entry_of vs) es.items)
-entries_of vs (entries.Unknown n) = unknown n.now
-entries_of vs entries.NoObject = no_object
+-- the fields that an object literal gives
+abbrev pub fields_in : Data → List ObjectField → List Field
+fields_in vs fs = firsts (map (literal_field vs) fs)
 
 -- the name of a field
 abbrev pub name_of : ObjectField → List ℕ

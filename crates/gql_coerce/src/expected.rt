@@ -12,7 +12,7 @@ ghost use Rattle.gql_coerce.specs.Singles.{single_of};
 use crate::coerced::{Coerced, refused};
 use crate::coerced_value::CoercedValue;
 use crate::copies::copy_of;
-use crate::ones::once;
+use crate::ones::in_lists;
 use crate::refusal::Reason;
 use crate::single::{Single, as_custom, as_type};
 use gql_ast::{InputValueDefinition, TypeRef};
@@ -79,8 +79,12 @@ pub fn coerce_single(
         (some (spec.single_at schema.now
         (option_map written (option_copied expected.entry)) (single_of single.now)))) }
 {
-    let coerced = by_type(alloc, schema, single, expected)?;
-    once(alloc, expected, coerced)
+    if expects_list(expected) {
+        let coerced = by_type(alloc, schema, single, expected)?;
+        in_lists(alloc, expected, coerced)
+    } else {
+        by_type(alloc, schema, single, expected)
+    }
 }
 
 /// What the value of a variable comes to; it has been coerced already.

@@ -1,9 +1,9 @@
 //! The lists and objects around the input that is coerced.
 use crate::coerced::Coerced;
 use crate::coerced_parts::{CoercedItems, CoercedMembers};
-use crate::entry::{Entries, Entry};
-use crate::part::{ListItems, Part};
-use gql_ast::TypeRef;
+use crate::entry::Entries;
+use crate::part::{ListItems, ObjectFields};
+use gql_ast::{InputValueDefinition, TypeRef};
 
 /// A list: its items, how many were coerced or are being coerced, what is expected of each, and the
 /// values so far.
@@ -30,18 +30,20 @@ pub struct ObjectFrame<'v> {
 pub enum Frame<'v> {
     /// The item before the next one.
     Item(ListFrame<'v>),
-    /// The value that this entry gives.
-    Given(ObjectFrame<'v>, Entry<'v>),
+    /// The value that is given for the field of this name. Its definition has the default.
+    Given(ObjectFrame<'v>, &'v str, Option<&'v InputValueDefinition>),
     /// The default of the field of this name.
     Default(ObjectFrame<'v>, &'v str),
 }
 
-/// Where the walk is.
+/// What an input is.
 #[derive(Drop)]
 pub enum Focus<'v> {
-    /// An input, and what is expected of it.
-    Input(Part<'v>, Option<&'v TypeRef>),
-    /// What the input before it came to.
+    /// A list of these items, and what is expected of it.
+    List(ListItems<'v>, Option<&'v TypeRef>),
+    /// An object of these fields, and what is expected of it.
+    Object(ObjectFields<'v>, Option<&'v TypeRef>),
+    /// It has no parts, or is done. It came to this.
     Answer(Coerced),
 }
 

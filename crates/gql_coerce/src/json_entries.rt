@@ -6,8 +6,10 @@ ghost use Rattle.serde_json.specs.Find.{get_member};
 ghost use Rattle.serde_json.specs.View.{view, members_view};
 ghost use Rattle.gql_coerce.specs.Coercion as spec;
 ghost use Rattle.gql_coerce.specs.Inputs.{Field};
-ghost use Rattle.gql_coerce.specs.JsonEntries.{entry_of, entries_of, fields_in, first_unknown};
+ghost use Rattle.gql_coerce.specs.JsonEntries.{entry_of, fields_in, first_unknown};
+ghost use Rattle.gql_coerce.specs.Parts.{entries_of};
 
+use crate::entry::{Entries, FoundEntries};
 use gql_ast::{InputValueDefinition, Shared, TypeRef};
 use gql_inputs::{input_type, is_custom_scalar};
 use gql_types::{HasName, Schema, SchemaType, Sited, TypeKind};
@@ -23,16 +25,6 @@ pub struct JsonEntry<'v> {
     pub given: Option<&'v Value>,
 }
 
-/// What an object is made of.
-#[derive(Drop)]
-pub enum JsonEntries<'v> {
-    Are(Vec<JsonEntry<'v>>),
-    /// The type has no field of that name.
-    Unknown(&'v str),
-    /// No object is expected.
-    NoObject,
-}
-
 fn member<'v>(members: &'v Map<String, Value>, name: &str) -> Option<&'v Value>
     ensures { option_map (λ v. view v.now) result
         ≡ get_member name.now (members_view members.now.entries) }
@@ -40,7 +32,8 @@ fn member<'v>(members: &'v Map<String, Value>, name: &str) -> Option<&'v Value>
     members.get(name)
 }
 
-fn defined_entry<'v>(
+/// The member for a field that is defined.
+pub fn field_entry<'v>(
     members: &'v Map<String, Value>,
     definition: &'v Sited<Shared<InputValueDefinition>>,
 ) -> JsonEntry<'v>
@@ -52,21 +45,6 @@ fn defined_entry<'v>(
         definition: Some(definition.node.get()),
         given: member(members, name),
     }
-}
-
-fn defined_entries<'v>(
-    alloc: Global,
-    members: &'v Map<String, Value>,
-    definitions: &'v [Sited<Shared<InputValueDefinition>>],
-) -> Result<Vec<JsonEntry<'v>>, AllocError>
-    ensures { IfOk result (λ found. map entry_of found.items
-        ≡ map (spec.defined_entry (fields_in members.now.entries)) definitions.now) }
-{
-    let mut found = Vec::new(alloc);
-    for definition in definitions {
-        found.push(defined_entry(members, definition))?;
-    }
-    Ok(found)
 }
 
 fn unknown_member<'v>(members: &'v Map<String, Value>, of_type: &SchemaType) -> Option<&'v str>
@@ -102,27 +80,23 @@ fn entries_in<'v>(
 fn any_entries<'v>(
     alloc: Global,
     members: &'v Map<String, Value>,
-) -> Result<JsonEntries<'v>, AllocError>
+) -> Result<FoundEntries<'v>, AllocError>
     ensures { IfOk result (λ es. entries_of es ≡ spec.any_entries (fields_in members.now.entries)) }
 {
     let found = entries_in(alloc, members)?;
-    Ok(JsonEntries::Are(found))
+    Ok(FoundEntries::Are(Entries::Json(found)))
 }
 
 fn entries_of_input<'v>(
-    alloc: Global,
     members: &'v Map<String, Value>,
     of_type: &'v SchemaType,
-) -> Result<JsonEntries<'v>, AllocError>
-    ensures { IfOk result (λ es. entries_of es
-        ≡ spec.defined_entries (fields_in members.now.entries) of_type.now.input_fields) }
+) -> FoundEntries<'v>
+    ensures { entries_of result
+        ≡ spec.defined_entries (fields_in members.now.entries) of_type.now.input_fields }
 {
     match unknown_member(members, of_type) {
-        Some(name) => Ok(JsonEntries::Unknown(name)),
-        None => {
-            let found = defined_entries(alloc, members, of_type.input_fields.as_slice())?;
-            Ok(JsonEntries::Are(found))
-        }
+        Some(name) => FoundEntries::Unknown(name),
+        None => FoundEntries::Are(Entries::JsonFields(of_type.input_fields.as_slice(), members)),
     }
 }
 
@@ -130,21 +104,21 @@ fn entries_at<'v>(
     alloc: Global,
     members: &'v Map<String, Value>,
     of_type: &'v SchemaType,
-) -> Result<JsonEntries<'v>, AllocError>
+) -> Result<FoundEntries<'v>, AllocError>
     ensures { IfOk result (λ es. entries_of es
         ≡ spec.entries_at_kind (fields_in members.now.entries) of_type.now of_type.now.kind) }
 {
     match of_type.kind {
-        TypeKind::InputObject => entries_of_input(alloc, members, of_type),
+        TypeKind::InputObject => Ok(entries_of_input(members, of_type)),
         TypeKind::Scalar => {
             if is_custom_scalar(of_type) {
                 any_entries(alloc, members)
             } else {
-                Ok(JsonEntries::NoObject)
+                Ok(FoundEntries::NoObject)
             }
         }
         TypeKind::Enum | TypeKind::Object | TypeKind::Interface | TypeKind::Union => {
-            Ok(JsonEntries::NoObject)
+            Ok(FoundEntries::NoObject)
         }
     }
 }
@@ -155,7 +129,7 @@ pub fn json_entries<'v>(
     members: &'v Map<String, Value>,
     schema: &'v Schema,
     expected: Option<&TypeRef>,
-) -> Result<JsonEntries<'v>, AllocError>
+) -> Result<FoundEntries<'v>, AllocError>
     ensures { IfOk result (λ es. entries_of es
         ≡ spec.entries_for schema.now (fields_in members.now.entries)
         (option_map written (option_copied expected.entry))) }
@@ -164,7 +138,7 @@ pub fn json_entries<'v>(
         None => any_entries(alloc, members),
         Some(of_type) => match input_type(schema, of_type) {
             Some(found) => entries_at(alloc, members, found),
-            None => Ok(JsonEntries::NoObject),
+            None => Ok(FoundEntries::NoObject),
         },
     }
 }

@@ -4,13 +4,18 @@ ghost use Rattle.std.specs.HashMap as hash;
 ghost use Rattle.std.specs.Option.{option_copied};
 ghost use Rattle.gql_types.specs.Written.{written};
 ghost use Rattle.serde_json.specs.Data.{Data};
+ghost use Rattle.serde_json.specs.View.{view};
 ghost use Rattle.gql_coerce.specs.Coercion as spec;
-ghost use Rattle.gql_coerce.specs.Inputs.{literal_field, firsts, firsts_by};
-ghost use Rattle.gql_coerce.specs.LiteralEntries.{entry_of, entries_of, name_of, first_unknown};
+ghost use Rattle.gql_coerce.specs.Inputs.{literal_field, firsts_by};
+ghost use Rattle.gql_coerce.specs.LiteralEntries.{entry_of, fields_in, name_of, first_unknown};
+ghost use Rattle.gql_coerce.specs.Parts.{entries_in as members_in, entries_of};
+ghost use Rattle.gql_coerce.specs.Scopes.{values_in};
 
+use crate::entry::{Entries, FoundEntries};
 use gql_ast::{InputValueDefinition, Literal, ObjectField, Shared, TypeRef};
 use gql_inputs::{input_type, is_custom_scalar};
 use gql_types::{HasName, Named, Schema, SchemaType, Sited, TypeKind};
+use serde_json::Value;
 use std::alloc::{AllocError, Global};
 use std::collections::HashMap;
 
@@ -23,15 +28,8 @@ pub struct LiteralEntry<'v> {
     pub given: Option<&'v Literal>,
 }
 
-/// What an object is made of.
-#[derive(Drop)]
-pub enum LiteralEntries<'v> {
-    Are(Vec<LiteralEntry<'v>>),
-    /// The type has no field of that name.
-    Unknown(&'v str),
-    /// No object is expected.
-    NoObject,
-}
+/// How many fields of a literal are compared one by one at most. Of more, a map is made.
+const FEW: usize = 16;
 
 /// A field, which a look-up finds by its name.
 #[derive(Drop)]
@@ -104,9 +102,38 @@ fn defined_entries<'v>(
     Ok(found)
 }
 
-fn unknown_field<'v>(fields: &[&'v ObjectField], of_type: &SchemaType) -> Option<&'v str>
+// The first value that is given for a name. Each field is compared.
+fn first_value<'v>(fields: &'v [ObjectField], name: &str) -> Option<&'v Literal>
+    ensures { option_map (λ x. x.now) result
+        ≡ option_map (λ f. f.value) (find (λ f. bytes_eq name.now f.name.text) fields.now) }
+{
+    for field in fields {
+        if name == field.name.as_str() {
+            return Some(&field.value);
+        }
+    }
+    None
+}
+
+/// The member for a field that is defined, from the fields of a literal.
+pub fn field_entry<'v>(
+    fields: &'v [ObjectField],
+    definition: &'v Sited<Shared<InputValueDefinition>>,
+) -> LiteralEntry<'v>
+    ensures { (vs : Data)
+        → entry_of vs result ≡ spec.defined_entry (fields_in vs fields.now) definition.now }
+{
+    let name = definition.name();
+    LiteralEntry {
+        name,
+        definition: Some(definition.node.get()),
+        given: first_value(fields, name),
+    }
+}
+
+fn unknown_field<'v>(fields: &'v [ObjectField], of_type: &SchemaType) -> Option<&'v str>
     ensures { option_map (λ n. n.now) result ≡ option_map name_of
-        (first_unknown of_type.now.input_fields (map (λ f. f.now) fields.now)) }
+        (first_unknown of_type.now.input_fields fields.now) }
 {
     for field in fields {
         if of_type.input_fields.get(field.name.as_str()).is_none() {
@@ -174,73 +201,102 @@ fn entries_in<'v>(
 
 fn any_entries<'v>(
     alloc: Global,
-    fields: &[&'v ObjectField],
-) -> Result<LiteralEntries<'v>, AllocError>
-    ensures { IfOk result (λ es. (vs : Data) → entries_of vs es
-        ≡ spec.any_entries (map (literal_field vs) (map (λ f. f.now) fields.now))) }
+    fields: &'v [ObjectField],
+) -> Result<Vec<LiteralEntry<'v>>, AllocError>
+    ensures { IfOk result (λ found. (vs : Data) → map (entry_of vs) found.items
+        ≡ map spec.any_entry (fields_in vs fields.now)) }
 {
-    let found = entries_in(alloc, fields)?;
-    Ok(LiteralEntries::Are(found))
+    let firsts = first_fields(alloc, fields)?;
+    let found = entries_in(alloc, firsts.as_slice())?;
+    Ok(found)
+}
+
+// The members that a type defines, from many fields.
+fn entries_of_many<'v>(
+    alloc: Global,
+    fields: &'v [ObjectField],
+    definitions: &'v [Sited<Shared<InputValueDefinition>>],
+) -> Result<Vec<LiteralEntry<'v>>, AllocError>
+    ensures { IfOk result (λ found. (vs : Data) → map (entry_of vs) found.items
+        ≡ map (spec.defined_entry (fields_in vs fields.now)) definitions.now) }
+{
+    let firsts = first_fields(alloc, fields)?;
+    let found = defined_entries(alloc, firsts.as_slice(), definitions)?;
+    Ok(found)
+}
+
+// The members that a type defines.
+fn members_of_input<'v>(
+    alloc: Global,
+    fields: &'v [ObjectField],
+    variables: Option<&'v Value>,
+    definitions: &'v [Sited<Shared<InputValueDefinition>>],
+) -> Result<Entries<'v>, AllocError>
+    ensures { IfOk result (λ es. members_in es ≡ map (spec.defined_entry
+        (fields_in (values_in (option_map (λ v. view v.now) variables.entry)) fields.now))
+        definitions.now) }
+{
+    if fields.len() <= FEW {
+        return Ok(Entries::LiteralFields(definitions, fields, variables));
+    }
+    let found = entries_of_many(alloc, fields, definitions)?;
+    Ok(Entries::Literals(found, variables))
 }
 
 fn entries_of_input<'v>(
     alloc: Global,
-    fields: &[&'v ObjectField],
+    fields: &'v [ObjectField],
+    variables: Option<&'v Value>,
     of_type: &'v SchemaType,
-) -> Result<LiteralEntries<'v>, AllocError>
-    ensures { IfOk result (λ es. (vs : Data) → entries_of vs es
-        ≡ spec.defined_entries
-        (map (literal_field vs) (map (λ f. f.now) fields.now)) of_type.now.input_fields) }
+) -> Result<FoundEntries<'v>, AllocError>
+    ensures { IfOk result (λ es. entries_of es ≡ spec.defined_entries
+        (fields_in (values_in (option_map (λ v. view v.now) variables.entry)) fields.now)
+        of_type.now.input_fields) }
 {
     match unknown_field(fields, of_type) {
-        Some(name) => Ok(LiteralEntries::Unknown(name)),
+        Some(name) => Ok(FoundEntries::Unknown(name)),
         None => {
-            let found = defined_entries(alloc, fields, of_type.input_fields.as_slice())?;
-            Ok(LiteralEntries::Are(found))
+            let definitions = of_type.input_fields.as_slice();
+            let found = members_of_input(alloc, fields, variables, definitions)?;
+            Ok(FoundEntries::Are(found))
         }
     }
+}
+
+fn entries_of_any<'v>(
+    alloc: Global,
+    fields: &'v [ObjectField],
+    variables: Option<&'v Value>,
+) -> Result<FoundEntries<'v>, AllocError>
+    ensures { IfOk result (λ es. entries_of es ≡ spec.any_entries
+        (fields_in (values_in (option_map (λ v. view v.now) variables.entry)) fields.now)) }
+{
+    let found = any_entries(alloc, fields)?;
+    Ok(FoundEntries::Are(Entries::Literals(found, variables)))
 }
 
 fn entries_at<'v>(
     alloc: Global,
-    fields: &[&'v ObjectField],
+    fields: &'v [ObjectField],
+    variables: Option<&'v Value>,
     of_type: &'v SchemaType,
-) -> Result<LiteralEntries<'v>, AllocError>
-    ensures { IfOk result (λ es. (vs : Data) → entries_of vs es
-        ≡ spec.entries_at_kind
-        (map (literal_field vs) (map (λ f. f.now) fields.now)) of_type.now of_type.now.kind) }
+) -> Result<FoundEntries<'v>, AllocError>
+    ensures { IfOk result (λ es. entries_of es ≡ spec.entries_at_kind
+        (fields_in (values_in (option_map (λ v. view v.now) variables.entry)) fields.now)
+        of_type.now of_type.now.kind) }
 {
     match of_type.kind {
-        TypeKind::InputObject => entries_of_input(alloc, fields, of_type),
+        TypeKind::InputObject => entries_of_input(alloc, fields, variables, of_type),
         TypeKind::Scalar => {
             if is_custom_scalar(of_type) {
-                any_entries(alloc, fields)
+                entries_of_any(alloc, fields, variables)
             } else {
-                Ok(LiteralEntries::NoObject)
+                Ok(FoundEntries::NoObject)
             }
         }
         TypeKind::Enum | TypeKind::Object | TypeKind::Interface | TypeKind::Union => {
-            Ok(LiteralEntries::NoObject)
+            Ok(FoundEntries::NoObject)
         }
-    }
-}
-
-fn entries_of_type<'v>(
-    alloc: Global,
-    fields: &[&'v ObjectField],
-    schema: &'v Schema,
-    expected: Option<&TypeRef>,
-) -> Result<LiteralEntries<'v>, AllocError>
-    ensures { IfOk result (λ es. (vs : Data) → entries_of vs es
-        ≡ spec.entries_for schema.now (map (literal_field vs) (map (λ f. f.now) fields.now))
-        (option_map written (option_copied expected.entry))) }
-{
-    match expected {
-        None => any_entries(alloc, fields),
-        Some(of_type) => match input_type(schema, of_type) {
-            Some(found) => entries_at(alloc, fields, found),
-            None => Ok(LiteralEntries::NoObject),
-        },
     }
 }
 
@@ -248,14 +304,19 @@ fn entries_of_type<'v>(
 pub fn literal_entries<'v>(
     alloc: Global,
     fields: &'v [ObjectField],
+    variables: Option<&'v Value>,
     schema: &'v Schema,
     expected: Option<&TypeRef>,
-) -> Result<LiteralEntries<'v>, AllocError>
-    ensures { IfOk result (λ es. (vs : Data) → entries_of vs es
-        ≡ spec.entries_for schema.now (firsts (map (literal_field vs) fields.now))
+) -> Result<FoundEntries<'v>, AllocError>
+    ensures { IfOk result (λ es. entries_of es ≡ spec.entries_for schema.now
+        (fields_in (values_in (option_map (λ v. view v.now) variables.entry)) fields.now)
         (option_map written (option_copied expected.entry))) }
 {
-    let firsts = first_fields(alloc, fields)?;
-    let found = entries_of_type(alloc, firsts.as_slice(), schema, expected)?;
-    Ok(found)
+    match expected {
+        None => entries_of_any(alloc, fields, variables),
+        Some(of_type) => match input_type(schema, of_type) {
+            Some(found) => entries_at(alloc, fields, variables, found),
+            None => Ok(FoundEntries::NoObject),
+        },
+    }
 }

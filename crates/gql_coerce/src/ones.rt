@@ -10,6 +10,7 @@ ghost use Rattle.gql_coerce.specs.Outcomes.{said};
 use crate::coerced::Coerced;
 use crate::coerced_parts::CoercedItems;
 use crate::coerced_value::CoercedValue;
+use crate::expected::expects_list;
 use gql_ast::TypeRef;
 use std::alloc::{AllocError, Global};
 
@@ -31,7 +32,7 @@ fn one_in(alloc: Global, of_type: &TypeRef, value: CoercedValue) -> Result<Coerc
 
 /// A value that is not a list, as a list of one if the type that is expected is a list, and as a
 /// list of one list of one if that is a list of lists.
-pub fn once(
+pub fn in_lists(
     alloc: Global,
     expected: Option<&TypeRef>,
     coerced: Coerced,
@@ -44,5 +45,21 @@ pub fn once(
             Ok(Coerced::Given(one_in(alloc, of_type, value)?))
         }
         (_, coerced) => Ok(coerced),
+    }
+}
+
+/// The same as `in_lists`. Where no list is expected, it only hands the value on.
+pub fn once(
+    alloc: Global,
+    expected: Option<&TypeRef>,
+    coerced: Coerced,
+) -> Result<Coerced, AllocError>
+    ensures { IfOk result (λ c. said c
+        ≡ spec.once (option_map written (option_copied expected.entry)) (said coerced)) }
+{
+    if expects_list(expected) {
+        in_lists(alloc, expected, coerced)
+    } else {
+        Ok(coerced)
     }
 }

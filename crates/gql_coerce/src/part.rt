@@ -6,8 +6,8 @@ ghost use Rattle.gql_coerce.specs.Parts.{input_of, items_in};
 ghost use Rattle.gql_coerce.specs.Scopes.{values_in};
 
 use crate::{json, literals};
-use gql_ast::Literal;
-use serde_json::Value;
+use gql_ast::{Literal, ObjectField};
+use serde_json::{Map, Value};
 
 /// An input.
 #[derive(Clone, Copy)]
@@ -78,4 +78,12 @@ impl<'v> ListItems<'v> {
             ListItems::Json(items) => json_at(items, index),
         }
     }
+}
+
+/// The fields of an object.
+#[derive(Clone, Copy)]
+pub enum ObjectFields<'v> {
+    /// Those of a literal, and the object with the values of the variables, if there may be some.
+    Literal(&'v [ObjectField], Option<&'v Value>),
+    Json(&'v Map<String, Value>),
 }

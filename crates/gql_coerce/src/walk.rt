@@ -12,42 +12,32 @@ ghost use Rattle.gql_coerce.specs.Outcomes.{Reached, said};
 ghost use Rattle.gql_coerce.specs.Parts.{input_of};
 
 use crate::coerced::Coerced;
+use crate::forms::focus_of;
 use crate::frame::{Focus, Frame, Step};
-use crate::lists::resume_list;
-use crate::objects::{resume_default, resume_given};
+use crate::lists::{resume_list, start_list};
+use crate::objects::{resume_default, resume_given, start_object};
 use crate::part::Part;
-use crate::{json, literals};
 use gql_ast::TypeRef;
 use gql_types::Schema;
 use std::alloc::{AllocError, Global};
 
-// An input, by its form.
-fn enter<'v>(
+// A list or an object, a part of which came to this.
+fn resume<'v>(
     alloc: Global,
     schema: &'v Schema,
-    part: Part<'v>,
-    expected: Option<&'v TypeRef>,
+    frame: Frame<'v>,
+    coerced: Coerced,
 ) -> Result<Step<'v>, AllocError>
-    ensures { IfOk result (λ step. (n : ℕ) → levels_of (suc n) schema.now (input_of part.entry)
-        (option_map written (option_copied expected.entry)) ≡ step_at n schema.now step) }
-{
-    match part {
-        Part::Literal(value, variables) => {
-            literals::enter(alloc, value, variables, schema, expected)
-        }
-        Part::Json(value) => json::enter(alloc, value, schema, expected),
-    }
-}
-
-// A list or an object, a part of which came to this.
-fn resume<'v>(alloc: Global, frame: Frame<'v>, coerced: Coerced) -> Result<Step<'v>, AllocError>
-    ensures { IfOk result (λ step. (s : ASchema) (n : ℕ)
-        → frame_by (levels_of n s) (frame_of frame.entry) (said coerced) ≡ step_at n s step) }
+    ensures { IfOk result (λ step. (n : ℕ)
+        → frame_by (levels_of (suc n) schema.now) (frame_of frame.entry) (said coerced)
+        ≡ step_at (suc n) schema.now step) }
 {
     match frame {
-        Frame::Item(list) => resume_list(alloc, list, coerced),
-        Frame::Given(object, entry) => resume_given(alloc, object, entry, coerced),
-        Frame::Default(object, name) => resume_default(alloc, object, name, coerced),
+        Frame::Item(list) => resume_list(alloc, schema, list, coerced),
+        Frame::Given(object, name, definition) => {
+            resume_given(alloc, schema, object, name, definition, coerced)
+        }
+        Frame::Default(object, name) => resume_default(alloc, schema, object, name, coerced),
     }
 }
 
@@ -109,12 +99,13 @@ pub fn coerce<'v>(
         (input_of part.entry) (option_map written (option_copied expected.entry)) ≡ said c)) }
 {
     let mut stack = Vec::new(alloc);
-    let mut focus = Focus::Input(part, expected);
+    let mut focus = focus_of(alloc, schema, part, expected)?;
     'steps: for _ in 0..u64::MAX {
         let step = match focus {
-            Focus::Input(inner, of_type) => enter(alloc, schema, inner, of_type)?,
+            Focus::List(items, of_type) => start_list(alloc, schema, items, of_type)?,
+            Focus::Object(fields, of_type) => start_object(alloc, schema, fields, of_type)?,
             Focus::Answer(coerced) => match stack.pop() {
-                Some(frame) => resume(alloc, frame, coerced)?,
+                Some(frame) => resume(alloc, schema, frame, coerced)?,
                 None => return Ok(coerced),
             },
         };
