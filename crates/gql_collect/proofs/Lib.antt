@@ -8,3 +8,4 @@ pub mod Visiting
 pub mod Walking
 pub mod Nested
 pub mod NestedGroups
+pub mod PlainGroups

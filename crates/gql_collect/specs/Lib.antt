@@ -1,3 +1,4 @@
+pub mod Alone
 pub mod Borrowed
 pub mod BorrowedGroups
 pub mod Collection
@@ -13,3 +14,4 @@ pub mod Unfolding
 pub mod Visiting
 pub mod Walks
 pub mod Nesting
+pub mod Plain

@@ -30,8 +30,20 @@ impl Drop for Group<'_> {
 /// The groups of a selection set by their response names, in the order of the names' first fields.
 pub type Groups<'a> = IndexMap<&'a str, Group<'a>>;
 
-/// Adds the selection set of a field, if it is there.
-fn add_set<'a>(
+/// Adds the selection set of a field, unless it is empty.
+fn add_set<'a>(node: &FieldNode<'a>, sets: &mut Vec<SelectionSet<'a>>) -> Result<(), AllocError>
+    ensures { OnOk result (all_selections sets.new.items
+        ≡ all_selections sets.old.items ++ selections_below (node_of node.now ∷ [])) }
+{
+    let set = node.selection_set();
+    if !set.selections.is_empty() {
+        sets.push(set)?;
+    }
+    Ok(())
+}
+
+/// Adds the selection set of a field, if it is there, and is not empty.
+fn add_other<'a>(
     node: &Option<FieldNode<'a>>,
     sets: &mut Vec<SelectionSet<'a>>,
 ) -> Result<(), AllocError>
@@ -39,24 +51,32 @@ fn add_set<'a>(
         ≡ all_selections sets.old.items ++ selections_below (others_of (node.now ∷ []))) }
 {
     match node {
-        Some(node) => {
-            sets.push(node.selection_set())?;
-            Ok(())
-        }
+        Some(node) => add_set(node, sets),
         None => Ok(()),
     }
 }
 
 impl<'a> Group<'a> {
-    /// The selection sets of the fields, which are collected as one (6.4.3, MergeSelectionSets).
+    /// The group of a field alone.
+    pub fn alone(alloc: Global, node: FieldNode<'a>) -> Group<'a>
+        ensures { nodes_in result ≡ node_of node.entry ∷ [] }
+    {
+        Group {
+            first: node,
+            others: SmallVec::new(alloc),
+        }
+    }
+
+    /// The selection sets of the fields that are not empty, which are collected as one (6.4.3,
+    /// MergeSelectionSets).
     pub fn selection_sets(&self, alloc: Global) -> Result<Vec<SelectionSet<'a>>, AllocError>
         ensures { IfOk result (λ sets. all_selections sets.items
             ≡ selections_below (nodes_in self.now)) }
     {
         let mut sets = Vec::new(alloc);
-        sets.push(self.first.selection_set())?;
+        add_set(&self.first, &mut sets)?;
         for other in self.others.as_slice() {
-            add_set(other, &mut sets)?;
+            add_other(other, &mut sets)?;
         }
         Ok(sets)
     }
@@ -76,11 +96,7 @@ fn add_field<'a>(
         group.others.push(Some(node))?;
         return Ok(());
     }
-    let group = Group {
-        first: node,
-        others: SmallVec::new(alloc),
-    };
-    groups.insert(name, group)?;
+    groups.insert(name, Group::alone(alloc, node))?;
     Ok(())
 }
 

@@ -7,6 +7,7 @@ mod context;
 mod group;
 pub mod laws;
 mod node;
+mod plain;
 mod unfold;
 mod visit;
 
@@ -14,3 +15,4 @@ pub use collecting::collect;
 pub use context::Context;
 pub use group::{Group, Groups};
 pub use node::{FieldNode, SelectionSet};
+pub use plain::is_plain;

@@ -26,7 +26,7 @@ pub struct FieldNode<'a> {
 }
 
 /// The name that a field goes by in a response: its alias, or else its name (2.7).
-fn own_name(field: &Field) -> &Name
+pub fn own_name(field: &Field) -> &Name
     ensures { result.now ≡ response_name field.now }
 {
     match &field.alias {

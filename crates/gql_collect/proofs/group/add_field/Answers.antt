@@ -18,5 +18,5 @@ returns c =
     let same : c.get_mut.follows.lender-at-none.entries ≡ c.args.groups.now.entries = search rules in
     ap groups_in c.in_ok-insert.ensures.entries
     ∙ absent c.response_name-name.result c.args.node c.get_mut.follows.lender-at-none.entries
-    (record { first = c.args.node; others = c.new.result }) (search rules) (search rules) (search rules)
+    c.alone.result (search rules) (search rules) (search rules)
     ∙ ap (λ es. put (groups_in es) (node_of c.args.node)) same
