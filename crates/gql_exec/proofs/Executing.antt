@@ -14,9 +14,7 @@ use Rattle.serde_json.specs.Data as json
 use Rattle.serde_json.specs.Data.{Data}
 use Rattle.serde_json.specs.Find.{as_null}
 use Rattle.serde_json.specs.View.{items_of, view}
-use Rattle.serde_json.specs.Written.{compact_text}
 use Rattle.serde_json.specs.declared.value.Value.{Value}
-use Rattle.gql_exec.specs.Direct.{IsDirect}
 use Rattle.gql_exec.specs.Execution.{Fields, Object, Plan, plan, PlannedField, Site, Types, among, by_source, complete, described, execute, is_null, of_kind, on_answer, on_list, stored, value_of}
 use Rattle.gql_exec.specs.Execution as execution
 use Rattle.gql_exec.specs.Parts.{Part, caught, plain, raise}
@@ -35,7 +33,7 @@ use Rattle.gql_exec.specs.declared.refusal.ExecRefusal.{ExecRefusal}
 use Rattle.gql_exec.specs.declared.run.Run.{Run}
 use Rattle.gql_exec.specs.declared.site.Site.{Site as FieldSite}
 use Rattle.gql_exec.specs.declared.table.Table.{Table}
-use Rattle.gql_exec.proofs.Completing.{direct_is, items_at, list_is, object_is, present_list, present_named}
+use Rattle.gql_exec.proofs.Completing.{items_at, list_is, object_is, present_list, present_named}
 use Rattle.gql_exec.proofs.Entries.{grows_same, grows_twice}
 use Rattle.gql_exec.proofs.Grouped.{paired}
 
@@ -265,12 +263,6 @@ module _ (g : Basis) (here : FieldSite) (xs : List FileSelection) (result : Resu
       (ap (λ y. value_part (complete (site_of (types_of g) here.place x) t (path_of s) y)) is
       ∙ ap value_part (items_at (site_of (types_of g) here.place x) (path_of s) t v (items_of ds) e) ∙ list_is (site_of (types_of g) here.place x) v (path_of s) ds)
       (h x (subst (λ n. IsAsked g here n xs x) (sym name) i))
-
-  -- a value that is written at once
-  pub at_direct : (t : Written) (d y : Data) → IsDirect here.kind t d y → Executes (plain (compact_text y)) result s u
-      → Does g here (name_in t) xs (λ site. value_part (complete site t (path_of s) d)) result s u
-  at_direct t d y is done = λ x i. as_part (value_part (complete (site_of (types_of g) here.place x) t (path_of s) d)) (plain (compact_text y)) result s u
-      (direct_is (site_of (types_of g) here.place x) (path_of s) t is.scalar d y is.not_list (sym i.kind ∙ is.kind_is) is.value is.present) done
 
 -- the name within the type of the items
 pub name_of_items : (t v : Written) → item_of t ≡ Some v → name_in v ≡ name_in t

@@ -1,11 +1,19 @@
 -- The fields that are planned for groups.
-use Rattle.std.proofs.Common.{◌≡◌, ℕ, List, [], ◌∷◌, ◌++◌, codes, append-nil, cond, is_some, Option, Some, None, refl, sym, ap, ◌∙◌, subst}
+use Rattle.std.proofs.Common.{◌≡◌, ℕ, List, [], ◌∷◌, ◌++◌, length, get_or, arith, codes, append-nil, append_assoc, cond, is_some, Option, Some, None, refl, sym, ap, ◌∙◌, subst}
 use Rattle.std.proofs.lemmas.List.Elements.{filter-append}
 use Rattle.json.specs.Print.{quoted}
+use Rattle.gql_ast.specs.declared.executable.Field.{Field}
+use Rattle.gql_ast.specs.declared.executable.InlineFragment.{InlineFragment}
+use Rattle.gql_ast.specs.declared.executable.Selection.{Selection, out-Selection}
+use Rattle.gql_ast.specs.declared.executable.Selection.TheVariants as select
+use Rattle.gql_ast.specs.declared.executable.Spread.{Spread}
 use Rattle.gql_coerce.specs.Requests.{ArgumentsCome}
+use Rattle.gql_collect.specs.Alone.{alone_at, groups_alone}
+use Rattle.gql_collect.specs.Borrowed.{all_selections, selections_of}
 use Rattle.gql_collect.specs.Collection.{AreGroups, selections_below}
-use Rattle.gql_collect.specs.Groups.{Group}
-use Rattle.gql_collect.specs.Nodes.{FieldNode, FileSelection}
+use Rattle.gql_collect.specs.Groups.{Group, key_of}
+use Rattle.gql_collect.specs.Nodes.{FieldNode, FileSelection, in_file}
+use Rattle.gql_collect.specs.declared.node.SelectionSet.{SelectionSet}
 use Rattle.gql_inputs.specs.InputTypes.{name_in}
 use Rattle.gql_exec.specs.Execution.{PlannedField, Plan, Fields, no_fields, field}
 use Rattle.gql_exec.specs.Kinds.{kind_in}
@@ -91,3 +99,33 @@ none_yet g t (q ∷ qs) h = absurd h
 
 pub all_held : (g : Basis) (t : List ℕ) (xs : List FileSelection) (groups : List Group) (fs : List FieldPlan) → AreGroups g.given t xs groups → Planning g t groups fs → Hold g t xs fs
 all_held g t xs groups fs are planning others h = subst (λ gs. Planning g t gs fs) (are others h) planning
+
+-- ---- fields that are groups of their own
+
+module _ (g : Basis) (t : List ℕ) (file : List ℕ) (x : Selection) (groups : List Group) (fs : List FieldPlan) where
+  -- a selection that is no field
+  pub none_alone : groups_alone (in_file file (x ∷ [])) ≡ [] → Planning g t groups fs → Planning g t (groups ++ groups_alone (in_file file (x ∷ []))) fs
+  none_alone e h = subst (λ gs. Planning g t gs fs) (sym (append-nil groups) ∙ ap (λ ys. groups ++ ys) (sym e)) h
+
+  pub one_alone : (f : Field) (key : List ℕ) (nodes : List FieldNode) → x ≡ select.Field f → key ≡ key_of (record { file = file; field = f }) → nodes ≡ record { file = file; field = f } ∷ []
+      → Planning g t (groups ++ record { key = key; nodes = nodes } ∷ []) fs → Planning g t (groups ++ groups_alone (in_file file (x ∷ []))) fs
+  one_alone f key nodes is name all h = subst (λ gs. Planning g t (groups ++ gs) fs)
+      (ap (λ k. record { key = k; nodes = nodes } ∷ []) name ∙ ap (λ ns. record { key = key_of (record { file = file; field = f }); nodes = ns } ∷ []) all
+      ∙ sym (ap (λ z. alone_at file (out-Selection z) ++ []) is ∙ ap (λ z. alone_at file z ++ []) (select.outs-Field f))) h
+
+pub spread_alone : (file : List ℕ) (x : Selection) (y : Spread) → x ≡ select.Spread y → groups_alone (in_file file (x ∷ [])) ≡ []
+spread_alone file x y is = ap (λ z. alone_at file (out-Selection z) ++ []) is ∙ ap (λ z. alone_at file z ++ []) (select.outs-Spread y)
+
+pub inline_alone : (file : List ℕ) (x : Selection) (y : InlineFragment) → x ≡ select.InlineFragment y → groups_alone (in_file file (x ∷ [])) ≡ []
+inline_alone file x y is = ap (λ z. alone_at file (out-Selection z) ++ []) is ∙ ap (λ z. alone_at file z ++ []) (select.outs-InlineFragment y)
+
+pub alone_append : (file : List ℕ) (xs ys : List Selection) → groups_alone (in_file file (xs ++ ys)) ≡ groups_alone (in_file file xs) ++ groups_alone (in_file file ys)
+alone_append file [] ys = refl
+alone_append file (x ∷ xs) ys = ap (λ gs. alone_at file (out-Selection x) ++ gs) (alone_append file xs ys)
+    ∙ sym (append_assoc (alone_at file (out-Selection x)) (groups_alone (in_file file xs)) (groups_alone (in_file file ys)))
+
+-- one selection set
+pub only_set : (sets : List SelectionSet) (x : SelectionSet) → length sets ≡ 1 → x ≡ get_or sets 0 x → all_selections sets ≡ selections_of x
+only_set [] x n e = absurd (omega (arith, n))
+only_set (y ∷ []) x n e = append-nil (selections_of y) ∙ ap selections_of (sym e)
+only_set (y ∷ (z ∷ zs)) x n e = absurd (omega (arith, n))

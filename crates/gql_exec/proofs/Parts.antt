@@ -53,7 +53,7 @@ module _ {A : Type 0} (f : ℕ → A → Part) where
   all-more xs k x h e = ap all (numbered-more 0 xs k x h e) ∙ fold-append followed_by (plain []) (numbered f 0 (take k xs)) (f (0 + k) x ∷ [])
       ∙ ap (λ m. followed_by (all (numbered f 0 (take k xs))) (f m x)) (zero-add k)
 
-grows : (r : Part) (rs : List Part) → r.weight ≤ (fold followed_by r rs).weight
+pub grows : (r : Part) (rs : List Part) → r.weight ≤ (fold followed_by r rs).weight
 grows r [] = omega arith
 grows r (q ∷ rs) = omega (arith, grows (followed_by r q) rs)
 

@@ -1,7 +1,6 @@
 -- The elements that are there, in a list where some are none.
-use Rattle.std.proofs.Common.{◌≡◌, ℕ, zero, suc, ◌+◌, ◌<◌, ◌≤◌, List, [], ◌∷◌, ◌++◌, length, drop, take, get_or, flat_map, Option, Some, None, sym, ap, ◌∙◌, arith, add-one}
+use Rattle.std.proofs.Common.{◌≡◌, ℕ, zero, suc, ◌+◌, ◌<◌, ◌≤◌, List, [], ◌∷◌, ◌++◌, length, drop, get_or, flat_map, Option, Some, None, sym, ap, ◌∙◌, arith, add-one}
 use Rattle.std.specs.Prelude.{option_and_then, option_to_list, slice_get}
-use Rattle.std.proofs.lemmas.List.{drop_all, take_all}
 
 module _ {A : Type 0} where
   first_is : (x y : A) (xs ys : List A) → x ∷ xs ≡ y ∷ ys → x ≡ y
@@ -45,21 +44,10 @@ module _ {A : Type 0} where
       ∙ ap (λ n. flat_map option_to_list (drop n (o ∷ es))) (ap suc (add-one i) ∙ sym (add-one (suc i)))
 
   -- one more is done
-  pub next_picked : (es : List (Option A)) (i k : ℕ) (x : A) → drop k (flat_map option_to_list es) ≡ flat_map option_to_list (drop i es) → i < length es
-      → option_and_then (λ (e : Option A). e) (slice_get es i) ≡ Some x
-      → drop k (flat_map option_to_list es) ≡ x ∷ flat_map option_to_list (drop (i + 1) es)
-  next_picked es i k x inv h e = inv ∙ picked_some es i x h e
-
   pub after_picked : (xs : List A) (k : ℕ) (x : A) (rest : List A) → drop k xs ≡ x ∷ rest → drop (k + 1) xs ≡ rest
   after_picked xs k x rest e = ap (λ n. drop n xs) (add-one k) ∙ after_rest xs k x rest e
 
-  none_left : (xs : List A) (k : ℕ) → drop k xs ≡ [] → length xs ≤ k
+  pub none_left : (xs : List A) (k : ℕ) → drop k xs ≡ [] → length xs ≤ k
   none_left [] k e = omega arith
   none_left (y ∷ ys) zero e = cc
   none_left (y ∷ ys) (suc k) e = omega (arith, none_left ys k e)
-
-  -- all are done
-  pub all_picked : (es : List (Option A)) (i k : ℕ) → drop k (flat_map option_to_list es) ≡ flat_map option_to_list (drop i es) → length es ≤ i
-      → take k (flat_map option_to_list es) ≡ flat_map option_to_list es
-  all_picked es i k inv h = take_all k (flat_map option_to_list es)
-      (none_left (flat_map option_to_list es) k (inv ∙ ap (flat_map option_to_list) (drop_all i es h)))

@@ -1,12 +1,12 @@
 -- What a field takes of a member by its arguments.
-use Rattle.std.proofs.Common.{◌≡◌, ℕ, ◌<◌, List, [], ◌∷◌, map, filter, length, String, Global, None, Some, refl, ap, ◌∙◌, arith, unwrap_or}
+use Rattle.std.proofs.Common.{◌≡◌, ◌⊎◌, inl, inr, Bool, true, false, ℕ, ◌<◌, List, [], ◌∷◌, map, filter, find, length, String, Global, None, Some, refl, ap, ◌∙◌, arith, unwrap_or}
 use Rattle.gql_types.specs.Written.{Written}
 use Rattle.serde_json.specs.Data as json
 use Rattle.serde_json.specs.Data.{Data, Items, Members}
 use Rattle.serde_json.specs.Find.{as_array, as_object, get}
 use Rattle.serde_json.specs.View.{items_of, items_view, members_view, view}
 use Rattle.serde_json.specs.declared.value.Value.{Value}
-use Rattle.gql_exec.specs.Resolution.{filtered, list_of, meets, members_in, resolved, taken}
+use Rattle.gql_exec.specs.Resolution.{filtered, first_or_null, list_of, meets, members_in, resolved, taken}
 
 pub listed : (ds : List Data) → list_of (items_of ds) ≡ ds
 listed [] = refl
@@ -66,3 +66,14 @@ no_members_are (json.number n) e = refl
 no_members_are (json.string s) e = refl
 no_members_are (json.array xs) e = refl
 no_members_are (json.object xs) e = cc
+
+-- the first that is kept
+pub first_found : (p : Data → Bool) (ds : List Data) → first_or_null (filter p ds) ≡ unwrap_or (find p ds) json.null
+first_found p [] = refl
+first_found p (d ∷ ds) = elim (tells (p d)) [
+  | inl h ↦ rw h refl
+  | inr h ↦ rw h (first_found p ds)
+] where
+  tells : (b : Bool) → (b ≡ true) ⊎ (b ≡ false)
+  tells true = inl refl
+  tells false = inr refl

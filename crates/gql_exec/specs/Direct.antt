@@ -13,8 +13,9 @@ use Rattle.gql_exec.specs.declared.direct.Direct.TheVariants as direct
 use Rattle.gql_exec.specs.declared.kinds.ValueKind.{ValueKind}
 use Rattle.gql_exec.specs.declared.kinds.ValueKind.TheVariants as named
 
--- a value of a built-in scalar, as specifications see it
+-- a value of a built-in scalar or null, as specifications see it
 abbrev pub data_of : Direct → Data
+data_of direct.Null = json.null
 data_of (direct.Whole z) = json.number (of_integer z)
 data_of (direct.Text t) = json.string t.now
 data_of (direct.Truth b) = json.boolean b

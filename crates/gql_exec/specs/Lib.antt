@@ -1,4 +1,5 @@
 pub mod Direct
+pub mod DirectParts
 pub mod Ended
 pub mod Examples
 pub mod Execution
@@ -6,6 +7,7 @@ pub mod Kinds
 pub mod Laws
 pub mod LeafParts
 pub mod Leaves
+pub mod NodeFrames
 pub mod Objects
 pub mod Outcomes
 pub mod Parts

@@ -1,11 +1,10 @@
 -- Helper definitions for contracts: what fields are executed with and on, as specifications see it.
+use Rattle.std.specs.Borrow.{Bor}
 use Rattle.gql_collect.specs.Contexts.{given}
-use Rattle.gql_intro.specs.Borrowed.{node_of}
 use Rattle.serde_json.specs.View.{view}
-use Rattle.gql_exec.specs.Execution.{Object, stored, described}
+use Rattle.serde_json.specs.declared.value.Value.{Value}
+use Rattle.gql_exec.specs.Execution.{Object, stored}
 use Rattle.gql_exec.specs.Plans.{Basis, FieldOf}
-use Rattle.gql_exec.specs.declared.object.ObjectRef.{ObjectRef}
-use Rattle.gql_exec.specs.declared.object.ObjectRef.TheVariants as object
 use Rattle.gql_exec.specs.declared.planning.DefinedField.{DefinedField}
 use Rattle.gql_exec.specs.declared.setting.Setting.{Setting}
 
@@ -13,10 +12,9 @@ use Rattle.gql_exec.specs.declared.setting.Setting.{Setting}
 abbrev pub basis : Setting → Basis
 basis s = record { given = given s.context; made = s.made.now }
 
--- the object whose fields are executed
-abbrev pub object_of : ObjectRef → Object
-object_of (object.Stored v) = stored (view v.now)
-object_of (object.Described n) = described (node_of n)
+-- an object of the data
+abbrev pub object_of : Bor Value → Object
+object_of v = stored (view v.now)
 
 -- the field of objects of a type
 abbrev pub field_in : DefinedField → FieldOf

@@ -1,9 +1,9 @@
-//! The execution of fields, and of their values (GraphQL specification, 4, 6.3, 6.4.3 and 6.4.4).
+//! The execution of the fields of data, and of their values (GraphQL specification, 6.3, 6.4.3 and
+//! 6.4.4). It recurses once for each object or list within another.
 ghost use Rattle.std.specs.Prelude.{◌≡◌, ◌<◌, List, ℕ, length, codes, false, true, Some, OnOk};
 ghost use Rattle.serde_json.specs.Find.{get};
 ghost use Rattle.serde_json.specs.View.{view};
 ghost use Rattle.gql_inputs.specs.InputTypes.{is_non_null, name_in as name_of_type};
-ghost use Rattle.gql_intro.specs.Borrowed.{answer_of, node_of};
 ghost use Rattle.gql_types.specs.Schemas.{kind_named};
 ghost use Rattle.gql_types.specs.Written.{written};
 ghost use Rattle.gql_exec.specs.Execution as spec;
@@ -18,13 +18,15 @@ ghost use Rattle.gql_exec.specs.ValueParts as part;
 ghost use Rattle.gql_exec.specs.ValueParts.{Does, IsAt, IsOf, Keeps, items_in, resolved_in};
 
 use crate::direct::{direct_value, write_direct};
+use crate::direct_field::direct_field;
+use crate::direct_items::write_direct_items;
 use crate::ended::Ended;
-use crate::introspection::{introspect, write_flag, write_literal, write_locations, write_name};
+use crate::introspection::write_name;
 use crate::items::ListItems;
 use crate::kinds::{ValueKind, type_name};
 use crate::leaves::{Leaf, complete_enum, complete_scalar};
-use crate::nulls::{complete_null, without_mark, write_null};
-use crate::object::ObjectRef;
+use crate::nodes::call_node;
+use crate::nulls::{complete_null, without_mark};
 use crate::outcome::Step;
 use crate::planning::{Called, FieldPlan, Source};
 use crate::refusal::ExecRefusal;
@@ -32,22 +34,22 @@ use crate::resolve::{Resolved, resolve};
 use crate::run::{Reason, Run};
 use crate::setting::Setting;
 use crate::site::Site;
-use crate::steps::{count, cut_to_null, open_object, raise, write, write_byte, write_comma};
+use crate::steps::{count, cut_to_null, raise, write, write_byte, write_comma};
 use crate::table::{Slot, Table};
 use gql_ast::TypeRef;
-use gql_inputs::{is_non_null, item_of, name_in};
-use gql_intro::{IntroAnswer, IntroNode, IntroNodes};
+use gql_inputs::{is_non_null, item_of};
+use gql_intro::IntroNode;
 use serde_json::Value;
 use std::alloc::Global;
 
-/// Executes the fields of an entry of the table on an object.
+/// Executes the fields of an entry of the table on an object of the data.
 #[cycle(execute)]
 pub fn execute_object<'d>(
     alloc: Global,
     setting: &Setting<'d, '_>,
     table: &mut Table<'d>,
     entry: usize,
-    object: ObjectRef<'d, '_>,
+    object: &Value,
     run: &mut Run<'d>,
 ) -> Result<Ended, ExecRefusal>
     requires right { IsRight (basis setting.now) table.old }
@@ -58,7 +60,7 @@ pub fn execute_object<'d>(
         → Executes (part.object_part (types_of (basis setting.now)) (object_of object.entry) qs
         (path_of run.old)) result run.old run.new }
 {
-    open_object(run)?;
+    write_byte(run, b'{')?;
     let ended = execute_fields(alloc, setting, table, entry, object, run)?;
     write_byte(run, b'}')?;
     Ok(ended)
@@ -71,7 +73,7 @@ fn execute_fields<'d>(
     setting: &Setting<'d, '_>,
     table: &mut Table<'d>,
     entry: usize,
-    object: ObjectRef<'d, '_>,
+    object: &Value,
     run: &mut Run<'d>,
 ) -> Result<Ended, ExecRefusal>
     requires right { IsRight (basis setting.now) table.old }
@@ -101,7 +103,7 @@ fn execute_field<'d>(
     table: &mut Table<'d>,
     slot: Slot,
     field: &FieldPlan<'d>,
-    object: ObjectRef<'d, '_>,
+    object: &Value,
     run: &mut Run<'d>,
 ) -> Result<Ended, ExecRefusal>
     requires right { IsRight (basis setting.now) table.old }
@@ -114,6 +116,9 @@ fn execute_field<'d>(
     write_comma(run, slot.field)?;
     count(run)?;
     write(run, field.label.as_slice())?;
+    if let Some(found) = direct_field(field, object) {
+        return write_direct(run, found);
+    }
     execute_content(alloc, setting, table, slot, field, object, run)
 }
 
@@ -125,7 +130,7 @@ fn execute_content<'d>(
     table: &mut Table<'d>,
     slot: Slot,
     field: &FieldPlan<'d>,
-    object: ObjectRef<'d, '_>,
+    object: &Value,
     run: &mut Run<'d>,
 ) -> Result<Ended, ExecRefusal>
     requires right { IsRight (basis setting.now) table.old }
@@ -153,7 +158,7 @@ fn place_field<'d>(
     table: &mut Table<'d>,
     slot: Slot,
     field: &FieldPlan<'d>,
-    object: ObjectRef<'d, '_>,
+    object: &Value,
     run: &mut Run<'d>,
 ) -> Result<Ended, ExecRefusal>
     requires right { IsRight (basis setting.now) table.old }
@@ -185,7 +190,7 @@ fn call_field<'d>(
     table: &mut Table<'d>,
     slot: Slot,
     field: &FieldPlan<'d>,
-    object: ObjectRef<'d, '_>,
+    object: &Value,
     run: &mut Run<'d>,
 ) -> Result<Ended, ExecRefusal>
     requires right { IsRight (basis setting.now) table.old }
@@ -201,14 +206,7 @@ fn call_field<'d>(
         }
         Called::Given(given) => {
             let arguments = given.get();
-            match object {
-                ObjectRef::Stored(value) => {
-                    call_stored(alloc, setting, table, slot, field, arguments, value, run)
-                }
-                ObjectRef::Described(node) => {
-                    call_node(alloc, setting, table, slot, field, arguments, node, run)
-                }
-            }
+            call_stored(alloc, setting, table, slot, field, arguments, object, run)
         }
     }
 }
@@ -249,178 +247,6 @@ fn call_stored<'d>(
             call_node(alloc, setting, table, slot, field, arguments, root, run)
         }
     }
-}
-
-/// The value of a field of a node of introspection, called with these arguments.
-#[cycle(execute)]
-fn call_node<'d>(
-    alloc: Global,
-    setting: &Setting<'d, '_>,
-    table: &mut Table<'d>,
-    slot: Slot,
-    field: &FieldPlan<'d>,
-    arguments: &Value,
-    node: IntroNode<'d>,
-    run: &mut Run<'d>,
-) -> Result<Ended, ExecRefusal>
-    requires right { IsRight (basis setting.now) table.old }
-    requires at { IsAt table.old slot field.now }
-    ensures keeps { OnOk result (Keeps (basis setting.now) table.old table.new run.old run.new) }
-    ensures does { (q : Pair) → StandsFor (basis setting.now) field.now q
-        → Executes (part.answer_part (types_of (basis setting.now)) (view arguments.now)
-        (node_of node.entry) q (path_of run.old)) result run.old run.new }
-{
-    let answer = introspect(setting, node, field.name, arguments);
-    let name = name_in(field.of_type);
-    let site = Site {
-        slot,
-        place: field.place,
-        kind: field.kind,
-    };
-    complete_answer(alloc, setting, table, site, name.as_str(), answer, run)
-}
-
-/// Completes what introspection answers; its nodes have the type of this name.
-#[cycle(execute)]
-fn complete_answer<'d>(
-    alloc: Global,
-    setting: &Setting<'d, '_>,
-    table: &mut Table<'d>,
-    site: Site,
-    name: &str,
-    answer: IntroAnswer<'d>,
-    run: &mut Run<'d>,
-) -> Result<Ended, ExecRefusal>
-    requires right { IsRight (basis setting.now) table.old }
-    requires within { InTable table.old site.slot }
-    ensures keeps { OnOk result (Keeps (basis setting.now) table.old table.new run.old run.new) }
-    ensures does { Does (basis setting.now) site name.now (below_at table.old site.slot)
-        (λ s. value_part (spec.on_answer s name.now (path_of run.old)
-        (answer_of setting.now.context.schema.now answer.entry))) result run.old run.new }
-{
-    match answer {
-        IntroAnswer::Null => write_null(run),
-        IntroAnswer::Text(text) => write_name(run, text),
-        IntroAnswer::Boolean(truth) => write_flag(run, truth),
-        IntroAnswer::EnumValue(value) => write_name(run, value),
-        IntroAnswer::Literal(literal) => write_literal(alloc, literal, run),
-        IntroAnswer::Node(node) => {
-            let object = ObjectRef::Described(node);
-            execute_below(alloc, setting, table, site.slot, name, object, run)
-        }
-        IntroAnswer::Nodes(nodes) => {
-            complete_nodes(alloc, setting, table, site, name, nodes, run)
-        }
-        IntroAnswer::Locations(locations) => write_locations(run, locations),
-    }
-}
-
-/// Completes the nodes of a list.
-#[cycle(execute)]
-fn complete_nodes<'d>(
-    alloc: Global,
-    setting: &Setting<'d, '_>,
-    table: &mut Table<'d>,
-    site: Site,
-    name: &str,
-    nodes: IntroNodes<'d>,
-    run: &mut Run<'d>,
-) -> Result<Ended, ExecRefusal>
-    requires right { IsRight (basis setting.now) table.old }
-    requires within { InTable table.old site.slot }
-    ensures keeps { OnOk result (Keeps (basis setting.now) table.old table.new run.old run.new) }
-    ensures does { Does (basis setting.now) site name.now (below_at table.old site.slot)
-        (λ s. part.node_list_part name.now s
-        (part.nodes_in setting.now.context.schema.now nodes.entry) (path_of run.old))
-        result run.old run.new }
-{
-    write_byte(run, b'[')?;
-    let ended = list_nodes(alloc, setting, table, site, name, nodes, run)?;
-    write_byte(run, b']')?;
-    Ok(ended)
-}
-
-/// Completes the nodes of a list, one after another.
-#[cycle(execute)]
-fn list_nodes<'d>(
-    alloc: Global,
-    setting: &Setting<'d, '_>,
-    table: &mut Table<'d>,
-    site: Site,
-    name: &str,
-    nodes: IntroNodes<'d>,
-    run: &mut Run<'d>,
-) -> Result<Ended, ExecRefusal>
-    requires right { IsRight (basis setting.now) table.old }
-    requires within { InTable table.old site.slot }
-    ensures keeps { OnOk result (Keeps (basis setting.now) table.old table.new run.old run.new) }
-    ensures does { Does (basis setting.now) site name.now (below_at table.old site.slot)
-        (λ s. part.nodes_part name.now s
-        (part.nodes_in setting.now.context.schema.now nodes.entry) (path_of run.old))
-        result run.old run.new }
-{
-    let mut ended = Ended::Written;
-    let mut listed: usize = 0;
-    for i in 0..nodes.len() {
-        let Some(node) = nodes.get(setting.context.schema, i) else {
-            continue;
-        };
-        let node_ended = list_node(alloc, setting, table, site, name, listed, node, run)?;
-        ended = ended.and(node_ended);
-        listed += 1;
-    }
-    Ok(ended)
-}
-
-/// Completes a node of a list, with its comma.
-#[cycle(execute)]
-fn list_node<'d>(
-    alloc: Global,
-    setting: &Setting<'d, '_>,
-    table: &mut Table<'d>,
-    site: Site,
-    name: &str,
-    i: usize,
-    node: IntroNode<'d>,
-    run: &mut Run<'d>,
-) -> Result<Ended, ExecRefusal>
-    requires right { IsRight (basis setting.now) table.old }
-    requires within { InTable table.old site.slot }
-    ensures keeps { OnOk result (Keeps (basis setting.now) table.old table.new run.old run.new) }
-    ensures does { Does (basis setting.now) site name.now (below_at table.old site.slot)
-        (λ s. part.node_part name.now s (path_of run.old) i (node_of node.entry))
-        result run.old run.new }
-{
-    write_comma(run, i)?;
-    count(run)?;
-    node_content(alloc, setting, table, site, name, i, node, run)
-}
-
-/// A node of a list, at its path.
-#[cycle(execute)]
-fn node_content<'d>(
-    alloc: Global,
-    setting: &Setting<'d, '_>,
-    table: &mut Table<'d>,
-    site: Site,
-    name: &str,
-    i: usize,
-    node: IntroNode<'d>,
-    run: &mut Run<'d>,
-) -> Result<Ended, ExecRefusal>
-    requires right { IsRight (basis setting.now) table.old }
-    requires within { InTable table.old site.slot }
-    ensures keeps { OnOk result (Keeps (basis setting.now) table.old table.new run.old run.new) }
-    ensures does { Does (basis setting.now) site name.now (below_at table.old site.slot)
-        (λ s. part.content_of_node name.now s i (node_of node.entry) (path_of run.old))
-        result run.old run.new }
-{
-    let depth = run.path.len();
-    run.path.push(Step::Index(i))?;
-    let object = ObjectRef::Described(node);
-    let ended = execute_below(alloc, setting, table, site.slot, name, object, run)?;
-    run.path.truncate(depth);
-    Ok(ended)
 }
 
 /// Completes what a field was resolved to.
@@ -478,9 +304,6 @@ fn complete<'d>(
         (λ s. value_part (spec.complete s (written of_type.now) (path_of run.old)
         (view value.now))) result run.old run.new }
 {
-    if let Some(found) = direct_value(site.kind, of_type, value) {
-        return write_direct(run, found);
-    }
     if value.is_null() {
         return complete_null(alloc, site.place, of_type, run);
     }
@@ -570,8 +393,7 @@ fn complete_object<'d>(
         result run.old run.new }
 {
     if value.is_object() {
-        let object = ObjectRef::Stored(value);
-        execute_below(alloc, setting, table, site.slot, name, object, run)
+        execute_below(alloc, setting, table, site.slot, name, value, run)
     } else {
         raise(alloc, run, site.place, Reason::NotAnObject)
     }
@@ -598,10 +420,7 @@ fn complete_abstract<'d>(
         (get (codes "__typename") (view value.now))))) result run.old run.new }
 {
     match type_name(setting.context.schema, name, value) {
-        Some(of_type) => {
-            let object = ObjectRef::Stored(value);
-            execute_below(alloc, setting, table, site.slot, of_type, object, run)
-        }
+        Some(of_type) => { execute_below(alloc, setting, table, site.slot, of_type, value, run) }
         None => raise(alloc, run, site.place, Reason::NoPossibleType(name)),
     }
 }
@@ -614,7 +433,7 @@ fn execute_below<'d>(
     table: &mut Table<'d>,
     slot: Slot,
     of_type: &str,
-    object: ObjectRef<'d, '_>,
+    object: &Value,
     run: &mut Run<'d>,
 ) -> Result<Ended, ExecRefusal>
     requires right { IsRight (basis setting.now) table.old }
@@ -705,7 +524,8 @@ fn list_items<'d>(
         result run.old run.new }
 {
     let mut ended = Ended::Written;
-    for i in 0..items.count() {
+    let first = write_direct_items(run, site.kind, item, items)?;
+    for i in first..items.count() {
         let value = items.item(i);
         ended = ended.and(list_item(alloc, setting, table, site, item, i, value, run)?);
     }

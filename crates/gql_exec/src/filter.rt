@@ -1,5 +1,5 @@
 //! The items of a list that a field takes by its arguments.
-ghost use Rattle.std.specs.Prelude.{◌≡◌, map, filter, IfOk};
+ghost use Rattle.std.specs.Prelude.{◌≡◌, map, filter, find, option_map, IfOk};
 ghost use Rattle.serde_json.specs.View.{members_view, view};
 ghost use Rattle.gql_exec.specs.Resolution as spec;
 
@@ -61,4 +61,17 @@ pub fn kept<'v>(
         }
     }
     Ok(found)
+}
+
+/// The first item that meets the arguments, if there is one.
+pub fn first_kept<'v>(arguments: &Map<String, Value>, items: &'v [Value]) -> Option<&'v Value>
+    ensures { option_map (λ v. view v.now) result
+        ≡ find (spec.meets (members_view arguments.now.entries)) (map view items.now) }
+{
+    for item in items {
+        if meets(arguments, item) {
+            return Some(item);
+        }
+    }
+    None
 }

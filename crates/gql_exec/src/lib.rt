@@ -3,6 +3,8 @@
 
 mod credit;
 mod direct;
+mod direct_field;
+mod direct_items;
 mod ended;
 mod equal_sets;
 mod executor;
@@ -12,8 +14,13 @@ mod items;
 mod kinds;
 pub mod laws;
 mod leaves;
+mod node_fields;
+mod node_frame;
+mod node_lists;
+mod node_place;
+mod node_values;
+mod nodes;
 mod nulls;
-mod object;
 mod outcome;
 mod planning;
 mod refusal;

@@ -6,9 +6,11 @@ ghost use Rattle.serde_json.specs.Data.{Data};
 ghost use Rattle.serde_json.specs.View.{view};
 ghost use Rattle.gql_coerce.specs.Comes.{Outcome as AnOutcome};
 ghost use Rattle.gql_coerce.specs.Requests.{ArgumentsCome};
-ghost use Rattle.gql_collect.specs.Borrowed.{all_selections};
+ghost use Rattle.gql_collect.specs.Alone.{groups_alone};
+ghost use Rattle.gql_collect.specs.Borrowed.{all_selections, selections_of};
 ghost use Rattle.gql_collect.specs.BorrowedGroups.{nodes_in};
 ghost use Rattle.gql_collect.specs.Groups.{Group as AGroup};
+ghost use Rattle.gql_collect.specs.Nodes.{in_file};
 ghost use Rattle.gql_intro.specs.Introspection.{root_name};
 ghost use Rattle.gql_exec.specs.Objects.{basis, field_in};
 ghost use Rattle.gql_exec.specs.Plans as plans;
@@ -17,9 +19,9 @@ ghost use Rattle.gql_exec.specs.Tables.{Hold, Planning, StandFor, called_of, Pla
 use crate::kinds::{ValueKind, value_kind};
 use crate::setting::Setting;
 use crate::strings::write_string;
-use gql_ast::{Field, FieldDefinition, OperationKind, Text, TypeRef};
+use gql_ast::{Field, FieldDefinition, FileName, OperationKind, Selection, Text, TypeRef};
 use gql_coerce::{CoerceFault, CoercedValue, Refusal, coerce_arguments, laws, path_text};
-use gql_collect::{Context, Group, SelectionSet, collect};
+use gql_collect::{Context, FieldNode, Group, SelectionSet, collect, is_plain};
 use gql_inputs::name_in;
 use gql_text::Place;
 use gql_types::Schema;
@@ -108,7 +110,7 @@ fn called_with(
 fn label(alloc: Global, name: &str) -> Result<Vec<u8>, AllocError>
     ensures { IfOk result (λ label. label.items ≡ quoted name.now ++ codes ":") }
 {
-    let mut label = Vec::new(alloc);
+    let mut label = Vec::with_capacity(alloc, name.len().saturating_add(3))?;
     write_string(name, &mut label)?;
     label.push(b':')?;
     Ok(label)
@@ -236,6 +238,49 @@ fn add_field<'d>(
     Ok(())
 }
 
+/// Adds the field of a selection that is a group of its own.
+fn add_alone<'d>(
+    alloc: Global,
+    setting: &Setting<'d, '_>,
+    of_type: &str,
+    file: &'d FileName,
+    selection: &'d Selection,
+    fields: &mut Vec<FieldPlan<'d>>,
+) -> Result<(), AllocError>
+    ensures { OnOk result ((groups : List AGroup)
+        → Planning (basis setting.now) of_type.now groups fields.old.items
+        → Planning (basis setting.now) of_type.now
+        (groups ++ groups_alone (in_file file.now (selection.now ∷ []))) fields.new.items) }
+{
+    match selection {
+        Selection::Field(field) => {
+            let node = FieldNode { file, field };
+            let name = node.response_name();
+            let group = Group::alone(alloc, node);
+            add_field(alloc, setting, of_type, name, &group, fields)
+        }
+        Selection::Spread(_) => Ok(()),
+        Selection::InlineFragment(_) => Ok(()),
+    }
+}
+
+/// What a plain selection set asks of the objects of a type.
+fn plain_fields<'d>(
+    alloc: Global,
+    setting: &Setting<'d, '_>,
+    of_type: &str,
+    set: SelectionSet<'d>,
+) -> Result<Vec<FieldPlan<'d>>, AllocError>
+    ensures { IfOk result (λ fields. Planning (basis setting.now) of_type.now
+        (groups_alone (selections_of set.entry)) fields.items) }
+{
+    let mut fields = Vec::with_capacity(alloc, set.selections.len())?;
+    for selection in set.selections {
+        add_alone(alloc, setting, of_type, set.file, selection, &mut fields)?;
+    }
+    Ok(fields)
+}
+
 /// What these selection sets, taken as one, ask of the objects of a type.
 pub fn planned_fields<'d>(
     alloc: Global,
@@ -246,8 +291,13 @@ pub fn planned_fields<'d>(
     ensures { IfOk result (λ fields. Hold (basis setting.now) of_type.now
         (all_selections sets.now) fields.items) }
 {
+    if let [set] = sets {
+        if is_plain(set) {
+            return plain_fields(alloc, setting, of_type, *set);
+        }
+    }
     let groups = collect(alloc, &setting.context, of_type, sets)?;
-    let mut fields = Vec::new(alloc);
+    let mut fields = Vec::with_capacity(alloc, groups.len())?;
     for (name, group) in groups.iter() {
         add_field(alloc, setting, of_type, *name, group, &mut fields)?;
     }

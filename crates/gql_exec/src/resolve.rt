@@ -1,12 +1,12 @@
 //! The values of fields in the data (GraphQL specification, 6.4.2).
-ghost use Rattle.std.specs.Prelude.{◌≡◌, filter, map, IfOk};
-ghost use Rattle.serde_json.specs.Data.{array};
+ghost use Rattle.std.specs.Prelude.{◌≡◌, filter, map, option_map, unwrap_or, IfOk};
+ghost use Rattle.serde_json.specs.Data.{array, null};
 ghost use Rattle.serde_json.specs.View.{items_view, members_view, view};
 ghost use Rattle.gql_types.specs.Written.{Written, written};
 ghost use Rattle.gql_exec.specs.Resolution as spec;
 ghost use Rattle.gql_exec.specs.ValueParts.{IsOf, resolved_in};
 
-use crate::filter::kept;
+use crate::filter::{first_kept, kept};
 use gql_ast::TypeRef;
 use gql_inputs::is_list;
 use serde_json::{Map, Value};
@@ -22,18 +22,19 @@ pub enum Resolved<'v> {
     Items(Vec<&'v Value>),
 }
 
-/// The first of these values, or null.
-fn first<'v>(found: &[&'v Value]) -> Resolved<'v>
-    ensures is { resolved_in result ≡ spec.first_or_null (map (λ v. view v.now) found.now) }
+/// A value, or null.
+fn found_or_null<'v>(found: Option<&'v Value>) -> Resolved<'v>
+    ensures is { resolved_in result ≡ unwrap_or (option_map (λ v. view v.now) found.entry) null }
     ensures of { (t : Written) → IsOf t result }
 {
     match found {
-        [value, ..] => Resolved::Value(*value),
-        [] => Resolved::Null,
+        Some(value) => Resolved::Value(value),
+        None => Resolved::Null,
     }
 }
 
 /// What a field takes of the items that meet the arguments.
+#[tactic(auto, using(crate::proofs::Resolving::first_found))]
 fn taken<'v>(
     alloc: Global,
     of_type: &TypeRef,
@@ -44,11 +45,10 @@ fn taken<'v>(
         (filter (spec.meets (members_view arguments.now.entries)) (map view items.now))) }
     ensures of { IfOk result (λ r. IsOf (written of_type.now) r) }
 {
-    let found = kept(alloc, arguments, items)?;
     if is_list(of_type) {
-        Ok(Resolved::Items(found))
+        Ok(Resolved::Items(kept(alloc, arguments, items)?))
     } else {
-        Ok(first(found.as_slice()))
+        Ok(found_or_null(first_kept(arguments, items)))
     }
 }
 

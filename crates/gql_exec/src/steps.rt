@@ -35,23 +35,6 @@ pub fn write_byte(run: &mut Run<'_>, byte: u8) -> Result<(), ExecRefusal>
     Ok(())
 }
 
-/// How many steps the path to an object has at most. An execution recurses once for each object
-/// within another, so that one that nests deeper could end the stack.
-const MOST_STEPS: usize = 2_000;
-
-/// Writes the bracket that opens an object. Where the path to the object is too long, the execution
-/// gives up, as if an allocation had failed. Data nest at most 127 deep, so that only introspection
-/// comes to this.
-pub fn open_object(run: &mut Run<'_>) -> Result<(), ExecRefusal>
-    ensures follows { OnOk result (Follows (plain (codes "{")) run.old run.new) }
-    ensures err { IfErr result (λ e. e ≡ ExecRefusal.Memory) }
-{
-    if run.path.len() > MOST_STEPS {
-        return Err(ExecRefusal::Memory);
-    }
-    write_byte(run, b'{')
-}
-
 /// Writes a comma, but not before the first part.
 #[tactic(auto, using(crate::proofs::Parts::comma_first, crate::proofs::Parts::comma_later))]
 pub fn write_comma(run: &mut Run<'_>, i: usize) -> Result<(), ExecRefusal>

@@ -14,6 +14,9 @@ use gql_collect::SelectionSet;
 use std::alloc::{AllocError, Global};
 use std::collections::HashMap;
 
+/// How many entries are looked through for a key. The later ones are found by a map.
+const FEW: usize = 16;
+
 /// How much of selections an execution compares at most (`credit.rt` says what is counted).
 const MOST_COMPARED: usize = 200_000;
 
@@ -27,6 +30,8 @@ pub struct Slot {
 /// What is asked of the objects of one type.
 #[derive(Drop)]
 pub struct Entry<'d> {
+    /// The key of the selection sets and the type.
+    pub key: usize,
     pub of_type: Text,
     /// The selection sets that, taken as one, ask for these fields.
     pub sets: Vec<SelectionSet<'d>>,
@@ -51,8 +56,8 @@ pub struct Table<'d> {
     pub links: Vec<Link>,
     /// For each field, how many links there were with its last one; or 0.
     pub last: Vec<usize>,
-    /// The last entry that was made for a key of selection sets and a type. It may be one for
-    /// others.
+    /// The last entry that was made for a key of selection sets and a type, but for the first
+    /// entries. It may be one for others.
     pub made: HashMap<usize, usize>,
     /// How much of selections may still be compared.
     pub credit: usize,
@@ -178,15 +183,28 @@ impl<'d> Table<'d> {
         are_equal_sets(entry.sets.as_slice(), sets)
     }
 
+    /// An entry of this key.
+    fn of_key(&self, key: usize) -> Option<usize> {
+        for (i, entry) in self.entries.as_slice().iter().enumerate() {
+            if entry.key == key {
+                return Some(i);
+            }
+            if i >= FEW {
+                break;
+            }
+        }
+        self.made.get(&key).copied()
+    }
+
     /// An entry that seems to be made for equal selection sets, by their key.
     fn candidate(&self, key: usize, sets: &[SelectionSet<'d>]) -> Option<usize> {
-        let Some(number) = self.made.get(&key) else {
+        let Some(number) = self.of_key(key) else {
             return None;
         };
-        match self.entries.get(*number) {
+        match self.entries.get(number) {
             Some(entry) => {
                 if are_alike(entry.sets.as_slice(), sets) {
-                    Some(*number)
+                    Some(number)
                 } else {
                     None
                 }
@@ -230,11 +248,12 @@ impl<'d> Table<'d> {
     }
 
     /// Adds what these selection sets, taken as one, ask of the objects of a type: the number of
-    /// its entry.
+    /// its entry, which has this key.
     pub fn add_sets(
         &mut self,
         alloc: Global,
         setting: &Setting<'d, '_>,
+        key: usize,
         of_type: &str,
         sets: &[SelectionSet<'d>],
     ) -> Result<usize, AllocError>
@@ -248,6 +267,7 @@ impl<'d> Table<'d> {
     {
         let fields = planned_fields(alloc, setting, of_type, sets)?;
         let entry = Entry {
+            key,
             of_type: Text::from_str(alloc, of_type)?,
             sets: Vec::from_slice(alloc, sets)?,
             fields: Shared::new(alloc, fields)?,
@@ -276,8 +296,10 @@ impl<'d> Table<'d> {
         if let Some(number) = self.find_made(key, of_type, sets) {
             return Ok(number);
         }
-        let number = self.add_sets(alloc, setting, of_type, sets)?;
-        self.made.insert(key, number)?;
+        let number = self.add_sets(alloc, setting, key, of_type, sets)?;
+        if number >= FEW {
+            self.made.insert(key, number)?;
+        }
         Ok(number)
     }
 

@@ -15,8 +15,8 @@ ghost use Rattle.gql_exec.specs.Runs.{Answering, Finishes, IsOutcomeOf, IsRefuse
 ghost use Rattle.gql_exec.specs.States as states;
 
 use crate::ended::Ended;
+use crate::equal_sets::key_of;
 use crate::executor::execute_object;
-use crate::object::ObjectRef;
 use crate::outcome::{Outcome, ResponseError};
 use crate::planning::refusal_text;
 use crate::refusal::ExecRefusal;
@@ -36,6 +36,9 @@ use std::alloc::{AllocError, Global};
 
 /// The greatest number of values that an execution completes.
 const MOST_VALUES: usize = 100_000;
+
+/// The room for the text of a short answer.
+const ROOM: usize = 256;
 
 /// The errors of fields, as errors of an answer.
 fn response_errors<'d>(
@@ -114,16 +117,15 @@ fn execute_sets<'d>(
         < (answer (types_of (basis setting.now)) x root.now (view initial.now)).weight) }
 {
     let mut table = Table::new(alloc);
-    let entry = table.add_sets(alloc, setting, root, sets)?;
+    let entry = table.add_sets(alloc, setting, key_of(root, sets), root, sets)?;
     let mut run = Run {
-        out: Vec::new(alloc),
+        out: Vec::with_capacity(alloc, ROOM)?,
         errors: Vec::new(alloc),
         path: Vec::new(alloc),
         left: MOST_VALUES,
         raised: false,
     };
-    let object = ObjectRef::Stored(initial);
-    let ended = execute_object(alloc, setting, &mut table, entry, object, &mut run)?;
+    let ended = execute_object(alloc, setting, &mut table, entry, initial, &mut run)?;
     finish(alloc, ended, run)
 }
 

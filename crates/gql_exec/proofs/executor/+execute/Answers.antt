@@ -7,38 +7,32 @@ use Rattle.serde_json.specs.Find.{get}
 use Rattle.serde_json.specs.View.{items_of, items_view, view}
 use Rattle.serde_json.specs.Written.{compact_text}
 use Rattle.serde_json.specs.declared.value.Value.{Value}
-use Rattle.gql_ast.specs.LiteralTexts.{literal_text}
 use Rattle.gql_inputs.specs.InputTypes.{is_non_null, name_in}
-use Rattle.gql_intro.specs.Borrowed.{answer_of, elements, node_of}
-use Rattle.gql_intro.specs.Introspection.{location_name}
-use Rattle.gql_intro.specs.Nodes as intro
 use Rattle.gql_types.specs.Schemas.{kind_named}
 use Rattle.gql_types.specs.Written.{written, written_named, written_list, written_non_null, listed, named}
 use Rattle.gql_exec.specs.Direct.{data_of}
-use Rattle.gql_exec.specs.Execution.{plan, PlannedField, among, no_fields, complete, execute, of_kind, on_abstract, on_answer, on_object, stored}
+use Rattle.gql_exec.specs.Execution.{plan, PlannedField, among, no_fields, complete, execute, of_kind, on_abstract, on_object, stored}
 use Rattle.gql_exec.specs.LeafParts.{leaf_at}
 use Rattle.gql_exec.specs.Leaves.{as_enum, as_scalar}
 use Rattle.gql_exec.specs.Objects.{basis, object_of}
 use Rattle.gql_exec.specs.Parts.{Part, all, numbered, plain, raise, settled}
-use Rattle.gql_exec.specs.Plans.{IsPlan, introspect_in, possible_in, types_of, values_in}
+use Rattle.gql_exec.specs.Plans.{IsPlan, possible_in, types_of, values_in}
 use Rattle.gql_exec.specs.Replies.{Path, key}
 use Rattle.gql_exec.specs.States.{Done, Follows, path_of}
 use Rattle.gql_exec.specs.Tables.{InTable, below_at, fields_at}
 use Rattle.gql_exec.specs.Texts.{value_part}
-use Rattle.gql_exec.specs.ValueParts.{IsAsked, IsOf, answer_part, content_of_node, name_list_part, node_list_part, node_part, nodes_in, nodes_part, source_part, called_part, content_of_item, content_part, field_part, fields_part, item_part, items_from, items_in, items_part, member_part, placed_part, resolved_in, site_of}
+use Rattle.gql_exec.specs.ValueParts.{IsAsked, IsOf, source_part, called_part, content_of_item, content_part, field_part, fields_part, item_part, items_from, items_in, items_part, member_part, placed_part, resolved_in, site_of}
 use Rattle.gql_exec.specs.declared.ended.Ended.TheVariants.{Written, Bubbled}
 use Rattle.gql_exec.specs.declared.outcome.Step.TheVariants as step
 use Rattle.gql_exec.specs.declared.planning.FieldPlan.{FieldPlan}
 use Rattle.gql_exec.specs.declared.run.Run.{Run}
 use Rattle.gql_exec.specs.declared.site.Site.{Site as FieldSite}
 use Rattle.gql_exec.specs.declared.table.Slot.{Slot}
-use Rattle.gql_exec.proofs.Completing.{abstract_kind, answer_names, direct_item, has_items, kind_abstract, kind_enum, kind_object, kind_other, kind_scalar}
-use Rattle.gql_exec.proofs.Doing.{at-field, caught-cut, caught-written, counted-executes, executes-after, loop-more, loop-stops, stepped, stopped, within-done, within-heavy, wrote}
-use Rattle.gql_exec.proofs.Entries.{at_slot, below_still, fields_still, in_still, no_shorter}
-use Rattle.gql_exec.proofs.Executing.{among_is, answer_at, at_direct, keeps_direct, as_part, called_described, called_stored, as_many, at_array, at_items, at_list, at_named, keeps_same, keeps_twice, name_of_items, on_entry, met_abstract, placed_nullable, source_stored, stand_at}
-use Rattle.gql_exec.proofs.Introspecting.{at_answer, at_node, at_nodes}
+use Rattle.gql_exec.proofs.Completing.{abstract_kind, direct_item, has_items, kind_abstract, kind_enum, kind_object, kind_other, kind_scalar}
+use Rattle.gql_exec.proofs.Doing.{at-field, caught-cut, caught-written, counted-executes, executes-after, loop-more, loop-stops, stepped, stopped, within-done, wrote}
+use Rattle.gql_exec.proofs.Entries.{at_slot, below_still, fields_still, grows_same, in_still, no_shorter}
+use Rattle.gql_exec.proofs.Executing.{among_is, as_many, as_part, at_array, at_items, at_list, at_named, called_stored, keeps_direct, keeps_same, keeps_twice, met_abstract, name_of_items, on_entry, placed_nullable, source_stored, stand_at}
 use Rattle.gql_exec.proofs.Listing.{kept_items}
-use Rattle.gql_exec.proofs.Picked.{after_picked, all_picked, here_rest, next_picked, picked_none, within_rest}
 use Rattle.gql_exec.proofs.Resolving.{is_array}
 use Rattle.gql_exec.proofs.executor.+execute.Goals as goal
 
@@ -116,6 +110,23 @@ execute_field-returns-clause-does t c = λ q h.
     (wrote label c.count.new.run c.write.new.run (subst (λ l. Follows (plain l) c.count.new.run c.write.new.run) (c.as_slice.ensures.value ∙ h.label) c.in_ok-write.ensures.follows))
     (c.execute_content.ensures.does q h))
 
+pub execute_field-returns-in-Some-clause-does : goal.execute_field-returns-in-Some-clause-does
+execute_field-returns-in-Some-clause-does t c = λ q h.
+    let types = types_of (basis c.args.setting.now) in
+    let d = object_of c.args.object in
+    let label = quoted q.0.response_name ++ codes ":" in
+    counted-executes c.args.slot.field (λ p. member_part types d q p) c.write_direct.result c.args.run.now c.write_comma.new.run c.count.new.run c.write_direct.new.run
+    c.in_ok-write_comma.ensures.follows c.in_ok-count.ensures.follows
+    (executes-after (plain label) (λ p. content_part types d q p) c.write_direct.result c.count.new.run c.write.new.run c.write_direct.new.run
+    (wrote label c.count.new.run c.write.new.run (subst (λ l. Follows (plain l) c.count.new.run c.write.new.run) (c.as_slice.ensures.value ∙ h.label) c.in_ok-write.ensures.follows))
+    (as_part (content_part types d q (path_of c.write.new.run)) (plain (compact_text (data_of c.in-Some.found))) c.write_direct.result c.write.new.run c.write_direct.new.run
+    (c.in-Some.ensures (basis c.args.setting.now) q (path_of c.write.new.run) h) c.write_direct.ensures))
+
+pub execute_field-returns-in-Some-clause-keeps : goal.execute_field-returns-in-Some-clause-keeps
+execute_field-returns-in-Some-clause-keeps t c = keeps_direct (basis c.args.setting.now) c.args.table.now (plain (compact_text (data_of c.in-Some.found))) c.write_direct.result
+    c.args.run.now c.write.new.run c.write_direct.new.run c.requires.right
+    (omega (arith, c.in_ok-write_comma.ensures.follows.left, c.in_ok-count.ensures.follows.left, c.in_ok-write.ensures.follows.left)) c.write_direct.ensures
+
 pub execute_fields-execute_field-requires : goal.execute_fields-execute_field-requires
 execute_fields-execute_field-requires t c =
     let inv = c.loop-i.invariant in
@@ -166,7 +177,7 @@ execute_fields-returns-clause-does t c = λ qs h.
 
 pub execute_object-returns-clause-does : goal.execute_object-returns-clause-does
 execute_object-returns-clause-does t c = λ qs h. within-done (codes "{") (codes "}") (λ p. fields_part (types_of (basis c.args.setting.now)) (object_of c.args.object) qs p)
-    c.args.run.now c.open_object.new.run c.execute_fields.new.run c.in_ok-open_object.ensures.follows c.in_ok-ended.ended c.write_byte.new.run (c.in_ok-ended.ensures.does qs h) c.in_ok-write_byte.ensures.follows
+    c.args.run.now c.write_byte.new.run c.execute_fields.new.run c.in_ok-write_byte.ensures.follows c.in_ok-ended.ended c.write_byte-2.new.run (c.in_ok-ended.ensures.does qs h) c.in_ok-write_byte-2.ensures.follows
 
 pub list_item-returns-in-Some-clause-does : goal.list_item-returns-in-Some-clause-does
 list_item-returns-in-Some-clause-does t c = λ x a.
@@ -184,19 +195,26 @@ pub list_item-returns-in-Some-clause-keeps : goal.list_item-returns-in-Some-clau
 list_item-returns-in-Some-clause-keeps t c = keeps_direct (basis c.args.setting.now) c.args.table.now (plain (compact_text (data_of c.in-Some.found))) c.write_direct.result
     c.args.run.now c.count.new.run c.write_direct.new.run c.requires.right (omega (arith, c.in_ok-write_comma.ensures.follows.left, c.in_ok-count.ensures.follows.left)) c.write_direct.ensures
 
-pub complete-returns-in-Some-clause-does : goal.complete-returns-in-Some-clause-does
-complete-returns-in-Some-clause-does t c = at_direct (basis c.args.setting.now) c.args.site (below_at c.args.table.now c.args.site.slot) c.write_direct.result c.args.run.now c.write_direct.new.run
-    (written c.args.of_type.now) (view c.args.value.now) (data_of c.in-Some.found) c.in-Some.ensures c.write_direct.ensures
-
-pub complete-returns-in-Some-clause-keeps : goal.complete-returns-in-Some-clause-keeps
-complete-returns-in-Some-clause-keeps t c = keeps_same (basis c.args.setting.now) c.args.table.now (plain (compact_text (data_of c.in-Some.found))) c.write_direct.result
-    c.args.run.now c.write_direct.new.run c.requires.right c.write_direct.ensures
-
 pub list_item-returns-clause-does : goal.list_item-returns-clause-does
 list_item-returns-clause-does t c = λ x i.
     let site = site_of (types_of (basis c.args.setting.now)) c.args.site.place x in
     counted-executes c.args.i (λ p. content_of_item (written c.args.item.now) site c.args.i (view c.args.value.now) p)
     c.item_content.result c.args.run.now c.write_comma.new.run c.count.new.run c.item_content.new.run c.in_ok-write_comma.ensures.follows c.in_ok-count.ensures.follows (c.item_content.ensures.does x i)
+
+pub list_items-returns-in_err-first-clause-does : goal.list_items-returns-in_err-first-clause-does
+list_items-returns-in_err-first-clause-does t c = λ x i.
+    let site = site_of (types_of (basis c.args.setting.now)) c.args.site.place x in
+    stopped (items_part (written c.args.item.now) site (items_in c.args.items) (path_of c.args.run.now)) c.from_residual.result c.in_err-first.field-0.0
+    c.args.run.now c.write_direct_items.new.run c.from_residual.ensures.1
+    (c.in_err-first.ensures.stops site (path_of c.args.run.now) i.kind)
+
+pub list_items-loop-i-init : goal.list_items-loop-i-init
+list_items-loop-i-init t c = record {
+  keeps = record { right = c.requires.right; grows = grows_same c.args.table.now; left = c.in_ok-first.ensures.written.left };
+  count = c.count-i-end.ensures;
+  within = c.in_ok-first.ensures.written.within;
+  done = λ x i. c.in_ok-first.ensures.written.done (site_of (types_of (basis c.args.setting.now)) c.args.site.place x) (path_of c.args.run.now) i.kind;
+}
 
 pub list_items-list_item-requires : goal.list_items-list_item-requires
 list_items-list_item-requires t c = let inv = c.loop-i.invariant in
@@ -207,8 +225,8 @@ list_items-returns-in_err-list_item-clause-does t c = λ x i.
     let inv = c.loop-i.invariant in
     let g = basis c.args.setting.now in
     let site = site_of (types_of (basis c.args.setting.now)) c.args.site.place x in
-    stopped (items_part (written c.args.item.now) site (items_in c.args.items) (path_of c.args.run.now)) c.from_residual.result c.in_err-list_item.field-0.0
-    c.args.run.now c.list_item.new.run c.from_residual.ensures.1
+    stopped (items_part (written c.args.item.now) site (items_in c.args.items) (path_of c.args.run.now)) c.from_residual-in_err-list_item.result c.in_err-list_item.field-0.0
+    c.args.run.now c.list_item.new.run c.from_residual-in_err-list_item.ensures.1
     (loop-stops (item_part (written c.args.item.now) site) (items_in c.args.items) c.loop-i.i (view c.item-value.result.now) c.args.run.now c.loop-i.run c.list_item.new.run
     (omega (arith, inv.count, c.loop-i-test.true)) c.item-value.ensures c.loop-i.ended c.in_err-list_item.field-0.0 (inv.done x i)
     (c.in_err-list_item.ensures.does x (subst (λ xs. IsAsked g c.args.site (name_in (written c.args.item.now)) xs x)
@@ -221,6 +239,7 @@ list_items-loop-i-preserved t c =
     record {
       keeps = keeps_twice g c.args.table.now c.loop-i.table c.list_item.new.table c.args.run.now c.loop-i.run c.list_item.new.run inv.keeps c.in_ok-list_item.ensures.keeps;
       count = inv.count;
+      within = inv.within;
       done = λ x i.
           let site = site_of (types_of (basis c.args.setting.now)) c.args.site.place x in
           rw c.and-ended.ensures (loop-more (item_part (written c.args.item.now) site) (items_in c.args.items) c.loop-i.i (view c.item-value.result.now) c.args.run.now c.loop-i.run c.list_item.new.run
@@ -247,160 +266,15 @@ place_field-returns-in_ok-cut_to_null-in-Bubbled-clause-does t c = λ q h.
     (subst (λ n. c.cut_to_null.new.run.out.items ≡ take n c.call_field-2.new.run.out.items ++ codes "null") mark c.in_ok-cut_to_null-in-Bubbled.ensures.out)
     c.in_ok-cut_to_null-in-Bubbled.ensures.rest)
 
-pub call_field-returns-in-Stored-clause-does : goal.call_field-returns-in-Stored-clause-does
-call_field-returns-in-Stored-clause-does t c = λ q h.
-    as_part (called_part (types_of (basis c.args.setting.now)) (object_of c.args.object) q (path_of c.args.run.now))
-    (source_part (types_of (basis c.args.setting.now)) (view c.get-arguments.result.now) (view c.in-Stored.value.now) q (path_of c.args.run.now))
+pub call_field-returns-in-Given-clause-does : goal.call_field-returns-in-Given-clause-does
+call_field-returns-in-Given-clause-does t c = λ q h.
+    let types = types_of (basis c.args.setting.now) in
+    as_part (called_part types (object_of c.args.object) q (path_of c.args.run.now))
+    (source_part types (view c.get-arguments.result.now) (view c.args.object.now) q (path_of c.args.run.now))
     c.call_stored.result c.args.run.now c.call_stored.new.run
-    (ap (λ o. called_part (types_of (basis c.args.setting.now)) (object_of o) q (path_of c.args.run.now)) c.in-Stored.is
-    ∙ called_stored (types_of (basis c.args.setting.now)) q (path_of c.args.run.now) c.args.field.now _ h.planned c.in-Given.is (view c.in-Stored.value.now)
-    ∙ ap (λ v. source_part (types_of (basis c.args.setting.now)) (view v) (view c.in-Stored.value.now) q (path_of c.args.run.now)) (sym c.get-arguments.ensures))
+    (called_stored types q (path_of c.args.run.now) c.args.field.now _ h.planned c.in-Given.is (view c.args.object.now)
+    ∙ ap (λ v. source_part types (view v) (view c.args.object.now) q (path_of c.args.run.now)) (sym c.get-arguments.ensures))
     (c.call_stored.ensures.does q h)
-
-pub call_field-returns-in-Described-clause-does : goal.call_field-returns-in-Described-clause-does
-call_field-returns-in-Described-clause-does t c = λ q h.
-    as_part (called_part (types_of (basis c.args.setting.now)) (object_of c.args.object) q (path_of c.args.run.now))
-    (answer_part (types_of (basis c.args.setting.now)) (view c.get-arguments.result.now) (node_of c.in-Described.node) q (path_of c.args.run.now))
-    c.call_node.result c.args.run.now c.call_node.new.run
-    (ap (λ o. called_part (types_of (basis c.args.setting.now)) (object_of o) q (path_of c.args.run.now)) c.in-Described.is
-    ∙ called_described (types_of (basis c.args.setting.now)) q (path_of c.args.run.now) c.args.field.now _ h.planned c.in-Given.is (node_of c.in-Described.node)
-    ∙ ap (λ v. answer_part (types_of (basis c.args.setting.now)) (view v) (node_of c.in-Described.node) q (path_of c.args.run.now)) (sym c.get-arguments.ensures))
-    (c.call_node.ensures.does q h)
-
-pub complete_answer-returns-in-Null-clause-does : goal.complete_answer-returns-in-Null-clause-does
-complete_answer-returns-in-Null-clause-does t c = at_answer (basis c.args.setting.now) c.args.site c.args.name.now (below_at c.args.table.now c.args.site.slot)
-    c.write_null.result c.args.run.now c.write_null.new.run
-    (answer_of c.args.setting.now.context.schema.now c.args.answer) (intro.null) (plain (codes "null")) (ap (answer_of c.args.setting.now.context.schema.now) c.in-Null.is) (λ site. refl) c.write_null.ensures
-
-pub complete_answer-returns-in-Text-clause-does : goal.complete_answer-returns-in-Text-clause-does
-complete_answer-returns-in-Text-clause-does t c = at_answer (basis c.args.setting.now) c.args.site c.args.name.now (below_at c.args.table.now c.args.site.slot)
-    c.write_name.result c.args.run.now c.write_name.new.run
-    (answer_of c.args.setting.now.context.schema.now c.args.answer) (intro.text c.in-Text.text.now) (plain (quoted c.in-Text.text.now)) (ap (answer_of c.args.setting.now.context.schema.now) c.in-Text.is) (λ site. refl) c.write_name.ensures
-
-pub complete_answer-returns-in-Boolean-clause-does : goal.complete_answer-returns-in-Boolean-clause-does
-complete_answer-returns-in-Boolean-clause-does t c = at_answer (basis c.args.setting.now) c.args.site c.args.name.now (below_at c.args.table.now c.args.site.slot)
-    c.write_flag.result c.args.run.now c.write_flag.new.run
-    (answer_of c.args.setting.now.context.schema.now c.args.answer) (intro.truth c.in-Boolean.truth) (plain (compact_text (json.boolean c.in-Boolean.truth))) (ap (answer_of c.args.setting.now.context.schema.now) c.in-Boolean.is) (λ site. refl) c.write_flag.ensures
-
-pub complete_answer-returns-in-EnumValue-clause-does : goal.complete_answer-returns-in-EnumValue-clause-does
-complete_answer-returns-in-EnumValue-clause-does t c = at_answer (basis c.args.setting.now) c.args.site c.args.name.now (below_at c.args.table.now c.args.site.slot)
-    c.write_name-in-EnumValue.result c.args.run.now c.write_name-in-EnumValue.new.run
-    (answer_of c.args.setting.now.context.schema.now c.args.answer) (intro.enum_name c.in-EnumValue.value.now) (plain (quoted c.in-EnumValue.value.now)) (ap (answer_of c.args.setting.now.context.schema.now) c.in-EnumValue.is) (λ site. refl) c.write_name-in-EnumValue.ensures
-
-pub complete_answer-returns-in-Literal-clause-does : goal.complete_answer-returns-in-Literal-clause-does
-complete_answer-returns-in-Literal-clause-does t c = at_answer (basis c.args.setting.now) c.args.site c.args.name.now (below_at c.args.table.now c.args.site.slot)
-    c.write_literal.result c.args.run.now c.write_literal.new.run
-    (answer_of c.args.setting.now.context.schema.now c.args.answer) (intro.text (literal_text c.in-Literal.literal.now)) (plain (quoted (literal_text c.in-Literal.literal.now))) (ap (answer_of c.args.setting.now.context.schema.now) c.in-Literal.is) (λ site. refl) c.write_literal.ensures
-
-pub complete_answer-returns-in-Locations-clause-does : goal.complete_answer-returns-in-Locations-clause-does
-complete_answer-returns-in-Locations-clause-does t c = at_answer (basis c.args.setting.now) c.args.site c.args.name.now (below_at c.args.table.now c.args.site.slot)
-    c.write_locations.result c.args.run.now c.write_locations.new.run
-    (answer_of c.args.setting.now.context.schema.now c.args.answer) (intro.enum_names (map location_name c.in-Locations.locations.now)) (name_list_part (map location_name c.in-Locations.locations.now)) (ap (answer_of c.args.setting.now.context.schema.now) c.in-Locations.is) (λ site. answer_names site c.args.name.now (path_of c.args.run.now) (map location_name c.in-Locations.locations.now)) c.write_locations.ensures
-
-pub complete_answer-returns-in-Node-clause-does : goal.complete_answer-returns-in-Node-clause-does
-complete_answer-returns-in-Node-clause-does t c = at_node (basis c.args.setting.now) c.args.site c.args.name.now (below_at c.args.table.now c.args.site.slot)
-    c.execute_below.result c.args.run.now c.execute_below.new.run
-    (answer_of c.args.setting.now.context.schema.now c.args.answer) (node_of c.in-Node.node) (ap (answer_of c.args.setting.now.context.schema.now) c.in-Node.is) c.execute_below.ensures.does
-
-pub complete_answer-returns-in-Nodes-clause-does : goal.complete_answer-returns-in-Nodes-clause-does
-complete_answer-returns-in-Nodes-clause-does t c = at_nodes (basis c.args.setting.now) c.args.site c.args.name.now (below_at c.args.table.now c.args.site.slot)
-    c.complete_nodes.result c.args.run.now c.complete_nodes.new.run
-    (answer_of c.args.setting.now.context.schema.now c.args.answer) (nodes_in c.args.setting.now.context.schema.now c.in-Nodes.nodes) (ap (answer_of c.args.setting.now.context.schema.now) c.in-Nodes.is) c.complete_nodes.ensures.does
-
-pub complete_nodes-returns-clause-does : goal.complete_nodes-returns-clause-does
-complete_nodes-returns-clause-does t c = λ x i.
-    let site = site_of (types_of (basis c.args.setting.now)) c.args.site.place x in
-    within-done (codes "[") (codes "]") (λ p. nodes_part c.args.name.now site (nodes_in c.args.setting.now.context.schema.now c.args.nodes) p)
-    c.args.run.now c.write_byte.new.run c.list_nodes.new.run c.in_ok-write_byte.ensures.follows c.in_ok-ended.ended c.write_byte-2.new.run (c.in_ok-ended.ensures.does x i) c.in_ok-write_byte-2.ensures.follows
-
-pub list_node-returns-clause-does : goal.list_node-returns-clause-does
-list_node-returns-clause-does t c = λ x i.
-    let site = site_of (types_of (basis c.args.setting.now)) c.args.site.place x in
-    counted-executes c.args.i (λ p. content_of_node c.args.name.now site c.args.i (node_of c.args.node) p)
-    c.node_content.result c.args.run.now c.write_comma.new.run c.count.new.run c.node_content.new.run c.in_ok-write_comma.ensures.follows c.in_ok-count.ensures.follows (c.node_content.ensures.does x i)
-
-pub call_node-returns-clause-does : goal.call_node-returns-clause-does
-call_node-returns-clause-does t c = λ q h.
-    let g = basis c.args.setting.now in
-    let here : FieldSite = record { slot = c.args.slot; place = c.args.field.now.place; kind = c.args.field.now.kind } in
-    as_part (answer_part (types_of g) (view c.args.arguments.now) (node_of c.args.node) q (path_of c.args.run.now))
-    (value_part (on_answer (site_of (types_of g) c.args.field.now.place q.1) c.as_str.result.now (path_of c.args.run.now) (answer_of c.args.setting.now.context.schema.now c.introspect-answer.result)))
-    c.complete_answer.result c.args.run.now c.complete_answer.new.run
-    (answer_at (types_of g) (view c.args.arguments.now) (node_of c.args.node) q (path_of c.args.run.now) c.args.field.now h.planned
-    ∙ ap (λ n. value_part (on_answer (site_of (types_of g) c.args.field.now.place q.1) n (path_of c.args.run.now) (introspect_in g (node_of c.args.node) c.args.field.now.name.now (view c.args.arguments.now)))) (sym (c.as_str.ensures ∙ c.name_in-name.ensures))
-    ∙ ap (λ a. value_part (on_answer (site_of (types_of g) c.args.field.now.place q.1) c.as_str.result.now (path_of c.args.run.now) a)) (sym c.introspect-answer.ensures))
-    (c.complete_answer.ensures.does q.1
-    (subst (λ n. IsAsked g here n (below_at c.args.table.now c.args.slot) q.1) (ap (λ (e : PlannedField). name_in e.of_type) h.planned ∙ sym (c.as_str.ensures ∙ c.name_in-name.ensures))
-    (record { kind = h.kind; plan = subst (λ xs. IsPlan g (name_in q.0.of_type) xs q.1) (sym c.requires.at.below) h.below })))
-
-pub list_nodes-list_node-requires : goal.list_nodes-list_node-requires
-list_nodes-list_node-requires t c = let inv = c.loop-i.invariant in
-    (omega (arith, inv.keeps.left, c.requires.1.0), (inv.keeps.right, in_still c.args.table.now c.loop-i.table c.args.site.slot inv.keeps.grows c.requires.1.1.1))
-
-pub list_nodes-returns-in_err-node_ended-clause-does : goal.list_nodes-returns-in_err-node_ended-clause-does
-list_nodes-returns-in_err-node_ended-clause-does t c = λ x i.
-    let inv = c.loop-i.invariant in
-    let g = basis c.args.setting.now in
-    let site = site_of (types_of g) c.args.site.place x in
-    let s = c.args.setting.now.context.schema.now in
-    let left = next_picked (elements s c.args.nodes) c.loop-i.i c.loop-i.listed (node_of c.in-Some.node) inv.rest (omega (arith, inv.count, c.loop-i-test.true)) (sym c.get.ensures ∙ ap (option_map node_of) c.in-Some.is) in
-    stopped (nodes_part c.args.name.now site (nodes_in s c.args.nodes) (path_of c.args.run.now)) c.from_residual.result c.in_err-node_ended.field-0.0
-    c.args.run.now c.list_node.new.run c.from_residual.ensures.1
-    (loop-stops (node_part c.args.name.now site) (nodes_in s c.args.nodes) c.loop-i.listed (node_of c.in-Some.node) c.args.run.now c.loop-i.run c.list_node.new.run
-    (within_rest (nodes_in s c.args.nodes) c.loop-i.listed (node_of c.in-Some.node) _ left) (here_rest (nodes_in s c.args.nodes) c.loop-i.listed (node_of c.in-Some.node) _ left)
-    c.loop-i.ended c.in_err-node_ended.field-0.0 (inv.done x i)
-    (c.in_err-node_ended.ensures.does x (subst (λ xs. IsAsked g c.args.site c.args.name.now xs x)
-    (sym (below_still c.args.table.now c.loop-i.table c.args.site.slot inv.keeps.grows c.requires.1.1.1)) i)))
-
-pub list_nodes-loop-i-preserved : goal.list_nodes-loop-i-preserved
-list_nodes-loop-i-preserved t c =
-    let inv = c.loop-i.invariant in
-    let g = basis c.args.setting.now in
-    let s = c.args.setting.now.context.schema.now in
-    let node = node_of c.in-Some.node in
-    let left = next_picked (elements s c.args.nodes) c.loop-i.i c.loop-i.listed node inv.rest (omega (arith, inv.count, c.loop-i-test.true)) (sym c.get.ensures ∙ ap (option_map node_of) c.in-Some.is) in
-    record {
-      keeps = keeps_twice g c.args.table.now c.loop-i.table c.list_node.new.table c.args.run.now c.loop-i.run c.list_node.new.run inv.keeps c.in_ok-node_ended.ensures.keeps;
-      count = inv.count;
-      no_more = omega (arith, inv.no_more);
-      rest = after_picked (nodes_in s c.args.nodes) c.loop-i.listed node _ left;
-      done = λ x i.
-          let site = site_of (types_of g) c.args.site.place x in
-          rw c.and-ended.ensures (loop-more (node_part c.args.name.now site) (nodes_in s c.args.nodes) c.loop-i.listed node c.args.run.now c.loop-i.run c.list_node.new.run
-          (within_rest (nodes_in s c.args.nodes) c.loop-i.listed node _ left) (here_rest (nodes_in s c.args.nodes) c.loop-i.listed node _ left)
-          c.loop-i.ended c.in_ok-node_ended.node_ended (inv.done x i)
-          (c.in_ok-node_ended.ensures.does x (subst (λ xs. IsAsked g c.args.site c.args.name.now xs x)
-          (sym (below_still c.args.table.now c.loop-i.table c.args.site.slot inv.keeps.grows c.requires.1.1.1)) i)));
-    }
-
-pub list_nodes-loop-i-preserved-in_default : goal.list_nodes-loop-i-preserved-in_default
-list_nodes-loop-i-preserved-in_default t c =
-    let inv = c.loop-i.invariant in
-    let es = elements c.args.setting.now.context.schema.now c.args.nodes in
-    record {
-      keeps = inv.keeps;
-      count = inv.count;
-      no_more = omega (arith, inv.no_more);
-      rest = inv.rest ∙ picked_none es c.loop-i.i (omega (arith, inv.count, c.loop-i-test.true)) (sym c.get.ensures ∙ ap (option_map node_of) c.in_default.is);
-      done = inv.done;
-    }
-
-pub list_nodes-returns-clause-does : goal.list_nodes-returns-clause-does
-list_nodes-returns-clause-does t c = λ x i.
-    let inv = c.loop-i.invariant in
-    let s = c.args.setting.now.context.schema.now in
-    let end = all_picked (elements s c.args.nodes) c.loop-i.i c.loop-i.listed inv.rest (omega (arith, inv.count, c.loop-i-test.false)) in
-    subst (λ ns. Done (all (numbered (node_part c.args.name.now (site_of (types_of (basis c.args.setting.now)) c.args.site.place x) (path_of c.args.run.now)) 0 ns)) c.loop-i.ended c.args.run.now c.loop-i.run)
-    end (inv.done x i)
-
-pub complete_nodes-returns-in_err-ended-clause-does : goal.complete_nodes-returns-in_err-ended-clause-does
-complete_nodes-returns-in_err-ended-clause-does t c = λ x i.
-    let site = site_of (types_of (basis c.args.setting.now)) c.args.site.place x in
-    let ns = nodes_in c.args.setting.now.context.schema.now c.args.nodes in
-    stopped (node_list_part c.args.name.now site ns (path_of c.args.run.now)) c.from_residual-in_err-ended.result c.in_err-ended.field-0.0
-    c.args.run.now c.list_nodes.new.run c.from_residual-in_err-ended.ensures.1
-    (λ heavy. within-heavy (codes "[") (codes "]") (λ p. nodes_part c.args.name.now site ns p)
-    c.args.run.now c.write_byte.new.run c.list_nodes.new.run c.in_ok-write_byte.ensures.follows (c.in_err-ended.ensures.does x i heavy))
 
 pub call_stored-returns-in_ok-resolved-in-Stored-clause-does : goal.call_stored-returns-in_ok-resolved-in-Stored-clause-does
 call_stored-returns-in_ok-resolved-in-Stored-clause-does t c = λ q h.

@@ -1,14 +1,14 @@
-use Rattle.std.proofs.Common.{◌≡◌, ◌≤◌, drop, flat_map, option_to_list, ◌+◌, ◌*◌, List, take, length}
+use Rattle.std.proofs.Common.{◌≡◌, ◌≤◌, ◌+◌, ◌*◌, List, take, length}
 use Rattle.gql_inputs.specs.InputTypes.{name_in}
-use Rattle.gql_intro.specs.Borrowed.{elements}
 use Rattle.gql_types.specs.Written.{written}
-use Rattle.gql_exec.specs.Execution.{Plan}
-use Rattle.gql_exec.specs.Objects.{basis, object_of}
+use Rattle.serde_json.specs.View.{view}
+use Rattle.gql_exec.specs.Execution.{Plan, stored}
+use Rattle.gql_exec.specs.Objects.{basis}
 use Rattle.gql_exec.specs.Parts.{all, numbered}
 use Rattle.gql_exec.specs.Plans.{types_of}
 use Rattle.gql_exec.specs.States.{Done, path_of}
 use Rattle.gql_exec.specs.Tables.{Pair, StandFor, below_at, fields_at}
-use Rattle.gql_exec.specs.ValueParts.{IsAsked, Keeps, field_part, node_part, nodes_in, item_part, items_in, site_of}
+use Rattle.gql_exec.specs.ValueParts.{IsAsked, Keeps, field_part, item_part, items_in, site_of}
 use Rattle.gql_exec.proofs.executor.+execute.Given as goal
 
 abbrev pub decreases-execute_field : goal.decreases-execute_field
@@ -71,50 +71,21 @@ decreases-execute_content l = l.run.now.left * 16 + 13
 abbrev pub decreases-call_stored : goal.decreases-call_stored
 decreases-call_stored l = l.run.now.left * 16 + 10
 
-abbrev pub decreases-call_node : goal.decreases-call_node
-decreases-call_node l = l.run.now.left * 16 + 9
-
-abbrev pub decreases-complete_answer : goal.decreases-complete_answer
-decreases-complete_answer l = l.run.now.left * 16 + 8
-
-abbrev pub decreases-complete_nodes : goal.decreases-complete_nodes
-decreases-complete_nodes l = l.run.now.left * 16 + 2
-
-abbrev pub decreases-list_nodes : goal.decreases-list_nodes
-decreases-list_nodes l = l.run.now.left * 16 + 1
-
-abbrev pub decreases-list_node : goal.decreases-list_node
-decreases-list_node l = l.run.now.left * 16 + 0
-
-abbrev pub decreases-node_content : goal.decreases-node_content
-decreases-node_content l = l.run.now.left * 16 + 9
-
 abbrev pub invariant-execute_fields-loop-i : goal.invariant-execute_fields-loop-i
 invariant-execute_fields-loop-i l = record {
   keeps : Keeps (basis l.setting) l.initial.table l.table l.initial.run l.run;
   count : l.i-end ≡ length (fields_at l.initial.table.entries.items l.entry);
   done : (qs : List Pair) → StandFor (basis l.setting) (fields_at l.initial.table.entries.items l.entry) qs
-      → Done (all (numbered (field_part (types_of (basis l.setting)) (object_of l.object) (path_of l.initial.run)) 0 (take l.i qs)))
+      → Done (all (numbered (field_part (types_of (basis l.setting)) (stored (view l.object)) (path_of l.initial.run)) 0 (take l.i qs)))
       l.ended l.initial.run l.run;
 }
 
 abbrev pub invariant-list_items-loop-i : goal.invariant-list_items-loop-i
 invariant-list_items-loop-i l = record {
-  keeps : Keeps (basis l.setting) l.initial.table l.table l.initial.run l.run;
+  keeps : Keeps (basis l.setting) l.fn.table l.table l.fn.run l.run;
   count : l.i-end ≡ length (items_in l.items);
-  done : (x : Plan) → IsAsked (basis l.setting) l.site (name_in (written l.item)) (below_at l.initial.table l.site.slot) x
-      → Done (all (numbered (item_part (written l.item) (site_of (types_of (basis l.setting)) l.site.place x) (path_of l.initial.run)) 0
-      (take l.i (items_in l.items)))) l.ended l.initial.run l.run;
-}
-
-abbrev pub invariant-list_nodes-loop-i : goal.invariant-list_nodes-loop-i
-invariant-list_nodes-loop-i l = record {
-  keeps : Keeps (basis l.setting) l.initial.table l.table l.initial.run l.run;
-  count : l.i-end ≡ length (elements l.setting.context.schema.now l.nodes);
-  no_more : l.listed ≤ l.i;
-  rest : drop l.listed (nodes_in l.setting.context.schema.now l.nodes)
-      ≡ flat_map option_to_list (drop l.i (elements l.setting.context.schema.now l.nodes));
-  done : (x : Plan) → IsAsked (basis l.setting) l.site l.name (below_at l.initial.table l.site.slot) x
-      → Done (all (numbered (node_part l.name (site_of (types_of (basis l.setting)) l.site.place x) (path_of l.initial.run)) 0
-      (take l.listed (nodes_in l.setting.context.schema.now l.nodes)))) l.ended l.initial.run l.run;
+  within : l.first ≤ length (items_in l.items);
+  done : (x : Plan) → IsAsked (basis l.setting) l.site (name_in (written l.item)) (below_at l.fn.table l.site.slot) x
+      → Done (all (numbered (item_part (written l.item) (site_of (types_of (basis l.setting)) l.site.place x) (path_of l.fn.run)) 0
+      (take l.i (items_in l.items)))) l.ended l.fn.run l.run;
 }

@@ -26,11 +26,11 @@ returns-clause-outcome c =
     let root = c.args.root.now in
     let types = types_of (basis c.args.setting.now) in
     let d = view c.args.initial.now in
-    let s : Run = record { out = c.new.result; errors = c.new-2.result; path = c.new-3.result; left = 100000; raised = false } in
+    let s : Run = record { out = c.in_ok-with_capacity.field-0; errors = c.new.result; path = c.new-2.result; left = 100000; raised = false } in
     ok_then c.finish.result (λ o. Finishes c.in_ok-ended.ended c.execute_object.new.run (outcome_of o))
     (λ o. is_met g root root ≡ true → (x : Plan) → IsPlan g root (all_selections c.args.sets.now) x → IsOutcomeOf (outcome_of o) (answer types x root d))
-    (λ o h met x i. h (execute types x root [] (stored d)) s (record { out = c.new.ensures.items; errors = c.new-2.ensures.items; raised = refl; left = refl })
-    (sets_done g c.add_sets.new.self c.in_ok-entry.entry root (all_selections c.args.sets.now) x d s c.execute_object.new.run c.in_ok-entry.ensures.has met i c.new-3.ensures.items
+    (λ o h met x i. h (execute types x root [] (stored d)) s (record { out = c.in_ok-with_capacity.ensures.items; errors = c.new.ensures.items; raised = refl; left = refl })
+    (sets_done g c.add_sets.new.self c.in_ok-entry.entry root (all_selections c.args.sets.now) x d s c.execute_object.new.run c.in_ok-entry.ensures.has met i c.new-2.ensures.items
     c.in_ok-ended.ended c.in_ok-ended.ensures.does)) c.finish.ensures.outcome
 
 pub returns-clause-heavy : goal.returns-clause-heavy
@@ -46,9 +46,9 @@ pub returns-in_err-ended-clause-heavy : goal.returns-in_err-ended-clause-heavy
 returns-in_err-ended-clause-heavy c =
     let g = basis c.args.setting.now in
     let root = c.args.root.now in
-    let s : Run = record { out = c.new.result; errors = c.new-2.result; path = c.new-3.result; left = 100000; raised = false } in
+    let s : Run = record { out = c.in_ok-with_capacity.field-0; errors = c.new.result; path = c.new-2.result; left = 100000; raised = false } in
     err_is c.from_residual-in_err-ended.result c.in_err-ended.field-0.0 c.from_residual-in_err-ended.ensures.1
     (λ e. e ≡ TooHeavy → is_met g root root ≡ true → (x : Plan) → IsPlan g root (all_selections c.args.sets.now) x
     → most_values < (answer (types_of (basis c.args.setting.now)) x root (view c.args.initial.now)).weight)
     (λ heavy met x i. sets_heavy g c.add_sets.new.self c.in_ok-entry.entry root (all_selections c.args.sets.now) x (view c.args.initial.now) s c.execute_object.new.run
-    c.in_ok-entry.ensures.has met i c.new-3.ensures.items c.in_err-ended.field-0.0 c.in_err-ended.ensures.does refl heavy)
+    c.in_ok-entry.ensures.has met i c.new-2.ensures.items c.in_err-ended.field-0.0 c.in_err-ended.ensures.does refl heavy)

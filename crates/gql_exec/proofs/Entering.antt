@@ -1,0 +1,65 @@
+-- What is kept and reached where nodes of introspection are executed, and nodes that are to be
+-- entered.
+use Rattle.std.proofs.Common.{◌≡◌, ℕ, zero, suc, ◌+◌, ◌≤◌, List, true, codes, Result, Ok, Err, refl, sym, subst, arith}
+use Rattle.std.specs.Result.{IfOk}
+use Rattle.gql_collect.specs.Nodes.{FileSelection}
+use Rattle.gql_intro.specs.Borrowed.{node_of}
+use Rattle.gql_intro.specs.declared.node.IntroNode.{IntroNode}
+use Rattle.gql_exec.specs.Execution.{Plan, plan, described, execute}
+use Rattle.gql_exec.specs.NodeFrames.{Enters, Fits, Kept, KeepsBegun, KeepsTurn, Reaches, field_parts}
+use Rattle.gql_exec.specs.Parts.{Part, comma}
+use Rattle.gql_exec.specs.Plans.{Basis, IsPlan, is_met, types_of}
+use Rattle.gql_exec.specs.States.{path_of}
+use Rattle.gql_exec.specs.Tables.{Has, pairs_of}
+use Rattle.gql_exec.specs.Texts.{value_part}
+use Rattle.gql_exec.specs.declared.ended.Ended.TheVariants as how
+use Rattle.gql_exec.specs.declared.node_frame.Around.{Around}
+use Rattle.gql_exec.specs.declared.node_frame.Begun.{Begun}
+use Rattle.gql_exec.specs.declared.node_frame.Group.{Group}
+use Rattle.gql_exec.specs.declared.node_frame.Group.TheVariants as group
+use Rattle.gql_exec.specs.declared.node_frame.Reached.{Reached}
+use Rattle.gql_exec.specs.declared.node_frame.Turn.{Turn}
+use Rattle.gql_exec.specs.declared.refusal.ExecRefusal.{ExecRefusal}
+use Rattle.gql_exec.specs.declared.run.Run.{Run}
+use Rattle.gql_exec.specs.declared.table.Table.{Table}
+use Rattle.gql_exec.proofs.Completing.{object_is}
+use Rattle.gql_exec.proofs.Executing.{entry_stands}
+use Rattle.gql_exec.proofs.Midway.{midway_starts}
+
+-- ---- what is kept
+
+-- after a value has been counted
+pub begun_later : (g : Basis) (a b : Table) (result : Result Begun ExecRefusal) (s m u : Run) → m.left + 1 ≤ s.left → KeepsBegun g a b 0 m u result → KeepsBegun g a b 1 s u result
+begun_later g a b (Ok x) s m u less h = record { right = h.right; grows = h.grows; left = omega (arith, h.left, less); fits = h.fits }
+begun_later g a b (Err e) s m u less h = tt
+
+pub node_later : (g : Basis) (a b : Table) (result : Result (Around × Group) ExecRefusal) (s m u : Run) → m.left + 1 ≤ s.left → IfOk result (λ w. Kept g a b 0 m u (Fits b w.1))
+    → IfOk result (λ w. Kept g a b 1 s u (Fits b w.1))
+node_later g a b (Ok x) s m u less h = record { right = h.right; grows = h.grows; left = omega (arith, h.left, less); fits = h.fits }
+node_later g a b (Err e) s m u less h = tt
+
+-- a comma is no value
+pub comma_weight : (i : ℕ) → (comma i).weight ≡ 0
+comma_weight zero = refl
+comma_weight (suc i) = refl
+
+pub turn_later : (g : Basis) (a b : Table) (result : Result Turn ExecRefusal) (s m u : Run) → m.left ≤ s.left → KeepsTurn g a b m u result → KeepsTurn g a b s u result
+turn_later g a b (Ok x) s m u less h = record { right = h.right; grows = h.grows; left = omega (arith, h.left, less); fits = h.fits }
+turn_later g a b (Err e) s m u less h = tt
+
+-- ---- what is reached
+
+pub as_reached : (g : Basis) (t : Table) (a b : Part) (result : Result Reached ExecRefusal) (old now : Run) → a ≡ b → Reaches g t b result old now → Reaches g t a result old now
+as_reached g t a b result old now e h = subst (λ r. Reaches g t r result old now) (sym e) h
+
+-- a node whose fields none is executed of yet
+pub enters_entry : (g : Basis) (table : Table) (k : ℕ) (t name : List ℕ) (xs : List FileSelection) (x : Plan) (n : IntroNode) (s : Run)
+    → Has g table k t xs → is_met g t name ≡ true → IsPlan g name xs x
+    → Enters g table (group.Fields (record { entry = k; node = n; next = 0; ended = how.Written })) (value_part (execute (types_of g) x t (path_of s) (described (node_of n)))) s
+enters_entry g table k t name xs (plan by_type) n s has met is = λ m opens. record {
+  pairs = pairs_of (by_type t);
+  within = has.within;
+  stand = entry_stands g table k t name xs by_type has met is;
+  midway = midway_starts (codes "{") (codes "}") (field_parts g (record { entry = k; node = n; next = 0; ended = how.Written }) (pairs_of (by_type t)) s)
+      (value_part (execute (types_of g) (plan by_type) t (path_of s) (described (node_of n)))) s m opens (object_is (types_of g) by_type t (path_of s) (described (node_of n)));
+}

@@ -1,0 +1,218 @@
+-- The fields or the nodes of a group, one more of which is begun.
+use Rattle.std.proofs.Common.{◌≡◌, ℕ, ◌+◌, ◌<◌, List, [], ◌∷◌, ◌++◌, Bool, true, false, codes, drop, flat_map, map, length, get_or, option_to_list, Result, Ok, Err, sym, ap, ◌∙◌, arith, subst}
+use Rattle.std.specs.Result.{IsErrAnd}
+use Rattle.gql_inputs.specs.InputTypes.{is_non_null}
+use Rattle.gql_intro.specs.Borrowed.{elements, node_of}
+use Rattle.gql_intro.specs.Nodes.{Node}
+use Rattle.gql_types.specs.Written.{written}
+use Rattle.gql_exec.specs.Ended.{both}
+use Rattle.gql_exec.specs.Execution.{Object, PlannedField, Site, Types, described, on_node}
+use Rattle.gql_exec.specs.NodeFrames.{AtFields, AtList, Begins, BeginsNode, Enters, Hole, Midway, Opens, Pauses, Reaches, Turns, field_parts, node_parts, placed_by}
+use Rattle.gql_exec.specs.Outcomes.{segment_of}
+use Rattle.gql_exec.specs.Parts.{Part, plain, settled}
+use Rattle.gql_exec.specs.Plans.{Basis, types_of}
+use Rattle.gql_exec.specs.Replies.{index, key}
+use Rattle.gql_exec.specs.States.{Done, Executes, Follows, path_of}
+use Rattle.gql_exec.specs.Tables.{Grows, Pair, planned_of}
+use Rattle.gql_exec.specs.Texts.{value_part}
+use Rattle.gql_exec.specs.ValueParts.{called_part, content_of_node, content_part, field_part, node_part, nodes_in, placed_part, site_of}
+use Rattle.gql_exec.specs.declared.ended.Ended.{Ended}
+use Rattle.gql_exec.specs.declared.node_frame.Around.{Around}
+use Rattle.gql_exec.specs.declared.node_frame.Begun.{Begun}
+use Rattle.gql_exec.specs.declared.node_frame.Begun.TheVariants as begun
+use Rattle.gql_exec.specs.declared.node_frame.FieldsFrame.{FieldsFrame}
+use Rattle.gql_exec.specs.declared.node_frame.Group.{Group}
+use Rattle.gql_exec.specs.declared.node_frame.Group.TheVariants as group
+use Rattle.gql_exec.specs.declared.node_frame.ListFrame.{ListFrame}
+use Rattle.gql_exec.specs.declared.node_frame.Reached.{Reached}
+use Rattle.gql_exec.specs.declared.node_frame.Reached.TheVariants as reached
+use Rattle.gql_exec.specs.declared.node_frame.Turn.{Turn}
+use Rattle.gql_exec.specs.declared.outcome.Step.TheVariants as step
+use Rattle.gql_exec.specs.declared.planning.FieldPlan.{FieldPlan}
+use Rattle.gql_exec.specs.declared.refusal.ExecRefusal.{ExecRefusal}
+use Rattle.gql_exec.specs.declared.refusal.ExecRefusal.TheVariants.{TooHeavy}
+use Rattle.gql_exec.specs.declared.run.Run.{Run}
+use Rattle.gql_exec.specs.declared.table.Table.{Table}
+use Rattle.gql_exec.proofs.Doing.{stepped}
+use Rattle.gql_exec.proofs.Executing.{At as AtField}
+use Rattle.gql_exec.proofs.Holes.{at_still, hole_stops, opens_lift}
+use Rattle.gql_exec.proofs.Midway.{midway_ends, midway_more, midway_path, midway_stops, numbered_at, numbered_length, numbered_within}
+use Rattle.gql_exec.proofs.Picked.{after_picked, here_rest, none_left, within_rest}
+
+-- ---- calls that stop
+
+pub begins_stopped : (g : Basis) (t : Table) (r : Part) (result : Result Begun ExecRefusal) (stop : ExecRefusal) (s u : Run) → IsErrAnd result (λ e. e ≡ stop) → (stop ≡ TooHeavy → s.left < r.weight)
+    → Begins g t r result s u
+begins_stopped g t r (Ok x) stop s u e h = absurd e
+begins_stopped g t r (Err x) stop s u e h = λ is. h (sym e ∙ is)
+
+pub turns_stopped : (g : Basis) (t : Table) (whole : Part) (start : Run) (result : Result Turn ExecRefusal) (stop : ExecRefusal) (u : Run) → IsErrAnd result (λ e. e ≡ stop)
+    → (stop ≡ TooHeavy → start.left < whole.weight) → Turns g t whole start result u
+turns_stopped g t whole start (Ok x) stop u e h = absurd e
+turns_stopped g t whole start (Err x) stop u e h = λ is. h (sym e ∙ is)
+
+pub begins_ended : (g : Basis) (t : Table) (r : Part) (s u : Run) (x : Begun) (e : Ended) → x ≡ begun.Ended e → Begins g t r (Ok x) s u → Done r e s u
+begins_ended g t r s u x e is h = subst (λ y. Begins g t r (Ok y) s u) is h
+
+pub begins_within : (g : Basis) (t : Table) (r : Part) (s u : Run) (x : Begun) (a : Around) (i : Group) → x ≡ begun.Within a i → Begins g t r (Ok x) s u → Opens g t a i r s u
+begins_within g t r s u x a i is h = subst (λ y. Begins g t r (Ok y) s u) is h
+
+pub node_lift : (g : Basis) (t : Table) (q r : Part) (result : Result (Around × Group) ExecRefusal) (here before now : Run)
+    → ((result : Result Ended ExecRefusal) (u : Run) → Executes q result here u → Executes r result before u) → BeginsNode g t q result here now → BeginsNode g t r result before now
+node_lift g t q r (Ok w) here before now lift b = opens_lift g t w.0 w.1 q r here before now lift b
+node_lift g t q r (Err stop) here before now lift b = lift (Err stop) now b
+
+pub opens_hole : (g : Basis) (t : Table) (a : Around) (i : Group) (p : Part) (start : Run) (r : Part) (before now : Run) → Hole a p start r before → (now ≡ start) × Enters g t i p start
+    → Opens g t a i r before now
+opens_hole g t a i p start r before now hole e = subst (λ z. Opens g t a i r before z) (sym e.0) (record { inner = p; hole = hole; enters = e.1 })
+
+-- what is reached for the value of a field or an item
+module _ (g : Basis) (u : Table) (a : Around) (p : Part) (start : Run) (r : Part) (before : Run) (hole : Hole a p start r before) (now : Run) where
+  pub content_inner : (x : Reached) (i : Group) → x ≡ reached.Inner i → Reaches g u p (Ok x) start now → Opens g u a i r before now
+  content_inner x i is h = opens_hole g u a i p start r before now hole (subst (λ y. Reaches g u p (Ok y) start now) is h)
+
+  pub content_stops : (stop : ExecRefusal) → Reaches g u p (Err stop) start now → stop ≡ TooHeavy → before.left < r.weight
+  content_stops stop h is = hole_stops a p start r before hole (h is)
+
+pub content_ended : (g : Basis) (u : Table) (p : Part) (start now : Run) (x : Reached) (e : Ended) → x ≡ reached.Ended e → Reaches g u p (Ok x) start now → Done p e start now
+content_ended g u p start now x e is h = subst (λ y. Reaches g u p (Ok y) start now) is h
+
+-- ---- the values of fields and items
+
+module _ (s t : Run) (mark depth : ℕ) (required outer : Bool) (at : mark ≡ length s.out.items) (deep : depth ≡ length s.path.items) (out : t.out ≡ s.out) (errors : t.errors ≡ s.errors) (left : t.left ≡ s.left) where
+  pub field_hole : (types : Types) (o : Object) (q : Pair) (f : FieldPlan) → q.0 ≡ planned_of f → required ≡ is_non_null (written f.of_type.now) → outer ≡ s.raised → t.raised ≡ false
+      → t.path.items ≡ s.path.items ++ step.Key f.response_name ∷ []
+      → Hole (record { mark = mark; depth = depth; is_required = required; is_field = true; outer = outer }) (called_part types o q (path_of t)) t (content_part types o q (path_of s)) s
+  field_hole types o q f planned is was raised path =
+      let name : f.response_name.now ≡ q.0.response_name = ap (λ (e : PlannedField). e.response_name) (sym planned) in
+      let place : path_of t ≡ path_of s ++ key q.0.response_name ∷ [] = stepped s.path.items (step.Key f.response_name) t.path.items path ∙ ap (λ n. path_of s ++ key n ∷ []) name in
+      let marked : required ≡ is_non_null q.0.of_type = is ∙ ap (λ (e : PlannedField). is_non_null e.of_type) (sym planned) in
+      record {
+        here = s;
+        step = step.Key f.response_name;
+        out = out;
+        errors = errors;
+        left = left;
+        raised = (raised, was);
+        path = path;
+        mark = at;
+        depth = deep;
+        lifts = λ result u x. subst (λ r. Executes r result s u)
+            (ap (λ b. settled (placed_by b (called_part types o q (path_of t)))) marked ∙ ap (λ p. settled (placed_part q.0.of_type (called_part types o q p))) place) x;
+      }
+
+  pub node_hole : (name : List ℕ) (site : Site) (i : ℕ) (n : Node) → required ≡ true → t.raised ≡ s.raised → t.path.items ≡ s.path.items ++ step.Index i ∷ []
+      → Hole (record { mark = mark; depth = depth; is_required = required; is_field = false; outer = outer }) (value_part (on_node site name (path_of t) n)) t
+      (content_of_node name site i n (path_of s)) s
+  node_hole name site i n is raised path =
+      let place : path_of t ≡ path_of s ++ index i ∷ [] = stepped s.path.items (step.Index i) t.path.items path in
+      record {
+        here = s;
+        step = step.Index i;
+        out = out;
+        errors = errors;
+        left = left;
+        raised = raised;
+        path = path;
+        mark = at;
+        depth = deep;
+        lifts = λ result u x. subst (λ r. Executes r result s u)
+            (ap (λ b. placed_by b (value_part (on_node site name (path_of t) n))) is ∙ ap (λ p. value_part (on_node site name p n)) place) x;
+      }
+
+-- ---- fields
+
+module _ (g : Basis) (t : Table) (f : FieldsFrame) (whole : Part) (start began now : Run) (at : AtFields g t f whole start began) (k : ℕ) (ended : Ended)
+    (m : Midway (codes "{") (codes "}") (field_parts g f at.pairs start) k ended whole start now) where
+  module _ (field : FieldPlan) (a : AtField g field k at.pairs) where
+    fields_path : path_of now ≡ path_of start
+    fields_path = ap (map segment_of) (midway_path (codes "{") (codes "}") (field_parts g f at.pairs start) k ended whole start now m)
+
+    pub field_more : (e : Ended) (next : Run) → Done (field_part (types_of g) (described (node_of f.node)) (path_of now) k a.pair) e now next
+        → Midway (codes "{") (codes "}") (field_parts g f at.pairs start) (k + 1) (both ended e) whole start next
+    field_more e next done = midway_more (codes "{") (codes "}") (field_parts g f at.pairs start) k ended whole start now m
+        (field_part (types_of g) (described (node_of f.node)) (path_of start) k a.pair) (numbered_within (field_part (types_of g) (described (node_of f.node)) (path_of start)) at.pairs k a.within)
+        (numbered_at (field_part (types_of g) (described (node_of f.node)) (path_of start)) at.pairs k a.pair a.within a.here) e next
+        (subst (λ p. Done (field_part (types_of g) (described (node_of f.node)) p k a.pair) e now next) fields_path done)
+
+    pub field_stops : now.left < (field_part (types_of g) (described (node_of f.node)) (path_of now) k a.pair).weight → start.left < whole.weight
+    field_stops heavy = midway_stops (codes "{") (codes "}") (field_parts g f at.pairs start) k ended whole start now m
+        (field_part (types_of g) (described (node_of f.node)) (path_of start) k a.pair) (numbered_within (field_part (types_of g) (described (node_of f.node)) (path_of start)) at.pairs k a.within)
+        (numbered_at (field_part (types_of g) (described (node_of f.node)) (path_of start)) at.pairs k a.pair a.within a.here)
+        (subst (λ p. now.left < (field_part (types_of g) (described (node_of f.node)) p k a.pair).weight) fields_path heavy)
+
+    pub field_pauses : (u : Table) (around : Around) (i : Group) (next : Run) → Grows t u
+        → Opens g u around i (field_part (types_of g) (described (node_of f.node)) (path_of now) k a.pair) now next
+        → Pauses g u (record { group = group.Fields (record f { next = k + 1; ended = ended }); around = around }) i whole start next
+    field_pauses u around i next more o = record {
+      inner = o.inner;
+      suspends = record {
+        part = field_part (types_of g) (described (node_of f.node)) (path_of now) k a.pair;
+        before = now;
+        hole = o.hole;
+        goes_on = λ e v done. at_still g t u more (group.Fields (record f { next = k + 1; ended = both ended e })) whole start v (record {
+          pairs = at.pairs;
+          within = at.within;
+          stand = at.stand;
+          midway = field_more e v done;
+        });
+        stops = field_stops;
+      };
+      enters = o.enters;
+    }
+
+-- ---- nodes
+
+module _ (g : Basis) (t : Table) (f : ListFrame) (whole : Part) (start now : Run) (at : AtList g t f whole start now) where
+  nodes_path : path_of now ≡ path_of start
+  nodes_path = ap (map segment_of) (midway_path (codes "[") (codes "]") (node_parts g f (site_of (types_of g) at.place at.plan) start) f.next f.ended whole start now at.midway)
+
+  pub nodes_end : flat_map option_to_list (drop f.passed (elements g.given.schema f.nodes)) ≡ [] → (end : Run) → Follows (plain (codes "]")) now end → Done whole f.ended start end
+  nodes_end none end closes = midway_ends (codes "[") (codes "]") (node_parts g f (site_of (types_of g) at.place at.plan) start) f.next f.ended whole start now at.midway
+      (let n = none_left (nodes_in g.given.schema f.nodes) f.next (at.rest ∙ none) in
+      omega (arith, n, numbered_length (node_part f.name.now (site_of (types_of g) at.place at.plan) (path_of start)) 0 (nodes_in g.given.schema f.nodes))) end closes
+
+  module _ (n : Node) (passed : ℕ) (is : flat_map option_to_list (drop f.passed (elements g.given.schema f.nodes))
+      ≡ n ∷ flat_map option_to_list (drop passed (elements g.given.schema f.nodes))) where
+    is_node : f.next < length (nodes_in g.given.schema f.nodes)
+    is_node = within_rest (nodes_in g.given.schema f.nodes) f.next n (flat_map option_to_list (drop passed (elements g.given.schema f.nodes))) (at.rest ∙ is)
+
+    here_node : n ≡ get_or (nodes_in g.given.schema f.nodes) f.next n
+    here_node = here_rest (nodes_in g.given.schema f.nodes) f.next n (flat_map option_to_list (drop passed (elements g.given.schema f.nodes))) (at.rest ∙ is)
+
+    node_more : (e : Ended) (next : Run) → Done (node_part f.name.now (site_of (types_of g) at.place at.plan) (path_of now) f.next n) e now next
+        → Midway (codes "[") (codes "]") (node_parts g f (site_of (types_of g) at.place at.plan) start) (f.next + 1) (both f.ended e) whole start next
+    node_more e next done = midway_more (codes "[") (codes "]") (node_parts g f (site_of (types_of g) at.place at.plan) start) f.next f.ended whole start now at.midway
+        (node_part f.name.now (site_of (types_of g) at.place at.plan) (path_of start) f.next n)
+        (numbered_within (node_part f.name.now (site_of (types_of g) at.place at.plan) (path_of start)) (nodes_in g.given.schema f.nodes) f.next is_node)
+        (numbered_at (node_part f.name.now (site_of (types_of g) at.place at.plan) (path_of start)) (nodes_in g.given.schema f.nodes) f.next n is_node here_node) e next
+        (subst (λ p. Done (node_part f.name.now (site_of (types_of g) at.place at.plan) p f.next n) e now next) nodes_path done)
+
+    pub node_stops : now.left < (node_part f.name.now (site_of (types_of g) at.place at.plan) (path_of now) f.next n).weight → start.left < whole.weight
+    node_stops heavy = midway_stops (codes "[") (codes "]") (node_parts g f (site_of (types_of g) at.place at.plan) start) f.next f.ended whole start now at.midway
+        (node_part f.name.now (site_of (types_of g) at.place at.plan) (path_of start) f.next n)
+        (numbered_within (node_part f.name.now (site_of (types_of g) at.place at.plan) (path_of start)) (nodes_in g.given.schema f.nodes) f.next is_node)
+        (numbered_at (node_part f.name.now (site_of (types_of g) at.place at.plan) (path_of start)) (nodes_in g.given.schema f.nodes) f.next n is_node here_node)
+        (subst (λ p. now.left < (node_part f.name.now (site_of (types_of g) at.place at.plan) p f.next n).weight) nodes_path heavy)
+
+    pub node_pauses : (u : Table) (around : Around) (i : Group) (next : Run) → Grows t u
+        → Opens g u around i (node_part f.name.now (site_of (types_of g) at.place at.plan) (path_of now) f.next n) now next
+        → Pauses g u (record { group = group.List (record f { passed = passed; next = f.next + 1 }); around = around }) i whole start next
+    node_pauses u around i next more o = record {
+      inner = o.inner;
+      suspends = record {
+        part = node_part f.name.now (site_of (types_of g) at.place at.plan) (path_of now) f.next n;
+        before = now;
+        hole = o.hole;
+        goes_on = λ e v done. at_still g t u more (group.List (record f { passed = passed; next = f.next + 1; ended = both f.ended e })) whole start v (record {
+          plan = at.plan;
+          place = at.place;
+          within = at.within;
+          asked = at.asked;
+          rest = after_picked (nodes_in g.given.schema f.nodes) f.next n (flat_map option_to_list (drop passed (elements g.given.schema f.nodes))) (at.rest ∙ is);
+          midway = node_more e v done;
+        });
+        stops = node_stops;
+      };
+      enters = o.enters;
+    }

@@ -1,0 +1,135 @@
+//! The execution of the nodes of lists of introspection (GraphQL specification, 4.2 and 6.4.3).
+ghost use Rattle.std.specs.Prelude.{◌≡◌, ◌<◌, ◌≤◌, IfOk, IfSome};
+ghost use Rattle.gql_intro.specs.Borrowed.{elements, node_of};
+ghost use Rattle.gql_exec.specs.NodeFrames.{AtList, DoesBegin, Fits, Kept, KeepsTurn, NextIs, Turns};
+ghost use Rattle.gql_exec.specs.Objects.{basis};
+ghost use Rattle.gql_exec.specs.Parts.{Part};
+ghost use Rattle.gql_exec.specs.States.{path_of};
+ghost use Rattle.gql_exec.specs.Tables.{InTable, IsRight, below_at};
+ghost use Rattle.gql_exec.specs.ValueParts as part;
+ghost use Rattle.gql_exec.specs.declared.run.Run.{Run as ARun};
+
+use crate::node_frame::{Around, Frame, Group, ListFrame, Turn};
+use crate::node_values::node_below;
+use crate::outcome::Step;
+use crate::refusal::ExecRefusal;
+use crate::run::Run;
+use crate::setting::Setting;
+use crate::steps::{count, write_byte, write_comma};
+use crate::table::{Slot, Table};
+use gql_intro::{IntroNode, IntroNodes};
+use gql_types::Schema;
+use std::alloc::Global;
+
+/// A node of a list, at its path.
+fn begin_content<'d>(
+    alloc: Global,
+    setting: &Setting<'d, '_>,
+    table: &mut Table<'d>,
+    slot: Slot,
+    name: &'d str,
+    i: usize,
+    node: IntroNode<'d>,
+    run: &mut Run<'d>,
+) -> Result<(Around, Group<'d>), ExecRefusal>
+    requires right { IsRight (basis setting.now) table.old }
+    requires within { InTable table.old slot }
+    ensures keeps { IfOk result (λ w. Kept (basis setting.now) table.old table.new 0
+        run.old run.new (Fits table.new w.1)) }
+    ensures does { DoesBegin (basis setting.now) table.new name.now (below_at table.old slot)
+        (λ s. part.content_of_node name.now s i (node_of node.entry) (path_of run.old))
+        result run.old run.new }
+{
+    let mark = run.out.len();
+    let depth = run.path.len();
+    let around = Around {
+        mark,
+        depth,
+        is_required: true,
+        is_field: false,
+        outer: false,
+    };
+    run.path.push(Step::Index(i))?;
+    let group = node_below(alloc, setting, table, slot, name, node)?;
+    Ok((around, group))
+}
+
+/// A node of a list, with its comma.
+fn begin_node<'d>(
+    alloc: Global,
+    setting: &Setting<'d, '_>,
+    table: &mut Table<'d>,
+    slot: Slot,
+    name: &'d str,
+    i: usize,
+    node: IntroNode<'d>,
+    run: &mut Run<'d>,
+) -> Result<(Around, Group<'d>), ExecRefusal>
+    requires right { IsRight (basis setting.now) table.old }
+    requires within { InTable table.old slot }
+    ensures keeps { IfOk result (λ w. Kept (basis setting.now) table.old table.new 1
+        run.old run.new (Fits table.new w.1)) }
+    ensures does { DoesBegin (basis setting.now) table.new name.now (below_at table.old slot)
+        (λ s. part.node_part name.now s (path_of run.old) i (node_of node.entry))
+        result run.old run.new }
+{
+    write_comma(run, i)?;
+    count(run)?;
+    begin_content(alloc, setting, table, slot, name, i, node, run)
+}
+
+/// The next node of a list, from this element on, and how many elements are passed with it.
+fn next_node<'d>(
+    schema: &'d Schema,
+    nodes: IntroNodes<'d>,
+    passed: usize,
+) -> Option<(usize, IntroNode<'d>)>
+    ensures is { NextIs (elements schema.now nodes.entry) passed result }
+    ensures later { IfSome result (λ found. passed < found.0) }
+{
+    for i in passed..nodes.len() {
+        if let Some(node) = nodes.get(schema, i) {
+            return Some((i + 1, node));
+        }
+    }
+    None
+}
+
+/// Goes on with the nodes of a list: the next one is to be entered, or all are done.
+pub fn run_list<'d>(
+    alloc: Global,
+    setting: &Setting<'d, '_>,
+    table: &mut Table<'d>,
+    frame: ListFrame<'d>,
+    run: &mut Run<'d>,
+) -> Result<Turn<'d>, ExecRefusal>
+    requires right { IsRight (basis setting.now) table.old }
+    requires within { InTable table.old frame.slot }
+    requires no_more { frame.next ≤ frame.passed }
+    ensures keeps { KeepsTurn (basis setting.now) table.old table.new run.old run.new result }
+    ensures does { (whole : Part) (start : ARun)
+        → AtList (basis setting.now) table.old frame.entry whole start run.old
+        → Turns (basis setting.now) table.new whole start result run.new }
+{
+    let ListFrame {
+        slot,
+        name,
+        next,
+        ..
+    } = frame;
+    match next_node(setting.context.schema, frame.nodes, frame.passed) {
+        Some((passed, node)) => {
+            let (around, inner) = begin_node(alloc, setting, table, slot, name, next, node, run)?;
+            let group = Group::List(ListFrame {
+                passed,
+                next: next + 1,
+                ..frame
+            });
+            Ok(Turn::Within(Frame { group, around }, inner))
+        }
+        None => {
+            write_byte(run, b']')?;
+            Ok(Turn::Ended(frame.ended))
+        }
+    }
+}
