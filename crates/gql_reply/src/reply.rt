@@ -40,12 +40,20 @@ fn add_data(
     Ok(())
 }
 
+/// The room for an answer with this data, and without errors.
+fn room(text: &Option<Vec<u8>>) -> usize {
+    match text {
+        Some(text) => text.len().saturating_add(16),
+        None => 16,
+    }
+}
+
 /// The text of an answer (GraphQL specification, 7.1), without blanks: its errors, if there are
 /// any, and its data, unless it is a request error.
 pub fn reply_text(alloc: Global, outcome: &Outcome<'_>) -> Result<Vec<u8>, AllocError>
     ensures { IfOk result (λ text. text.items ≡ spec.reply_text (outcome_of outcome.now)) }
 {
-    let mut out = Vec::new(alloc);
+    let mut out = Vec::with_capacity(alloc, room(&outcome.data))?;
     out.push(b'{')?;
     add_errors(outcome.errors.as_slice(), &mut out)?;
     add_data(outcome.errors.as_slice(), &outcome.data, &mut out)?;
