@@ -3,7 +3,6 @@
 use crate::editing::Editing;
 use crate::facts::facts_answer;
 use crate::faults::written_faults;
-use crate::generated::generated_answer;
 use crate::inputs::put_file;
 use crate::joined::join;
 use crate::look_ups::look_up_answer;
@@ -23,9 +22,6 @@ use std::alloc::{AllocError, Global};
 /// The faults of a document, which the question has after its word, or which is the one before it.
 fn faults_answer(alloc: Global, schema: &Schema, document: &str, question: &str) -> Option<String> {
     let (word, text) = question.split_once(" ").unwrap_or((question, document));
-    if word == "generated" {
-        return generated_answer(alloc, schema, text);
-    }
     let rules = match word {
         "faults" => Rules::Local,
         "usage" => Rules::Variables,
