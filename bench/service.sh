@@ -5,6 +5,9 @@
 # python3. A line for each figure is printed: the time of one request among many that are sent at
 # once, from the first byte sent to the last byte answered. So it holds the reading of requests and
 # the writing of answers. Each answer is checked for its status.
+# The lines of `runs` are processor time of the service alone, since reading a short answer takes this
+# script longer than making it takes the service: the difference of a process with many runs and of
+# one without, the least of three each. The first answer is checked.
 #
 # Figures depend on the machine and on what else it does: compare lines of one run alone.
 # GQLREG names the program; else it is the one that is built in this repository, or on the path.

@@ -7,8 +7,6 @@ set -eu
 cd "$(dirname "$0")/../crates/gqlreg"
 port=${1:-8080} connections=${2:-1000000}
 if [ -x out/gqlreg ]; then
-    # Introspection may nest as deep as fragments lead, and is executed by recursion.
-    ulimit -s unlimited 2> /dev/null || true
     exec out/gqlreg serve --port "$port" --connections "$connections"
 fi
 echo "gqlreg is not built yet: the same sources run without proof" >&2
