@@ -3,6 +3,8 @@
 ghost use Rattle.std.specs.Prelude.{◌≡◌};
 ghost use Rattle.gql_inputs.specs.InputTypes as spec;
 
+use gql_types::is_same_name;
+
 /// The scalars by what they take (GraphQL specification, 3.5).
 #[derive(Clone, Copy)]
 pub enum Scalar {
@@ -18,13 +20,13 @@ pub enum Scalar {
 pub fn scalar_named(name: &str) -> Scalar
     ensures { result ≡ spec.scalar_named name.now }
 {
-    if name == "Int" {
+    if is_same_name(name, "Int") {
         Scalar::Int
-    } else if name == "String" {
+    } else if is_same_name(name, "String") {
         Scalar::String
-    } else if name == "Boolean" {
+    } else if is_same_name(name, "Boolean") {
         Scalar::Boolean
-    } else if name == "ID" {
+    } else if is_same_name(name, "ID") {
         Scalar::Id
     } else {
         Scalar::Custom

@@ -21,6 +21,14 @@ fn past_byte(source: &[u8], place: Place) -> Place
 {
     let offset = place.offset;
     let byte = source[offset];
+    if 32 <= byte && byte < 128 {
+        // a character of one byte, which ends no line
+        return Place {
+            line: place.line,
+            column: place.column + 1,
+            offset: offset + 1,
+        };
+    }
     let after_return = offset > 0 && source[offset - 1] == b'\r';
     let line = if byte == b'\r' || (byte == b'\n' && !after_return) {
         place.line + 1

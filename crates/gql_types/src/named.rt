@@ -5,6 +5,7 @@ ghost use Rattle.std.specs.Option.{option_copied};
 ghost use Rattle.std.specs.List.{position_from};
 ghost use Rattle.std.specs.HashMap as hash;
 
+use crate::same_name::is_same_name;
 use gql_ast::Text;
 use std::alloc::{AllocError, Global};
 use std::collections::HashMap;
@@ -80,23 +81,12 @@ fn first_places<T: HasName>(
     Ok(first)
 }
 
-/// Whether two names are the same. Most that differ have another length or another first byte.
-fn is_same(name: &str, other: &str) -> bool
-    ensures { result ≡ bytes_eq name.now other.now }
-{
-    let (bytes, others) = (name.as_bytes(), other.as_bytes());
-    if bytes.len() != others.len() || (!bytes.is_empty() && bytes[0] != others[0]) {
-        return false;
-    }
-    name == other
-}
-
 /// The first of that name, each compared.
 fn first_named<'a, T: HasName>(things: &'a [T], name: &str) -> Option<&'a T>
     ensures { option_copied result ≡ find (λ x. bytes_eq name.now (T.name x)) things.now }
 {
     for thing in things {
-        if is_same(name, thing.name()) {
+        if is_same_name(name, thing.name()) {
             return Some(thing);
         }
     }

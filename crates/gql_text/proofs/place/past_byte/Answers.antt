@@ -7,3 +7,6 @@ overflow_add-line c = omega (arith, place_bound c.args.source.now c.args.place.o
 
 pub overflow_add-column : goal.overflow_add-column
 overflow_add-column c = omega (arith, place_bound c.args.source.now c.args.place.offset c.args.place c.requires.known)
+
+pub overflow_add-result : goal.overflow_add-result
+overflow_add-result c = omega (arith, place_bound c.args.source.now c.args.place.offset c.args.place c.requires.known)
