@@ -18,6 +18,7 @@ mod rule;
 mod same;
 mod shared;
 mod text;
+mod text_order;
 mod type_ref;
 mod type_system;
 

@@ -8,6 +8,7 @@ ghost use Rattle.std.specs.Cmp.{partial_equiv_from_equiv};
 ghost use Rattle.std.specs.Cmp.Lexicographic.{slice_cmp, nat_list_eq_equiv, nat_list_cmp_total, texts_ties, texts_po};
 ghost use Rattle.std.specs.Cmp.Rules.{hashing};
 
+use crate::text_order::order;
 use arrayvec::ArrayString;
 use gql_text::Place;
 use std::alloc::{AllocError, Global};
@@ -107,7 +108,7 @@ impl Ord for Text {
     ghost matches_eq = { texts_ties };
 
     fn cmp(&self, other: &Text) -> Ordering {
-        self.as_str().cmp(other.as_str())
+        order(self.as_str().as_bytes(), other.as_str().as_bytes())
     }
 }
 
