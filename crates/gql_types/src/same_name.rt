@@ -1,8 +1,9 @@
 //! Whether two names are the same.
 ghost use Rattle.std.specs.Prelude.{◌≡◌, bytes_eq};
 
-/// Whether two names are the same. Most that differ have another length or another first byte. Names
-/// of fewer than eight bytes are compared byte by byte, which is faster than to compare slices.
+/// Whether two names are the same. Most that differ have another length or another first byte.
+/// Names of fewer than eight bytes are compared byte by byte, which is faster than to compare
+/// slices.
 pub fn is_same_name(name: &str, other: &str) -> bool
     ensures { result ≡ bytes_eq name.now other.now }
 {
