@@ -11,9 +11,15 @@ use std::alloc::{AllocError, Global};
 /// The end of the program's help.
 const AFTER_HELP: &str = "\
 Requests:
-  PUT /schema/NAME     puts the body as the schema file of this name
-  DELETE /schema/NAME  removes it
-  GET /report          reports the faults of all files
+  PUT /schema/NAME        puts the body as the schema file of this name
+  DELETE /schema/NAME     removes it
+  PUT /documents/NAME     puts the body as the document file of this name:
+                          operations and fragments
+  DELETE /documents/NAME  removes it
+  PUT /data               puts the body as the data, a JSON object
+  GET /report             reports the faults of all files
+  POST /run               runs a stored operation; the body is a JSON object
+                          with operationName and variables, or {}
 PUT and DELETE may expect a revision, as in /schema/NAME?revision=3.
 
 Status: 0 all requests are answered, 1 a read, a write or the network failed,
@@ -62,7 +68,7 @@ pub fn grammar<'a>(alloc: Global) -> Result<Command<'a>, AllocError>
     );
     Command::new(alloc, "gqlreg")
         .version("1.0.0")
-        .about("Keeps GraphQL schema files and reports their faults, over HTTP/1.1")
+        .about("A registry of a GraphQL schema and of operations, over HTTP/1.1")
         .after_help(AFTER_HELP)
         .subcommand_required(true)
         .subcommand(pipe)?

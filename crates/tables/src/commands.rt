@@ -1,4 +1,5 @@
 //! What command lines ask for.
+use crate::quoted::quoted;
 use gql_command::{Command, CommandFault, read_command};
 use std::alloc::{AllocError, Global};
 
@@ -24,4 +25,16 @@ pub fn command_answer(alloc: Global, line: &str) -> Option<String> {
         Err(CommandFault::Memory) => "memory",
     };
     String::from_str(alloc, answer).ok()
+}
+
+/// The text with which the words of a command line are answered, as a string of JSON: that of help,
+/// of the version or of a refusal.
+pub fn command_text(alloc: Global, line: &str) -> Option<String> {
+    let words = words_in(alloc, line).ok()?;
+    match read_command(alloc, words.as_slice()) {
+        Err(CommandFault::Help(text)) => quoted(alloc, text.as_str()).ok(),
+        Err(CommandFault::Version(text)) => quoted(alloc, text.as_str()).ok(),
+        Err(CommandFault::Refused(text)) => quoted(alloc, text.as_str()).ok(),
+        Err(CommandFault::Memory) | Ok(_) => None,
+    }
 }

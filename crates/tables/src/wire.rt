@@ -1,6 +1,6 @@
 //! Questions about a text that is a stream of bytes, and about the program around it.
 use crate::answer_heads::head_answer;
-use crate::commands::command_answer;
+use crate::commands::{command_answer, command_text};
 use crate::devices::{device_answer, peer_answer};
 use crate::hubs::{answers_answer, bytes_answer};
 use crate::interleaved::interleaved_answer;
@@ -24,6 +24,7 @@ pub fn wire_answer(alloc: Global, text: &str, question: &str) -> Option<String> 
         "device" => device_answer(alloc, text, rest),
         "head" => head_answer(alloc, rest),
         "command" => command_answer(alloc, rest),
+        "told" => command_text(alloc, rest),
         _ => None,
     }
 }
