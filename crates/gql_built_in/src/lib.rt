@@ -16,7 +16,7 @@ use crate::directives::directives;
 use crate::introspection::introspection;
 use crate::words::{a_type, scalar};
 use gql_ast::{Items, Tree};
-pub use sited::Sited;
+pub use sited::{Sited, SourceFile, name_of_source, same_source};
 use std::alloc::{AllocError, Global};
 
 /// The scalars of every schema (GraphQL specification, 3.5), without Float, which this registry

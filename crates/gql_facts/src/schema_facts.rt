@@ -108,7 +108,7 @@ fn argument_facts(
 ) -> Result<DefinedInputs<InputFact>, AllocError>
     ensures { IfOk result (λ facts. facts ≡ map spec.input_fact arguments.now) }
 {
-    let mut facts = Vec::new(alloc);
+    let mut facts = Vec::with_capacity(alloc, arguments.len())?;
     for argument in arguments {
         facts.push(input_fact(alloc, argument.get())?)?;
     }
@@ -121,7 +121,7 @@ fn input_facts(
 ) -> Result<DefinedInputs<InputFact>, AllocError>
     ensures { IfOk result (λ facts. facts ≡ spec.input_facts fields.now) }
 {
-    let mut facts = Vec::new(alloc);
+    let mut facts = Vec::with_capacity(alloc, fields.len())?;
     for field in fields {
         facts.push(input_fact(alloc, field.node.get())?)?;
     }
@@ -134,7 +134,7 @@ fn value_names(
 ) -> Result<Named<Text>, AllocError>
     ensures { IfOk result (λ names. names ≡ spec.value_names values.now) }
 {
-    let mut names = Vec::new(alloc);
+    let mut names = Vec::with_capacity(alloc, values.len())?;
     for value in values {
         names.push(value.node.get().name.text.copy()?)?;
     }
@@ -144,7 +144,7 @@ fn value_names(
 fn copied_names(alloc: Global, names: &[Text]) -> Result<Named<Text>, AllocError>
     ensures { IfOk result (λ copies. copies ≡ names.now) }
 {
-    let mut copies = Vec::new(alloc);
+    let mut copies = Vec::with_capacity(alloc, names.len())?;
     for name in names {
         copies.push(name.copy()?)?;
     }
@@ -187,7 +187,7 @@ fn field_entries(
 ) -> Result<Vec<FieldEntry>, AllocError>
     ensures { IfOk result (λ entries. entries.items ≡ map tables.field_entry fields.now) }
 {
-    let mut entries = Vec::new(alloc);
+    let mut entries = Vec::with_capacity(alloc, fields.len())?;
     for field in fields {
         entries.push(field_entry(alloc, field)?)?;
     }
@@ -258,7 +258,7 @@ fn type_entries(alloc: Global, schema: &Schema) -> Result<Vec<TypeEntry>, AllocE
     ensures { IfOk result (λ entries. entries.items
         ≡ map (tables.type_entry schema.now) schema.now.types) }
 {
-    let mut entries = Vec::new(alloc);
+    let mut entries = Vec::with_capacity(alloc, schema.types().len())?;
     for of_type in schema.types() {
         entries.push(type_entry(alloc, schema, of_type)?)?;
     }

@@ -6,7 +6,8 @@ use Rattle.std.proofs.lemmas.Grind.{common_steps}
 use Rattle.std.proofs.lemmas.List.{take_more}
 use Rattle.gql_ast.specs.declared.text.Name.{Name}
 use Rattle.gql_built_in.specs.declared.sited.Sited.{Sited}
-use Rattle.gql_faults.specs.Names.{count_of}
+use Rattle.gql_ast.specs.declared.rule.Rule.{Rule}
+use Rattle.gql_faults.specs.Names.{count_of, repeated_faults}
 use Rattle.gql_faults.specs.Places.{named}
 use Rattle.gql_faults.specs.declared.place.NamePlace.{NamePlace}
 
@@ -27,3 +28,14 @@ pub repeated_step : (p : Sited Name → Bool) (xs : List NamePlace) (i : ℕ) (x
     → new ≡ filter p (map named (take (i + 1) xs))
 repeated_step p xs i x old new within item before after =
     rw (take_more xs i x within, item, filter_push p (take i xs) x) (after ∙ ap (λ fs. fs ++ cond (p (named x)) (named x ∷ []) []) before)
+
+-- fewer than two names have no fault
+pub few_repeated : {X : Type 0} (rule : Rule) (f : X → Sited Name) (xs : List X) → length xs < 2 → repeated_faults rule (map f xs) ≡ []
+few_repeated rule f [] within = refl
+few_repeated rule f (a ∷ []) within = grind (arith, common_steps)
+few_repeated rule f (a ∷ b ∷ xs) within = absurd (omega arith)
+
+pub few_repeated_names : (rule : Rule) (xs : List (Sited Name)) → length xs < 2 → repeated_faults rule xs ≡ []
+few_repeated_names rule [] within = refl
+few_repeated_names rule (a ∷ []) within = grind (arith, common_steps)
+few_repeated_names rule (a ∷ b ∷ xs) within = absurd (omega arith)

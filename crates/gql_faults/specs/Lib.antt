@@ -1,3 +1,4 @@
+pub mod Apart
 pub mod Directives
 pub mod Faults
 pub mod Names

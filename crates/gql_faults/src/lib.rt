@@ -12,6 +12,8 @@ mod type_name;
 
 pub use directives::first_directives;
 pub use fault::{add_fault, add_fault_between, add_fault_of, add_faults};
-pub use names::{add_repeated, counts, name_places, own_names, repeated};
+pub use names::{
+    add_repeated, add_repeated_names, add_repeated_nodes, counts, name_places, own_names, repeated,
+};
 pub use place::{HasOwnName, NamePlace, Spot};
 pub use type_name::{is_required, named_type};

@@ -1,6 +1,7 @@
 //! Lists of names, and the names that occur more than once.
 ghost use Rattle.std.specs.Prelude.{◌≡◌, ◌+◌, ◌++◌, ◌∷◌, [], ℕ, List, IfOk, OnOk, map, bytes_eq, nat_lt, unwrap_or, filter, if◌then◌else◌};
 ghost use Rattle.std.specs.HashMap as hash;
+ghost use Rattle.gql_faults.specs.Apart as apart;
 ghost use Rattle.gql_faults.specs.Names as spec;
 ghost use Rattle.gql_faults.specs.Faults.{own_name_of};
 ghost use Rattle.gql_faults.specs.Places.{named};
@@ -9,6 +10,7 @@ use crate::fault::add_faults;
 use crate::place::{HasOwnName, NamePlace};
 use gql_ast::{Fault, Name, Rule, Shared};
 use gql_built_in::Sited;
+use gql_types::is_same_name;
 use std::alloc::{AllocError, Global};
 use std::collections::HashMap;
 
@@ -19,7 +21,7 @@ pub fn name_places<'t>(
 ) -> Result<Vec<NamePlace<'t>>, AllocError>
     ensures { IfOk result (λ places. map named places.items ≡ names.now) }
 {
-    let mut places = Vec::new(alloc);
+    let mut places = Vec::with_capacity(alloc, names.len())?;
     for name in names {
         places.push(NamePlace::of(name))?;
     }
@@ -34,7 +36,7 @@ pub fn own_names<'t, T: HasOwnName>(
     ensures { IfOk result
         (λ places. map named places.items ≡ map (own_name_of T.own_name) nodes.now) }
 {
-    let mut places = Vec::new(alloc);
+    let mut places = Vec::with_capacity(alloc, nodes.len())?;
     for node in nodes {
         places.push(NamePlace::of_node(node))?;
     }
@@ -76,50 +78,27 @@ fn add_if_repeated<'t>(
     Ok(())
 }
 
-/// How many names are compared each with each at most. More of them are counted in a map.
-const FEW: usize = 8;
+/// How many names are compared each with each at most.
+const FEW: usize = 32;
 
-/// How often this text occurs among these names.
-#[tactic(auto, using(crate::proofs::Counting::count_named))]
-fn count_of(text: &str, names: &[NamePlace<'_>]) -> usize
-    ensures { result ≡ spec.count_of text.now (map named names.now) }
+/// Whether one of these names has this text.
+fn is_there(text: &str, names: &[NamePlace<'_>]) -> bool
+    ensures { result ≡ apart.is_there text.now (map named names.now) }
 {
-    let mut count = 0;
-    for name in names {
-        if text == name.name.as_str() {
-            count += 1;
-        }
+    match names {
+        [first, rest @ ..] => is_same_name(text, first.name.as_str()) || is_there(text, rest),
+        [] => false,
     }
-    count
 }
 
-fn add_if_repeated_among<'t>(
-    names: &[NamePlace<'t>],
-    name: &NamePlace<'t>,
-    found: &mut Vec<NamePlace<'t>>,
-) -> Result<(), AllocError>
-    ensures { OnOk result (map named found.new.items ≡ map named found.old.items
-        ++ (if nat_lt 1 (spec.count_of name.now.name.now.text (map named names.now))
-        then named name.now ∷ [] else [])) }
+/// Whether no text occurs twice among these names.
+fn are_apart(names: &[NamePlace<'_>]) -> bool
+    ensures { result ≡ apart.are_apart (map named names.now) }
 {
-    if count_of(name.name.as_str(), names) > 1 {
-        found.push(*name)?;
+    match names {
+        [first, rest @ ..] => !is_there(first.name.as_str(), rest) && are_apart(rest),
+        [] => true,
     }
-    Ok(())
-}
-
-/// The names whose text occurs more than once among these, each compared with each.
-fn repeated_of_few<'t>(
-    alloc: Global,
-    names: &[NamePlace<'t>],
-) -> Result<Vec<NamePlace<'t>>, AllocError>
-    ensures { IfOk result (λ found. map named found.items ≡ spec.repeated (map named names.now)) }
-{
-    let mut found = Vec::new(alloc);
-    for name in names {
-        add_if_repeated_among(names, name, &mut found)?;
-    }
-    Ok(found)
 }
 
 /// The names whose text occurs more than once among these, each of them.
@@ -129,8 +108,8 @@ pub fn repeated<'t>(
 ) -> Result<Vec<NamePlace<'t>>, AllocError>
     ensures { IfOk result (λ found. map named found.items ≡ spec.repeated (map named names.now)) }
 {
-    if names.len() <= FEW {
-        return repeated_of_few(alloc, names);
+    if names.len() <= FEW && are_apart(names) {
+        return Ok(Vec::new(alloc));
     }
     let counts = counts(alloc, names)?;
     let mut found = Vec::new(alloc);
@@ -152,4 +131,40 @@ pub fn add_repeated(
 {
     let found = repeated(alloc, names)?;
     add_faults(alloc, rule, found.as_slice(), faults)
+}
+
+/// Adds a fault at each of these nodes whose name occurs more than once among them, about it.
+pub fn add_repeated_nodes<T: HasOwnName>(
+    alloc: Global,
+    rule: Rule,
+    nodes: &[Sited<Shared<T>>],
+    faults: &mut Vec<Fault>,
+) -> Result<(), AllocError>
+    ensures { OnOk result (faults.new.items ≡ faults.old.items
+        ++ spec.repeated_faults rule (map (own_name_of T.own_name) nodes.now)) }
+{
+    if nodes.len() < 2 {
+        // one name is not repeated
+        return Ok(());
+    }
+    let names = own_names(alloc, nodes)?;
+    add_repeated(alloc, rule, names.as_slice(), faults)
+}
+
+/// Adds a fault at each of these names that occurs more than once among them, about it.
+pub fn add_repeated_names(
+    alloc: Global,
+    rule: Rule,
+    names: &[Sited<Name>],
+    faults: &mut Vec<Fault>,
+) -> Result<(), AllocError>
+    ensures { OnOk result (faults.new.items ≡ faults.old.items
+        ++ spec.repeated_faults rule names.now) }
+{
+    if names.len() < 2 {
+        // one name is not repeated
+        return Ok(());
+    }
+    let places = name_places(alloc, names)?;
+    add_repeated(alloc, rule, places.as_slice(), faults)
 }

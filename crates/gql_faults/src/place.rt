@@ -8,7 +8,7 @@ use gql_ast::{
     DirectiveDefinition, EnumValueDefinition, FieldDefinition, FileName, InputValueDefinition,
     Name, Shared, TypeDefinition, TypeExtension,
 };
-use gql_built_in::Sited;
+use gql_built_in::{Sited, name_of_source};
 use gql_text::Place;
 
 /// A place of a schema file. Built-in definitions are in no file.
@@ -88,7 +88,7 @@ impl<'t> NamePlace<'t> {
         ensures { spec.named result ≡ name.now }
     {
         NamePlace {
-            file: name.file.as_ref(),
+            file: name_of_source(&name.file),
             name: &name.node,
         }
     }
@@ -98,7 +98,7 @@ impl<'t> NamePlace<'t> {
         ensures { spec.named result ≡ own_name_of T.own_name node.now }
     {
         NamePlace {
-            file: node.file.as_ref(),
+            file: name_of_source(&node.file),
             name: node.node.get().own_name(),
         }
     }

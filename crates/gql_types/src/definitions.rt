@@ -3,36 +3,51 @@ ghost use Rattle.std.specs.Prelude.{◌≡◌, ◌++◌, IfOk, OnOk};
 ghost use Rattle.gql_types.specs.Definitions as spec;
 
 use gql_ast::{
-    Definition, DirectiveDefinition, FileName, Files, Items, SchemaDefinition, SchemaExtension,
-    Shared, Tree, TypeDefinition, TypeExtension,
+    Definition, DirectiveDefinition, FileName, Files, Items, Same, SchemaDefinition,
+    SchemaExtension, Shared, Tree, TypeDefinition, TypeExtension,
 };
-use gql_built_in::{Sited, built_in_definitions};
+use gql_built_in::{Sited, built_in_definitions, same_source};
 use std::alloc::{AllocError, Global};
 
-/// A copy of the name of a file, if there is one.
-pub fn copied(file: &Option<FileName>) -> Option<FileName>
-    ensures { result ≡ file.now }
+/// The name of the file of a definition: this one, if it is the same.
+fn shared_name(
+    alloc: Global,
+    name: &Shared<FileName>,
+    definition: &Definition,
+) -> Result<Shared<FileName>, AllocError>
+    ensures { IfOk result (λ n. n ≡ definition.now.file) }
 {
-    match file {
-        Some(file) => Some(file.copy()),
-        None => None,
+    if name.get().same(&definition.file) {
+        return name.clone();
     }
+    Shared::new(alloc, definition.file.copy())
 }
 
-fn of_file(definition: &Definition) -> Result<Sited<Tree>, AllocError>
+fn of_file(
+    alloc: Global,
+    name: &Shared<FileName>,
+    definition: &Definition,
+) -> Result<Sited<Tree>, AllocError>
     ensures { IfOk result (λ d. d ≡ spec.of_file definition.now) }
 {
     Ok(Sited {
-        file: Some(definition.file.copy()),
+        file: Some(shared_name(alloc, name, definition)?),
         node: definition.tree.copy()?,
     })
 }
 
-fn add_file(definitions: &[Definition], found: &mut Items<Sited<Tree>>) -> Result<(), AllocError>
+/// Adds the definitions of a file, which share its name.
+fn add_file(
+    alloc: Global,
+    name: &FileName,
+    definitions: &[Definition],
+    found: &mut Items<Sited<Tree>>,
+) -> Result<(), AllocError>
     ensures { OnOk result (found.new ≡ found.old ++ spec.in_order_of definitions.now) }
 {
+    let name = Shared::new(alloc, name.copy())?;
     for definition in definitions {
-        found.push(of_file(definition)?)?;
+        found.push(of_file(alloc, &name, definition)?)?;
     }
     Ok(())
 }
@@ -42,8 +57,9 @@ pub fn definitions(alloc: Global, files: &Files) -> Result<Items<Sited<Tree>>, A
     ensures { IfOk result (λ ds. ds ≡ spec.definitions files.now) }
 {
     let mut found = built_in_definitions(alloc)?;
-    for (_name, document) in files.schema.entries().iter() {
-        add_file(document.get().definitions.as_slice(), &mut found)?;
+    for (name, document) in files.schema.entries().iter() {
+        let definitions = document.get().definitions.as_slice();
+        add_file(alloc, name, definitions, &mut found)?;
     }
     Ok(found)
 }
@@ -65,7 +81,7 @@ fn add_type(
         Tree::Type(node) => {
             if names_a_type(node.get().name.as_str()) {
                 found.push(Sited {
-                    file: copied(&definition.file),
+                    file: same_source(&definition.file)?,
                     node: node.clone()?,
                 })?;
             }
@@ -100,7 +116,7 @@ pub fn type_extensions(
     for definition in definitions {
         if let Tree::TypeExtension(node) = &definition.node {
             found.push(Sited {
-                file: copied(&definition.file),
+                file: same_source(&definition.file)?,
                 node: node.clone()?,
             })?;
         }
@@ -119,7 +135,7 @@ pub fn directive_definitions(
     for definition in definitions {
         if let Tree::Directive(node) = &definition.node {
             found.push(Sited {
-                file: copied(&definition.file),
+                file: same_source(&definition.file)?,
                 node: node.clone()?,
             })?;
         }
@@ -138,7 +154,7 @@ pub fn schema_definitions(
     for definition in definitions {
         if let Tree::Schema(node) = &definition.node {
             found.push(Sited {
-                file: copied(&definition.file),
+                file: same_source(&definition.file)?,
                 node: node.clone()?,
             })?;
         }
@@ -157,7 +173,7 @@ pub fn schema_extensions(
     for definition in definitions {
         if let Tree::SchemaExtension(node) = &definition.node {
             found.push(Sited {
-                file: copied(&definition.file),
+                file: same_source(&definition.file)?,
                 node: node.clone()?,
             })?;
         }

@@ -40,8 +40,8 @@ pub fn first_definitions(
     ensures { IfOk result (λ firsts.
         map (λ d. d.now) firsts.items ≡ first_definitions definitions.now) }
 {
-    let mut seen = HashMap::new(alloc);
-    let mut firsts = Vec::new(alloc);
+    let mut seen = HashMap::with_capacity(alloc, definitions.len())?;
+    let mut firsts = Vec::with_capacity(alloc, definitions.len())?;
     for definition in definitions {
         add_first(&mut seen, definition, &mut firsts)?;
     }

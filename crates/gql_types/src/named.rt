@@ -6,7 +6,7 @@ ghost use Rattle.std.specs.List.{position_from};
 ghost use Rattle.std.specs.HashMap as hash;
 
 use crate::same_name::is_same_name;
-use gql_ast::Text;
+use gql_ast::{Boxed, Text};
 use std::alloc::{AllocError, Global};
 use std::collections::HashMap;
 use std::marker::Model;
@@ -36,7 +36,7 @@ const FEW: usize = 16;
 pub struct Named<T: HasName> {
     things: Vec<T>,
     /// Where the first of each name is; none for few things.
-    first: Option<HashMap<String, usize>>,
+    first: Option<Boxed<HashMap<String, usize>>>,
 }
 
 impl<T: HasName + Drop> Drop for Named<T> {
@@ -72,7 +72,7 @@ fn first_places<T: HasName>(
     ensures { IfOk result (λ first. (q : List ℕ) → hash.get_by_text first q
         ≡ position_from (λ x. bytes_eq q (T.name x)) 0 things.now) }
 {
-    let mut first = HashMap::new(alloc);
+    let mut first = HashMap::with_capacity(alloc, things.len())?;
     let mut place = things.len();
     'things: while place > 0 {
         place -= 1;
@@ -122,7 +122,8 @@ impl<T: HasName + Drop> Named<T> {
                 first: None,
             });
         }
-        let first = first_places(alloc, things.as_slice())?;
+        let places = first_places(alloc, things.as_slice())?;
+        let first = Boxed::new(alloc, places)?;
         Ok(Named {
             things,
             first: Some(first),
@@ -143,7 +144,7 @@ impl<T: HasName> Named<T> {
         ensures { option_copied result ≡ find (λ x. bytes_eq name.now (T.name x)) self.now }
     {
         match &self.first {
-            Some(first) => thing_in_map(first, self.things.as_slice(), name),
+            Some(first) => thing_in_map(first.get(), self.things.as_slice(), name),
             None => first_named(self.things.as_slice(), name),
         }
     }

@@ -6,18 +6,17 @@ ghost use Rattle.gql_types.specs.Parts as spec;
 ghost use Rattle.gql_types.specs.Types.{parts_in};
 ghost use Rattle.gql_types.specs.Held.{one};
 
-use crate::definitions::copied;
 use gql_ast::{
-    EnumValueDefinition, FieldDefinition, FileName, InputValueDefinition, Items, Name, Shared,
+    EnumValueDefinition, FieldDefinition, InputValueDefinition, Items, Name, Shared,
     TypeDefinition, TypeExtension, TypeParts,
 };
-use gql_built_in::Sited;
+use gql_built_in::{Sited, SourceFile, same_source};
 use std::alloc::{AllocError, Global};
 
 /// The parts of a definition or an extension, with their file.
 #[derive(Clone, Copy)]
 pub struct Part<'s> {
-    pub file: &'s Option<FileName>,
+    pub file: &'s SourceFile,
     pub parts: &'s TypeParts,
 }
 
@@ -29,7 +28,7 @@ pub fn parts_in<'s>(
 ) -> Result<Vec<Part<'s>>, AllocError>
     ensures { IfOk result (λ parts. map one parts.items ≡ parts_in definition.now extensions.now) }
 {
-    let mut parts = Vec::new(alloc);
+    let mut parts = Vec::with_capacity(alloc, 1)?;
     parts.push(Part {
         file: &definition.file,
         parts: &definition.node.get().parts,
@@ -86,15 +85,18 @@ impl Held for InputValueDefinition {
 }
 
 fn add_nodes<T: Drop>(
-    file: &Option<FileName>,
+    file: &SourceFile,
     nodes: &[Shared<T>],
     found: &mut Vec<Sited<Shared<T>>>,
 ) -> Result<(), AllocError>
     ensures { OnOk result (found.new.items ≡ found.old.items ++ spec.sited file.now nodes.now) }
 {
+    if found.is_empty() {
+        found.reserve_exact(nodes.len())?;
+    }
     for node in nodes {
         found.push(Sited {
-            file: copied(file),
+            file: same_source(file)?,
             node: node.clone()?,
         })?;
     }
@@ -129,33 +131,31 @@ pub fn all_held<T: Held + Drop>(
 }
 
 fn add_names(
-    alloc: Global,
-    file: &Option<FileName>,
+    file: &SourceFile,
     names: &[Name],
-    found: &mut Items<Sited<Name>>,
+    found: &mut Vec<Sited<Name>>,
 ) -> Result<(), AllocError>
-    ensures { OnOk result (found.new ≡ found.old ++ spec.sited file.now names.now) }
+    ensures { OnOk result (found.new.items ≡ found.old.items ++ spec.sited file.now names.now) }
 {
+    if found.is_empty() {
+        found.reserve_exact(names.len())?;
+    }
     for name in names {
         found.push(Sited {
-            file: copied(file),
+            file: same_source(file)?,
             node: name.copy()?,
         })?;
     }
     Ok(())
 }
 
-fn add_interfaces(
-    alloc: Global,
-    part: &Part<'_>,
-    found: &mut Items<Sited<Name>>,
-) -> Result<(), AllocError>
-    ensures { OnOk result (found.new
-        ≡ found.old ++ spec.in_all spec.interfaces_of (one part.now ∷ [])) }
+fn add_interfaces(part: &Part<'_>, found: &mut Vec<Sited<Name>>) -> Result<(), AllocError>
+    ensures { OnOk result (found.new.items
+        ≡ found.old.items ++ spec.in_all spec.interfaces_of (one part.now ∷ [])) }
 {
     match part.parts {
         TypeParts::Object { interfaces, .. } | TypeParts::Interface { interfaces, .. } => {
-            add_names(alloc, part.file, interfaces.as_slice(), found)
+            add_names(part.file, interfaces.as_slice(), found)
         }
         _ => Ok(()),
     }
@@ -165,23 +165,19 @@ fn add_interfaces(
 pub fn interfaces(alloc: Global, parts: &[Part<'_>]) -> Result<Items<Sited<Name>>, AllocError>
     ensures { IfOk result (λ found. found ≡ spec.in_all spec.interfaces_of (map one parts.now)) }
 {
-    let mut found = Items::new(alloc);
+    let mut found = Vec::new(alloc);
     for part in parts {
-        add_interfaces(alloc, part, &mut found)?;
+        add_interfaces(part, &mut found)?;
     }
-    Ok(found)
+    Ok(Items::from_vec(found))
 }
 
-fn add_members(
-    alloc: Global,
-    part: &Part<'_>,
-    found: &mut Items<Sited<Name>>,
-) -> Result<(), AllocError>
-    ensures { OnOk result (found.new
-        ≡ found.old ++ spec.in_all spec.members_of (one part.now ∷ [])) }
+fn add_members(part: &Part<'_>, found: &mut Vec<Sited<Name>>) -> Result<(), AllocError>
+    ensures { OnOk result (found.new.items
+        ≡ found.old.items ++ spec.in_all spec.members_of (one part.now ∷ [])) }
 {
     match part.parts {
-        TypeParts::Union { members } => add_names(alloc, part.file, members.as_slice(), found),
+        TypeParts::Union { members } => add_names(part.file, members.as_slice(), found),
         _ => Ok(()),
     }
 }
@@ -190,9 +186,9 @@ fn add_members(
 pub fn members(alloc: Global, parts: &[Part<'_>]) -> Result<Items<Sited<Name>>, AllocError>
     ensures { IfOk result (λ found. found ≡ spec.in_all spec.members_of (map one parts.now)) }
 {
-    let mut found = Items::new(alloc);
+    let mut found = Vec::new(alloc);
     for part in parts {
-        add_members(alloc, part, &mut found)?;
+        add_members(part, &mut found)?;
     }
-    Ok(found)
+    Ok(Items::from_vec(found))
 }

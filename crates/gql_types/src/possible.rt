@@ -111,7 +111,7 @@ fn ordered(alloc: Global, names: &[&str]) -> Result<BTreeMap<Text, ()>, AllocErr
 fn names_in(alloc: Global, set: &BTreeMap<Text, ()>) -> Result<Items<Text>, AllocError>
     ensures { IfOk result (λ found. found ≡ map (λ e. e.0) set.now.entries) }
 {
-    let mut found = Items::new(alloc);
+    let mut found = Items::from_vec(Vec::with_capacity(alloc, set.len())?);
     for (name, _unit) in set.iter() {
         found.push(name.copy()?)?;
     }
@@ -130,7 +130,7 @@ fn objects_in<'t>(alloc: Global, group: &[&Declaration<'t>]) -> Result<Vec<&'t s
     ensures { IfOk result (λ names.
         map (λ n. n.now) names.items ≡ map (λ d. d.object.now) (map (λ x. x.now) group.now)) }
 {
-    let mut names = Vec::new(alloc);
+    let mut names = Vec::with_capacity(alloc, group.len())?;
     for declaration in group {
         names.push(declaration.object)?;
     }
@@ -159,7 +159,7 @@ fn of_interface(
 fn of_union(alloc: Global, members: &[Sited<Name>]) -> Result<Items<Text>, AllocError>
     ensures { IfOk result (λ found. found ≡ spec.in_order (map (λ m. m.node.text) members.now)) }
 {
-    let mut names = Vec::new(alloc);
+    let mut names = Vec::with_capacity(alloc, members.len())?;
     for member in members {
         names.push(member.node.as_str())?;
     }
@@ -169,7 +169,7 @@ fn of_union(alloc: Global, members: &[Sited<Name>]) -> Result<Items<Text>, Alloc
 fn itself(alloc: Global, name: &Text) -> Result<Items<Text>, AllocError>
     ensures { IfOk result (λ found. found ≡ name.now ∷ []) }
 {
-    let mut found = Items::new(alloc);
+    let mut found = Items::from_vec(Vec::with_capacity(alloc, 1)?);
     found.push(name.copy()?)?;
     Ok(found)
 }
@@ -226,7 +226,7 @@ fn all_by(
         (option_map_or (λ group. map (λ x. x.now) group.items)
         (hash.get_by_text declaring.now q) [])) t) types.now) }
 {
-    let mut found = Vec::new(alloc);
+    let mut found = Vec::with_capacity(alloc, types.len())?;
     for of_type in types {
         add_possible(alloc, of_type, declaring, &mut found)?;
     }

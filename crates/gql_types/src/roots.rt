@@ -2,13 +2,12 @@
 ghost use Rattle.std.specs.Prelude.{◌≡◌, ◌++◌, OnOk, IfOk};
 ghost use Rattle.gql_types.specs.Roots as spec;
 
-use crate::definitions::copied;
 use crate::named::Named;
 use crate::schema_type::SchemaType;
 use gql_ast::{
-    FileName, Items, Name, OperationKind, RootOperation, SchemaDefinition, SchemaExtension, Shared,
+    Items, Name, OperationKind, RootOperation, SchemaDefinition, SchemaExtension, Shared,
 };
-use gql_built_in::Sited;
+use gql_built_in::{Sited, SourceFile, same_source};
 use gql_text::Place;
 use std::alloc::{AllocError, Global};
 
@@ -33,7 +32,7 @@ impl Drop for Root {
 
 fn add_entries(
     alloc: Global,
-    file: &Option<FileName>,
+    file: &SourceFile,
     entries: &[RootOperation],
     roots: &mut Items<Root>,
 ) -> Result<(), AllocError>
@@ -44,7 +43,7 @@ fn add_entries(
             kind: entry.kind,
             entry: Some(entry.place),
             name: Sited {
-                file: copied(file),
+                file: same_source(file)?,
                 node: entry.name.copy()?,
             },
         })?;
@@ -67,7 +66,7 @@ fn add_implied(
                 kind,
                 entry: None,
                 name: Sited {
-                    file: copied(&of_type.definition.file),
+                    file: same_source(&of_type.definition.file)?,
                     node: of_type.definition.node.get().name.copy()?,
                 },
             })?;

@@ -9,7 +9,6 @@ ghost use Rattle.gql_types.specs.Types as spec;
 
 use crate::by_name::{ByName, by_name};
 use crate::defined_inputs::{DefinedInput, DefinedInputs};
-use crate::definitions::copied;
 use crate::first_definitions::first_definitions;
 use crate::kind::TypeKind;
 use crate::named::{HasName, Named};
@@ -19,7 +18,7 @@ use gql_ast::{
     EnumValueDefinition, FieldDefinition, InputValueDefinition, Items, Name, Shared,
     TypeDefinition, TypeExtension,
 };
-use gql_built_in::Sited;
+use gql_built_in::{Sited, same_source};
 use std::alloc::{AllocError, Global};
 
 /// A type: its first definition, the extensions of its kind in their order, and the parts of all of
@@ -123,7 +122,7 @@ fn of_kind(
     for extension in extensions {
         if is_of_kind(kind, extension) {
             found.push(Sited {
-                file: copied(&extension.file),
+                file: same_source(&extension.file)?,
                 node: extension.node.clone()?,
             })?;
         }
@@ -164,7 +163,7 @@ fn assembled(
     drop(parts);
     Ok(SchemaType {
         definition: Sited {
-            file: copied(&definition.file),
+            file: same_source(&definition.file)?,
             node: definition.node.clone()?,
         },
         extensions,
@@ -205,7 +204,7 @@ fn all_with_extensions(
         (hash.get_by_text extensions.now d.node.name.text) [])))
         (map (λ d. d.now) definitions.now)) }
 {
-    let mut types = Vec::new(alloc);
+    let mut types = Vec::with_capacity(alloc, definitions.len())?;
     for definition in definitions {
         types.push(with_extensions(alloc, definition, extensions)?)?;
     }

@@ -2,7 +2,8 @@
 //! question is not well written.
 use crate::inputs::type_in;
 use crate::joined::join;
-use gql_ast::{FileName, Items, OperationKind, Text};
+use gql_ast::{Items, OperationKind, Text};
+use gql_built_in::SourceFile;
 use gql_text::Place;
 use gql_types::{HasName, Root, Schema};
 use std::alloc::Global;
@@ -13,10 +14,10 @@ fn nothing(alloc: Global) -> Option<String> {
 }
 
 /// The place of a name in a file, or `built-in`.
-fn site(alloc: Global, file: &Option<FileName>, place: &Place) -> Option<String> {
+fn site(alloc: Global, file: &SourceFile, place: &Place) -> Option<String> {
     match file {
         Some(file) => {
-            let file = file.as_str();
+            let file = file.get().as_str();
             let line = place.line;
             let column = place.column;
             format!(in alloc; "{file} {line}:{column}").ok()

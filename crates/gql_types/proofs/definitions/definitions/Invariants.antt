@@ -3,4 +3,4 @@ use Rattle.gql_types.specs.Definitions as spec
 use Rattle.gql_types.proofs.definitions.definitions.Given as goal
 
 abbrev pub invariant-loop-name : goal.invariant-loop-name
-invariant-loop-name l = l.found ++ spec.of_files l._name-iterator ≡ spec.definitions l.files
+invariant-loop-name l = l.found ++ spec.of_files l.name-iterator ≡ spec.definitions l.files

@@ -4,4 +4,4 @@ use Rattle.gql_types.specs.Parts.{in_all, members_of}
 use Rattle.gql_types.proofs.parts.members.Given as goal
 
 abbrev pub invariant-loop-part : goal.invariant-loop-part
-invariant-loop-part l = l.found ≡ in_all members_of (map one (take l.part-index l.parts))
+invariant-loop-part l = l.found.items ≡ in_all members_of (map one (take l.part-index l.parts))
