@@ -1,3 +1,4 @@
+pub mod Apart
 pub mod Closed
 pub mod Covering
 pub mod Inside

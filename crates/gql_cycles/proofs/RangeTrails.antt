@@ -1,6 +1,8 @@
 -- Trails between nodes, by the segments of the tree.
-use Rattle.std.proofs.Common.{◌≡◌, ℕ, ◌+◌, ◌-◌, ◌*◌, ◌<◌, ◌≤◌, ◌⊎◌, ◌↔◌, inl, inr, List, [], flat_map, length, get_or, Contains, sym, ap, ◌∙◌, subst, refl, arith}
-use Rattle.std.proofs.lemmas.Bool.{cases_lt}
+use Rattle.std.proofs.Common.{◌≡◌, ℕ, zero, suc, ◌+◌, ◌-◌, ◌*◌, ◌<◌, ◌≤◌, ◌⊎◌, ◌↔◌, inl, inr, List, [], ◌∷◌, true, nat_eq, map, flat_map, length, get_or, Contains, sym, ap, ◌∙◌, subst, refl, arith}
+use Rattle.std.specs.List.{list_all}
+use Rattle.std.proofs.lemmas.Bool.{cases_lt, and_parts}
+use Rattle.std.proofs.lemmas.Bool.Decides.{nat_tests}
 use Rattle.std.proofs.lemmas.List.{get_or_past}
 use Rattle.gql_cycles.proofs.Members.{Contains-nil}
 use Rattle.gql_cycles.proofs.Trails.{trail_join}
@@ -17,6 +19,19 @@ is_inside xs i x h = elim (cases_lt i (length xs)) [
   | inl lt ↦ lt
   | inr ge ↦ absurd (Contains-nil x (subst (λ ys. Contains ys x) (get_or_past xs i [] ge) h))
 ]
+
+-- where no list has an item, none is at any place
+no_item : {V A : Type 0} (f : V → List A) (vs : List V) (i : ℕ) (x : A) → list_all (λ v. nat_eq (length (f v)) 0) vs ≡ true → Contains (get_or (map f vs) i []) x → ⊥
+no_item f [] i x e h = Contains-nil x (subst (λ ys. Contains ys x) (get_or_past [] i [] (omega arith)) h)
+no_item f (v ∷ vs) zero x e h =
+    let none : length (f v) ≡ 0 = grind (arith, nat_tests, (and_parts (nat_eq (length (f v)) 0) (list_all (λ w. nat_eq (length (f w)) 0) vs) e).0) in
+    omega (arith, none, h.1)
+no_item f (v ∷ vs) (suc i) x e h = no_item f vs i x (and_parts (nat_eq (length (f v)) 0) (list_all (λ w. nat_eq (length (f w)) 0) vs) e).1 h
+
+-- nodes that lead to no range are on no trail
+pub no_trail : {V : Type 0} (f : V → List Range) (vs : List V) (ends : List (List ℕ)) {i j : ℕ} → list_all (λ v. nat_eq (length (f v)) 0) vs ≡ true → RangeTrail (map f vs) ends i j → ⊥
+no_trail f vs ends e (range_edge {i} {j} h) = let s = h in no_item f vs i s.1.0.0 e s.1.0.1
+no_trail f vs ends e (range_next {i} {j} {k} h r) = let s = h in no_item f vs i s.1.0.0 e s.1.0.1
 
 module _ (ranges : List (List Range)) (ends tree : List (List ℕ)) (t : IsTree ranges ends tree) where
   abbrev segments : ℕ

@@ -1,6 +1,7 @@
 //! The graph of the names of rows: a node for each name, and its edges.
 
-ghost use Rattle.std.specs.Prelude.{◌≡◌, ◌++◌, ◌<◌, ◌↔◌, ℕ, List, [], Some, map, IfOk, OnOk, length, flat_map, replicate, bytes_eq, Contains};
+ghost use Rattle.std.specs.Prelude.{◌≡◌, ◌++◌, ◌<◌, ◌↔◌, ℕ, List, [], Some, map, IfOk, OnOk, length, flat_map, replicate, bytes_eq, Contains, is_some};
+ghost use Rattle.std.specs.List.{list_any};
 ghost use Rattle.std.specs.Option.{option_to_list};
 ghost use Rattle.std.specs.HashMap as hash;
 ghost use Rattle.gql_cycles.specs.Names.{row_of};
@@ -16,7 +17,7 @@ pub fn nodes_of<'n>(alloc: Global, rows: &[Row<'n>]) -> Result<HashMap<&'n str, 
         (λ nodes. Nodes (names_of (map row_of rows.now))
         (λ q. hash.get_by (λ k. bytes_eq q k.now) nodes)) }
 {
-    let mut nodes = HashMap::new(alloc);
+    let mut nodes = HashMap::with_capacity(alloc, rows.len())?;
     for (node, row) in rows.iter().enumerate() {
         nodes.insert(row.name, node)?;
     }
@@ -27,7 +28,7 @@ pub fn nodes_of<'n>(alloc: Global, rows: &[Row<'n>]) -> Result<HashMap<&'n str, 
 fn no_edges(alloc: Global, count: usize) -> Result<Vec<Vec<usize>>, AllocError>
     ensures { IfOk result (λ edges. map (λ v. v.items) edges.items ≡ replicate count []) }
 {
-    let mut edges = Vec::new(alloc);
+    let mut edges = Vec::with_capacity(alloc, count)?;
     for _ in 0..count {
         edges.push(Vec::new(alloc))?;
     }
@@ -69,6 +70,22 @@ fn add_row(
         add_leads(&row.leads, nodes, found)?;
     }
     Ok(())
+}
+
+// Whether one of the names has a node.
+fn is_any_node(leads: &[&str], nodes: &HashMap<&str, usize>) -> bool
+    ensures { result ≡ list_any (λ b. is_some
+        (hash.get_by (λ k. bytes_eq b.now k.now) nodes.now)) leads.now }
+{
+    leads.iter().any(|lead| nodes.contains_key(*lead))
+}
+
+/// Whether a row leads to a name that has a node.
+pub fn is_any_edge(rows: &[Row<'_>], nodes: &HashMap<&str, usize>) -> bool
+    ensures { result ≡ list_any (λ row. list_any (λ b. is_some
+        (hash.get_by (λ k. bytes_eq b.now k.now) nodes.now)) row.leads.items) rows.now }
+{
+    rows.iter().any(|row| is_any_node(&row.leads, nodes))
 }
 
 /// The edges that the rows make between these nodes.

@@ -4,7 +4,7 @@ ghost use Rattle.std.specs.Prelude.{ℕ, List, map, IfOk, Contains};
 ghost use Rattle.gql_cycles.specs.Names.{Leads, row_of};
 ghost use Rattle.gql_cycles.specs.NameGraph.{AreApart};
 
-use crate::name_graph::{edges_of, marked_names, nodes_of};
+use crate::name_graph::{edges_of, is_any_edge, marked_names, nodes_of};
 use crate::walk::cycle_marks;
 use std::alloc::{AllocError, Global};
 
@@ -27,6 +27,9 @@ pub fn names_on_cycles<'n>(alloc: Global, rows: &[Row<'n>]) -> Result<Vec<&'n st
         → Contains (map (λ m. m.now) names.items) n) }
 {
     let nodes = nodes_of(alloc, rows)?;
+    if !is_any_edge(rows, &nodes) {
+        return Ok(Vec::new(alloc));
+    }
     let edges = edges_of(alloc, rows, &nodes)?;
     let marks = cycle_marks(alloc, &edges)?;
     let names = marked_names(alloc, rows, &marks)?;

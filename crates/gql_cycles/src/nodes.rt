@@ -21,7 +21,7 @@ fn add_inside(end: usize, count: usize, ends: &mut Vec<usize>) -> Result<(), All
 fn ends_inside(alloc: Global, ends: &[usize], count: usize) -> Result<Vec<usize>, AllocError>
     ensures { IfOk result (λ found. found.items ≡ spec.ends_inside count ends.now) }
 {
-    let mut found = Vec::new(alloc);
+    let mut found = Vec::with_capacity(alloc, ends.len())?;
     for end in ends {
         add_inside(*end, count, &mut found)?;
     }
@@ -38,7 +38,7 @@ fn edges_inside(
         (λ found. map (λ v. v.items) found.items
         ≡ map (spec.ends_inside count) (map (λ v. v.items) edges.now)) }
 {
-    let mut found = Vec::new(alloc);
+    let mut found = Vec::with_capacity(alloc, edges.len())?;
     for ends in edges {
         found.push(ends_inside(alloc, ends, count)?)?;
     }

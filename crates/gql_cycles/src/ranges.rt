@@ -2,7 +2,8 @@
 //!
 //! In the graph the segments of the tree come first, twice as many as there are numbers, and then
 //! the nodes.
-ghost use Rattle.std.specs.Prelude.{◌≡◌, ◌<◌, ◌*◌, ◌+◌, ◌^◌, ◌++◌, ◌↔◌, ℕ, List, map, flat_map, length, IfOk, OnOk, Contains, slice_index_or, []};
+ghost use Rattle.std.specs.Prelude.{◌≡◌, ◌<◌, ◌*◌, ◌+◌, ◌^◌, ◌++◌, ◌↔◌, ℕ, List, map, flat_map, length, IfOk, OnOk, Contains, slice_index_or, [], ◌==◌};
+ghost use Rattle.std.specs.List.{list_all};
 ghost use Rattle.gql_cycles.specs.Ranges.{RangeTrail};
 ghost use Rattle.gql_cycles.specs.SegmentTree.{IsCover, IsTree, node_row, node_rows, inner_rows, node_at};
 
@@ -10,14 +11,21 @@ use crate::cover::{Range, cover};
 use crate::nodes::nodes_on_cycles;
 use std::alloc::{AllocError, Global};
 
+// Whether no node leads to a range.
+fn are_empty(ranges: &[Vec<Range>]) -> bool
+    ensures { result ≡ list_all (λ v. length v.items == 0) ranges.now }
+{
+    ranges.iter().all(|ranges_there| ranges_there.is_empty())
+}
+
 // The edges of the first segments: each leads to the two segments below it.
 fn inner_rows(alloc: Global, count: usize) -> Result<Vec<Vec<usize>>, AllocError>
     requires { 2 * count < 2 ^ 64 }
     ensures { IfOk result (λ rows. map (λ v. v.items) rows.items ≡ inner_rows count) }
 {
-    let mut rows = Vec::new(alloc);
+    let mut rows = Vec::with_capacity(alloc, count)?;
     for segment in 0..count {
-        let mut row = Vec::new(alloc);
+        let mut row = Vec::with_capacity(alloc, 2)?;
         row.push(2 * segment)?;
         row.push(2 * segment + 1)?;
         rows.push(row)?;
@@ -46,7 +54,7 @@ fn node_row(
     requires { first + nodes < 2 ^ 64 }
     ensures { IfOk result (λ row. row.items ≡ flat_map (node_row first nodes) ends.now) }
 {
-    let mut row = Vec::new(alloc);
+    let mut row = Vec::with_capacity(alloc, ends.len())?;
     for node in ends {
         add_node(first, nodes, *node, &mut row)?;
     }
@@ -65,7 +73,7 @@ fn node_rows(
         (λ rows. map (λ v. v.items) rows.items
         ≡ node_rows first nodes (map (λ v. v.items) ends.now)) }
 {
-    let mut rows = Vec::new(alloc);
+    let mut rows = Vec::with_capacity(alloc, ends.len())?;
     for nodes_there in ends {
         rows.push(node_row(alloc, first, nodes, nodes_there)?)?;
     }
@@ -80,7 +88,7 @@ fn covers(alloc: Global, count: usize, ranges: &[Vec<Range>]) -> Result<Vec<Vec<
         → IsCover count (slice_index_or (map (λ v. v.items) ranges.now) i [])
         (slice_index_or (map (λ v. v.items) rows.items) i [])) }
 {
-    let mut rows = Vec::new(alloc);
+    let mut rows = Vec::with_capacity(alloc, ranges.len())?;
     for ranges_there in ranges {
         rows.push(cover(alloc, count, ranges_there)?)?;
     }
@@ -141,6 +149,9 @@ pub fn nodes_on_cycles_over_ranges(
         → RangeTrail (map (λ v. v.items) ranges.now) (map (λ v. v.items) ends.now) i i
         → Contains nodes.items i) }
 {
+    if are_empty(ranges) {
+        return Ok(Vec::new(alloc));
+    }
     let graph = tree(alloc, ranges, ends)?;
     let numbers = nodes_on_cycles(alloc, graph.as_slice())?;
     let nodes = nodes_at(alloc, 2 * ends.len(), numbers.as_slice())?;

@@ -1,9 +1,10 @@
-use Rattle.std.proofs.Common.{map, sym, subst, arith, bytes_eq}
+use Rattle.std.proofs.Common.{map, sym, subst, arith, bytes_eq, refl, ◌∙◌}
 use Rattle.std.specs.HashMap as hash
 use Rattle.std.proofs.lemmas.List.{length-map}
 use Rattle.gql_cycles.specs.Names.{row_of}
 use Rattle.gql_cycles.specs.Nodes.{IsGraph}
 use Rattle.gql_cycles.specs.NameGraph.{names_of}
+use Rattle.gql_cycles.proofs.Apart.{no_cycle}
 use Rattle.gql_cycles.proofs.Joining.{joins_within}
 use Rattle.gql_cycles.proofs.Leading.{answer, marks_apart}
 use Rattle.gql_cycles.proofs.Placing.{names_length}
@@ -26,3 +27,6 @@ returns-clause-complete c = λ n. (answer (λ v. v.items) (map row_of c.args.row
 pub marked_names-requires-clause-apart : goal.marked_names-requires-clause-apart
 marked_names-requires-clause-apart c = marks_apart (λ v. v.items) (map row_of c.args.rows.now) (λ q. hash.get_by (λ k. bytes_eq q k.now) c.in_ok-nodes.nodes) c.in_ok-edges.edges.items c.deref.result.now
     c.in_ok-marks.marks.items c.deref-2.result.now c.in_ok-nodes.ensures c.in_ok-edges.ensures.joins c.deref.ensures.value c.in_ok-marks.ensures c.deref-2.ensures.value
+
+pub returns-then-not-is_any_edge-clause-complete : goal.returns-then-not-is_any_edge-clause-complete
+returns-then-not-is_any_edge-clause-complete c = λ n h. absurd (no_cycle row_of (λ r. r.leads.items) (λ b. b.now) (λ r. refl) c.args.rows.now (λ q. hash.get_by (λ k. bytes_eq q k.now) c.in_ok-nodes.nodes) c.in_ok-nodes.ensures (sym c.is_any_edge.ensures ∙ c.if-not-is_any_edge.true) n h)
