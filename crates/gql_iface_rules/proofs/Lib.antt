@@ -8,7 +8,9 @@ pub mod S19Firsts
 pub mod S19Gaps
 pub mod S19Literals
 pub mod S19Missing
+pub mod S19Plain
 pub mod S19Steps
+pub mod S26Leads
 pub mod Steps
 pub mod Together
 pub mod Types

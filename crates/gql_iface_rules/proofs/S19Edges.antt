@@ -25,12 +25,12 @@ text_same : (xs : List ℕ) → bytes_eq xs xs ≡ true
 text_same xs = (bytes_eq-Decides xs xs).1 refl
 
 -- an element, and what a function makes of it
-at_map : {A B : Type 0} (f : A → List B) (xs : List A) (i : ℕ) → i < length xs → (x : A) × (get_or xs i x ≡ x) × (get_or (map f xs) i [] ≡ f x)
+pub at_map : {A B : Type 0} (f : A → List B) (xs : List A) (i : ℕ) → i < length xs → (x : A) × (get_or xs i x ≡ x) × (get_or (map f xs) i [] ≡ f x)
 at_map f [] i lt = absurd (omega (arith, lt))
 at_map f (x ∷ xs) zero lt = (x, refl, refl)
 at_map f (x ∷ xs) (suc i) lt = let r = at_map f xs i (omega (arith, lt)) in (r.0, r.1, r.2)
 
-stands_at : {A : Type 0} (xs : List (List A)) (i : ℕ) (x : A) → Contains (get_or xs i []) x → i < length xs
+pub stands_at : {A : Type 0} (xs : List (List A)) (i : ℕ) (x : A) → Contains (get_or xs i []) x → i < length xs
 stands_at xs i x h = elim (cases_lt i (length xs)) [
   | inl lt ↦ lt
   | inr ge ↦ absurd (Contains-nil x (subst (λ ys. Contains ys x) (get_or_past xs i [] ge) h))

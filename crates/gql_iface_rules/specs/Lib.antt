@@ -12,5 +12,7 @@ pub mod S17InputObjectCycles
 pub mod S19DefaultValueCycles
 pub mod S19Ends
 pub mod S19Inputs
+pub mod S19Plain
 pub mod S19Ranges
 pub mod S26DirectiveCycles
+pub mod S26Leads

@@ -4,36 +4,26 @@ ghost use Rattle.std.specs.Option.{option_copied};
 ghost use Rattle.gql_iface_rules.specs.Implementing as spec;
 ghost use Rattle.gql_types.specs.Parts.{sited};
 
-use gql_ast::{FieldDefinition, FileName, InputValueDefinition, Shared};
-use gql_built_in::Sited;
+use gql_ast::{FieldDefinition, InputValueDefinition, Shared};
+use gql_built_in::{Sited, SourceFile, same_source};
 use gql_types::Named;
 use std::alloc::{AllocError, Global};
 
 /// The arguments of a field, with look-up.
 pub type Arguments = Named<Sited<Shared<InputValueDefinition>>>;
 
-// The same file.
-fn copied(file: &Option<FileName>) -> Option<FileName>
-    ensures { result ≡ file.now }
-{
-    match file {
-        Some(file) => Some(file.copy()),
-        None => None,
-    }
-}
-
 // These arguments of a file.
 fn sited_arguments(
     alloc: Global,
-    file: &Option<FileName>,
+    file: &SourceFile,
     arguments: &[Shared<InputValueDefinition>],
 ) -> Result<Vec<Sited<Shared<InputValueDefinition>>>, AllocError>
     ensures { IfOk result (λ found. found.items ≡ sited file.now arguments.now) }
 {
-    let mut found = Vec::new(alloc);
+    let mut found = Vec::with_capacity(alloc, arguments.len())?;
     for argument in arguments {
         found.push(Sited {
-            file: copied(file),
+            file: same_source(file)?,
             node: argument.clone()?,
         })?;
     }

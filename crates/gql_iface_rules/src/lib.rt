@@ -21,8 +21,10 @@ mod s19_default_value_cycles;
 mod s19_ends;
 mod s19_inputs;
 mod s19_object_values;
+mod s19_plain;
 mod s19_ranges;
 mod s26_directive_cycles;
+mod s26_leads;
 mod s26_parts;
 mod s26_rows;
 

@@ -1,11 +1,10 @@
 //! S09, Bad Interface Names: a type lists a type that is no interface, or lists a name twice.
 ghost use Rattle.std.specs.Prelude.{◌≡◌, ◌++◌, OnOk, flat_map};
-ghost use Rattle.gql_faults.specs.Names.{repeated_faults};
 ghost use Rattle.gql_iface_rules.specs.S09BadInterfaceNames as spec;
 
 use gql_ast::{Fault, Name, Rule};
 use gql_built_in::Sited;
-use gql_faults::{NamePlace, add_fault_of, add_repeated, name_places};
+use gql_faults::{NamePlace, add_fault_of, add_repeated_names};
 use gql_types::{Schema, SchemaType, TypeKind};
 use std::alloc::{AllocError, Global};
 
@@ -47,19 +46,6 @@ fn check_names(
     Ok(())
 }
 
-// Adds the faults at names that occur more than once.
-fn add_repeated_names(
-    alloc: Global,
-    names: &[Sited<Name>],
-    faults: &mut Vec<Fault>,
-) -> Result<(), AllocError>
-    ensures { OnOk result (faults.new.items
-        ≡ faults.old.items ++ repeated_faults Rule.S09 names.now) }
-{
-    let places = name_places(alloc, names)?;
-    add_repeated(alloc, Rule::S09, places.as_slice(), faults)
-}
-
 // Adds the faults of a type.
 fn check_type(
     alloc: Global,
@@ -71,7 +57,7 @@ fn check_type(
         ≡ faults.old.items ++ spec.bad_interface_names schema.now of_type.now) }
 {
     check_names(alloc, schema, of_type.interfaces.as_slice(), faults)?;
-    add_repeated_names(alloc, of_type.interfaces.as_slice(), faults)
+    add_repeated_names(alloc, Rule::S09, of_type.interfaces.as_slice(), faults)
 }
 
 /// Adds the faults by S09.

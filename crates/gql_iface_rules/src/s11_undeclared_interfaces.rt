@@ -1,9 +1,10 @@
 //! S11, Undeclared Interfaces: a type does not declare an interface that one of its own declares.
-ghost use Rattle.std.specs.Prelude.{◌≡◌, ◌++◌, OnOk, map, flat_map};
+ghost use Rattle.std.specs.Prelude.{◌≡◌, ◌++◌, OnOk, flat_map};
 ghost use Rattle.gql_iface_rules.specs.Borrowed.{implements};
+ghost use Rattle.gql_iface_rules.specs.Implementing.{implemented_by};
 ghost use Rattle.gql_iface_rules.specs.S11UndeclaredInterfaces as spec;
 
-use crate::implementing::{Implementation, add_implementations, interface_named};
+use crate::implementing::{Implementation, interface_named};
 use crate::name_set::NameSet;
 use gql_ast::{Fault, Name, Rule};
 use gql_built_in::Sited;
@@ -53,20 +54,26 @@ fn check_implementation(
     Ok(())
 }
 
-// Adds the faults for these interfaces.
-fn check_implementations(
+// Adds the faults for a name in the list of a type, if an interface has the name.
+fn check_name(
     alloc: Global,
     schema: &Schema,
     names: &NameSet<'_>,
-    implementations: &[Implementation<'_>],
+    of_type: &SchemaType,
+    name: &Sited<Name>,
     faults: &mut Vec<Fault>,
 ) -> Result<(), AllocError>
     ensures { OnOk result (faults.new.items ≡ faults.old.items
         ++ flat_map (spec.undeclared_interfaces schema.now names.now)
-        (map implements implementations.now)) }
+        (implemented_by schema.now of_type.now name.now)) }
 {
-    for implementation in implementations {
-        check_implementation(alloc, schema, names, implementation, faults)?;
+    if let Some(interface) = interface_named(schema, name.node.as_str()) {
+        let implementation = Implementation {
+            of_type,
+            name,
+            interface,
+        };
+        check_implementation(alloc, schema, names, &implementation, faults)?;
     }
     Ok(())
 }
@@ -82,9 +89,10 @@ fn check_type(
         ≡ faults.old.items ++ spec.faults_of_type schema.now of_type.now) }
 {
     let names = NameSet::new(alloc, of_type.interfaces.as_slice())?;
-    let mut found = Vec::new(alloc);
-    add_implementations(schema, of_type, &mut found)?;
-    check_implementations(alloc, schema, &names, found.as_slice(), faults)
+    for name in of_type.interfaces.as_slice() {
+        check_name(alloc, schema, &names, of_type, name, faults)?;
+    }
+    Ok(())
 }
 
 /// Adds the faults by S11.

@@ -5,6 +5,7 @@ ghost use Rattle.gql_iface_rules.specs.S19DefaultValueCycles as spec;
 
 use crate::s19_ends::{all_ends, end_rows};
 use crate::s19_inputs::{Input, all_inputs};
+use crate::s19_plain::may_types_need;
 use crate::s19_ranges::all_ranges;
 use gql_ast::{Fault, Rule};
 use gql_cycles::nodes_on_cycles_over_ranges;
@@ -49,6 +50,9 @@ pub fn check(alloc: Global, schema: &Schema, faults: &mut Vec<Fault>) -> Result<
     ensures { OnOk result ((f : TheFault)
         → Contains faults.new.items f ↔ (Contains faults.old.items f ⊎ spec.IsFault schema.now f)) }
 {
+    if !may_types_need(schema.types()) {
+        return Ok(());
+    }
     let inputs = all_inputs(alloc, schema)?;
     let fields = inputs.fields.as_slice();
     let ranges = all_ranges(alloc, fields, &inputs.objects)?;

@@ -65,7 +65,7 @@ pub fn all_ends(alloc: Global, objects: &Named<InputObject<'_>>) -> Result<Vec<E
 fn empty_rows(alloc: Global, count: usize) -> Result<Vec<Vec<usize>>, AllocError>
     ensures { IfOk result (λ rows. map (λ v. v.items) rows.items ≡ replicate count []) }
 {
-    let mut rows = Vec::new(alloc);
+    let mut rows = Vec::with_capacity(alloc, count)?;
     for _ in 0..count {
         rows.push(Vec::new(alloc))?;
     }

@@ -66,7 +66,7 @@ fn numbered_inputs<'s>(
         (λ inputs. map numbered inputs.items
         ≡ spec.numbered_from (length all.old.items) of_type.now.input_fields) }
 {
-    let mut inputs = Vec::new(alloc);
+    let mut inputs = Vec::with_capacity(alloc, of_type.input_fields.as_slice().len())?;
     for field in of_type.input_fields.as_slice() {
         let number = all.len();
         all.push(field)?;

@@ -73,7 +73,7 @@ fn add_given(
 fn given_numbers(alloc: Global, at: &ObjectValue<'_, '_>) -> Result<Vec<usize>, AllocError>
     ensures { IfOk result (λ numbers. numbers.items ≡ spec.given_numbers (object_value at.now)) }
 {
-    let mut numbers = Vec::new(alloc);
+    let mut numbers = Vec::with_capacity(alloc, at.fields.len())?;
     for field in at.fields {
         add_given(at.input_object, field, &mut numbers)?;
     }
@@ -180,7 +180,7 @@ pub fn all_ranges(
         (slice_index_or (map (λ f. f.now) fields.now) i d))
         (slice_index_or (map (λ v. v.items) ranges.items) i [])) }
 {
-    let mut ranges = Vec::new(alloc);
+    let mut ranges = Vec::with_capacity(alloc, fields.len())?;
     for field in fields {
         ranges.push(default_ranges(alloc, field, objects)?)?;
     }

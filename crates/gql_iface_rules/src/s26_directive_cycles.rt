@@ -6,6 +6,7 @@ ghost use Rattle.gql_cycles.specs.Names.{Leads, row_of};
 ghost use Rattle.gql_iface_rules.specs.Borrowed.{steps};
 ghost use Rattle.gql_iface_rules.specs.S26DirectiveCycles as spec;
 
+use crate::s26_leads::may_cycle;
 use crate::s26_rows::{OwnedRow, definition_rows};
 use gql_ast::{Fault, Rule, Text};
 use gql_cycles::{Row, names_on_cycles};
@@ -17,7 +18,7 @@ use std::alloc::{AllocError, Global};
 fn borrowed_names(alloc: Global, names: &[Text]) -> Result<Vec<&str>, AllocError>
     ensures { IfOk result (λ found. map (λ n. n.now) found.items ≡ names.now) }
 {
-    let mut found = Vec::new(alloc);
+    let mut found = Vec::with_capacity(alloc, names.len())?;
     for name in names {
         found.push(name.as_str())?;
     }
@@ -37,15 +38,15 @@ fn borrowed_row<'n>(alloc: Global, owned: &'n OwnedRow) -> Result<Row<'n>, Alloc
 fn borrowed_rows(alloc: Global, owned: &[OwnedRow]) -> Result<Vec<Row<'_>>, AllocError>
     ensures { IfOk result (λ rows. map row_of rows.items ≡ map steps owned.now) }
 {
-    let mut rows = Vec::new(alloc);
+    let mut rows = Vec::with_capacity(alloc, owned.len())?;
     for row in owned {
         rows.push(borrowed_row(alloc, row)?)?;
     }
     Ok(rows)
 }
 
-// The name of the directive, if this is the name of one with `@` before it.
-fn without_sign(name: &str) -> Option<&str>
+/// The name of the directive, if this is the name of one with `@` before it.
+pub fn without_sign(name: &str) -> Option<&str>
     ensures { option_copied result ≡ spec.without_sign name.now }
 {
     name.strip_prefix('@')
@@ -120,6 +121,10 @@ pub fn check(alloc: Global, schema: &Schema, faults: &mut Vec<Fault>) -> Result<
     ensures { OnOk result ((f : TheFault)
         → Contains faults.new.items f ↔ (Contains faults.old.items f ⊎ spec.IsFault schema.now f)) }
 {
+    let may = may_cycle(alloc, schema)?;
+    if !may {
+        return Ok(());
+    }
     let owned = definition_rows(alloc, schema)?;
     let names = cycle_names(alloc, owned.as_slice())?;
     add_at_names(alloc, schema, names.as_slice(), faults)?;

@@ -20,8 +20,8 @@ pub struct OwnedRow {
     pub leads: Items<Text>,
 }
 
-// The row of a type.
-fn type_row(alloc: Global, of_type: &SchemaType) -> Result<OwnedRow, AllocError>
+/// The row of a type.
+pub fn type_row(alloc: Global, of_type: &SchemaType) -> Result<OwnedRow, AllocError>
     ensures { IfOk result (λ row. steps row ≡ spec.type_row of_type.now) }
 {
     let definition = of_type.definition.node.get();
@@ -64,8 +64,8 @@ fn add_type_rows(
     Ok(())
 }
 
-// Adds the rows of directives.
-fn add_directive_rows(
+/// Adds the rows of directives.
+pub fn add_directive_rows(
     alloc: Global,
     directives: &[&Sited<Shared<DirectiveDefinition>>],
     rows: &mut Vec<OwnedRow>,

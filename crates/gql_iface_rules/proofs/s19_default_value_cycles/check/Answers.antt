@@ -1,4 +1,4 @@
-use Rattle.std.proofs.Common.{◌≡◌, ◌++◌, ◌∙◌, ap, sym, map, flat_map, length, arith, List}
+use Rattle.std.proofs.Common.{◌≡◌, ◌++◌, ◌∙◌, inl, inr, subst, ap, sym, map, flat_map, length, arith, List}
 use Rattle.std.proofs.lemmas.List.{length-map}
 use Rattle.gql_ast.specs.declared.type_system.InputValueDefinition.{InputValueDefinition}
 use Rattle.gql_built_in.specs.declared.sited.Sited.{Sited}
@@ -6,6 +6,9 @@ use Rattle.gql_iface_rules.specs.S19DefaultValueCycles.{IsFault, all_inputs, fau
 use Rattle.gql_iface_rules.specs.S19Inputs.{object}
 use Rattle.gql_iface_rules.proofs.Members.{added}
 use Rattle.gql_iface_rules.proofs.S19Edges.{joined, trail_of_graph, trail_of_ranges}
+use Rattle.std.specs.List.{All}
+use Rattle.gql_iface_rules.specs.S19Plain.{TypeNeedsNone}
+use Rattle.gql_iface_rules.proofs.S19Plain.{no_default_trail}
 use Rattle.gql_iface_rules.proofs.s19_default_value_cycles.check.Goals as goal
 
 pub returns : goal.returns
@@ -24,3 +27,8 @@ returns c =
     ∙ ap (λ (fs : List (Sited InputValueDefinition)). old ++ flat_map (fault_at_number fs) c.in_ok-numbers.numbers.items) all)
     (λ x a h g. (x, trail_of_graph graph_is (c.in_ok-numbers.ensures.sound x h), g))
     (λ a p. (p.0, c.in_ok-numbers.ensures.complete p.0 (trail_of_ranges graph_is p.1), p.2))
+
+pub returns-then-not-may_types_need : goal.returns-then-not-may_types_need
+returns-then-not-may_types_need c =
+    let none = subst (λ ts. All TypeNeedsNone ts) c.types.ensures (c.may_types_need.ensures c.if-not-may_types_need.true) in
+    λ f. (λ h. inl h, λ h. elim h [ inl o ↦ o | inr p ↦ absurd (no_default_trail c.args.schema.now none p.1) ])

@@ -1,4 +1,4 @@
-use Rattle.std.proofs.Common.{◌≡◌, ◌++◌, ap, sym, subst, ◌∙◌, map, flat_map, List, ℕ}
+use Rattle.std.proofs.Common.{◌≡◌, ◌++◌, inl, inr, ap, sym, subst, ◌∙◌, map, flat_map, List, ℕ}
 use Rattle.gql_cycles.specs.Names.{Steps, Leads}
 use Rattle.gql_iface_rules.specs.Borrowed.{steps}
 use Rattle.gql_iface_rules.specs.S26DirectiveCycles.{IsFault, fault_at_name, at_sign, definition_rows}
@@ -17,3 +17,6 @@ returns c =
     let d = fault_at_sign s x a g in
     (d.0, subst (λ (n : List ℕ). Leads (definition_rows s) n n) d.1 (subst (λ (r : List Steps). Leads r x x) rows (c.in_ok-names.ensures.sound x h)), d.2))
     (λ a p. (at_sign p.0, c.in_ok-names.ensures.complete (at_sign p.0) (subst (λ (r : List Steps). Leads r (at_sign p.0) (at_sign p.0)) (sym rows) p.1), p.2))
+
+pub returns-then-not-may : goal.returns-then-not-may
+returns-then-not-may c = λ f. (λ h. inl h, λ h. elim h [ inl o ↦ o | inr p ↦ absurd (c.in_ok-may.ensures c.if-not-may.true p.0 p.1) ])
