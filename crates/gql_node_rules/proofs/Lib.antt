@@ -1,3 +1,5 @@
+pub mod Few
 pub mod Found
 pub mod Listed
+pub mod Looked
 pub mod Same

@@ -14,3 +14,13 @@ pub flat_map_step : {R X Y : Type 0} (f : X → List Y) (m : R → X) (xs : List
     → new ≡ base ++ flat_map f (map m (take (i + 1) xs))
 flat_map_step f m xs i x base old new within item before after =
     rw (take_more xs i x within, item) grind (arith, common_steps, before, after)
+
+-- one more of those that the code borrows was put into a list
+pub map_step : {R S X Y : Type 0} (m : R → Y) (f : X → Y) (v : S → X) (xs : List S) (i : ℕ) (x : S) (old new : List R) (y : R)
+    → i < length xs → get_or xs i x ≡ x
+    → map m old ≡ map f (map v (take i xs))
+    → new ≡ old ++ y ∷ []
+    → m y ≡ f (v x)
+    → map m new ≡ map f (map v (take (i + 1) xs))
+map_step m f v xs i x old new y within item before after same =
+    rw (after, take_more xs i x within, item) grind (arith, common_steps, before, same)

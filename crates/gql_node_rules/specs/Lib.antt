@@ -5,6 +5,7 @@ pub mod NodeFaults
 pub mod Nodes
 pub mod P01FloatReferences
 pub mod References
+pub mod Resolved
 pub mod S03ReservedNames
 pub mod S16NonInputTypes
 pub mod S20UnknownTypes

@@ -12,6 +12,7 @@ use gql_ast::{
     InputValueDefinition, Items, SchemaDefinition, SchemaExtension, TypeDefinition, TypeExtension,
     TypeParts,
 };
+use gql_built_in::name_of_source;
 use gql_faults::Spot;
 use gql_types::SchemaType;
 use std::alloc::{AllocError, Global};
@@ -206,12 +207,29 @@ fn add_parts<'t>(nodes: &Nodes<'t>, found: &mut Vec<Annotated<'t>>) -> Result<()
     Ok(())
 }
 
+// How many nodes may have directives. This is for the list's memory alone.
+fn count(nodes: &Nodes<'_>) -> usize {
+    let schemas = nodes
+        .schemas
+        .len()
+        .saturating_add(nodes.schema_extensions.len());
+    let types = nodes
+        .types
+        .len()
+        .saturating_add(nodes.type_extensions.len());
+    let fields = nodes.fields.len().saturating_add(nodes.input_fields.len());
+    let parts = fields
+        .saturating_add(nodes.arguments.len())
+        .saturating_add(nodes.values.len());
+    schemas.saturating_add(types).saturating_add(parts)
+}
+
 /// Every node that may have directives.
 pub fn all_annotated<'t>(alloc: Global, nodes: &Nodes<'t>) -> Result<Vec<Annotated<'t>>, AllocError>
     ensures { IfOk result (λ found. map annotations found.items
         ≡ spec.annotated (lists nodes.now)) }
 {
-    let mut found = Vec::new(alloc);
+    let mut found = Vec::with_capacity(alloc, count(nodes))?;
     add_schemas(nodes, &mut found)?;
     add_all_types(nodes, &mut found)?;
     add_parts(nodes, &mut found)?;
@@ -260,13 +278,13 @@ pub fn type_and_extensions(
     let mut found = Vec::new(alloc);
     found.push(Annotated {
         location: location_of(&definition.parts),
-        file: of_type.definition.file.as_ref(),
+        file: name_of_source(&of_type.definition.file),
         directives: definition.directives.as_slice(),
     })?;
     for extension in of_type.extensions.as_slice() {
         found.push(Annotated {
             location: location_of(&extension.node.get().parts),
-            file: extension.file.as_ref(),
+            file: name_of_source(&extension.file),
             directives: extension.node.get().directives.as_slice(),
         })?;
     }

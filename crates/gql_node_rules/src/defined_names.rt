@@ -34,7 +34,7 @@ pub fn names_of<'t, T: HasOwnName>(
 ) -> Result<Vec<NamePlace<'t>>, AllocError>
     ensures { IfOk result (λ found. map named found.items ≡ each T.own_name (map one nodes.now)) }
 {
-    let mut found = Vec::new(alloc);
+    let mut found = Vec::with_capacity(alloc, nodes.len())?;
     add_names(nodes, &mut found)?;
     Ok(found)
 }
@@ -62,11 +62,25 @@ fn add_parts<'t>(nodes: &Nodes<'t>, found: &mut Vec<NamePlace<'t>>) -> Result<()
     Ok(())
 }
 
+// How many names there are. This is for the list's memory alone.
+fn count(nodes: &Nodes<'_>) -> usize {
+    let types = nodes
+        .types
+        .len()
+        .saturating_add(nodes.type_extensions.len());
+    let definitions = types.saturating_add(nodes.directives.len());
+    let fields = nodes.fields.len().saturating_add(nodes.input_fields.len());
+    let parts = fields
+        .saturating_add(nodes.arguments.len())
+        .saturating_add(nodes.values.len());
+    definitions.saturating_add(parts)
+}
+
 /// All names of definitions, of extensions of types and of their parts.
 pub fn defined_names<'t>(alloc: Global, nodes: &Nodes<'t>) -> Result<Vec<NamePlace<'t>>, AllocError>
     ensures { IfOk result (λ found. map named found.items ≡ spec.defined_names (lists nodes.now)) }
 {
-    let mut found = Vec::new(alloc);
+    let mut found = Vec::with_capacity(alloc, count(nodes))?;
     add_definitions(nodes, &mut found)?;
     add_parts(nodes, &mut found)?;
     Ok(found)

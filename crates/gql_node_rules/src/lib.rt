@@ -11,6 +11,7 @@ mod node;
 mod nodes;
 mod p01_float_references;
 mod references;
+mod resolved;
 mod rules;
 mod s03_reserved_names;
 mod s16_non_input_types;

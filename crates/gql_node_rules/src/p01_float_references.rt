@@ -1,29 +1,31 @@
 //! P01, Float References: a schema file refers to Float, which this registry does not serve.
 ghost use Rattle.std.specs.Prelude.{◌≡◌, ◌++◌, OnOk, map, flat_map};
-ghost use Rattle.gql_faults.specs.Places.{named};
+ghost use Rattle.gql_node_rules.specs.Resolved.{reference, to_float};
 ghost use Rattle.gql_node_rules.specs.P01FloatReferences as spec;
 
+use crate::references::Reference;
 use gql_ast::{Fault, Rule};
-use gql_faults::{NamePlace, add_fault_of};
+use gql_faults::add_fault_of;
+use gql_types::is_same_name;
 use std::alloc::{AllocError, Global};
 
 /// Whether this is the name of Float.
 pub fn is_float(name: &str) -> bool
     ensures { result ≡ spec.is_float name.now }
 {
-    name == "Float"
+    is_same_name(name, "Float")
 }
 
-fn check_name(
+fn check_reference(
     alloc: Global,
-    name: &NamePlace<'_>,
+    referring: &Reference<'_>,
     faults: &mut Vec<Fault>,
 ) -> Result<(), AllocError>
     ensures { OnOk result (faults.new.items ≡ faults.old.items
-        ++ spec.fault_of_name (named name.now)) }
+        ++ to_float (reference referring.now)) }
 {
-    if is_float(name.name.as_str()) {
-        add_fault_of(alloc, Rule::P01, name, faults)?;
+    if is_float(referring.name.name.as_str()) {
+        add_fault_of(alloc, Rule::P01, &referring.name, faults)?;
     }
     Ok(())
 }
@@ -31,14 +33,14 @@ fn check_name(
 /// Adds the faults of references.
 pub fn check(
     alloc: Global,
-    names: &[NamePlace<'_>],
+    references: &[Reference<'_>],
     faults: &mut Vec<Fault>,
 ) -> Result<(), AllocError>
     ensures { OnOk result (faults.new.items ≡ faults.old.items
-        ++ flat_map spec.fault_of_name (map named names.now)) }
+        ++ flat_map to_float (map reference references.now)) }
 {
-    for name in names {
-        check_name(alloc, name, faults)?;
+    for referring in references {
+        check_reference(alloc, referring, faults)?;
     }
     Ok(())
 }

@@ -7,6 +7,7 @@ ghost use Rattle.gql_types.specs.Parts.{sited, interfaces_of, members_of};
 ghost use Rattle.gql_node_rules.specs.Borrowed.{one, lists};
 ghost use Rattle.gql_node_rules.specs.Nodes.{each, within};
 ghost use Rattle.gql_node_rules.specs.References as spec;
+ghost use Rattle.gql_node_rules.specs.Resolved.{reference, roles, roles_of, with_kind};
 
 use crate::node::Node;
 use crate::nodes::Nodes;
@@ -15,6 +16,7 @@ use gql_ast::{
     SchemaExtension, TypeParts, TypeRef,
 };
 use gql_faults::{NamePlace, named_type};
+use gql_types::{Schema, TypeKind};
 use std::alloc::{AllocError, Global};
 
 /// A node that has a type.
@@ -69,10 +71,14 @@ fn add_all_inputs<'t>(nodes: &Nodes<'t>, found: &mut Vec<NamePlace<'t>>) -> Resu
 }
 
 /// The types of arguments and of input fields.
-pub fn inputs<'t>(alloc: Global, nodes: &Nodes<'t>) -> Result<Vec<NamePlace<'t>>, AllocError>
+fn inputs<'t>(alloc: Global, nodes: &Nodes<'t>) -> Result<Vec<NamePlace<'t>>, AllocError>
     ensures { IfOk result (λ found. map named found.items ≡ spec.inputs (lists nodes.now)) }
 {
-    let mut found = Vec::new(alloc);
+    let count = nodes
+        .arguments
+        .len()
+        .saturating_add(nodes.input_fields.len());
+    let mut found = Vec::with_capacity(alloc, count)?;
     add_all_inputs(nodes, &mut found)?;
     Ok(found)
 }
@@ -87,10 +93,10 @@ fn add_all_outputs<'t>(nodes: &Nodes<'t>, found: &mut Vec<NamePlace<'t>>) -> Res
 }
 
 /// The types of the fields of objects and interfaces.
-pub fn outputs<'t>(alloc: Global, nodes: &Nodes<'t>) -> Result<Vec<NamePlace<'t>>, AllocError>
+fn outputs<'t>(alloc: Global, nodes: &Nodes<'t>) -> Result<Vec<NamePlace<'t>>, AllocError>
     ensures { IfOk result (λ found. map named found.items ≡ spec.outputs (lists nodes.now)) }
 {
-    let mut found = Vec::new(alloc);
+    let mut found = Vec::with_capacity(alloc, nodes.fields.len())?;
     add_all_outputs(nodes, &mut found)?;
     Ok(found)
 }
@@ -141,6 +147,15 @@ fn add_all_interfaces<'t>(
     Ok(())
 }
 
+/// The interfaces that types implement.
+fn interfaces<'t>(alloc: Global, nodes: &Nodes<'t>) -> Result<Vec<NamePlace<'t>>, AllocError>
+    ensures { IfOk result (λ found. map named found.items ≡ spec.interfaces (lists nodes.now)) }
+{
+    let mut found = Vec::new(alloc);
+    add_all_interfaces(nodes, &mut found)?;
+    Ok(found)
+}
+
 fn add_members<'t>(
     parts: &Node<'t, TypeParts>,
     found: &mut Vec<NamePlace<'t>>,
@@ -166,7 +181,7 @@ fn add_all_members<'t>(nodes: &Nodes<'t>, found: &mut Vec<NamePlace<'t>>) -> Res
 }
 
 /// The members of unions.
-pub fn members<'t>(alloc: Global, nodes: &Nodes<'t>) -> Result<Vec<NamePlace<'t>>, AllocError>
+fn members<'t>(alloc: Global, nodes: &Nodes<'t>) -> Result<Vec<NamePlace<'t>>, AllocError>
     ensures { IfOk result (λ found. map named found.items ≡ spec.members (lists nodes.now)) }
 {
     let mut found = Vec::new(alloc);
@@ -228,18 +243,69 @@ fn add_all_roots<'t>(nodes: &Nodes<'t>, found: &mut Vec<NamePlace<'t>>) -> Resul
     Ok(())
 }
 
+/// The root operation types of definitions and extensions of the schema.
+fn roots<'t>(alloc: Global, nodes: &Nodes<'t>) -> Result<Vec<NamePlace<'t>>, AllocError>
+    ensures { IfOk result (λ found. map named found.items ≡ spec.roots (lists nodes.now)) }
+{
+    let mut found = Vec::new(alloc);
+    add_all_roots(nodes, &mut found)?;
+    Ok(found)
+}
+
+/// A reference to a type, and the kind of that type if it is known.
+#[derive(Clone, Copy)]
+pub struct Reference<'t> {
+    pub name: NamePlace<'t>,
+    pub kind: Option<TypeKind>,
+}
+
+/// These names, each with the kind of the type of that name.
+fn with_kinds<'t>(
+    alloc: Global,
+    schema: &Schema,
+    names: &[NamePlace<'t>],
+) -> Result<Vec<Reference<'t>>, AllocError>
+    ensures { IfOk result (λ found. map reference found.items
+        ≡ map (with_kind schema.now) (map named names.now)) }
+{
+    let mut found = Vec::with_capacity(alloc, names.len())?;
+    for name in names {
+        found.push(Reference {
+            name: *name,
+            kind: schema.kind(name.name.as_str()),
+        })?;
+    }
+    Ok(found)
+}
+
+/// All references, by the role that the type has.
+#[derive(Drop)]
+pub struct References<'t> {
+    pub inputs: Vec<Reference<'t>>,
+    pub outputs: Vec<Reference<'t>>,
+    pub interfaces: Vec<Reference<'t>>,
+    pub members: Vec<Reference<'t>>,
+    pub roots: Vec<Reference<'t>>,
+}
+
 /// All references.
 pub fn all_references<'t>(
     alloc: Global,
+    schema: &Schema,
     nodes: &Nodes<'t>,
-) -> Result<Vec<NamePlace<'t>>, AllocError>
-    ensures { IfOk result (λ found. map named found.items ≡ spec.references (lists nodes.now)) }
+) -> Result<References<'t>, AllocError>
+    ensures { IfOk result (λ found. roles found ≡ roles_of (lists nodes.now) schema.now) }
 {
-    let mut found = Vec::new(alloc);
-    add_all_inputs(nodes, &mut found)?;
-    add_all_outputs(nodes, &mut found)?;
-    add_all_interfaces(nodes, &mut found)?;
-    add_all_members(nodes, &mut found)?;
-    add_all_roots(nodes, &mut found)?;
-    Ok(found)
+    let inputs = inputs(alloc, nodes)?;
+    let outputs = outputs(alloc, nodes)?;
+    let interfaces = interfaces(alloc, nodes)?;
+    let members = members(alloc, nodes)?;
+    let roots = roots(alloc, nodes)?;
+    Ok(References {
+        inputs: with_kinds(alloc, schema, inputs.as_slice())?,
+        outputs: with_kinds(alloc, schema, outputs.as_slice())?,
+        interfaces: with_kinds(alloc, schema, interfaces.as_slice())?,
+        members: with_kinds(alloc, schema, members.as_slice())?,
+        roots: with_kinds(alloc, schema, roots.as_slice())?,
+    })
 }

@@ -2,11 +2,13 @@
 ghost use Rattle.std.specs.Prelude.{◌≡◌, ◌++◌, IfOk, OnOk};
 ghost use Rattle.gql_node_rules.specs.Borrowed.{lists};
 ghost use Rattle.gql_node_rules.specs.NodeFaults as spec;
+ghost use Rattle.gql_node_rules.specs.Resolved.{of_all, role_faults, roles, to_float, unknown};
 
 use crate::applied::{all_annotated, all_applied};
 use crate::defined_names::defined_names;
 use crate::nodes::Nodes;
-use crate::references::{all_references, inputs, members, outputs};
+use crate::references::{References, all_references};
+use crate::resolved::all_resolved;
 use crate::signature::signatures;
 use crate::{
     p01_float_references, s03_reserved_names, s16_non_input_types, s20_unknown_types,
@@ -30,23 +32,53 @@ fn check_names(alloc: Global, nodes: &Nodes<'_>, faults: &mut Vec<Fault>) -> Res
 // S16, S21 and S22.
 fn check_roles(
     alloc: Global,
-    schema: &Schema,
-    nodes: &Nodes<'_>,
+    references: &References<'_>,
     faults: &mut Vec<Fault>,
 ) -> Result<(), AllocError>
     ensures { OnOk result (faults.new.items ≡ faults.old.items
-        ++ spec.role_faults (lists nodes.now) schema.now) }
+        ++ role_faults (roles references.now)) }
 {
-    let inputs = inputs(alloc, nodes)?;
-    s16_non_input_types::check(alloc, schema, inputs.as_slice(), faults)?;
-    let outputs = outputs(alloc, nodes)?;
-    s21_non_output_types::check(alloc, schema, outputs.as_slice(), faults)?;
-    let members = members(alloc, nodes)?;
-    s22_non_object_members::check(alloc, schema, members.as_slice(), faults)?;
+    s16_non_input_types::check(alloc, references.inputs.as_slice(), faults)?;
+    s21_non_output_types::check(alloc, references.outputs.as_slice(), faults)?;
+    s22_non_object_members::check(alloc, references.members.as_slice(), faults)?;
     Ok(())
 }
 
-// S20 and P01.
+// S20.
+fn check_known(
+    alloc: Global,
+    references: &References<'_>,
+    faults: &mut Vec<Fault>,
+) -> Result<(), AllocError>
+    ensures { OnOk result (faults.new.items ≡ faults.old.items
+        ++ of_all unknown (roles references.now)) }
+{
+    s20_unknown_types::check(alloc, references.inputs.as_slice(), faults)?;
+    s20_unknown_types::check(alloc, references.outputs.as_slice(), faults)?;
+    s20_unknown_types::check(alloc, references.interfaces.as_slice(), faults)?;
+    s20_unknown_types::check(alloc, references.members.as_slice(), faults)?;
+    s20_unknown_types::check(alloc, references.roots.as_slice(), faults)?;
+    Ok(())
+}
+
+// P01.
+fn check_floats(
+    alloc: Global,
+    references: &References<'_>,
+    faults: &mut Vec<Fault>,
+) -> Result<(), AllocError>
+    ensures { OnOk result (faults.new.items ≡ faults.old.items
+        ++ of_all to_float (roles references.now)) }
+{
+    p01_float_references::check(alloc, references.inputs.as_slice(), faults)?;
+    p01_float_references::check(alloc, references.outputs.as_slice(), faults)?;
+    p01_float_references::check(alloc, references.interfaces.as_slice(), faults)?;
+    p01_float_references::check(alloc, references.members.as_slice(), faults)?;
+    p01_float_references::check(alloc, references.roots.as_slice(), faults)?;
+    Ok(())
+}
+
+// S16, S20 to S22 and P01.
 fn check_references(
     alloc: Global,
     schema: &Schema,
@@ -54,11 +86,13 @@ fn check_references(
     faults: &mut Vec<Fault>,
 ) -> Result<(), AllocError>
     ensures { OnOk result (faults.new.items ≡ faults.old.items
-        ++ spec.reference_faults (lists nodes.now) schema.now) }
+        ++ (spec.role_faults (lists nodes.now) schema.now
+        ++ spec.reference_faults (lists nodes.now) schema.now)) }
 {
-    let references = all_references(alloc, nodes)?;
-    s20_unknown_types::check(alloc, schema, references.as_slice(), faults)?;
-    p01_float_references::check(alloc, references.as_slice(), faults)?;
+    let references = all_references(alloc, schema, nodes)?;
+    check_roles(alloc, &references, faults)?;
+    check_known(alloc, &references, faults)?;
+    check_floats(alloc, &references, faults)?;
     Ok(())
 }
 
@@ -75,11 +109,12 @@ fn check_directives(
     let annotated = all_annotated(alloc, nodes)?;
     let applied = all_applied(alloc, annotated.as_slice())?;
     let signatures = signatures(alloc, schema)?;
-    s29_unknown_directives::check(alloc, schema, applied.as_slice(), faults)?;
-    s30_bad_locations::check(alloc, &signatures, applied.as_slice(), faults)?;
+    let resolved = all_resolved(alloc, &signatures, applied.as_slice())?;
+    s29_unknown_directives::check(alloc, resolved.as_slice(), faults)?;
+    s30_bad_locations::check(alloc, resolved.as_slice(), faults)?;
     s31_repeated_directives::check(alloc, schema, nodes, annotated.as_slice(), faults)?;
-    s32_bad_arguments::check(alloc, &signatures, applied.as_slice(), faults)?;
-    s33_bad_argument_values::check(alloc, schema, &signatures, applied.as_slice(), faults)?;
+    s32_bad_arguments::check(alloc, resolved.as_slice(), faults)?;
+    s33_bad_argument_values::check(alloc, schema, resolved.as_slice(), faults)?;
     Ok(())
 }
 
@@ -93,7 +128,6 @@ pub fn node_faults(
 {
     let mut faults = Vec::new(alloc);
     check_names(alloc, nodes, &mut faults)?;
-    check_roles(alloc, schema, nodes, &mut faults)?;
     check_references(alloc, schema, nodes, &mut faults)?;
     check_directives(alloc, schema, nodes, &mut faults)?;
     Ok(faults)

@@ -1,26 +1,28 @@
 //! S22, Non-Object Members: a member of a union is not an object.
 ghost use Rattle.std.specs.Prelude.{◌≡◌, ◌++◌, OnOk, map, flat_map};
-ghost use Rattle.gql_faults.specs.Places.{named};
-ghost use Rattle.gql_node_rules.specs.S22NonObjectMembers as spec;
+ghost use Rattle.gql_ast.specs.declared.rule.Rule.TheVariants as rule;
+ghost use Rattle.gql_types.specs.Kinds.{same_kind};
+ghost use Rattle.gql_types.specs.declared.kind.TypeKind.TheVariants as kind;
+ghost use Rattle.gql_node_rules.specs.Resolved.{of_wrong_kind, reference};
 
+use crate::references::Reference;
 use gql_ast::{Fault, Rule};
-use gql_faults::{NamePlace, add_fault_of};
-use gql_types::{Schema, TypeKind};
+use gql_faults::add_fault_of;
+use gql_types::TypeKind;
 use std::alloc::{AllocError, Global};
 
-fn check_name(
+fn check_reference(
     alloc: Global,
-    schema: &Schema,
-    name: &NamePlace<'_>,
+    referring: &Reference<'_>,
     faults: &mut Vec<Fault>,
 ) -> Result<(), AllocError>
     ensures { OnOk result (faults.new.items ≡ faults.old.items
-        ++ spec.fault_of_name schema.now (named name.now)) }
+        ++ of_wrong_kind (λ k. same_kind k kind.Object) rule.S22 (reference referring.now)) }
 {
-    match schema.kind(name.name.as_str()) {
+    match referring.kind {
         Some(kind) => {
             if !kind.is(TypeKind::Object) {
-                add_fault_of(alloc, Rule::S22, name, faults)?;
+                add_fault_of(alloc, Rule::S22, &referring.name, faults)?;
             }
             Ok(())
         }
@@ -31,15 +33,14 @@ fn check_name(
 /// Adds the faults of the members of unions.
 pub fn check(
     alloc: Global,
-    schema: &Schema,
-    names: &[NamePlace<'_>],
+    references: &[Reference<'_>],
     faults: &mut Vec<Fault>,
 ) -> Result<(), AllocError>
     ensures { OnOk result (faults.new.items ≡ faults.old.items
-        ++ flat_map (spec.fault_of_name schema.now) (map named names.now)) }
+        ++ flat_map (of_wrong_kind (λ k. same_kind k kind.Object) rule.S22) (map reference references.now)) }
 {
-    for name in names {
-        check_name(alloc, schema, name, faults)?;
+    for referring in references {
+        check_reference(alloc, referring, faults)?;
     }
     Ok(())
 }

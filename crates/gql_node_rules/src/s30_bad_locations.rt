@@ -1,14 +1,14 @@
 //! S30, Bad Locations: a directive is applied at a location that it does not list.
-ghost use Rattle.std.specs.Prelude.{◌≡◌, ◌++◌, Some, OnOk, map, flat_map, find, bytes_eq};
-ghost use Rattle.gql_node_rules.specs.Applied as applied_spec;
+ghost use Rattle.std.specs.Prelude.{◌≡◌, ◌++◌, Some, OnOk, map, flat_map};
 ghost use Rattle.gql_node_rules.specs.Borrowed.{application};
+ghost use Rattle.gql_node_rules.specs.Resolved.{resolution};
 ghost use Rattle.gql_node_rules.specs.S30BadLocations as spec;
 
 use crate::applied::Applied;
-use crate::signature::{Signature, signature_named};
+use crate::resolved::Resolved;
+use crate::signature::Signature;
 use gql_ast::{Fault, Rule};
 use gql_faults::add_fault;
-use gql_types::Named;
 use std::alloc::{AllocError, Global};
 
 fn check_known(
@@ -28,17 +28,14 @@ fn check_known(
 
 fn check_applied(
     alloc: Global,
-    signatures: &Named<Signature<'_>>,
-    applied: &Applied<'_>,
+    resolved: &Resolved<'_, '_, '_>,
     faults: &mut Vec<Fault>,
 ) -> Result<(), AllocError>
     ensures { OnOk result (faults.new.items ≡ faults.old.items
-        ++ spec.fault_by (find (λ d. bytes_eq (applied_spec.name_of
-        (application applied.now)) d.node.name.text)
-        (map (λ g. g.definition.now) signatures.now)) (application applied.now)) }
+        ++ spec.fault_by (resolution resolved.now).known (resolution resolved.now).application) }
 {
-    match signature_named(signatures, applied.name()) {
-        Some(signature) => check_known(alloc, signature, applied, faults),
+    match resolved.signature {
+        Some(signature) => check_known(alloc, signature, &resolved.applied, faults),
         None => Ok(()),
     }
 }
@@ -46,17 +43,14 @@ fn check_applied(
 /// Adds the faults of the locations of applied directives.
 pub fn check(
     alloc: Global,
-    signatures: &Named<Signature<'_>>,
-    all: &[Applied<'_>],
+    all: &[Resolved<'_, '_, '_>],
     faults: &mut Vec<Fault>,
 ) -> Result<(), AllocError>
     ensures { OnOk result (faults.new.items ≡ faults.old.items
-        ++ flat_map (λ a. spec.fault_by
-        (find (λ d. bytes_eq (applied_spec.name_of a) d.node.name.text)
-        (map (λ g. g.definition.now) signatures.now)) a) (map application all.now)) }
+        ++ flat_map (λ r. spec.fault_by r.known r.application) (map resolution all.now)) }
 {
-    for applied in all {
-        check_applied(alloc, signatures, applied, faults)?;
+    for resolved in all {
+        check_applied(alloc, resolved, faults)?;
     }
     Ok(())
 }

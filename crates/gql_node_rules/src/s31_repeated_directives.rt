@@ -71,6 +71,7 @@ fn check_applied(
 }
 
 // Adds the faults of directives that count together.
+#[tactic(auto, using(crate::proofs::Few::few))]
 fn check_group(
     alloc: Global,
     schema: &Schema,
@@ -108,6 +109,7 @@ fn check_together(
 }
 
 // Adds the faults of a node.
+#[tactic(auto, using(crate::proofs::Few::few_alone))]
 fn check_node(
     alloc: Global,
     schema: &Schema,
@@ -117,6 +119,10 @@ fn check_node(
     ensures { OnOk result (faults.new.items
         ≡ faults.old.items ++ spec.faults_alone schema.now (annotations node.now)) }
 {
+    if node.directives.len() < 2 {
+        // one directive is not repeated
+        return Ok(());
+    }
     check_together(alloc, schema, &[*node], faults)?;
     Ok(())
 }
@@ -138,6 +144,7 @@ fn check_nodes(
 }
 
 // Adds the faults of a type with its extensions.
+#[tactic(auto, using(crate::proofs::Few::few_on_type))]
 fn check_type(
     alloc: Global,
     schema: &Schema,
@@ -147,6 +154,11 @@ fn check_type(
     ensures { OnOk result (faults.new.items
         ≡ faults.old.items ++ spec.faults_of_type schema.now of_type.now) }
 {
+    let own = &of_type.definition.node.get().directives;
+    if of_type.extensions.is_empty() && own.len() < 2 {
+        // one directive is not repeated
+        return Ok(());
+    }
     let nodes = type_and_extensions(alloc, of_type)?;
     check_together(alloc, schema, nodes.as_slice(), faults)?;
     Ok(())

@@ -1,19 +1,19 @@
 //! S32, Bad Arguments: an argument of an applied directive is undefined, repeated or missing.
-ghost use Rattle.std.specs.Prelude.{◌≡◌, ◌++◌, [], ℕ, List, IfOk, OnOk, map, flat_map, find, bytes_eq, is_some, Some, None, if◌then◌else◌};
+ghost use Rattle.std.specs.Prelude.{◌≡◌, ◌++◌, [], ℕ, List, IfOk, OnOk, map, flat_map, bytes_eq, is_some, Some, None, if◌then◌else◌};
 ghost use Rattle.std.specs.List.{list_any};
 ghost use Rattle.std.specs.HashMap as hash;
 ghost use Rattle.gql_ast.specs.declared.rule.Rule.TheVariants as rule;
 ghost use Rattle.gql_faults.specs.Faults.{fault_at};
 ghost use Rattle.gql_faults.specs.Places.{named, spot};
-ghost use Rattle.gql_node_rules.specs.Applied as applied_spec;
 ghost use Rattle.gql_node_rules.specs.Borrowed.{application};
+ghost use Rattle.gql_node_rules.specs.Resolved.{resolution};
 ghost use Rattle.gql_node_rules.specs.S32BadArguments as spec;
 
 use crate::applied::Applied;
-use crate::signature::{Signature, signature_named};
+use crate::resolved::Resolved;
+use crate::signature::Signature;
 use gql_ast::{Fault, InputValueDefinition, Rule};
 use gql_faults::{NamePlace, Spot, add_fault, add_fault_of, add_repeated};
-use gql_types::Named;
 use std::alloc::{AllocError, Global};
 use std::collections::HashMap;
 
@@ -123,12 +123,17 @@ fn check_missing(
         ++ flat_map (spec.fault_of_required (application applied.now))
         (map (λ v. v.now) signature.now.required.items)) }
 {
+    if signature.required.is_empty() {
+        // nothing is missing
+        return Ok(());
+    }
     let texts = texts(alloc, given)?;
     let at = applied.spot();
     check_all_required(alloc, &texts, signature.required.as_slice(), &at, faults)?;
     Ok(())
 }
 
+#[tactic(auto, using(crate::proofs::Few::none_given))]
 fn check_known(
     alloc: Global,
     signature: &Signature<'_>,
@@ -138,6 +143,10 @@ fn check_known(
     ensures { OnOk result (faults.new.items ≡ faults.old.items
         ++ spec.faults_by (Some signature.now.definition.now) (application applied.now)) }
 {
+    if applied.directive.arguments.is_empty() && signature.required.is_empty() {
+        // nothing is given, and nothing is missing
+        return Ok(());
+    }
     let given = given(alloc, applied)?;
     check_all_given(alloc, signature, given.as_slice(), faults)?;
     add_repeated(alloc, Rule::S32, given.as_slice(), faults)?;
@@ -160,35 +169,29 @@ fn check_unknown(
 
 fn check_applied(
     alloc: Global,
-    signatures: &Named<Signature<'_>>,
-    applied: &Applied<'_>,
+    resolved: &Resolved<'_, '_, '_>,
     faults: &mut Vec<Fault>,
 ) -> Result<(), AllocError>
     ensures { OnOk result (faults.new.items ≡ faults.old.items
-        ++ spec.faults_by (find (λ d. bytes_eq (applied_spec.name_of
-        (application applied.now)) d.node.name.text)
-        (map (λ g. g.definition.now) signatures.now)) (application applied.now)) }
+        ++ spec.faults_by (resolution resolved.now).known (resolution resolved.now).application) }
 {
-    match signature_named(signatures, applied.name()) {
-        Some(signature) => check_known(alloc, signature, applied, faults),
-        None => check_unknown(alloc, applied, faults),
+    match resolved.signature {
+        Some(signature) => check_known(alloc, signature, &resolved.applied, faults),
+        None => check_unknown(alloc, &resolved.applied, faults),
     }
 }
 
 /// Adds the faults of the arguments of applied directives.
 pub fn check(
     alloc: Global,
-    signatures: &Named<Signature<'_>>,
-    all: &[Applied<'_>],
+    all: &[Resolved<'_, '_, '_>],
     faults: &mut Vec<Fault>,
 ) -> Result<(), AllocError>
     ensures { OnOk result (faults.new.items ≡ faults.old.items
-        ++ flat_map (λ a. spec.faults_by
-        (find (λ d. bytes_eq (applied_spec.name_of a) d.node.name.text)
-        (map (λ g. g.definition.now) signatures.now)) a) (map application all.now)) }
+        ++ flat_map (λ r. spec.faults_by r.known r.application) (map resolution all.now)) }
 {
-    for applied in all {
-        check_applied(alloc, signatures, applied, faults)?;
+    for resolved in all {
+        check_applied(alloc, resolved, faults)?;
     }
     Ok(())
 }

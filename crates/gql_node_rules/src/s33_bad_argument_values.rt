@@ -1,14 +1,15 @@
 //! S33, Bad Argument Values: the value of an applied directive's argument does not fit its type.
-ghost use Rattle.std.specs.Prelude.{◌≡◌, ◌++◌, Some, OnOk, map, flat_map, find, bytes_eq};
-ghost use Rattle.gql_node_rules.specs.Applied as applied_spec;
+ghost use Rattle.std.specs.Prelude.{◌≡◌, ◌++◌, Some, OnOk, map, flat_map};
 ghost use Rattle.gql_node_rules.specs.Borrowed.{application};
+ghost use Rattle.gql_node_rules.specs.Resolved.{resolution};
 ghost use Rattle.gql_node_rules.specs.S33BadArgumentValues as spec;
 
 use crate::applied::Applied;
-use crate::signature::{Signature, signature_named};
+use crate::resolved::Resolved;
+use crate::signature::Signature;
 use crate::value_faults::{ValuePlace, add_unless_fits};
 use gql_ast::{Argument, Fault, Rule};
-use gql_types::{Named, Schema};
+use gql_types::Schema;
 use std::alloc::{AllocError, Global};
 
 // Adds the fault of one value that is given to a directive.
@@ -55,17 +56,14 @@ fn check_known(
 fn check_applied(
     alloc: Global,
     schema: &Schema,
-    signatures: &Named<Signature<'_>>,
-    applied: &Applied<'_>,
+    resolved: &Resolved<'_, '_, '_>,
     faults: &mut Vec<Fault>,
 ) -> Result<(), AllocError>
-    ensures { OnOk result (faults.new.items ≡ faults.old.items
-        ++ spec.faults_by schema.now (find (λ d. bytes_eq
-        (applied_spec.name_of (application applied.now)) d.node.name.text)
-        (map (λ g. g.definition.now) signatures.now)) (application applied.now)) }
+    ensures { OnOk result (faults.new.items ≡ faults.old.items ++ spec.faults_by schema.now
+        (resolution resolved.now).known (resolution resolved.now).application) }
 {
-    match signature_named(signatures, applied.name()) {
-        Some(signature) => check_known(alloc, schema, signature, applied, faults),
+    match resolved.signature {
+        Some(signature) => check_known(alloc, schema, signature, &resolved.applied, faults),
         None => Ok(()),
     }
 }
@@ -74,17 +72,15 @@ fn check_applied(
 pub fn check(
     alloc: Global,
     schema: &Schema,
-    signatures: &Named<Signature<'_>>,
-    all: &[Applied<'_>],
+    all: &[Resolved<'_, '_, '_>],
     faults: &mut Vec<Fault>,
 ) -> Result<(), AllocError>
     ensures { OnOk result (faults.new.items ≡ faults.old.items
-        ++ flat_map (λ a. spec.faults_by schema.now (find
-        (λ d. bytes_eq (applied_spec.name_of a) d.node.name.text)
-        (map (λ g. g.definition.now) signatures.now)) a) (map application all.now)) }
+        ++ flat_map (λ r. spec.faults_by schema.now r.known r.application)
+        (map resolution all.now)) }
 {
-    for applied in all {
-        check_applied(alloc, schema, signatures, applied, faults)?;
+    for resolved in all {
+        check_applied(alloc, schema, resolved, faults)?;
     }
     Ok(())
 }

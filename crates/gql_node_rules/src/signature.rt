@@ -56,7 +56,7 @@ fn arguments<'s>(
 ) -> Result<Vec<DefinedArgument<'s>>, AllocError>
     ensures { IfOk result (λ found. map (λ a. a.definition.now) found.items ≡ definitions.now) }
 {
-    let mut found = Vec::new(alloc);
+    let mut found = Vec::with_capacity(alloc, definitions.len())?;
     for definition in definitions {
         found.push(DefinedArgument {
             definition: definition.get(),

@@ -1,7 +1,9 @@
 use Rattle.std.proofs.Common.{◌≡◌, ◌++◌, map, flat_map, take}
-use Rattle.gql_faults.specs.Places.{named}
-use Rattle.gql_node_rules.specs.S21NonOutputTypes.{fault_of_name}
+use Rattle.gql_ast.specs.declared.rule.Rule.TheVariants as rule
+use Rattle.gql_types.specs.Kinds.{is_output}
+use Rattle.gql_node_rules.specs.Resolved.{of_wrong_kind, reference}
 use Rattle.gql_node_rules.proofs.s21_non_output_types.check.Given as goal
 
-abbrev pub invariant-loop-name : goal.invariant-loop-name
-invariant-loop-name l = l.faults.items ≡ l.initial.faults.items ++ flat_map (fault_of_name l.schema) (map named (take l.name-index l.names))
+abbrev pub invariant-loop-referring : goal.invariant-loop-referring
+invariant-loop-referring l = l.faults.items ≡ l.initial.faults.items
+    ++ flat_map (of_wrong_kind is_output rule.S21) (map reference (take l.referring-index l.references))

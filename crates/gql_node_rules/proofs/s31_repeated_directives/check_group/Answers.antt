@@ -1,11 +1,11 @@
-use Rattle.std.proofs.Common.{◌≡◌, ◌<◌, ◌++◌, ◌∙◌, ◌∷◌, List, [], arith, ap, sym, refl, cond, nat_lt, length, map}
+use Rattle.std.proofs.Common.{◌≡◌, ◌++◌, ◌∙◌, ◌∷◌, List, [], arith, ap, sym, cond, nat_lt, map}
 use Rattle.gql_faults.specs.Names.{count_of}
 use Rattle.gql_faults.specs.Places.{named}
-use Rattle.std.proofs.lemmas.Grind.{common_steps}
-use Rattle.gql_types.specs.declared.schema.Schema.{Schema}
-use Rattle.gql_node_rules.specs.Applied.{Application, name_of}
+use Rattle.gql_node_rules.specs.Applied.{name_of}
 use Rattle.gql_node_rules.specs.Borrowed.{application}
-use Rattle.gql_node_rules.specs.S31RepeatedDirectives.{fault_in_group, faults_in_group, unless_repeatable}
+use Rattle.gql_node_rules.specs.S31RepeatedDirectives.{fault_in_group, unless_repeatable}
+use Rattle.std.proofs.lemmas.Grind.{common_steps}
+use Rattle.gql_node_rules.proofs.Few.{few, none_added}
 use Rattle.gql_node_rules.proofs.Same.{flat_map_step}
 use Rattle.gql_node_rules.proofs.s31_repeated_directives.check_group.Goals as goal
 
@@ -20,13 +20,6 @@ loop-applied-preserved c =
     (c.in_ok-counts.ensures (name_of x) ∙ ap (λ ns. count_of (name_of x) (map named ns)) c.as_slice.ensures.value
     ∙ ap (count_of (name_of x)) c.in_ok-names.ensures))
 
--- fewer than two directives have no fault
-few : {X : Type 0} (f : X → Application) (s : Schema) (group : List X) → length group < 2
-    → faults_in_group s (map f group) ≡ []
-few f s [] within = refl
-few f s (a ∷ []) within = grind (arith, common_steps)
-few f s (a ∷ b ∷ group) within = absurd (omega arith)
-
 pub returns-then-group-lt2 : goal.returns-then-group-lt2
-returns-then-group-lt2 c =
-    grind (arith, common_steps, few application c.args.schema.now c.args.group.now c.if-group-lt2.true)
+returns-then-group-lt2 c = none_added _ _ (few c.args.schema.now (map application c.args.group.now)
+    (grind (arith, common_steps, c.if-group-lt2.true)))

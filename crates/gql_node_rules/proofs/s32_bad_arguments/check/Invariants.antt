@@ -1,9 +1,8 @@
-use Rattle.std.proofs.Common.{◌≡◌, ◌++◌, map, flat_map, take, find, bytes_eq}
-use Rattle.gql_node_rules.specs.Applied.{name_of}
-use Rattle.gql_node_rules.specs.Borrowed.{application}
+use Rattle.std.proofs.Common.{◌≡◌, ◌++◌, map, flat_map, take}
+use Rattle.gql_node_rules.specs.Resolved.{resolution}
 use Rattle.gql_node_rules.specs.S32BadArguments.{faults_by}
 use Rattle.gql_node_rules.proofs.s32_bad_arguments.check.Given as goal
 
-abbrev pub invariant-loop-applied : goal.invariant-loop-applied
-invariant-loop-applied l = l.faults.items ≡ l.initial.faults.items
-    ++ flat_map (λ a. faults_by (find (λ d. bytes_eq (name_of a) d.node.name.text) (map (λ g. g.definition.now) l.signatures)) a) (map application (take l.applied-index l.all))
+abbrev pub invariant-loop-resolved : goal.invariant-loop-resolved
+invariant-loop-resolved l = l.faults.items ≡ l.initial.faults.items
+    ++ flat_map (λ r. faults_by r.known r.application) (map resolution (take l.resolved-index l.all))

@@ -1,12 +1,10 @@
-use Rattle.std.proofs.Common.{arith, sym, map, find, bytes_eq}
-use Rattle.gql_node_rules.specs.Applied.{Application, name_of}
-use Rattle.gql_node_rules.specs.Borrowed.{application}
+use Rattle.std.proofs.Common.{arith, sym}
+use Rattle.gql_node_rules.specs.Resolved.{Resolution, resolution}
 use Rattle.gql_node_rules.specs.S33BadArgumentValues.{faults_by}
 use Rattle.gql_node_rules.proofs.Same.{flat_map_step}
 use Rattle.gql_node_rules.proofs.s33_bad_argument_values.check.Goals as goal
 
-pub loop-applied-preserved : goal.loop-applied-preserved
-loop-applied-preserved c = flat_map_step
-    (λ (a : Application). faults_by c.args.schema.now (find (λ d. bytes_eq (name_of a) d.node.name.text) (map (λ g. g.definition.now) c.args.signatures.now)) a)
-    application c.args.all.now c.loop-applied.applied-index c.applied-item.result c.args.faults.now.items _ _ (omega arith) (sym c.applied-item.is)
-    c.loop-applied.invariant c.in_ok-check_applied.ensures
+pub loop-resolved-preserved : goal.loop-resolved-preserved
+loop-resolved-preserved c = flat_map_step (λ (r : Resolution). faults_by c.args.schema.now r.known r.application)
+    resolution c.args.all.now c.loop-resolved.resolved-index c.resolved-item.result c.args.faults.now.items _ _ (omega arith) (sym c.resolved-item.is)
+    c.loop-resolved.invariant c.in_ok-check_applied.ensures
