@@ -1,3 +1,4 @@
+pub mod Distinct
 pub mod Earlier
 pub mod Grouping
 pub mod SeenKinds

@@ -4,6 +4,7 @@
 //! A function that adds to a list may have added a part of it if an allocation fails.
 #![tactic(auto)]
 
+mod distinct_names;
 mod operation_kinds;
 mod p02_subscription_roots;
 mod rules;

@@ -7,6 +7,7 @@ ghost use Rattle.gql_schema_rules.specs.S04BuiltInNames as spec;
 use gql_ast::{Fault, Rule};
 use gql_faults::{NamePlace, add_fault_of};
 use gql_node_rules::{Nodes, is_float, names_of};
+use gql_types::is_same_name;
 use std::alloc::{AllocError, Global};
 
 // Whether a built-in scalar, or Float, has this name.
@@ -14,7 +15,11 @@ use std::alloc::{AllocError, Global};
 fn is_scalar_name(name: &str) -> bool
     ensures { result ≡ spec.is_scalar_name name.now }
 {
-    name == "Int" || name == "String" || name == "Boolean" || name == "ID" || is_float(name)
+    is_same_name(name, "Int")
+        || is_same_name(name, "String")
+        || is_same_name(name, "Boolean")
+        || is_same_name(name, "ID")
+        || is_float(name)
 }
 
 // Whether a built-in directive has this name.

@@ -3,7 +3,7 @@ ghost use Rattle.std.specs.Prelude.{◌≡◌, ◌++◌, OnOk};
 ghost use Rattle.gql_schema_rules.specs.S06DuplicateFields as spec;
 
 use gql_ast::{Fault, Rule};
-use gql_faults::{add_repeated, own_names};
+use gql_faults::add_repeated_nodes;
 use gql_types::{Schema, SchemaType};
 use std::alloc::{AllocError, Global};
 
@@ -15,10 +15,8 @@ fn check_type(
 ) -> Result<(), AllocError>
     ensures { OnOk result (faults.new.items ≡ faults.old.items ++ spec.faults_of_type of_type.now) }
 {
-    let names = own_names(alloc, of_type.fields.as_slice())?;
-    add_repeated(alloc, Rule::S06, names.as_slice(), faults)?;
-    let names = own_names(alloc, of_type.input_fields.as_slice())?;
-    add_repeated(alloc, Rule::S06, names.as_slice(), faults)?;
+    add_repeated_nodes(alloc, Rule::S06, of_type.fields.as_slice(), faults)?;
+    add_repeated_nodes(alloc, Rule::S06, of_type.input_fields.as_slice(), faults)?;
     Ok(())
 }
 

@@ -3,7 +3,7 @@ ghost use Rattle.std.specs.Prelude.{◌≡◌, ◌++◌, OnOk};
 ghost use Rattle.gql_schema_rules.specs.S07DuplicateValues as spec;
 
 use gql_ast::{Fault, Rule};
-use gql_faults::{add_repeated, name_places, own_names};
+use gql_faults::{add_repeated_names, add_repeated_nodes};
 use gql_types::{Schema, SchemaType};
 use std::alloc::{AllocError, Global};
 
@@ -15,10 +15,8 @@ fn check_type(
 ) -> Result<(), AllocError>
     ensures { OnOk result (faults.new.items ≡ faults.old.items ++ spec.faults_of_type of_type.now) }
 {
-    let names = own_names(alloc, of_type.values.as_slice())?;
-    add_repeated(alloc, Rule::S07, names.as_slice(), faults)?;
-    let names = name_places(alloc, of_type.members.as_slice())?;
-    add_repeated(alloc, Rule::S07, names.as_slice(), faults)?;
+    add_repeated_nodes(alloc, Rule::S07, of_type.values.as_slice(), faults)?;
+    add_repeated_names(alloc, Rule::S07, of_type.members.as_slice(), faults)?;
     Ok(())
 }
 

@@ -3,10 +3,8 @@ ghost use Rattle.std.specs.Prelude.{◌≡◌, ◌++◌, IfOk, OnOk, map, flat_m
 ghost use Rattle.gql_faults.specs.Places.{named};
 ghost use Rattle.gql_schema_rules.specs.S08DuplicateArguments as spec;
 
-use gql_ast::{
-    DirectiveDefinition, Fault, FieldDefinition, FileName, InputValueDefinition, Rule, Shared,
-};
-use gql_built_in::Sited;
+use gql_ast::{DirectiveDefinition, Fault, FieldDefinition, InputValueDefinition, Rule, Shared};
+use gql_built_in::{Sited, SourceFile, name_of_source};
 use gql_faults::{NamePlace, add_repeated, first_directives};
 use gql_types::{Schema, SchemaType};
 use std::alloc::{AllocError, Global};
@@ -14,15 +12,15 @@ use std::alloc::{AllocError, Global};
 // The names of arguments.
 fn names_in<'t>(
     alloc: Global,
-    file: &'t Option<FileName>,
+    file: &'t SourceFile,
     arguments: &'t [Shared<InputValueDefinition>],
 ) -> Result<Vec<NamePlace<'t>>, AllocError>
     ensures { IfOk result (λ names. map named names.items ≡ spec.names_in file.now arguments.now) }
 {
-    let mut names = Vec::new(alloc);
+    let mut names = Vec::with_capacity(alloc, arguments.len())?;
     for argument in arguments {
         names.push(NamePlace {
-            file: file.as_ref(),
+            file: name_of_source(file),
             name: &argument.get().name,
         })?;
     }
@@ -32,13 +30,17 @@ fn names_in<'t>(
 // Adds the faults of the arguments of one field or directive.
 fn check_arguments(
     alloc: Global,
-    file: &Option<FileName>,
+    file: &SourceFile,
     arguments: &[Shared<InputValueDefinition>],
     faults: &mut Vec<Fault>,
 ) -> Result<(), AllocError>
     ensures { OnOk result (faults.new.items ≡ faults.old.items
         ++ spec.faults_in file.now arguments.now) }
 {
+    if arguments.len() < 2 {
+        // one argument is not repeated
+        return Ok(());
+    }
     let names = names_in(alloc, file, arguments)?;
     add_repeated(alloc, Rule::S08, names.as_slice(), faults)?;
     Ok(())

@@ -2,10 +2,8 @@
 ghost use Rattle.std.specs.Prelude.{◌≡◌, ◌++◌, OnOk, map, flat_map};
 ghost use Rattle.gql_schema_rules.specs.S18BadDefaultValues as spec;
 
-use gql_ast::{
-    DirectiveDefinition, Fault, FieldDefinition, FileName, InputValueDefinition, Rule, Shared,
-};
-use gql_built_in::Sited;
+use gql_ast::{DirectiveDefinition, Fault, FieldDefinition, InputValueDefinition, Rule, Shared};
+use gql_built_in::{Sited, SourceFile, name_of_source};
 use gql_faults::first_directives;
 use gql_node_rules::{ValuePlace, add_unless_fits};
 use gql_types::{Schema, SchemaType};
@@ -15,7 +13,7 @@ use std::alloc::{AllocError, Global};
 fn check_default(
     alloc: Global,
     schema: &Schema,
-    file: &Option<FileName>,
+    file: &SourceFile,
     definition: &InputValueDefinition,
     faults: &mut Vec<Fault>,
 ) -> Result<(), AllocError>
@@ -24,7 +22,7 @@ fn check_default(
 {
     if let Some(value) = &definition.default {
         let given = ValuePlace {
-            file: file.as_ref(),
+            file: name_of_source(file),
             value,
         };
         add_unless_fits(alloc, Rule::S18, schema, definition, &given, faults)?;
@@ -36,7 +34,7 @@ fn check_default(
 fn check_arguments(
     alloc: Global,
     schema: &Schema,
-    file: &Option<FileName>,
+    file: &SourceFile,
     arguments: &[Shared<InputValueDefinition>],
     faults: &mut Vec<Fault>,
 ) -> Result<(), AllocError>

@@ -11,6 +11,7 @@ ghost use Rattle.gql_schema_rules.specs.S34DuplicateSchemas as spec;
 
 use crate::operation_kinds::kind_word;
 use gql_ast::{Fault, OperationKind, Rule};
+use gql_built_in::name_of_source;
 use gql_faults::{Spot, add_fault};
 use gql_node_rules::Nodes;
 use gql_types::{Root, Schema};
@@ -109,7 +110,7 @@ fn add_at_entry(alloc: Global, root: &Root, faults: &mut Vec<Fault>) -> Result<(
 {
     if let Some(place) = root.entry {
         let spot = Spot {
-            file: root.name.file.as_ref(),
+            file: name_of_source(&root.name.file),
             place,
         };
         add_fault(alloc, Rule::S34, kind_word(root.kind), &spot, faults)?;

@@ -3,6 +3,5 @@ use Rattle.gql_schema_rules.proofs.s06_duplicate_fields.check_type.Goals as goal
 
 pub returns : goal.returns
 returns c =
-    rw (c.in_ok-add_repeated-2.ensures, c.in_ok-add_repeated.ensures, c.as_slice-2.ensures.value, c.as_slice-4.ensures.value)
-    rw (c.in_ok-names.ensures, c.in_ok-names-2.ensures, c.as_slice.ensures, c.as_slice-3.ensures)
+    rw (c.in_ok-add_repeated_nodes-2.ensures, c.in_ok-add_repeated_nodes.ensures, c.as_slice.ensures, c.as_slice-2.ensures)
     (simp append_assoc refl)
