@@ -8,4 +8,5 @@ pub mod Visiting
 pub mod Walking
 pub mod Nested
 pub mod NestedGroups
+pub mod PlainFields
 pub mod PlainGroups

@@ -7,14 +7,13 @@ use Rattle.gql_ast.specs.declared.executable.Field.{Field}
 use Rattle.gql_ast.specs.declared.executable.InlineFragment.{InlineFragment}
 use Rattle.gql_ast.specs.declared.executable.Selection.{Selection, out-Selection}
 use Rattle.gql_ast.specs.declared.executable.Selection.TheOpen.{Selection-F}
-use Rattle.gql_ast.specs.declared.executable.Selection.TheVariants as s
 use Rattle.gql_ast.specs.declared.text.Name.{Name}
 use Rattle.gql_collect.specs.Alone.{alone, alone_at, groups_alone}
 use Rattle.gql_collect.specs.Collection.{AreGroups, groups_from}
 use Rattle.gql_collect.specs.Conditions.{is_left_out}
 use Rattle.gql_collect.specs.Groups.{firsts, group, groups_of, is_same_field, key_of, response_name, start_of}
 use Rattle.gql_collect.specs.Nodes.{FieldNode, in_file, node, selections}
-use Rattle.gql_collect.specs.Plain.{ArePlain, IsApart, IsPlain}
+use Rattle.gql_collect.proofs.PlainFields.{ArePlain, IsApart, IsPlain}
 use Rattle.gql_collect.specs.Unfolding.{Given, Unfolds, kept, nothing, part, part_at}
 use Rattle.gql_collect.proofs.Walking.{one_unfolding}
 
@@ -97,8 +96,8 @@ module _ (file : List ℕ) where
   abbrev field_nodes : List Selection → List FieldNode
   field_nodes xs = flat_map (λ x. nodes_at (out-Selection x)) xs
 
-  at_field : (x : Selection) (f : Field) (xs : List Selection) → x ≡ s.Field f → field_nodes (x ∷ xs) ≡ record { file = file; field = f } ∷ field_nodes xs
-  at_field x f xs e = ap (λ ns. ns ++ field_nodes xs) (ap (λ z. nodes_at (out-Selection z)) e ∙ ap nodes_at (s.outs-Field f))
+  at_field : (x : Selection) (f : Field) (xs : List Selection) → out-Selection x ≡ Selection-F.Field f → field_nodes (x ∷ xs) ≡ record { file = file; field = f } ∷ field_nodes xs
+  at_field x f xs e = ap (λ ns. ns ++ field_nodes xs) (ap nodes_at e)
 
   all_after : (name : Name) (xs : List Selection) → IsApart name xs → AllAfter name (field_nodes xs)
   all_after name [] h = tt
@@ -108,9 +107,9 @@ module _ (file : List ℕ) where
   are_apart [] h = tt
   are_apart (x ∷ xs) h = subst AreApart (sym (at_field x h.0.field xs h.0.is)) (all_after (response_name h.0.field) xs h.0.apart, are_apart xs h.1)
 
-  groups_at : (x : Selection) (f : Field) (xs : List Selection) → x ≡ s.Field f
+  groups_at : (x : Selection) (f : Field) (xs : List Selection) → out-Selection x ≡ Selection-F.Field f
       → groups_alone (in_file file (x ∷ xs)) ≡ alone (record { file = file; field = f }) ∷ groups_alone (in_file file xs)
-  groups_at x f xs e = ap (λ gs. gs ++ groups_alone (in_file file xs)) (ap (λ z. alone_at file (out-Selection z)) e ∙ ap (alone_at file) (s.outs-Field f))
+  groups_at x f xs e = ap (λ gs. gs ++ groups_alone (in_file file xs)) (ap (alone_at file) e)
 
   alone_are : (xs : List Selection) → ArePlain xs → groups_alone (in_file file xs) ≡ map alone (field_nodes xs)
   alone_are [] h = refl
@@ -120,7 +119,7 @@ module _ (file : List ℕ) where
 
   module _ (g : Given) (t : List ℕ) where
     plain_part : (x : Selection) (rest : List Selection) (h : IsPlain x rest) → part g t (record { file = file; selection = x }) ≡ node (record { file = file; field = h.field })
-    plain_part x rest h = ap (λ z. part_at g t file (out-Selection z)) h.is ∙ ap (part_at g t file) (s.outs-Field h.field)
+    plain_part x rest h = ap (part_at g t file) h.is
         ∙ ap (λ b. if b then selections [] else node (record { file = file; field = h.field })) (ap (is_left_out g.values) h.no_directives)
 
     unfolds : (xs : List Selection) → ArePlain xs → Unfolds g t (in_file file xs) (field_nodes xs)

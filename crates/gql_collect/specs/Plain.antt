@@ -1,31 +1,44 @@
--- Helper definitions for private contracts: selections that are fields apart from each other.
-use Rattle.std.specs.Prelude.{◌≡◌, ◌<◌, List, [], ◌∷◌, false, bytes_eq}
+-- Helper definitions for contracts: selection sets that need no search, as each of their selections
+-- is a field that is a group of its own.
+use Rattle.std.specs.Prelude.{List, [], ◌∷◌, Bool, true, false, not, ◌&&◌, length, nat_lt, nat_le, nat_eq, bytes_eq}
 use Rattle.gql_ast.specs.declared.executable.Field.{Field}
-use Rattle.gql_ast.specs.declared.executable.Selection.{Selection}
-use Rattle.gql_ast.specs.declared.executable.Selection.TheVariants as s
+use Rattle.gql_ast.specs.declared.executable.InlineFragment.{InlineFragment}
+use Rattle.gql_ast.specs.declared.executable.Selection.{Selection, out-Selection}
+use Rattle.gql_ast.specs.declared.executable.Selection.TheOpen.{Selection-F}
 use Rattle.gql_ast.specs.declared.text.Name.{Name}
 use Rattle.gql_collect.specs.Groups.{response_name}
 
--- the selection is a field that comes after the one of this response name, and has another one
-pub record IsAfter (name : Name) (x : Selection) : Type 0 where
-  pub field : Field
-  pub is : x ≡ s.Field field
-  pub later : name.place.offset < (response_name field).place.offset
-  pub other : bytes_eq name.text (response_name field).text ≡ false
+-- a name stands before another one, and has another text
+abbrev pub is_before : Name → Name → Bool
+is_before name other = nat_lt name.place.offset other.place.offset
+    && not (bytes_eq name.text other.text)
+
+-- the selection is a field whose response name stands later, and is another one
+abbrev pub is_later : Name → Selection-F Selection Field InlineFragment → Bool
+is_later name (Selection-F.Field f) = is_before name (response_name f)
+is_later name (Selection-F.Spread x) = false
+is_later name (Selection-F.InlineFragment i) = false
 
 -- all of these selections are such fields
-abbrev pub IsApart : Name → List Selection → Type 0
-IsApart name [] = Unit {0}
-IsApart name (x ∷ xs) = IsAfter name x × IsApart name xs
+abbrev pub are_later : Name → List Selection → Bool
+are_later name [] = true
+are_later name (x ∷ xs) = is_later name (out-Selection x) && are_later name xs
 
--- the selection is a field without directives, and the ones after it are fields apart from it
-pub record IsPlain (x : Selection) (rest : List Selection) : Type 0 where
-  pub field : Field
-  pub is : x ≡ s.Field field
-  pub no_directives : field.directives ≡ []
-  pub apart : IsApart (response_name field) rest
+-- the field has no directives, and the selections after it are fields of other response names
+abbrev pub is_plain_field : Field → List Selection → Bool
+is_plain_field f rest = nat_eq (length f.directives) 0 && are_later (response_name f) rest
 
--- these are fields without directives, apart from each other
-abbrev pub ArePlain : List Selection → Type 0
-ArePlain [] = Unit {0}
-ArePlain (x ∷ xs) = IsPlain x xs × ArePlain xs
+-- the selection is such a field
+abbrev pub is_plain_at : Selection-F Selection Field InlineFragment → List Selection → Bool
+is_plain_at (Selection-F.Field f) rest = is_plain_field f rest
+is_plain_at (Selection-F.Spread x) rest = false
+is_plain_at (Selection-F.InlineFragment i) rest = false
+
+-- these are fields without directives, each of a response name of its own, in the order of places
+abbrev pub are_plain : List Selection → Bool
+are_plain [] = true
+are_plain (x ∷ xs) = is_plain_at (out-Selection x) xs && are_plain xs
+
+-- these are at most eight such fields
+abbrev pub is_plain : List Selection → Bool
+is_plain xs = nat_le (length xs) 8 && are_plain xs

@@ -1,11 +1,10 @@
 //! Selection sets whose groups need no search: a few fields without directives, each of a response
 //! name of its own.
-ghost use Rattle.std.specs.Prelude.{◌≡◌, ◌<◌, [], ℕ, List, IsTrue, bytes_eq, false};
+ghost use Rattle.std.specs.Prelude.{◌≡◌, ℕ, List, IsTrue};
 ghost use Rattle.gql_collect.specs.Alone.{groups_alone};
 ghost use Rattle.gql_collect.specs.Borrowed.{selections_of};
 ghost use Rattle.gql_collect.specs.Collection.{AreGroups};
-ghost use Rattle.gql_collect.specs.Groups.{response_name};
-ghost use Rattle.gql_collect.specs.Plain.{ArePlain, IsApart};
+ghost use Rattle.gql_collect.specs.Plain as spec;
 ghost use Rattle.gql_collect.specs.Unfolding.{Given};
 
 use crate::node::{SelectionSet, own_name};
@@ -16,20 +15,19 @@ const FEW: usize = 8;
 
 /// Whether a field comes before another one, and has another response name.
 fn is_before(name: &Name, other: &Name) -> bool
-    ensures { IsTrue result → (name.now.place.offset < other.now.place.offset)
-        × (bytes_eq name.now.text other.now.text ≡ false) }
+    ensures { result ≡ spec.is_before name.now other.now }
 {
     name.place.offset < other.place.offset && name.as_str() != other.as_str()
 }
 
 /// Whether these are fields that come after the one of this response name, and have other response
 /// names.
-fn is_apart(name: &Name, selections: &[Selection]) -> bool
-    ensures { IsTrue result → IsApart name.now selections.now }
+fn are_later(name: &Name, selections: &[Selection]) -> bool
+    ensures { result ≡ spec.are_later name.now selections.now }
 {
     match selections {
         [Selection::Field(field), rest @ ..] => {
-            is_before(name, own_name(field)) && is_apart(name, rest)
+            is_before(name, own_name(field)) && are_later(name, rest)
         }
         [Selection::Spread(_), ..] => false,
         [Selection::InlineFragment(_), ..] => false,
@@ -39,16 +37,15 @@ fn is_apart(name: &Name, selections: &[Selection]) -> bool
 
 /// Whether a field has no directives, and the selections after it are fields apart from it.
 fn is_plain_field(field: &Field, rest: &[Selection]) -> bool
-    ensures { IsTrue result → (field.now.directives ≡ [])
-        × IsApart (response_name field.now) rest.now }
+    ensures { result ≡ spec.is_plain_field field.now rest.now }
 {
-    field.directives.as_slice().is_empty() && is_apart(own_name(field), rest)
+    field.directives.len() == 0 && are_later(own_name(field), rest)
 }
 
 /// Whether these are fields without directives, in the order of their places, each of a response
 /// name of its own.
 fn are_plain(selections: &[Selection]) -> bool
-    ensures { IsTrue result → ArePlain selections.now }
+    ensures { result ≡ spec.are_plain selections.now }
 {
     match selections {
         [Selection::Field(field), rest @ ..] => is_plain_field(field, rest) && are_plain(rest),
@@ -58,9 +55,11 @@ fn are_plain(selections: &[Selection]) -> bool
     }
 }
 
-/// Whether a set has a few fields alone, each of which is a group of its own.
+/// Whether a set has at most eight fields alone, without directives, in the order of their places
+/// and each of a response name of its own: then each of them is a group of its own.
 pub fn is_plain(set: &SelectionSet<'_>) -> bool
-    ensures { IsTrue result → (g : Given) → (t : List ℕ)
+    ensures plain { result ≡ spec.is_plain set.now.selections.now }
+    ensures groups { IsTrue result → (g : Given) → (t : List ℕ)
         → AreGroups g t (selections_of set.now) (groups_alone (selections_of set.now)) }
 {
     set.selections.len() <= FEW && are_plain(set.selections)

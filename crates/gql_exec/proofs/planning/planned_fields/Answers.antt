@@ -41,4 +41,4 @@ returns-then-is_plain c =
     ok_then c.plain_fields.result (λ (fs : Vec FieldPlan Global). Planning g t groups fs.items) (λ (fs : Vec FieldPlan Global). Hold g t xs fs.items)
     (λ fs h. all_held g t xs groups fs.items
     (subst (λ ys. AreGroups g.given t ys groups) (sym (only_set c.args.sets.now c.set-item.result (omega (arith, c.in-len1.len_at_least, c.in-len1.len_below)) c.set-item.is))
-    (c.is_plain.ensures c.if-is_plain.true g.given t)) h) c.plain_fields.ensures
+    (c.is_plain.ensures.groups c.if-is_plain.true g.given t)) h) c.plain_fields.ensures
