@@ -103,7 +103,51 @@ def schema_file(number):
     return "\n".join(lines) + "\n"
 
 
+def described_file(number):
+    """A file of 20 KB as a service writes one: objects of nine fields, most with descriptions, with
+    an input object, an enum and at times a union for each."""
+    parts = []
+    if number == 0:
+        parts.append("type Query { node(id: ID!): Node }\ninterface Node { id: ID! }\n")
+    size = sum(map(len, parts))
+    while size < 20000:
+        name = f"{number}x{len(parts)}"
+        found = f"union Found{name} = Order{name} | Order{number}x2\n"
+        union = found if len(parts) % 4 == 1 else ""
+        parts.append(f'''"""An order of a customer, with its items and what is due for it."""
+type Order{name} implements Node {{
+  "Its identifier, which never changes."
+  id: ID!
+  "When it was placed, as the customer sees it."
+  placedAt: String!
+  "The items in it, in the order in which they were added."
+  items(first: Int = 10, after: String, filter: Filter{name}): [Order{name}!]!
+  "Where it stands."
+  state: State{name}!
+  "What the customer paid, in cents."
+  total: Int
+  "The note that the customer left."
+  note: String
+  customer: Order{name}
+  previous(before: String): Order{name}
+  code: String @deprecated(reason: "use id")
+}}
+"Which orders are asked for."
+input Filter{name} {{ state: State{name} = OPEN minimum: Int = 0 text: String ids: [ID!] }}
+enum State{name} {{ OPEN PAID SENT CLOSED }}
+{union}''')
+        size += len(parts[-1])
+    return "".join(parts)
+
+
 def edits(program):
+    service = Service(program)
+    for number in range(48):
+        service.put(f"/schema/f{number}", described_file(number))
+    each, _ = service.send([request("PUT /schema/f1", described_file(1))] * 10)
+    say("edit one of 48 schema files of 20 KB with descriptions", each,
+        f" ({service.faults()} faults)")
+    service.end()
     for count in [12, 48, 192]:
         service = Service(program)
         for number in range(count):
