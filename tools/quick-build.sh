@@ -1,7 +1,7 @@
 #!/bin/sh
-# Builds a program as LLVM optimises it, WITHOUT proving it: tools/quick-build.sh PROGRAM_FOLDER OUT,
-# as tools/quick-build.sh crates/gqlreg /tmp/gqlreg. It takes one to three minutes on a machine that
-# does nothing else, and says what it does.
+# Builds a program as LLVM optimises it, WITHOUT proving it: tools/quick-build.sh PROGRAM_FOLDER OUT
+# [LEVEL], as tools/quick-build.sh crates/gqlreg /tmp/gqlreg. LEVEL is that of clang's option -O, by
+# default 3, as in the proved build. It takes one to three minutes, and says what it does.
 #
 # For trying a program out and for measuring: the sources and the code generation are those of the
 # proved build, and it has no run-time checks. What it builds is never what the gate or a release
@@ -9,13 +9,17 @@
 #
 # How: `rt try` gives the whole program to clang as one LLVM module, unoptimised and with checks. A
 # copy of the kit's launcher, whose clang keeps that module and compiles nothing, is run once. The
-# checks are taken out of the module; then it is compiled at -O3 and linked. It needs the kit alone.
+# checks are taken out of the module; then it is compiled and linked. It needs the kit alone.
 set -eu
-[ $# = 2 ] || { echo "usage: tools/quick-build.sh PROGRAM_FOLDER OUT" >&2; exit 2; }
+case $# in
+    2 | 3) ;;
+    *) echo "usage: tools/quick-build.sh PROGRAM_FOLDER OUT [LEVEL]" >&2; exit 2 ;;
+esac
 [ -f "$1/src/main.rt" ] || { echo "quick-build.sh: $1 has no program" >&2; exit 2; }
 command -v rt > /dev/null || { echo "quick-build.sh: no rt on the path: it needs a kit" >&2; exit 2; }
 program=$(cd "$1" && pwd)
 name=$(basename "$program")
+level=${3:-3}
 mkdir -p "$(dirname "$2")"
 out=$(cd "$(dirname "$2")" && pwd)/$(basename "$2")
 kit=$(dirname "$(rt doc)")
@@ -94,7 +98,7 @@ step 'compiling with optimisation'
 "$kit/toolchain/bin/clang" --target=x86_64-unknown-linux-gnu --sysroot="$kit/toolchain" \
     -march=x86-64 -mllvm -no-trap-after-noreturn -ffunction-sections -fdata-sections \
     -mllvm -trap-unreachable --no-default-config -Wno-override-module \
-    -c -x ir "$work/plain.ll" -o "$work/plain.o" -fPIE -O3
+    -c -x ir "$work/plain.ll" -o "$work/plain.o" -fPIE "-O$level"
 "$kit/bin/rattle-link" --target x86_64-unknown-linux-gnu --toolchain "$kit/toolchain" \
     -o "$work/program" "$work/plain.o" "$kit/c/libos_c.a" "$kit/c/liblibc_c.a" 2> "$work/log" \
     || { cat "$work/log" >&2; exit 1; }

@@ -1,7 +1,7 @@
 """Writes rows of generated documents, with their faults by the merging of fields (V05 and V06).
 
     python3 merging_rows.py COUNT > data/merging_generated.txt
-    python3 merging_rows.py FIRST COUNT > /tmp/rows.txt    # others, for ./run.sh /tmp/rows.txt
+    python3 merging_rows.py FIRST COUNT > /tmp/rows.txt    # others, for tables/run.sh /tmp/rows.txt
 
 The faults are found here, by a search through all pairs of fields, as the specification states the
 rule (GraphQL 5.3.2). So they do not depend on the crates that the rows test.

@@ -1,9 +1,9 @@
 //! The answer to the question for the built-in definitions.
 
-use crate::joined::join;
 use gql_ast::Tree;
 use gql_built_in::{Sited, built_in_definitions};
 use std::alloc::Global;
+use table_rows::join;
 
 /// The name of a type, or the name of a directive after `@`; the file of a definition that is in
 /// one.

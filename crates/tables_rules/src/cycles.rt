@@ -1,9 +1,9 @@
 //! Names and nodes that lead to one another, and those of them that are on cycles.
 use crate::inputs::json_in;
-use crate::joined::join;
 use gql_cycles::{Row, names_on_cycles, nodes_on_cycles};
 use serde_json::Value;
 use std::alloc::{AllocError, Global};
+use table_rows::join;
 
 /// The row that a text is: `NAME -> NAME NAME`.
 fn row_in(alloc: Global, text: &str) -> Option<Row<'_>> {

@@ -1,9 +1,9 @@
 //! Keys and facts as the tables write them.
-use crate::joined::join;
 use gql_ast::{OperationKind, Text};
 use gql_facts::{DirectiveFact, Fact, FieldFact, InputFact, Key};
 use gql_types::{Named, Wrapper, WrittenType};
 use std::alloc::Global;
+use table_rows::join;
 
 fn kind_word(kind: OperationKind) -> &'static str {
     match kind {

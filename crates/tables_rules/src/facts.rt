@@ -1,13 +1,13 @@
 //! Questions about facts, and about what a definition reads. Each answer is `None` if the
 //! question is not well written.
 use crate::fact_words::{kind_in, written_fact, written_key};
-use crate::joined::join;
 use gql_ast::{Document, FileMap, FileName, Shared, Text};
 use gql_facts::{Fact, Fragments, Key, Present, Recorder, SchemaFacts, World, walk_reads};
 use gql_parse_sdl::parse_any;
 use gql_types::Schema;
 use indexmap::IndexMap;
 use std::alloc::Global;
+use table_rows::join;
 
 /// A document file `d` with this text.
 pub fn documents_in(alloc: Global, text: &str) -> Option<FileMap<Shared<Document>>> {

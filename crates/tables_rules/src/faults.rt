@@ -1,7 +1,7 @@
 //! Faults as the table writes them.
-use crate::joined::join;
 use gql_ast::{Fault, FilePlace};
 use std::alloc::{AllocError, Global};
+use table_rows::join;
 
 /// A place as `file line:column`.
 fn written_place(alloc: Global, place: &FilePlace) -> Result<String, AllocError> {

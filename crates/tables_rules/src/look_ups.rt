@@ -1,12 +1,12 @@
 //! Look-ups in a schema (GraphQL specification, 3.3 to 3.13). Each answer is `None` if the
 //! question is not well written.
 use crate::inputs::type_in;
-use crate::joined::join;
 use gql_ast::{Items, OperationKind, Text};
 use gql_built_in::SourceFile;
 use gql_text::Place;
 use gql_types::{HasName, Root, Schema};
 use std::alloc::Global;
+use table_rows::join;
 
 /// The answer if nothing is found.
 fn nothing(alloc: Global) -> Option<String> {

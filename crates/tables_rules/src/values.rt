@@ -1,7 +1,7 @@
 //! Questions about values (GraphQL specification, 3.5 to 3.12, 5.6, 6.1.2, 6.4.1). Each answer is
 //! `None` if the question is not well written.
+use crate::coerced::{written_misfits, written_option, written_value};
 use crate::inputs::{document_in, field_of, json_in, literal_in, operation_of, type_in};
-use crate::written::{written_misfits, written_option, written_value};
 use gql_coerce::{coerce_arguments, coerce_json, coerce_literal, coerce_variables};
 use gql_inputs::{bad_values, fits};
 use gql_types::Schema;

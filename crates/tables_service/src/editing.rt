@@ -1,12 +1,12 @@
 //! Edits on one registry, one after the other: what each answers, and which definitions it
 //! examines.
 use crate::faults::written_faults;
-use crate::joined::join;
 use crate::running::run_step;
 use gql_ast::{DefinitionId, FileName};
 use gql_registry::{Edited, Refusal, Registry};
 use gql_verdict::Meter;
 use std::alloc::Global;
+use table_rows::join;
 
 /// A registry that is edited.
 #[derive(Drop)]

@@ -1,5 +1,5 @@
 //! Streams that come over several connections in turn, a byte at a time.
-use crate::answers::written_answers;
+use crate::written_answers::written_answers;
 use gql_http::Hub;
 use gql_registry::Registry;
 use std::alloc::{AllocError, Global};

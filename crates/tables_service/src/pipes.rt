@@ -1,7 +1,7 @@
 //! Pipes: the answers to the requests of a peer whose reads and writes may fail.
 use crate::bytes::bytes_in;
-use crate::devices::moves_in;
-use crate::hubs::answered;
+use crate::cut_streams::answered;
+use crate::moves::moves_in;
 use gql_http::{Hub, PipeEnd, PipeFault, pipe, status_of};
 use gql_registry::Registry;
 use gql_wire::MemPeer;

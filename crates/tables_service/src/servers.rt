@@ -1,6 +1,6 @@
 //! A server and its client in one process.
-use crate::answers::written_answers;
 use crate::bytes::bytes_in;
+use crate::written_answers::written_answers;
 use gql_http::{Hub, serve_on};
 use gql_registry::Registry;
 use std::io::{Read, Write};

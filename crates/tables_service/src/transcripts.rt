@@ -1,11 +1,10 @@
 //! Transcripts of a service with several connections: what each step gives.
-use crate::answers::written_answers;
 use crate::bytes::bytes_in;
-use crate::joined::join;
-use crate::quoted::unquoted;
+use crate::written_answers::written_answers;
 use gql_http::{Hub, OpenRefusal};
 use gql_registry::Registry;
 use std::alloc::Global;
+use table_rows::{join, unquoted};
 
 /// The bytes of a request that `METHOD TARGET` or `METHOD TARGET BODY` says. A character of the
 /// body is a byte, and `(empty)` an empty body.

@@ -1,9 +1,9 @@
 //! Answers as transcripts write them: `STATUS BODY`, with `allow METHODS` and `close` after the
 //! status if the head says so.
-use crate::answer_heads::answer_head_bytes;
 use crate::bytes::characters;
-use crate::joined::join;
+use crate::heads::answer_head_bytes;
 use std::alloc::Global;
+use table_rows::join;
 
 /// What the head of an answer says.
 #[derive(Drop)]

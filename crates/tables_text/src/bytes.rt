@@ -1,6 +1,6 @@
 //! Bytes as the table writes them: each is one character, `\u00ff` the byte 255.
-use crate::quoted::quoted;
 use std::alloc::{AllocError, Global};
+use table_rows::quoted;
 
 /// The bytes that the characters of a text are, if none of them is beyond U+00FF.
 pub fn bytes_in(alloc: Global, text: &str) -> Option<Vec<u8>> {

@@ -1,7 +1,7 @@
 //! What command lines ask for.
-use crate::quoted::quoted;
 use gql_command::{Command, CommandFault, read_command};
 use std::alloc::{AllocError, Global};
+use table_rows::quoted;
 
 fn words_in(alloc: Global, line: &str) -> Result<Vec<String>, AllocError> {
     let mut words = Vec::new(alloc);

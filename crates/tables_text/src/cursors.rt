@@ -1,5 +1,4 @@
 //! A cursor over the tokens of a text that is read step after step.
-use crate::quoted::quoted;
 use crate::steps::{Stepped, parts_of, steps_answer, yes_or_no};
 use crate::tokens::written_token;
 use crate::trees::Written;
@@ -7,6 +6,7 @@ use gql_grammar::{Cursor, ParseError, Unexpected};
 use gql_parse::{definition, directives, name, optional_default, set, type_ref, value};
 use gql_text::{Kind, lex};
 use std::alloc::{AllocError, Global};
+use table_rows::quoted;
 
 /// The kind of a token's text, and that of the end if the text is empty.
 fn kind_of(alloc: Global, text: &str) -> Option<Kind> {

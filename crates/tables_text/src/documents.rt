@@ -1,9 +1,9 @@
 //! Whole documents: their copies, their comparison, and their beginnings.
-use crate::answer::parsed;
-use crate::joined::join;
+use crate::parsers::parsed;
 use gql_ast::{Definition, Document, Same};
 use gql_grammar::SyntaxFault;
 use std::alloc::Global;
+use table_rows::join;
 
 fn document_of(alloc: Global, parser: &str, text: &str) -> Option<Document> {
     parsed(alloc, parser, text)?.ok()

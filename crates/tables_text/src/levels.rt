@@ -1,6 +1,6 @@
 //! The tokens that a parser visits, up to the one that opens the 101st bracket, and the places of
 //! its refusals.
-use crate::answer::written_fault;
+use crate::parsers::written_fault;
 use gql_grammar::{Cursor, ParseError, looked_at, placed};
 use gql_text::{end_place, lex};
 use std::alloc::Global;

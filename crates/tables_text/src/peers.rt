@@ -1,8 +1,8 @@
 //! Peers, which move some bytes in each call.
 use crate::bytes::{bytes_in, quoted_bytes};
-use crate::joined::join;
 use gql_wire::{DevicePeer, MemPeer, Moves, Peer, write_all};
 use std::alloc::Global;
+use table_rows::join;
 
 /// How many bytes a read asks for.
 const PIECE_BYTES: usize = 4;

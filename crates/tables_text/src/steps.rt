@@ -1,7 +1,7 @@
 //! Answers to a question that has several steps.
 
-use crate::joined::join;
 use std::alloc::Global;
+use table_rows::join;
 
 /// What is asked step after step.
 pub trait Stepped {

@@ -1,8 +1,8 @@
 //! The requests of a stream of bytes (RFC 9112, 2 and 3), which comes in pieces.
 use crate::bytes::{bytes_in, characters, quoted_bytes};
-use crate::joined::join;
 use gql_wire::{Framed, Framer};
 use std::alloc::{AllocError, Global};
+use table_rows::join;
 
 /// A stream as far as it came.
 #[derive(Drop)]

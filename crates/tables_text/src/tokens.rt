@@ -1,8 +1,7 @@
 //! Tokens as the table writes them (GraphQL specification, 2.1).
-use crate::joined::join;
-use crate::quoted::quoted;
 use gql_text::{LexFault, Place, Token, end_place, lex, text_value};
 use std::alloc::{AllocError, Global};
+use table_rows::{join, quoted};
 
 /// A place as its line, its column and its offset.
 fn written_place(alloc: Global, place: &Place) -> Result<String, AllocError> {

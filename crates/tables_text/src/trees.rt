@@ -5,11 +5,11 @@ mod literals;
 mod type_refs;
 mod type_systems;
 
-use crate::answer::parsed;
-use crate::joined::join;
+use crate::parsers::parsed;
 use gql_ast::{Items, Name, Text, Tree};
 use gql_text::Place;
 use std::alloc::{AllocError, Global};
+use table_rows::join;
 
 /// What the table writes.
 pub trait Written {
@@ -81,7 +81,7 @@ impl Written for Place {
 /// A description, as a string of JSON.
 impl Written for Text {
     fn written(&self, alloc: Global) -> Result<String, AllocError> {
-        crate::quoted::quoted(alloc, self.as_str())
+        table_rows::quoted(alloc, self.as_str())
     }
 }
 

@@ -1,12 +1,12 @@
 //! Operations, fragments and selections, as the tables write them.
 
-use crate::joined::join;
 use crate::trees::{Written, between, enclosed, optional};
 use gql_ast::{
     Field, Fragment, InlineFragment, Operation, OperationKind, Selection, Spread,
     VariableDefinition,
 };
 use std::alloc::{AllocError, Global};
+use table_rows::join;
 
 impl Written for Selection {
     #[cycle(selections)]

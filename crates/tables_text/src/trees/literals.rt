@@ -1,11 +1,10 @@
 //! Literals, arguments and directives, as the tables write them.
 
-use crate::joined::join;
-use crate::quoted::quoted;
 use crate::trees::{Written, enclosed};
 use gql_ast::{Argument, Directive, Literal, ObjectField};
 use gql_text::Place;
 use std::alloc::{AllocError, Global};
+use table_rows::{join, quoted};
 
 /// A text with its place.
 fn placed(alloc: Global, text: &str, place: &Place) -> Result<String, AllocError> {

@@ -1,6 +1,6 @@
 //! The service: its answers to a stream of requests.
-use crate::answers::written_answers;
 use crate::bytes::{bytes_in, quoted_bytes};
+use crate::written_answers::written_answers;
 use gql_http::Hub;
 use gql_registry::Registry;
 use std::alloc::Global;
