@@ -102,7 +102,7 @@ fn written_meter(alloc: Global, meter: &Meter) -> Option<String> {
 }
 
 /// Which definitions of the document file `d` with this text are examined when it is put, by their
-/// offsets, and the faults of all verdicts after it.
+/// offsets, and the faults of all verdicts after it, in the order of a report.
 pub fn verdicts_answer(
     alloc: Global,
     schema: &Schema,
@@ -112,7 +112,7 @@ pub fn verdicts_answer(
     let files = document_files(alloc, text)?;
     let mut meter = Meter::new(alloc);
     refresh(alloc, schema, &files, shelf, &mut meter)?;
-    let faults = shelf.faults(alloc).ok()?;
+    let faults = in_order(alloc, shelf.faults(alloc).ok()?).ok()?;
     let faults = written_faults(alloc, faults.as_slice()).ok()?;
     let examined = written_meter(alloc, &meter)?;
     format!(in alloc; "examined {examined}; {faults}").ok()
