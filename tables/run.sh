@@ -133,9 +133,11 @@ if [ "$answers" != "$((wanted))" ]; then
     echo "$((wanted)) questions are asked, and $answers answers were compared"
     status=1
 fi
+word=answers
+[ "$answers" != 1 ] || word=answer
 if [ "$status" = 0 ]; then
-    echo "$answers answers, all as expected"
+    echo "$answers $word, all as expected"
 else
-    echo "$answers answers, not all as expected"
+    echo "$answers $word, not all as expected"
 fi
 exit "$status"

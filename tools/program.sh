@@ -54,5 +54,10 @@ if [ -x "$unproved" ]; then
     echo "note: ${source#"$top"/} is newer than the program $crate" >&2
 fi
 echo "the program $crate is built without proof, in one to three minutes" >&2
-"$top/tools/quick-build.sh" "$top/crates/$crate" "$unproved"
+# the tables take seconds however they are optimised, and at level 1 they are built sooner
+case $crate in
+    tables_*) level=1 ;;
+    *) level=3 ;;
+esac
+"$top/tools/quick-build.sh" "$top/crates/$crate" "$unproved" "$level"
 echo "$unproved"

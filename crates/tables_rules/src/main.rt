@@ -5,6 +5,7 @@
 #![tactic(auto)]
 
 mod built_in_names;
+mod clashing_fields;
 mod coerced;
 mod cycles;
 mod fact_words;
@@ -12,6 +13,7 @@ mod facts;
 mod faults;
 mod inputs;
 mod look_ups;
+mod numbered_sets;
 mod questions;
 mod reports;
 mod rule_groups;

@@ -1,5 +1,6 @@
-//! Questions about schema files, and about no file.
+//! Questions about schema files, and about no schema.
 use crate::built_in_names::built_in_answer;
+use crate::clashing_fields::clashes_answer;
 use crate::cycles::{names_on_cycles_answer, nodes_on_cycles_answer};
 use crate::facts::facts_answer;
 use crate::inputs::put_file;
@@ -23,9 +24,10 @@ fn files_of(alloc: Global, texts: &[NamedText]) -> Option<Files> {
     Some(files)
 }
 
-/// The answer to a question about no file; `None` if there is no such question.
-fn free_answer(alloc: Global, word: &str, rest: &str) -> Option<String> {
+/// The answer to a question about no schema; `None` if there is no such question.
+fn free_answer(alloc: Global, texts: &[NamedText], word: &str, rest: &str) -> Option<String> {
     match word {
+        "clashes" => clashes_answer(alloc, texts.last()?.text.as_str(), rest),
         "names-on-cycles" => names_on_cycles_answer(alloc, rest),
         "nodes-on-cycles" => nodes_on_cycles_answer(alloc, rest),
         "built-in" => built_in_answer(alloc),
@@ -99,7 +101,7 @@ impl Row for SchemaRow {
     ) -> Result<String, AllocError> {
         let alloc = self.alloc;
         let (word, rest) = question.split_once(" ").unwrap_or((question, ""));
-        if let Some(answer) = free_answer(alloc, word, rest) {
+        if let Some(answer) = free_answer(alloc, given.texts.as_slice(), word, rest) {
             return Ok(answer);
         }
         if self.known.is_none() {
