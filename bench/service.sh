@@ -10,11 +10,11 @@
 # one without, the least of three each. The first answer is checked.
 #
 # Figures depend on the machine and on what else it does: compare lines of one run alone.
-# GQLREG names the program; else it is the one that is built in this repository, or on the path.
+# GQLREG names the program; else it is that of this repository, which is built without proof if it is
+# not there (tools/program.sh): it runs as fast as the proved one.
 set -eu
 here=$(cd "$(dirname "$0")" && pwd)
-program=${GQLREG:-$here/../crates/gqlreg/out/gqlreg}
-[ -x "$program" ] || program=$(command -v gqlreg) \
-    || { echo "no program gqlreg (README.md says how to build it)" >&2; exit 2; }
 command -v python3 > /dev/null || { echo "service.sh needs python3" >&2; exit 2; }
+program=${GQLREG:-$("$here/../tools/program.sh" gqlreg)}
+[ -x "$program" ] || { echo "no program gqlreg: $program" >&2; exit 2; }
 exec python3 "$here/service.py" "$program" "$@"

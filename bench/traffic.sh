@@ -8,12 +8,12 @@
 #
 # The last line is a summary. Status: 0 no wrong answer and no growth; 1 otherwise; 2 it did not
 # run. Growth is a megabyte more, or a twentieth, or another number of descriptors.
-# GQLREG names the program; else it is the one that is built in this repository, or on the path.
+# GQLREG names the program; else it is that of this repository, which is built without proof if it is
+# not there (tools/program.sh): it runs as fast as the proved one.
 # SEED is the seed of the traffic, by default 1.
 set -eu
 here=$(cd "$(dirname "$0")" && pwd)
-program=${GQLREG:-$here/../crates/gqlreg/out/gqlreg}
-[ -x "$program" ] || program=$(command -v gqlreg) \
-    || { echo "no program gqlreg (README.md says how to build it)" >&2; exit 2; }
 command -v python3 > /dev/null || { echo "traffic.sh needs python3" >&2; exit 2; }
+program=${GQLREG:-$("$here/../tools/program.sh" gqlreg)}
+[ -x "$program" ] || { echo "no program gqlreg: $program" >&2; exit 2; }
 exec python3 "$here/traffic.py" "$program" "${1:-36000}" "${2:-900}" "${SEED:-1}"

@@ -1,15 +1,16 @@
 #!/bin/sh
 # Tests of gqlreg-client over the program gqlreg: client/test.sh. The last line is `N passed, M
-# failed`. GQLREG names the program; else it is the one on the path, or the one that is built in this
-# repository. CLIENT_SHELL names a shell to run the client with, as dash or bash.
+# failed`. GQLREG names the program; else it is that of this repository, which is built without proof
+# if it is not there (tools/program.sh). CLIENT_SHELL names a shell to run the client with, as dash or
+# bash.
 # shellcheck disable=SC2016
 set -u
 LC_ALL=C
 export LC_ALL
 here=$(cd "$(dirname "$0")" && pwd)
-GQLREG=${GQLREG:-$(command -v gqlreg || printf '%s' "$here/../crates/gqlreg/out/gqlreg")}
+GQLREG=${GQLREG:-$("$here/../tools/program.sh" gqlreg)}
 export GQLREG
-[ -x "$GQLREG" ] || { echo "no program gqlreg (README.md says how to build it)" >&2; exit 2; }
+[ -x "$GQLREG" ] || { echo "no program gqlreg: $GQLREG" >&2; exit 2; }
 NO_COLOR=1
 export NO_COLOR
 place=$(mktemp -d)

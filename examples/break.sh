@@ -4,7 +4,7 @@
 # gqlreg pipe.
 set -eu
 folder=$(cd "$(dirname "$0")" && pwd)
-schema="$folder/../crates/tables/data/schemas/shop.graphql"
+schema="$folder/../crates/tables_service/data/schemas/shop.graphql"
 
 # put SIDE NAME < FILE: prints a request that puts the file
 put() {

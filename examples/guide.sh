@@ -4,16 +4,16 @@
 # shell; the block ```text after it is what it has to print, or nothing if there is none. The server
 # listens at PORT, by default 8080. With --write what was printed is written to the guide. The last
 # line is `N passed, M failed`.
-# GQLREG names the program; else it is the one that is built in this repository, or on the path.
+# GQLREG names the program; else it is that of this repository, which is built without proof if it is
+# not there (tools/program.sh).
 set -u
 top=$(cd "$(dirname "$0")/.." && pwd)
 guide=$top/docs/GUIDE.md
 write=0
 [ "${1:-}" != --write ] || { write=1; shift; }
 port=${1:-8080}
-program=${GQLREG:-$top/crates/gqlreg/out/gqlreg}
-[ -x "$program" ] || program=$(command -v gqlreg) \
-    || { echo "no program gqlreg (README.md says how to build it)" >&2; exit 2; }
+program=${GQLREG:-$("$top/tools/program.sh" gqlreg)}
+[ -x "$program" ] || { echo "no program gqlreg: $program" >&2; exit 2; }
 room=$(mktemp -d)
 server=
 trap '[ -z "$server" ] || kill "$server" 2> /dev/null; rm -rf "$room"' EXIT

@@ -4,7 +4,7 @@
 # tail -1 > schema.json.
 set -eu
 folder=$(cd "$(dirname "$0")" && pwd)
-data="$folder/../crates/tables/data"
+data="$folder/../crates/tables_service/data"
 
 # send LINE < BODY: prints a request with this body
 send() {

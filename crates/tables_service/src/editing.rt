@@ -1,0 +1,121 @@
+//! Edits on one registry, one after the other: what each answers, and which definitions it
+//! examines.
+use crate::faults::written_faults;
+use crate::running::run_step;
+use gql_ast::{DefinitionId, FileName};
+use gql_registry::{Edited, Refusal, Registry};
+use gql_verdict::Meter;
+use std::alloc::Global;
+use table_rows::join;
+
+/// A registry that is edited.
+#[derive(Drop)]
+pub struct Editing {
+    alloc: Global,
+    registry: Registry,
+}
+
+/// The definitions that a meter has, each as `FILE OFFSET`, or `nothing`.
+fn written_meter(alloc: Global, meter: &Meter) -> Option<String> {
+    let mut written = String::new(alloc);
+    for entry in meter.entries() {
+        let file = entry.file.as_str();
+        let offset = entry.offset;
+        let entry = format!(in alloc; "{file} {offset}").ok()?;
+        join(&mut written, ", ", entry.as_str()).ok()?;
+    }
+    if written.is_empty() {
+        written.push_str("nothing").ok()?;
+    }
+    Some(written)
+}
+
+/// What an edit answers: `revision N, faults K, examined ..`, or `refused, examined ..`.
+fn written_edit(alloc: Global, edited: Result<Edited, Refusal>, meter: &Meter) -> Option<String> {
+    let examined = written_meter(alloc, meter)?;
+    let examined = examined.as_str();
+    match edited {
+        Ok(edited) => {
+            let revision = edited.revision;
+            let faults = edited.faults;
+            format!(in alloc; "revision {revision}, faults {faults}, examined {examined}").ok()
+        }
+        Err(_) => format!(in alloc; "refused, examined {examined}").ok(),
+    }
+}
+
+impl Editing {
+    /// An empty registry.
+    pub fn new(alloc: Global) -> Editing {
+        Editing {
+            alloc,
+            registry: Registry::new(alloc),
+        }
+    }
+
+    /// Puts the file that `SIDE NAME TEXT` says.
+    fn put(&mut self, rest: &str) -> Option<String> {
+        let (side, rest) = rest.split_once(" ")?;
+        let (name, text) = rest.split_once(" ")?;
+        let name = FileName::read(name)?;
+        let mut meter = Meter::new(self.alloc);
+        let bytes = text.as_bytes();
+        let edited = match side {
+            "schema" => self.registry.put_schema(name, bytes, None, &mut meter),
+            "documents" => self.registry.put_document(name, bytes, None, &mut meter),
+            _ => return None,
+        };
+        written_edit(self.alloc, edited, &meter)
+    }
+
+    /// Removes the file that `SIDE NAME` says.
+    fn remove(&mut self, rest: &str) -> Option<String> {
+        let (side, name) = rest.split_once(" ")?;
+        let name = FileName::read(name)?;
+        let mut meter = Meter::new(self.alloc);
+        let edited = match side {
+            "schema" => self.registry.remove_schema(name, None, &mut meter),
+            "documents" => self.registry.remove_document(name, None, &mut meter),
+            _ => return None,
+        };
+        written_edit(self.alloc, edited, &meter)
+    }
+
+    /// The faults of the verdict on the definition that `FILE OFFSET` says, or `no verdict`.
+    fn verdict(&self, rest: &str) -> Option<String> {
+        let (file, offset) = rest.split_once(" ")?;
+        let id = DefinitionId {
+            file: FileName::read(file)?,
+            offset: offset.parse::<usize>().ok()?,
+        };
+        match self.registry.shelf().get(&id) {
+            Some(verdict) => written_faults(self.alloc, verdict.faults()).ok(),
+            None => String::from_str(self.alloc, "no verdict").ok(),
+        }
+    }
+
+    /// What a step gives: `begin`, `put SIDE NAME TEXT`, `remove SIDE NAME`, `verdict FILE OFFSET`
+    /// or `report`.
+    pub fn step(&mut self, step: &str) -> Option<String> {
+        let (word, rest) = step.split_once(" ").unwrap_or((step, ""));
+        match word {
+            "begin" => {
+                self.registry = Registry::new(self.alloc);
+                String::from_str(self.alloc, "begun").ok()
+            }
+            "put" => self.put(rest),
+            "remove" => self.remove(rest),
+            "verdict" => self.verdict(rest),
+            "report" => {
+                let faults = self.registry.report().ok()?;
+                written_faults(self.alloc, faults.as_slice()).ok()
+            }
+            _ => None,
+        }
+    }
+
+    /// What a question about runs of stored operations gives; `None` for another question.
+    pub fn run_step(&mut self, question: &str) -> Option<String> {
+        run_step(self.alloc, &mut self.registry, question)
+    }
+}
