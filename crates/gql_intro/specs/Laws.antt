@@ -9,10 +9,14 @@ use Rattle.gql_intro.specs.Introspection.{Given}
 use Rattle.gql_intro.specs.Nodes.{Answer, Node}
 use Rattle.gql_intro.specs.SchemaNodes.{AreNodesOf, IsNodeOf}
 
--- a field of a node of the schema resolves to an answer of the field's type, whose nodes are again
--- nodes of the schema
+-- the field of this name of a node resolves to an answer of this type, whose nodes are nodes of the
+-- schema
+abbrev pub IsAnswered : Files → Given → Node → List ℕ → Written → Type 0
+IsAnswered files given n name t = (a : Answer) × (resolve_in files given n name ≡ Some a)
+    × HasType (schema_of files) t a × AreNodesOf (schema_of files) a
+
+-- each field of a node of the schema resolves to an answer of the field's type
 abbrev pub AnswersHaveTheirTypes : Type 0
 AnswersHaveTheirTypes = (files : Files) (given : Given) (n : Node) (name : List ℕ) (t : Written)
     → IsIntrospectable files → IsNodeOf (schema_of files) n → HasField (schema_of files) n name t
-    → (a : Answer) × (resolve_in files given n name ≡ Some a) × HasType (schema_of files) t a
-    × AreNodesOf (schema_of files) a
+    → IsAnswered files given n name t
