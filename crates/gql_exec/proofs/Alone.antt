@@ -20,7 +20,7 @@ use Rattle.serde_json.specs.Data as json
 use Rattle.serde_json.specs.Data.{Data}
 use Rattle.serde_json.specs.Find.{get}
 use Rattle.serde_json.specs.View.{items_of}
-use Rattle.gql_exec.specs.Execution.{Arguments, given, refused, Object, stored, described, by_source, list_reply, on_answer, on_node, Below, Fields, no_fields, field, Plan, plan, PlannedField, Site, Types, among, answer, answered, complete, each, execute, executed, fault, items_from, is_null, leaf, members_of, of_kind, on_abstract, on_list, on_object, placed, value_of}
+use Rattle.gql_exec.specs.Execution.{Arguments, given, refused, Object, stored, described, answering, by_source, list_reply, on_answer, on_node, Below, Fields, no_fields, field, Plan, plan, PlannedField, Site, Types, among, answer, answered, complete, each, execute, executed, fault, items_from, is_null, leaf, members_of, of_kind, on_abstract, on_list, on_object, placed, value_of}
 use Rattle.gql_exec.specs.declared.planning.Source.{Source}
 use Rattle.gql_exec.specs.declared.planning.Source.TheVariants as source
 use Rattle.gql_exec.specs.Leaves.{as_enum, scalar_value}
@@ -95,18 +95,20 @@ module _ (types : Types) (place : Place) (a b : Below) where
       (λ q x. ap (placed t) (complete_alike t h q x)) p d)
   complete_alike (required t) h p d = ap (λ r. if is_null d then fault (site types place a) p (codes "null for a Non-Null type") else r) (complete_alike t h p d)
 
-  answer_alike : (n : List ℕ) (p : Path) (x : intro.Answer) → ((q : Path) (o : Object) → a n q o ≡ b n q o) → on_answer (site types place a) n p x ≡ on_answer (site types place b) n p x
-  answer_alike n p intro.null h = refl
-  answer_alike n p (intro.text t) h = refl
-  answer_alike n p (intro.truth t) h = refl
-  answer_alike n p (intro.enum_name t) h = refl
-  answer_alike n p (intro.enum_names ts) h = refl
-  answer_alike n p (intro.node m) h = h p (described m)
-  answer_alike n p (intro.nodes ms) h = reply_alike (on_node (site types place a) n) (on_node (site types place b) n) (λ q m. h q (described m)) p ms
+  answer_alike : (t : Written) → Alike types (name_in t) (types.kind (name_in t)) a b → (p : Path) (x : Option intro.Answer) → on_answer (site types place a) t p x ≡ on_answer (site types place b) t p x
+  answer_alike t h p None = complete_alike t h p json.null
+  answer_alike t h p (Some intro.null) = complete_alike t h p json.null
+  answer_alike t h p (Some (intro.text x)) = refl
+  answer_alike t h p (Some (intro.truth x)) = refl
+  answer_alike t h p (Some (intro.enum_name x)) = refl
+  answer_alike t h p (Some (intro.enum_names xs)) = refl
+  answer_alike t h p (Some (intro.node m)) = h (name_in t) (met_self types (name_in t) (types.kind (name_in t))) p (described m)
+  answer_alike t h p (Some (intro.nodes ms)) = reply_alike (on_node (site types place a) (name_in t)) (on_node (site types place b) (name_in t))
+      (λ q m. h (name_in t) (met_self types (name_in t) (types.kind (name_in t))) q (described m)) p ms
 
 module _ (types : Types) (f : PlannedField) (a b : Below) (h : Alike types (name_in f.of_type) (types.kind (name_in f.of_type)) a b) where
-  named_alike : (p : Path) (x : intro.Answer) → on_answer (site types f.place a) (name_in f.of_type) p x ≡ on_answer (site types f.place b) (name_in f.of_type) p x
-  named_alike p x = answer_alike types f.place a b (name_in f.of_type) p x (h (name_in f.of_type) (met_self types (name_in f.of_type) (types.kind (name_in f.of_type))))
+  named_alike : (p : Path) (x : Option intro.Answer) → on_answer (site types f.place a) f.of_type p x ≡ on_answer (site types f.place b) f.of_type p x
+  named_alike p x = answer_alike types f.place a b f.of_type h p x
 
   source_alike : (from : Source) (x : Data) (p : Path) (d : Data) → by_source (site types f.place a) f from x p d ≡ by_source (site types f.place b) f from x p d
   source_alike source.Stored x p d = complete_alike types f.place a b f.of_type h p (resolved f.name f.of_type x d)
@@ -115,7 +117,7 @@ module _ (types : Types) (f : PlannedField) (a b : Below) (h : Alike types (name
 
   value_alike : (arguments : Arguments) (p : Path) (o : Object) → value_of (site types f.place a) f arguments p o ≡ value_of (site types f.place b) f arguments p o
   value_alike (given x) p (stored d) = source_alike f.source x p d
-  value_alike (given x) p (described n) = named_alike p (types.introspect n f.name x)
+  value_alike (given x) p (described n) = named_alike p (types.introspect (answering f.source n) f.name x)
   value_alike (refused m) p o = refl
 
 executed_alike : (types : Types) (f : PlannedField) (a b : Below) → Alike types (name_in f.of_type) (types.kind (name_in f.of_type)) a b → (p : Path) (d : Object)

@@ -253,22 +253,10 @@ name_list ns p = texting.list_part name_item p ns
     ∙ ap (λ rs. within (codes "[") (all rs) (codes "]"))
     (numbered-same (λ i n. after_comma i (counted (value_part (name_item (p ++ index i ∷ []) n)))) name_part (λ i n. refl) 0 ns)
 
--- what is written for each form of an answer
-module _ (s : Site) (name : List ℕ) (p : Path) where
-  pub answer_null : value_part (on_answer s name p intro.null) ≡ plain (codes "null")
-  answer_null = refl
-
-  pub answer_text : (t : List ℕ) → value_part (on_answer s name p (intro.text t)) ≡ plain (quoted t)
-  answer_text t = refl
-
-  pub answer_truth : (b : Bool) → value_part (on_answer s name p (intro.truth b)) ≡ plain (compact_text (json.boolean b))
-  answer_truth b = refl
-
-  pub answer_enum : (n : List ℕ) → value_part (on_answer s name p (intro.enum_name n)) ≡ plain (quoted n)
-  answer_enum n = refl
-
-  pub answer_names : (ns : List (List ℕ)) → value_part (on_answer s name p (intro.enum_names ns)) ≡ name_list_part ns
+-- what is written for a list that introspection answers
+module _ (s : Site) (t : Written) (p : Path) where
+  pub answer_names : (ns : List (List ℕ)) → value_part (on_answer s t p (Some (intro.enum_names ns))) ≡ name_list_part ns
   answer_names ns = name_list ns p
 
-  pub answer_nodes : (ns : List Node) → value_part (on_answer s name p (intro.nodes ns)) ≡ node_list_part name s ns p
-  answer_nodes ns = texting.list_part (on_node s name) p ns
+  pub answer_nodes : (ns : List Node) → value_part (on_answer s t p (Some (intro.nodes ns))) ≡ node_list_part (name_in t) s ns p
+  answer_nodes ns = texting.list_part (on_node s (name_in t)) p ns

@@ -2,6 +2,9 @@
 use Rattle.std.specs.Result.{IfOk, IfErr, IsErrAnd}
 use Rattle.std.proofs.lemmas.List.{map-append}
 use Rattle.std.proofs.Common.{◌≡◌, Result, Ok, Err, ℕ, List, [], ◌∷◌, ◌++◌, map, take, codes, Option, Some, None, refl, sym, ap, subst, ◌∙◌, arith, append_assoc}
+use Rattle.gql_ast.specs.declared.definition.Definition.{Definition}
+use Rattle.gql_ast.specs.declared.executable.Operation.{Operation}
+use Rattle.gql_ast.specs.declared.files.Files.{Files}
 use Rattle.gql_coerce.specs.Comes as comes
 use Rattle.gql_coerce.specs.Comes.{Outcome as Comes}
 use Rattle.gql_coerce.specs.Requests.{VariablesCome}
@@ -10,15 +13,20 @@ use Rattle.gql_coerce.specs.declared.refusal.Refusal.{Refusal}
 use Rattle.gql_coerce.specs.declared.refusal.Segment.{Segment}
 use Rattle.gql_coerce.specs.Laws.{OneOfVariables}
 use Rattle.gql_collect.specs.Nodes.{in_file}
+use Rattle.gql_facts.specs.declared.fact.FragmentFact.{FragmentFact}
+use Rattle.gql_intro.specs.Made.{made_of}
+use Rattle.gql_intro.specs.declared.made.IntroSchema.{IntroSchema}
+use Rattle.gql_types.specs.Schemas.{schema_of}
+use Rattle.gql_types.specs.declared.schema.Schema.{Schema}
 use Rattle.serde_json.specs.Data.{Data}
 use Rattle.serde_json.specs.Written.{compact_text}
 use Rattle.gql_exec.specs.Execution.{answered}
 use Rattle.gql_exec.specs.Plans.{IsPlan}
 use Rattle.gql_exec.specs.Outcomes.{AnError, AnOutcome, error_of}
 use Rattle.gql_exec.specs.Replies.{Reply, kept, or_null}
-use Rattle.gql_exec.specs.Requests.{Request, Response, Executes, IsOutcome, basis_of, IsTooHeavy, most_values, refused, executed, request_error, response_of, variable_at}
+use Rattle.gql_exec.specs.Requests.{Request, Response, Executes, IsKeptOf, IsOutcome, basis_of, IsTooHeavy, most_values, refused, executed, request_error, request_of, response_of, variable_at}
 use Rattle.gql_exec.specs.Requests as requests
-use Rattle.gql_exec.specs.Runs.{Answering, Finishes, IsFresh, IsOutcomeOf, IsRefused, came_to}
+use Rattle.gql_exec.specs.Runs.{Answering, Finishes, IsFresh, IsOutcomeOf, IsRefused, came_to, request}
 use Rattle.gql_exec.specs.States.{Done, Leaves, ended_of, errors_of}
 use Rattle.gql_exec.specs.States as states
 use Rattle.gql_exec.specs.Texts.{outcome_text, value_part}
@@ -123,3 +131,12 @@ next_error all new rest more e x fs inv step pushed same =
     ap (λ xs. map error_of xs ++ map f more) pushed ∙ ap (λ l. l ++ map f more) (map-append error_of all (x ∷ []))
     ∙ append_assoc (map error_of all) (error_of x ∷ []) (map f more)
     ∙ ap (λ y. map error_of all ++ y ∷ map f more) same ∙ ap (λ l. map error_of all ++ map f l) (sym step) ∙ inv
+
+-- ---- files
+
+-- the request of what is kept of files is that of the files
+pub by_files : (files : Files) (d : Definition) (operation : Operation) (s : Schema) (m : IntroSchema) (fs : List FragmentFact) (variables stored : Data) → IsKeptOf files s m fs
+    → request s m fs d.file operation variables stored ≡ request_of files d operation variables stored
+by_files files d operation s m fs variables stored kept = ap (λ x. request x m fs d.file operation variables stored) kept.schema
+    ∙ ap (λ x. request (schema_of files) x fs d.file operation variables stored) kept.made
+    ∙ ap (λ x. request (schema_of files) (made_of files (schema_of files)) x d.file operation variables stored) kept.fragments

@@ -15,7 +15,7 @@ use Rattle.serde_json.specs.Data.{Data}
 use Rattle.serde_json.specs.Find.{as_null}
 use Rattle.serde_json.specs.View.{items_of, view}
 use Rattle.serde_json.specs.declared.value.Value.{Value}
-use Rattle.gql_exec.specs.Execution.{Fields, Object, Plan, plan, PlannedField, Site, Types, among, by_source, complete, described, execute, is_null, of_kind, on_answer, on_list, stored, value_of}
+use Rattle.gql_exec.specs.Execution.{Fields, Object, Plan, plan, PlannedField, Site, Types, among, answering, by_source, complete, described, execute, is_null, of_kind, on_answer, on_list, stored, value_of}
 use Rattle.gql_exec.specs.Execution as execution
 use Rattle.gql_exec.specs.Parts.{Part, caught, plain, raise}
 use Rattle.gql_exec.specs.Plans.{Basis, IsPlan, defined, is_met, is_met_by, is_possible_by, possible_in, types_of}
@@ -106,8 +106,9 @@ module _ (types : Types) (q : PlannedField × Plan) (p : Path) (f : FieldPlan) (
   pub called_stored : (d : Data) → called_part types (stored d) q p ≡ source_part types (view v) d q p
   called_stored d = ap (λ a. value_part (value_of (site_of types q.0.place q.1) q.0 a p (stored d))) arguments_are
 
-  pub called_described : (n : Node) → called_part types (described n) q p ≡ answer_part types (view v) n q p
+  pub called_described : (n : Node) → called_part types (described n) q p ≡ answer_part types (view v) (answering f.source n) q p
   called_described n = ap (λ a. value_part (value_of (site_of types q.0.place q.1) q.0 a p (described n))) arguments_are
+      ∙ ap (λ (e : PlannedField). answer_part types (view v) (answering e.source n) q p) is
 
 -- by where objects of the data have the value of a field
 module _ (types : Types) (a d : Data) (q : PlannedField × Plan) (p : Path) (f : FieldPlan) (is : q.0 ≡ planned_of f) where
@@ -123,11 +124,11 @@ module _ (types : Types) (a d : Data) (q : PlannedField × Plan) (p : Path) (f :
 
   pub source_root : f.source ≡ source.Root → source_part types a d q p ≡ answer_part types a query_root q p
   source_root e = source_is ∙ ap (λ x. value_part (by_source (site_of types f.place q.1) (planned_of f) x a p d)) e
-      ∙ ap (λ (e : PlannedField). value_part (on_answer (site_of types e.place q.1) (name_in e.of_type) p (types.introspect query_root e.name a))) (sym is)
+      ∙ ap (λ (e : PlannedField). value_part (on_answer (site_of types e.place q.1) e.of_type p (types.introspect query_root e.name a))) (sym is)
 
 pub answer_at : (types : Types) (a : Data) (n : Node) (q : PlannedField × Plan) (p : Path) (f : FieldPlan) → q.0 ≡ planned_of f
-    → answer_part types a n q p ≡ value_part (on_answer (site_of types f.place q.1) (name_in (written f.of_type.now)) p (types.introspect n f.name.now a))
-answer_at types a n q p f is = ap (λ (e : PlannedField). value_part (on_answer (site_of types e.place q.1) (name_in e.of_type) p (types.introspect n e.name a))) is
+    → answer_part types a n q p ≡ value_part (on_answer (site_of types f.place q.1) (written f.of_type.now) p (types.introspect n f.name.now a))
+answer_at types a n q p f is = ap (λ (e : PlannedField). value_part (on_answer (site_of types e.place q.1) e.of_type p (types.introspect n e.name a))) is
 
 -- ---- places
 

@@ -1,12 +1,13 @@
 -- How the calls that complete what introspection answers come together.
-use Rattle.std.proofs.Common.{◌≡◌, ℕ, List, Option, true, Some, None, Result, option_map, unwrap_or, sym, ap, ◌∙◌}
+use Rattle.std.proofs.Common.{◌≡◌, ℕ, List, true, Some, Result, refl, sym, ap, subst, ◌∙◌}
 use Rattle.gql_collect.specs.Nodes.{FileSelection}
-use Rattle.gql_intro.specs.Borrowed.{answer_of}
+use Rattle.gql_inputs.specs.InputTypes.{name_in}
 use Rattle.gql_intro.specs.Nodes as intro
 use Rattle.gql_intro.specs.Nodes.{Node}
-use Rattle.gql_intro.specs.declared.answer.IntroAnswer.{IntroAnswer}
-use Rattle.gql_types.specs.declared.schema.Schema.{Schema}
-use Rattle.gql_exec.specs.Execution.{Plan, Site, described, execute, on_answer}
+use Rattle.gql_text.specs.declared.place.Place.{Place}
+use Rattle.gql_types.specs.Written.{Written}
+use Rattle.serde_json.specs.Data as json
+use Rattle.gql_exec.specs.Execution.{Plan, plan, Site, complete, described, execute, no_fields, on_answer}
 use Rattle.gql_exec.specs.NodeFrames.{DoesReach, Reaches}
 use Rattle.gql_exec.specs.Parts.{Part}
 use Rattle.gql_exec.specs.Plans.{Basis, IsPlan, is_met, types_of}
@@ -21,28 +22,35 @@ use Rattle.gql_exec.proofs.Completing.{answer_nodes}
 use Rattle.gql_exec.proofs.Entering.{as_reached}
 use Rattle.gql_exec.proofs.Executing.{met_itself}
 
--- an answer that is there, and one that is not
-pub some_answer : (s : Schema) (o : Option IntroAnswer) (a : IntroAnswer) (x : Option intro.Answer) → option_map (answer_of s) o ≡ x → o ≡ Some a → answer_of s a ≡ unwrap_or x intro.null
-some_answer s o a x e is = sym (ap (λ y. unwrap_or y intro.null) (sym e ∙ ap (option_map (answer_of s)) is))
+-- what is written for an answer to a field of this type, which is at this place
+abbrev pub answer_text : Basis → Place → Written → Run → Plan → intro.Answer → Part
+answer_text g place t s x a = value_part (on_answer (site_of (types_of g) place x) t (path_of s) (Some a))
 
-pub no_answer : (s : Schema) (o : Option IntroAnswer) (x : Option intro.Answer) → option_map (answer_of s) o ≡ x → o ≡ None → intro.null ≡ unwrap_or x intro.null
-no_answer s o x e is = sym (ap (λ y. unwrap_or y intro.null) (sym e ∙ ap (option_map (answer_of s)) is))
+-- a site at this place
+abbrev pub any_site : Basis → Place → Site
+any_site g place = site_of (types_of g) place (plan (λ t. no_fields))
 
-module _ (g : Basis) (table : Table) (name : List ℕ) (xs : List FileSelection) (result : Result Reached ExecRefusal) (s u : Run) where
+module _ (g : Basis) (table : Table) (place : Place) (t : Written) (xs : List FileSelection) (result : Result Reached ExecRefusal) (s u : Run) where
   -- an answer of this form, for which this is written
-  pub at_answer : (a b : intro.Answer) (r : Part) → a ≡ b → ((site : Site) → value_part (on_answer site name (path_of s) b) ≡ r) → Reaches g table r result s u
-      → DoesReach g table name xs (λ site. value_part (on_answer site name (path_of s) a)) result s u
-  at_answer a b r e is done = λ x place i. as_reached g table (value_part (on_answer (site_of (types_of g) place x) name (path_of s) a)) r result s u
-      (ap (λ y. value_part (on_answer (site_of (types_of g) place x) name (path_of s) y)) e ∙ is (site_of (types_of g) place x)) done
+  pub at_answer : (a b : intro.Answer) (r : Part) → a ≡ b → ((site : Site) → value_part (on_answer site t (path_of s) (Some b)) ≡ r) → Reaches g table r result s u
+      → (x : Plan) → IsPlan g (name_in t) xs x → Reaches g table (answer_text g place t s x a) result s u
+  at_answer a b r e is done = λ x i. as_reached g table (answer_text g place t s x a) r result s u (ap (answer_text g place t s x) e ∙ is (site_of (types_of g) place x)) done
 
-  pub at_node : (a : intro.Answer) (n : Node) → a ≡ intro.node n
+  pub at_null : (a : intro.Answer) → a ≡ intro.null → ((site : Site) → site.place ≡ place → Reaches g table (value_part (complete site t (path_of s) json.null)) result s u)
+      → (x : Plan) → IsPlan g (name_in t) xs x → Reaches g table (answer_text g place t s x a) result s u
+  at_null a e done = λ x i. as_reached g table (answer_text g place t s x a) (value_part (complete (site_of (types_of g) place x) t (path_of s) json.null)) result s u
+      (ap (answer_text g place t s x) e) (done (site_of (types_of g) place x) refl)
+
+  pub at_node : (a : intro.Answer) (n : Node) (name : List ℕ) → a ≡ intro.node n → name ≡ name_in t
       → ((other : List ℕ) → is_met g name other ≡ true → (x : Plan) → IsPlan g other xs x → Reaches g table (value_part (execute (types_of g) x name (path_of s) (described n))) result s u)
-      → DoesReach g table name xs (λ site. value_part (on_answer site name (path_of s) a)) result s u
-  at_node a n e done = λ x place i. as_reached g table (value_part (on_answer (site_of (types_of g) place x) name (path_of s) a)) (value_part (execute (types_of g) x name (path_of s) (described n))) result s u
-      (ap (λ y. value_part (on_answer (site_of (types_of g) place x) name (path_of s) y)) e) (done name (met_itself g name) x i)
+      → (x : Plan) → IsPlan g (name_in t) xs x → Reaches g table (answer_text g place t s x a) result s u
+  at_node a n name e is done = λ x i. as_reached g table (answer_text g place t s x a) (value_part (execute (types_of g) x name (path_of s) (described n))) result s u
+      (ap (answer_text g place t s x) e ∙ ap (λ m. value_part (execute (types_of g) x m (path_of s) (described n))) (sym is))
+      (done (name_in t) (subst (λ m. is_met g m (name_in t) ≡ true) (sym is) (met_itself g (name_in t))) x i)
 
-  pub at_nodes : (a : intro.Answer) (ns : List Node) → a ≡ intro.nodes ns
+  pub at_nodes : (a : intro.Answer) (ns : List Node) (name : List ℕ) → a ≡ intro.nodes ns → name ≡ name_in t
       → DoesReach g table name xs (λ site. node_list_part name site ns (path_of s)) result s u
-      → DoesReach g table name xs (λ site. value_part (on_answer site name (path_of s) a)) result s u
-  at_nodes a ns e done = λ x place i. as_reached g table (value_part (on_answer (site_of (types_of g) place x) name (path_of s) a)) (node_list_part name (site_of (types_of g) place x) ns (path_of s)) result s u
-      (ap (λ y. value_part (on_answer (site_of (types_of g) place x) name (path_of s) y)) e ∙ answer_nodes (site_of (types_of g) place x) name (path_of s) ns) (done x place i)
+      → (x : Plan) → IsPlan g (name_in t) xs x → Reaches g table (answer_text g place t s x a) result s u
+  at_nodes a ns name e is done = λ x i. as_reached g table (answer_text g place t s x a) (node_list_part name (site_of (types_of g) place x) ns (path_of s)) result s u
+      (ap (answer_text g place t s x) e ∙ answer_nodes (site_of (types_of g) place x) t (path_of s) ns ∙ ap (λ m. node_list_part m (site_of (types_of g) place x) ns (path_of s)) (sym is))
+      (done x place (subst (λ m. IsPlan g m xs x) (sym is) i))

@@ -63,7 +63,7 @@ types = record {
   kind = kind_of;
   possible = λ n. codes "Dog" ∷ codes "Cat" ∷ [];
   values = λ n. [];
-  introspect = λ n name arguments. null;
+  introspect = λ n name arguments. Some null;
 }
 
 -- the plan of fields on an object of any type
@@ -388,3 +388,35 @@ mine : answer types (on_any (field (simple (codes "mine") 3 (named (codes "__Typ
       weight = 2;
     }
 mine = refl
+
+-- `{ __schema { queryType { __schema { queryType { name } } } } }`, where the query root is `__Type`:
+-- `__schema` of a node of that type is the schema
+schema_of_a_node : answer (types_of basis)
+    (on_any (field (meta source.Root (codes "__schema") 3 (required (named (codes "__Schema"))))
+    (on_any (field (simple (codes "queryType") 14 (required (named (codes "__Type"))))
+    query_type no_fields))
+    no_fields))
+    (codes "__Type") (json.object no_members)
+    ≡ record {
+      value = one_member (codes "__schema") (one_member (codes "queryType")
+          (one_member (codes "__schema") (one_member (codes "queryType")
+          (one_member (codes "name") (json.string (codes "Query"))))));
+      errors = [];
+      weight = 5;
+    }
+unfolding same_operation
+schema_of_a_node = refl
+
+-- `{ __schema { x } }`, where the node has no field `x`: null is an error at a Non-Null type
+no_answer : answer (types_of basis)
+    (on_any (field (meta source.Root (codes "__schema") 3 (named (codes "__Schema")))
+    (leaf (simple (codes "x") 14 (required (named (codes "String"))))) no_fields))
+    (codes "Query") (json.object no_members)
+    ≡ record {
+      value = one_member (codes "__schema") json.null;
+      errors = error_at (codes "null for a Non-Null type") 14
+          (key (codes "__schema") ∷ key (codes "x") ∷ []) ∷ [];
+      weight = 2;
+    }
+unfolding same_operation
+no_answer = refl

@@ -50,12 +50,13 @@ mutual
 -- ---- types
 
 -- What execution needs to know of a schema: the kind of a type, the possible types of a composite
--- type, the values of an enum, and what a field of a node of introspection resolves to.
+-- type, the values of an enum, and what a field of a node of introspection resolves to, if the node
+-- has such a field.
 pub record Types : Type 0 where
   pub kind : List ℕ → Option TypeKind
   pub possible : List ℕ → List (List ℕ)
   pub values : List ℕ → List (List ℕ)
-  pub introspect : Node → List ℕ → Data → intro.Answer
+  pub introspect : Node → List ℕ → Data → Option intro.Answer
 
 -- ---- values (CompleteValue)
 
@@ -158,16 +159,26 @@ name_item p n = returns (json.string n)
 abbrev pub on_node : Site → List ℕ → Path → Node → Reply Data
 on_node s name p n = s.below name p (described n)
 
--- What introspection answers, where its nodes have the type of this name. Nothing is checked: what
--- `resolve` gives for a field of a node has the field's type, so no error arises here.
-abbrev pub on_answer : Site → List ℕ → Path → intro.Answer → Reply Data
-on_answer s name p intro.null = returns json.null
-on_answer s name p (intro.text t) = returns (json.string t)
-on_answer s name p (intro.truth b) = returns (json.boolean b)
-on_answer s name p (intro.enum_name n) = returns (json.string n)
-on_answer s name p (intro.enum_names ns) = list_reply name_item p ns
-on_answer s name p (intro.node n) = on_node s name p n
-on_answer s name p (intro.nodes ns) = list_reply (on_node s name) p ns
+-- What introspection answers for a field of this type. A null, or no answer, is completed as a null
+-- of the data: at a Non-Null type it is an error (CompleteValue). Every other answer is written as
+-- it is. Its type is not checked, because it is the field's type if the schema files have no fault:
+-- that is the law `gql_intro::laws::answers_have_their_types`.
+abbrev pub on_answer : Site → Written → Path → Option intro.Answer → Reply Data
+on_answer s t p None = complete s t p json.null
+on_answer s t p (Some intro.null) = complete s t p json.null
+on_answer s t p (Some (intro.text x)) = returns (json.string x)
+on_answer s t p (Some (intro.truth b)) = returns (json.boolean b)
+on_answer s t p (Some (intro.enum_name n)) = returns (json.string n)
+on_answer s t p (Some (intro.enum_names ns)) = list_reply name_item p ns
+on_answer s t p (Some (intro.node n)) = on_node s (name_in t) p n
+on_answer s t p (Some (intro.nodes ns)) = list_reply (on_node s (name_in t)) p ns
+
+-- The node that answers a field of an object that is the node n: the query root, where the field is
+-- one of the query root that no type lists (`__schema`, `__type`); else n itself.
+abbrev pub answering : Source → Node → Node
+answering source.Stored n = n
+answering (source.TypeName t) n = n
+answering source.Root n = query_root
 
 -- ---- fields (ExecuteField)
 
@@ -175,15 +186,15 @@ on_answer s name p (intro.nodes ns) = list_reply (on_node s name) p ns
 abbrev pub by_source : Site → PlannedField → Source → Data → Path → Data → Reply Data
 by_source s f source.Stored arguments p d =
     complete s f.of_type p (resolved f.name f.of_type arguments d)
-by_source s f (source.TypeName t) arguments p d = on_answer s (name_in f.of_type) p (intro.text t)
+by_source s f (source.TypeName t) arguments p d = returns (json.string t)
 by_source s f source.Root arguments p d =
-    on_answer s (name_in f.of_type) p (s.types.introspect query_root f.name arguments)
+    on_answer s f.of_type p (s.types.introspect query_root f.name arguments)
 
 -- the value of a field of an object, at this path
 abbrev pub value_of : Site → PlannedField → Arguments → Path → Object → Reply Data
 value_of s f (given arguments) p (stored d) = by_source s f f.source arguments p d
 value_of s f (given arguments) p (described n) =
-    on_answer s (name_in f.of_type) p (s.types.introspect n f.name arguments)
+    on_answer s f.of_type p (s.types.introspect (answering f.source n) f.name arguments)
 value_of s f (refused message) p o = fault s p message
 
 -- a field under its response name

@@ -1,6 +1,6 @@
 -- The plan of selections (GraphQL 4.1, 4.2, 6.3.2, 6.4 and 6.4.1): for each type that an object may
 -- have, their groups, each with the arguments and the type of its first field.
-use Rattle.std.specs.Prelude.{◌≡◌, ◌||◌, ℕ, List, [], ◌∷◌, ◌++◌, Bool, true, false, bytes_eq, codes, map, filter, is_some, option_and_then, unwrap_or, Option, Some, None, if◌then◌else◌}
+use Rattle.std.specs.Prelude.{◌≡◌, ◌||◌, ℕ, List, [], ◌∷◌, ◌++◌, Bool, true, false, bytes_eq, codes, map, filter, is_some, option_and_then, Option, Some, None, if◌then◌else◌}
 use Rattle.std.specs.List.{list_any}
 use Rattle.std.specs.Option.{option_map_or}
 use Rattle.gql_ast.specs.declared.type_system.EnumValueDefinition.{EnumValueDefinition}
@@ -57,12 +57,10 @@ intro_arguments arguments = record {
   include_deprecated = option_and_then as_bool (get (codes "includeDeprecated") arguments);
 }
 
--- what a field of a node resolves to, with these arguments; null if such a node has no field of the
--- name
-abbrev pub introspect_in : Basis → intro_nodes.Node → List ℕ → Data → intro_nodes.Answer
+-- what a field of a node resolves to, with these arguments; `None` if the node has no such field
+abbrev pub introspect_in : Basis → intro_nodes.Node → List ℕ → Data → Option intro_nodes.Answer
 introspect_in g n name arguments =
-    unwrap_or (intro.resolve g.given.schema g.made
-    (intro_arguments arguments) n name) intro_nodes.null
+    intro.resolve g.given.schema g.made (intro_arguments arguments) n name
 
 -- what execution needs to know of a schema
 abbrev pub types_of : Basis → Types

@@ -1,18 +1,23 @@
 -- What a request of an operation comes to (GraphQL 6.1, 6.2 and 7.1).
-use Rattle.std.specs.Prelude.{◌≡◌, ◌<◌, ◌≤◌, ℕ, List, [], ◌∷◌, codes, map, find, bytes_eq, Option, Some, None, unwrap_or}
+use Rattle.std.specs.Prelude.{◌≡◌, ◌≢◌, ◌<◌, ◌≤◌, ℕ, List, [], ◌∷◌, codes, map, find, bytes_eq, Option, Some, None, unwrap_or}
+use Rattle.gql_ast.specs.declared.definition.Definition.{Definition}
+use Rattle.gql_ast.specs.declared.definition.Tree.TheVariants as tree
 use Rattle.gql_ast.specs.declared.executable.Operation.{Operation}
 use Rattle.gql_ast.specs.declared.executable.OperationKind.{OperationKind}
 use Rattle.gql_ast.specs.declared.executable.OperationKind.TheVariants as operation
 use Rattle.gql_ast.specs.declared.executable.VariableDefinition.{VariableDefinition}
+use Rattle.gql_ast.specs.declared.files.Files.{Files}
 use Rattle.gql_coerce.specs.Comes as comes
 use Rattle.gql_coerce.specs.Requests.{VariablesCome}
 use Rattle.gql_coerce.specs.declared.refusal.Reason.{Reason}
 use Rattle.gql_coerce.specs.declared.refusal.Segment.{Segment}
 use Rattle.gql_coerce.specs.declared.refusal.Segment.TheVariants as segment
 use Rattle.gql_collect.specs.Nodes.{in_file}
+use Rattle.gql_facts.specs.Facts.{fragments as fragments_of}
 use Rattle.gql_facts.specs.declared.fact.FragmentFact.{FragmentFact}
+use Rattle.gql_intro.specs.Made.{made_of}
 use Rattle.gql_intro.specs.declared.made.IntroSchema.{IntroSchema}
-use Rattle.gql_types.specs.Schemas.{kind_named, root_of}
+use Rattle.gql_types.specs.Schemas.{kind_named, root_of, schema_of}
 use Rattle.gql_types.specs.declared.kind.TypeKind.TheVariants as kind
 use Rattle.gql_types.specs.declared.roots.Root.{Root}
 use Rattle.gql_types.specs.declared.schema.Schema.{Schema}
@@ -115,6 +120,35 @@ pub data Executes (r : Request) : Response → Type 0 where
 -- the greatest number of values that are completed
 abbrev pub most_values : ℕ
 most_values = 100000
+
+-- What a caller keeps of files from one execution to the next: their schema, what introspection
+-- makes of it, and the fragments of the documents.
+pub record IsKeptOf (files : Files) (s : Schema) (i : IntroSchema) (fs : List FragmentFact)
+    : Type 0 where
+  pub schema : s ≡ schema_of files
+  pub made : i ≡ made_of files (schema_of files)
+  pub fragments : fs ≡ fragments_of files.documents
+
+-- a request of an operation of the document files, with these values for its variables and this
+-- data
+abbrev pub request_of : Files → Definition → Operation → Data → Data → Request
+request_of files d operation variables stored = record {
+  schema = schema_of files;
+  made = made_of files (schema_of files);
+  fragments = fragments_of files.documents;
+  file = d.file;
+  operation = operation;
+  variables = variables;
+  stored = stored;
+}
+
+-- a definition is not an operation
+abbrev pub IsNoOperation : Definition → Type 0
+IsNoOperation d = (operation : Operation) → d.tree ≢ tree.Operation operation
+
+-- the outcome of a definition that is not an operation: there is nothing to execute
+abbrev pub no_outcome : AnOutcome
+no_outcome = record { text = None; errors = [] }
 
 -- the outcome of a request, of which at most `most_values` values are completed
 abbrev pub IsOutcome : Request → AnOutcome → Type 0

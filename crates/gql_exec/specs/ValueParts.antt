@@ -60,7 +60,7 @@ source_part types arguments d q p =
 -- what is written for the value of a field with these arguments, of a node of introspection
 abbrev pub answer_part : Types → Data → Node → PlannedField × Plan → Path → Part
 answer_part types arguments n q p = value_part (on_answer (site_of types q.0.place q.1)
-    (name_in q.0.of_type) p (types.introspect n q.0.name arguments))
+    q.0.of_type p (types.introspect n q.0.name arguments))
 
 -- what is written for the value of a field of the object at this path, with its own errors
 abbrev pub content_part : Types → Object → PlannedField × Plan → Path → Part

@@ -1,5 +1,5 @@
 //! What introspection answers for the fields of its nodes (GraphQL specification, 4.2).
-ghost use Rattle.std.specs.Prelude.{◌≡◌, ◌<◌, length, map, option_and_then};
+ghost use Rattle.std.specs.Prelude.{◌≡◌, ◌<◌, length, map, option_and_then, option_map};
 ghost use Rattle.std.proofs.Common.{get_or};
 ghost use Rattle.std.specs.Option.{option_copied};
 ghost use Rattle.json.specs.Print.{quoted};
@@ -57,28 +57,25 @@ fn intro_arguments(arguments: &Value) -> IntroArguments<'_>
     }
 }
 
-/// What a field of a node resolves to; null if the node has no such field.
+/// What a field of a node resolves to, if the node has such a field.
 pub fn introspect<'d>(
     setting: &Setting<'d, '_>,
     node: IntroNode<'d>,
     field: &str,
     arguments: &Value,
-) -> IntroAnswer<'d>
-    ensures { answer_of setting.now.context.schema.now result
+) -> Option<IntroAnswer<'d>>
+    ensures { option_map (answer_of setting.now.context.schema.now) result
         ≡ plans.introspect_in (basis setting.now) (node_of node.entry) field.now
         (view arguments.now) }
 {
     let schema = setting.context.schema;
-    match intro_resolve(
+    intro_resolve(
         schema,
         setting.made,
         node,
         field,
         intro_arguments(arguments),
-    ) {
-        Some(answer) => answer,
-        None => IntroAnswer::Null,
-    }
+    )
 }
 
 /// Writes a name.

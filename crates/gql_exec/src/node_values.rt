@@ -1,8 +1,10 @@
 //! The values of fields of nodes of introspection (GraphQL specification, 4.2), up to the nodes and
 //! the lists of nodes that are to be entered.
-ghost use Rattle.std.specs.Prelude.{◌≡◌, List, ℕ, true, IfOk};
+ghost use Rattle.std.specs.Prelude.{◌≡◌, List, ℕ, true, IfOk, Some};
 ghost use Rattle.serde_json.specs.View.{view};
+ghost use Rattle.gql_inputs.specs.InputTypes.{name_in as name_of_type};
 ghost use Rattle.gql_intro.specs.Borrowed.{answer_of, node_of};
+ghost use Rattle.gql_types.specs.Written.{written};
 ghost use Rattle.gql_exec.specs.Execution as spec;
 ghost use Rattle.gql_exec.specs.Execution.{Plan, described};
 ghost use Rattle.gql_exec.specs.NodeFrames.{DoesReach, Enters, Fits, Kept, KeepsReached, Reaches};
@@ -20,8 +22,8 @@ ghost use Rattle.gql_exec.specs.declared.table.Table.{Table as ATable};
 use crate::ended::Ended;
 use crate::introspection::{introspect, write_flag, write_literal, write_locations, write_name};
 use crate::node_frame::{FieldsFrame, Group, ListFrame, Reached};
-use crate::nulls::write_null;
-use crate::planning::{Called, FieldPlan};
+use crate::nulls::complete_null;
+use crate::planning::{Called, FieldPlan, Source};
 use crate::refusal::ExecRefusal;
 use crate::run::{Reason, Run};
 use crate::setting::Setting;
@@ -93,34 +95,42 @@ fn list_below<'d>(slot: Slot, name: &'d str, nodes: IntroNodes<'d>) -> Reached<'
     }))
 }
 
-/// What introspection answers for a field; its nodes have the type of this name.
+/// What introspection answers for a field. Its nodes have the type that the field's type names.
 fn reach_answer<'d>(
     alloc: Global,
     setting: &Setting<'d, '_>,
     table: &mut Table<'d>,
     slot: Slot,
-    name: &'d str,
+    field: &FieldPlan<'d>,
     answer: IntroAnswer<'d>,
     run: &mut Run<'d>,
 ) -> Result<Reached<'d>, ExecRefusal>
     requires right { IsRight (basis setting.now) table.old }
     requires within { InTable table.old slot }
     ensures keeps { KeepsReached (basis setting.now) table.old table.new run.old run.new result }
-    ensures does { DoesReach (basis setting.now) table.new name.now (below_at table.old slot)
-        (λ s. value_part (spec.on_answer s name.now (path_of run.old)
-        (answer_of setting.now.context.schema.now answer.entry))) result run.old run.new }
+    ensures does { (x : Plan)
+        → IsPlan (basis setting.now) (name_of_type (written field.now.of_type.now))
+        (below_at table.old slot) x
+        → Reaches (basis setting.now) table.new (value_part (spec.on_answer
+        (part.site_of (types_of (basis setting.now)) field.now.place x)
+        (written field.now.of_type.now) (path_of run.old)
+        (Some (answer_of setting.now.context.schema.now answer.entry)))) result run.old run.new }
 {
     match answer {
-        IntroAnswer::Null => done(write_null(run)),
+        IntroAnswer::Null => done(complete_null(alloc, field.place, field.of_type, run)),
         IntroAnswer::Text(text) => done(write_name(run, text)),
         IntroAnswer::Boolean(truth) => done(write_flag(run, truth)),
         IntroAnswer::EnumValue(value) => done(write_name(run, value)),
         IntroAnswer::Literal(literal) => done(write_literal(alloc, literal, run)),
         IntroAnswer::Node(node) => {
-            let group = node_below(alloc, setting, table, slot, name, node)?;
+            let name = name_in(field.of_type);
+            let group = node_below(alloc, setting, table, slot, name.as_str(), node)?;
             Ok(Reached::Inner(group))
         }
-        IntroAnswer::Nodes(nodes) => Ok(list_below(slot, name, nodes)),
+        IntroAnswer::Nodes(nodes) => {
+            let name = name_in(field.of_type);
+            Ok(list_below(slot, name.as_str(), nodes))
+        }
         IntroAnswer::Locations(locations) => done(write_locations(run, locations)),
     }
 }
@@ -144,9 +154,21 @@ pub fn reach_value<'d>(
         (types_of (basis setting.now)) (view arguments.now)
         (node_of node.entry) q (path_of run.old)) result run.old run.new }
 {
-    let answer = introspect(setting, node, field.name, arguments);
-    let name = name_in(field.of_type);
-    reach_answer(alloc, setting, table, slot, name.as_str(), answer, run)
+    match introspect(setting, node, field.name, arguments) {
+        Some(answer) => reach_answer(alloc, setting, table, slot, field, answer, run),
+        None => done(complete_null(alloc, field.place, field.of_type, run)),
+    }
+}
+
+/// The node that answers a field of an object that is this node.
+fn answering<'d>(source: &Source, node: IntroNode<'d>) -> IntroNode<'d>
+    ensures { node_of result ≡ spec.answering source.now (node_of node.entry) }
+{
+    match source {
+        Source::Root => IntroNode::QueryRoot,
+        Source::Stored => node,
+        Source::TypeName(_) => node,
+    }
 }
 
 /// The value of a field of a node; arguments that are refused are an error.
@@ -172,6 +194,7 @@ pub fn reach_field<'d>(
             done(raise(alloc, run, field.place, Reason::Refused(message.as_str())))
         }
         Called::Given(given) => {
+            let node = answering(&field.source, node);
             reach_value(alloc, setting, table, slot, field, given.get(), node, run)
         }
     }

@@ -1,8 +1,9 @@
 //! The execution of an operation as a whole (GraphQL specification, 6.1 and 6.2).
-ghost use Rattle.std.specs.Prelude.{◌≡◌, ◌<◌, map, find, bytes_eq, true, option_map, IfOk, IfErr};
+ghost use Rattle.std.specs.Prelude.{◌≡◌, ◌<◌, map, find, bytes_eq, true, option_map, IfOk, IfErr, IsOkAnd};
 ghost use Rattle.gql_ast.specs.declared.definition.Tree.TheVariants as tree;
 ghost use Rattle.gql_ast.specs.declared.executable.Operation.{Operation as AnOperation};
 ghost use Rattle.gql_ast.specs.declared.executable.VariableDefinition.{VariableDefinition as AVariable};
+ghost use Rattle.gql_ast.specs.declared.files.Files.{Files as TheFiles};
 ghost use Rattle.gql_collect.specs.Borrowed.{all_selections};
 ghost use Rattle.serde_json.specs.View.{view};
 ghost use Rattle.gql_exec.specs.Execution.{Plan, answer};
@@ -10,7 +11,7 @@ ghost use Rattle.gql_exec.specs.Objects.{basis};
 ghost use Rattle.gql_exec.specs.Outcomes.{error_of, outcome_of};
 ghost use Rattle.gql_exec.specs.Plans.{IsPlan, is_met, types_of};
 ghost use Rattle.gql_exec.specs.Requests as spec;
-ghost use Rattle.gql_exec.specs.Requests.{IsOutcome, IsTooHeavy, most_values};
+ghost use Rattle.gql_exec.specs.Requests.{IsKeptOf, IsNoOperation, IsOutcome, IsTooHeavy, most_values, request_of};
 ghost use Rattle.gql_exec.specs.Runs.{Answering, Finishes, IsOutcomeOf, IsRefused, came_to, request};
 ghost use Rattle.gql_exec.specs.States as states;
 
@@ -141,7 +142,9 @@ fn root_member(kind: OperationKind) -> &'static str
 }
 
 /// No data, and no errors.
-fn nothing<'d>(alloc: Global) -> Outcome<'d> {
+fn nothing<'d>(alloc: Global) -> Outcome<'d>
+    ensures { outcome_of result ≡ spec.no_outcome }
+{
     Outcome {
         data: None,
         errors: Vec::new(alloc),
@@ -266,8 +269,9 @@ fn execute_request<'d>(
 /// the execution is refused: each field of an answer counts as one, and so does each item of a
 /// list.
 ///
-/// Each fragment is looked up among these; a definition that is not an operation has neither data
-/// nor errors.
+/// `schema`, `made` and `fragments` are what the caller keeps of its files: the outcome is that of
+/// the request by the files alone. A definition that is not an operation has neither data nor
+/// errors.
 pub fn execute<'d>(
     alloc: Global,
     fragments: &'d Fragments,
@@ -277,14 +281,19 @@ pub fn execute<'d>(
     variables: &Value,
     stored: &Value,
 ) -> Result<Outcome<'d>, ExecRefusal>
-    ensures outcome { IfOk result (λ o. (operation : AnOperation)
+    ensures outcome { IfOk result (λ o. (files : TheFiles) → (operation : AnOperation)
+        → IsKeptOf files schema.now made.now fragments.now.all
         → definition.now.tree ≡ tree.Operation operation
-        → IsOutcome (request schema.now made.now fragments.now.all definition.now.file operation
-        (view variables.now) (view stored.now)) (outcome_of o)) }
-    ensures heavy { IfErr result (λ e. e ≡ ExecRefusal.TooHeavy → (operation : AnOperation)
+        → IsOutcome (request_of files definition.now operation (view variables.now)
+        (view stored.now)) (outcome_of o)) }
+    ensures heavy { IfErr result (λ e. e ≡ ExecRefusal.TooHeavy
+        → (files : TheFiles) → (operation : AnOperation)
+        → IsKeptOf files schema.now made.now fragments.now.all
         → definition.now.tree ≡ tree.Operation operation
-        → IsTooHeavy (request schema.now made.now fragments.now.all definition.now.file operation
-        (view variables.now) (view stored.now))) }
+        → IsTooHeavy (request_of files definition.now operation (view variables.now)
+        (view stored.now))) }
+    ensures other { IsNoOperation definition.now
+        → IsOkAnd result (λ o. outcome_of o ≡ spec.no_outcome) }
 {
     let Tree::Operation(operation) = &definition.tree else {
         return Ok(nothing(alloc));

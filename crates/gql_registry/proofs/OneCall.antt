@@ -6,12 +6,11 @@ use Rattle.gql_ast.specs.declared.executable.Operation.{Operation}
 use Rattle.gql_ast.specs.declared.fault.Fault.{Fault}
 use Rattle.gql_ast.specs.declared.files.Files.{Files}
 use Rattle.gql_exec.specs.Laws.{OneResponse}
-use Rattle.gql_exec.specs.Requests.{Executes, Response, most_values}
+use Rattle.gql_exec.specs.Requests.{Executes, Response, most_values, request_of}
 use Rattle.gql_facts.specs.ListMembers.{Contains-here}
 use Rattle.gql_operations.specs.Chosen.{chosen}
 use Rattle.gql_reply.specs.ReplyText.{reply_text}
 use Rattle.gql_report.specs.Laws.{OneOrder}
-use Rattle.gql_serving.specs.Laws.{request_of}
 use Rattle.gql_registry.specs.Calls.{AreAgainst, Answers, IsResponse, StandsAgainst, no_operation, faulty, too_large, served, memory}
 use Rattle.gql_registry.specs.Laws.{OneAnswer}
 use Rattle.gql_registry.specs.declared.refusal.Refusal.{Refusal}

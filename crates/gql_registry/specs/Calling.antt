@@ -5,9 +5,8 @@ use Rattle.gql_ast.specs.declared.definition.Definition.{Definition}
 use Rattle.gql_ast.specs.declared.definition.Tree.TheVariants as tree
 use Rattle.gql_ast.specs.declared.executable.Operation.{Operation}
 use Rattle.gql_ast.specs.declared.files.Files.{Files}
-use Rattle.gql_exec.specs.Requests.{Executes, Response, most_values}
+use Rattle.gql_exec.specs.Requests.{Executes, Response, most_values, request_of}
 use Rattle.gql_reply.specs.ReplyText.{reply_text}
-use Rattle.gql_serving.specs.Laws.{request_of}
 use Rattle.gql_registry.specs.declared.refusal.Refusal.{Refusal}
 use Rattle.gql_registry.specs.declared.refusal.Refusal.TheVariants.{TooLarge, Memory}
 use Rattle.gql_registry.specs.declared.registry.Reply.{Reply}

@@ -7,13 +7,12 @@ use Rattle.gql_ast.specs.declared.definition.Tree.TheVariants as tree
 use Rattle.gql_ast.specs.declared.executable.Operation.{Operation}
 use Rattle.gql_ast.specs.declared.fault.Fault.{Fault}
 use Rattle.gql_ast.specs.declared.files.Files.{Files}
-use Rattle.gql_exec.specs.Requests.{Executes, Response, most_values}
+use Rattle.gql_exec.specs.Requests.{Executes, Response, most_values, request_of}
 use Rattle.gql_facts.specs.Facts.{fact_of}
 use Rattle.gql_operations.specs.Chosen as operations
 use Rattle.gql_reply.specs.ReplyText.{reply_text}
 use Rattle.gql_report.specs.Order.{fault_order}
 use Rattle.gql_schema_rules.specs.SchemaFaults.{IsSchemaFault}
-use Rattle.gql_serving.specs.Laws.{request_of}
 use Rattle.gql_serving.specs.Owned.{IsOwned}
 use Rattle.gql_registry.specs.Report.{IsFault}
 use Rattle.gql_registry.specs.declared.refusal.Refusal.{Refusal}

@@ -5,28 +5,13 @@ use Rattle.gql_ast.specs.declared.definition.Tree.TheVariants as tree
 use Rattle.gql_ast.specs.declared.executable.Operation.{Operation}
 use Rattle.gql_ast.specs.declared.fault.Fault.{Fault}
 use Rattle.gql_ast.specs.declared.files.Files.{Files}
-use Rattle.gql_exec.specs.Requests.{Executes, Request, Response}
-use Rattle.gql_facts.specs.Facts.{fact_of, fragments}
-use Rattle.gql_intro.specs.Made.{made_of}
+use Rattle.gql_exec.specs.Requests.{Executes, Response, request_of}
+use Rattle.gql_facts.specs.Facts.{fact_of}
 use Rattle.gql_sound.specs.Laws.{IsSound}
 use Rattle.gql_serving.specs.Owned.{IsOwned}
-use Rattle.gql_types.specs.Schemas.{schema_of}
 use Rattle.gql_verdict.specs.Definitions.{all_definitions}
 use Rattle.gql_verdict.specs.Faults.{IsFaultIn}
 use Rattle.serde_json.specs.Data.{Data}
-
--- a request of an operation of the document files, with these values for its variables and this
--- data
-abbrev pub request_of : Files → Definition → Operation → Data → Data → Request
-request_of files d operation variables stored = record {
-  schema = schema_of files;
-  made = made_of files (schema_of files);
-  fragments = fragments files.documents;
-  file = d.file;
-  operation = operation;
-  variables = variables;
-  stored = stored;
-}
 
 -- no definition of the document files has a fault that d, or a fragment that d reaches, owns
 abbrev pub HasNoFault : Files → Definition → Type 0
