@@ -1,1 +1,2 @@
+mod OneFile
 mod Whole
