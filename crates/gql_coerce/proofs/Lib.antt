@@ -22,3 +22,4 @@ pub mod Reported
 pub mod Fitted
 pub mod Settled
 pub mod Named
+pub mod Nesting

@@ -16,5 +16,6 @@ pub mod Requests
 pub mod Defaults
 pub mod Fitting
 pub mod Laws
+pub mod Nesting
 pub mod Paths
 pub mod Examples

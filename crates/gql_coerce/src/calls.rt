@@ -18,7 +18,8 @@ use std::alloc::Global;
 /// The value of a literal at a type (GraphQL specification, 3.5 to 3.12), or the first refusal.
 /// Items are coerced in their order. Of an object, unknown fields are refused first; then come the
 /// fields that the type defines, in their order. The object `variables` has the values of the
-/// variables; a variable without a value comes to none.
+/// variables; a variable without a value comes to none. `Memory` is returned, too, if a default
+/// value that the input takes leads back to itself.
 pub fn coerce_literal(
     alloc: Global,
     schema: &Schema,
@@ -39,7 +40,7 @@ pub fn coerce_literal(
 /// The value of a value of JSON at a type (GraphQL specification, 3.5 to 3.12), or the first
 /// refusal. Items are coerced in their order. Of an object, unknown members are refused first, in
 /// the order of the bytes of their keys; then come the fields that the type defines, in their
-/// order.
+/// order. `Memory` is returned, too, if a default value that the input takes leads back to itself.
 pub fn coerce_json(
     alloc: Global,
     schema: &Schema,

@@ -1,6 +1,6 @@
 //! Lists and objects that are not complete yet. Their parts may nest deep, and are dropped without
 //! recursion.
-ghost use Rattle.std.specs.Prelude.{◌≡◌, ◌++◌, ◌∷◌, [], OnOk, length, string_bytes};
+ghost use Rattle.std.specs.Prelude.{◌≡◌, ◌+◌, ◌-◌, ◌^◌, ◌++◌, ◌∷◌, [], OnOk, length, max, min, string_bytes};
 ghost use Rattle.serde_json.specs.Data.{put, array, object};
 ghost use Rattle.serde_json.specs.View.{view, items_view, members_view};
 
@@ -11,7 +11,9 @@ use std::alloc::{AllocError, Global};
 use std::marker::Model;
 
 /// How many levels a list or an object has at most: so many so far, and a part of this many.
-fn levels_with(levels: usize, part: usize) -> usize {
+fn levels_with(levels: usize, part: usize) -> usize
+    ensures { result ≡ max levels (min (part + 1) (2 ^ 64 - 1)) }
+{
     levels.max(part.saturating_add(1))
 }
 
@@ -26,13 +28,18 @@ impl Model for CoercedItems {
     ghost use Rattle.std.specs.Prelude.{List};
     ghost use Rattle.serde_json.specs.contracts.value.Value as json_value;
     ghost use Rattle.serde_json.specs.declared.value.Value.{Value as AValue};
+    ghost use Rattle.serde_json.specs.Data.{array};
+    ghost use Rattle.serde_json.specs.View.{items_view};
     ghost use Rattle.std.specs.Coded.{codes};
+    ghost use Rattle.gql_coerce.specs.Nesting.{NestsWithin};
 
     ghost Value = { List AValue };
 
     ghost coded = { Prim.hlevel (codes, json_value.the_row.coded) };
 
     ghost view = { λ l. l.values.items };
+
+    ghost invariant = { λ l. NestsWithin (array (items_view l.values.items)) l.levels };
 }
 
 impl Drop for CoercedItems {
@@ -95,13 +102,18 @@ impl Model for CoercedMembers {
     ghost use Rattle.std.specs.Global.{Global};
     ghost use Rattle.serde_json.specs.contracts.value.Value as json_value;
     ghost use Rattle.serde_json.specs.declared.value.Value.{Value as AValue};
+    ghost use Rattle.serde_json.specs.Data.{object};
+    ghost use Rattle.serde_json.specs.View.{members_view};
     ghost use Rattle.std.specs.Coded.{codes};
+    ghost use Rattle.gql_coerce.specs.Nesting.{NestsWithin};
 
     ghost Value = { List (String Global × AValue) };
 
     ghost coded = { Prim.hlevel (codes, json_value.the_row.coded) };
 
     ghost view = { λ o. o.values.entries };
+
+    ghost invariant = { λ o. NestsWithin (object (members_view o.values.entries)) o.levels };
 }
 
 impl Drop for CoercedMembers {

@@ -1,5 +1,7 @@
 //! The value that an input comes to.
 ghost use Rattle.std.specs.Prelude.{◌≡◌};
+ghost use Rattle.serde_json.specs.View.{view};
+ghost use Rattle.gql_coerce.specs.Nesting.{NestsWithin};
 
 use crate::take_apart::{drop_of_levels, levels_of};
 use serde_json::Value;
@@ -16,13 +18,17 @@ pub struct CoercedValue {
 impl Model for CoercedValue {
     ghost use Rattle.serde_json.specs.contracts.value.Value as json_value;
     ghost use Rattle.serde_json.specs.declared.value.Value.{Value as AValue};
+    ghost use Rattle.serde_json.specs.View.{view as data_of};
     ghost use Rattle.std.specs.Coded.{codes};
+    ghost use Rattle.gql_coerce.specs.Nesting.{NestsWithin};
 
     ghost Value = { AValue };
 
     ghost coded = { Prim.hlevel (codes, json_value.the_row.coded) };
 
     ghost view = { λ v. v.value };
+
+    ghost invariant = { λ v. NestsWithin (data_of v.value) v.levels };
 }
 
 impl Drop for CoercedValue {
@@ -43,6 +49,7 @@ impl CoercedValue {
 
     /// A list or an object that has at most this many levels.
     pub(crate) fn of_levels(value: Value, levels: usize) -> CoercedValue
+        requires { NestsWithin (view value) levels }
         ensures { result ≡ value }
     {
         CoercedValue { value, levels }
@@ -56,7 +63,9 @@ impl CoercedValue {
     }
 
     /// How many levels of lists and objects it has at most.
-    pub(crate) fn levels(&self) -> usize {
+    pub(crate) fn levels(&self) -> usize
+        ensures { NestsWithin (view self.now) result }
+    {
         self.levels
     }
 

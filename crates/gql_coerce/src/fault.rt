@@ -20,7 +20,8 @@ pub enum CoerceFault {
     /// The input is refused.
     #[error("the input is refused")]
     Refused(Refusal),
-    /// An allocation failed.
+    /// An allocation failed, or a default value that the input takes leads back to itself (S19):
+    /// such an input may come to nothing, and the call gives up.
     #[error("out of memory")]
     Memory,
 }

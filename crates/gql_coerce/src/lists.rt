@@ -73,7 +73,7 @@ fn next_item<'v>(
         (drop list.entry.next (items_in list.entry.items)) ≡ step_at (suc n) schema.now step) }
 {
     let mut list = list;
-    'items: for _ in 0..u64::MAX {
+    'items: loop {
         let Some(item) = list.items.get(list.next) else {
             return Ok(Step::Answer(Coerced::Given(list.values.into_value())));
         };
@@ -87,7 +87,6 @@ fn next_item<'v>(
             focus => return Ok(Step::Within(Frame::Item(list), focus)),
         }
     }
-    Err(AllocError)
 }
 
 /// A list, an item of which came to this.

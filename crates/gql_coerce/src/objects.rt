@@ -121,7 +121,7 @@ fn next_entry<'v>(
         ≡ step_at (suc n) schema.now step) }
 {
     let mut object = object;
-    'entries: for _ in 0..u64::MAX {
+    'entries: loop {
         let Some(entry) = object.entries.get(object.next) else {
             let whole = Coerced::Given(object.members.into_value());
             return Ok(Step::Answer(once(alloc, object.expected, whole)?));
@@ -142,7 +142,6 @@ fn next_entry<'v>(
             }
         }
     }
-    Err(AllocError)
 }
 
 /// An object, whose field of this name came to this, with its default.

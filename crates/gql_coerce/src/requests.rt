@@ -142,7 +142,8 @@ fn of_object(coerced: Coerced) -> Result<CoercedValue, CoerceFault>
 /// 6.1.2), or the first refusal. The object `values` has those that a request gives: missing ones
 /// take their defaults, and undefined ones are ignored. Refusals come in the order of the
 /// definitions; the path begins with the variable's name. A missing variable of a Non-Null type
-/// without a default is 121.
+/// without a default is 121. `Memory` is returned, too, if a default value that a variable takes
+/// leads back to itself.
 pub fn coerce_variables(
     alloc: Global,
     schema: &Schema,
@@ -274,7 +275,8 @@ fn all_arguments(
 /// 6.4.1), or the first refusal. The object `variables` has the values of the variables. Of
 /// arguments of one name, the first counts; undefined ones are ignored. Refusals come in the order
 /// of the definitions; the path begins with the argument's name. A missing argument of a Non-Null
-/// type without a default is 121.
+/// type without a default is 121. `Memory` is returned, too, if a default value that an argument
+/// takes leads back to itself.
 pub fn coerce_arguments(
     alloc: Global,
     schema: &Schema,

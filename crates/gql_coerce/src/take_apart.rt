@@ -1,6 +1,11 @@
 //! Drops values part by part. There is no recursion, so the stack does not limit how deep they nest,
 //! and no allocation, so this cannot fail. A value of few levels is dropped with recursion, which is
 //! faster.
+ghost use Rattle.std.specs.Prelude.{◌≡◌, false};
+ghost use Rattle.serde_json.specs.View.{view};
+ghost use Rattle.gql_coerce.specs.Nesting as spec;
+ghost use Rattle.gql_coerce.specs.Nesting.{NestsWithin};
+
 use serde_json::Value;
 use std::mem;
 
@@ -8,7 +13,9 @@ use std::mem;
 const FEW_LEVELS: usize = 64;
 
 // Whether a value is a list or an object that has a part.
-fn has_part(value: &Value) -> bool {
+fn has_part(value: &Value) -> bool
+    ensures { result ≡ spec.has_part (view value.now) }
+{
     match value {
         Value::Array(items) => !items.is_empty(),
         Value::Object(members) => !members.is_empty(),
@@ -48,6 +55,7 @@ fn exchange_last(whole: &mut Value, other: &mut Value) {
 /// Drops a value. It enters a list or an object, drops its parts, and goes back to the one around
 /// it. `around` is the one that was entered last. That one holds the one that was entered before it
 /// as the part that is removed last, so that no memory is needed to find the way back.
+/// There is no clause: the value is gone, and a contract cannot see in which order it was dropped.
 pub fn take_apart(value: Value) {
     let mut around = Value::Null;
     let mut value = value;
@@ -71,14 +79,21 @@ pub fn take_apart(value: Value) {
     }
 }
 
-/// How many levels of lists and objects a value has at most: none if it has no part, else a number
-/// past all others.
-pub fn levels_of(value: &Value) -> usize {
-    if has_part(value) { usize::MAX } else { 0 }
+/// How many levels of lists and objects a value has at most: one if it has no part, else the
+/// largest number, which stands for any number of levels.
+pub fn levels_of(value: &Value) -> usize
+    ensures levels { NestsWithin (view value.now) result }
+    ensures few { spec.has_part (view value.now) ≡ false → result ≡ 1 }
+{
+    if has_part(value) { usize::MAX } else { 1 }
 }
 
-/// Drops a value that has at most this many levels of lists and objects.
-pub fn drop_of_levels(value: Value, levels: usize) {
+/// Drops a value that has at most this many levels of lists and objects: with recursion, if these
+/// are few, so that the recursion goes no deeper than them. There is no `ensures`: the value is
+/// gone.
+pub fn drop_of_levels(value: Value, levels: usize)
+    requires { NestsWithin (view value) levels }
+{
     if levels > FEW_LEVELS {
         take_apart(value);
     } else {

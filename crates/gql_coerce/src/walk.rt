@@ -57,8 +57,8 @@ fn has_cycle(schema: &Schema, stack: &[Frame<'_>]) -> bool {
     open > 1
 }
 
-// If defaults lead back to themselves, an input may come to nothing: the walk gives up. It checks
-// for this each time the stack has doubled.
+// If defaults lead back to themselves, an input may come to nothing: the walk gives up, although no
+// allocation failed. It checks for this each time the stack has doubled.
 fn give_up(schema: &Schema, stack: &[Frame<'_>]) -> Result<(), AllocError> {
     let depth = stack.len();
     if depth >= 1024 && depth.is_power_of_two() && has_cycle(schema, stack) {

@@ -1,5 +1,5 @@
 -- The facts of a schema and of document files: the answer to each key.
-use Rattle.std.specs.Prelude.{flat_map, codes, ℕ, List, [], ◌∷◌, map, find, bytes_eq, is_some, Bool, false, Option, option_and_then, if◌then◌else◌}
+use Rattle.std.specs.Prelude.{◌&&◌, flat_map, codes, ℕ, List, [], ◌∷◌, map, find, bytes_eq, is_some, Bool, false, Option, option_and_then, if◌then◌else◌}
 use Rattle.std.specs.Option.{option_map_or}
 use Rattle.gql_ast.specs.declared.definition.Definition.{Definition}
 use Rattle.gql_ast.specs.declared.definition.Document.{Document}
@@ -102,13 +102,13 @@ abbrev pub fact_if : Bool → Fact → Fact
 fact_if holds f = if holds then f else fact.Absent
 
 -- The field of this name of a type: every composite type has `__typename`, and the query root has
--- `__schema` and `__type`, whether or not fields of these names are defined. Other fields are the
--- type's own.
+-- `__schema` and `__type`, whether or not fields of these names are defined. Every other field is the
+-- type's own, also one that is called `__schema` or `__type` on a type that is not the query root.
 abbrev pub field_by : MetaFields → List ℕ → Bool → Bool → Fact → Fact
 field_by meta n composite query_root own =
     if bytes_eq n (codes "__typename") then fact_if composite (fact.Field meta.typename)
-    else if bytes_eq n (codes "__schema") then fact_if query_root (fact.Field meta.schema)
-    else if bytes_eq n (codes "__type") then fact_if query_root (fact.Field meta.of_type)
+    else if bytes_eq n (codes "__schema") && query_root then fact.Field meta.schema
+    else if bytes_eq n (codes "__type") && query_root then fact.Field meta.of_type
     else own
 
 -- whether the type of this name is composite

@@ -1,5 +1,5 @@
 -- The world that is present: the answers of the tables of a schema and of document files.
-use Rattle.std.specs.Prelude.{◌≡◌, ◌≢◌, ℕ, List, ◌++◌, map, bytes_eq, codes, Bool, true, false, refl, Option, Some, None, Contains, option_and_then, if◌then◌else◌}
+use Rattle.std.specs.Prelude.{◌≡◌, ◌≢◌, ◌&&◌, ℕ, List, ◌++◌, map, bytes_eq, codes, Bool, true, false, refl, Option, Some, None, Contains, option_and_then, if◌then◌else◌}
 use Rattle.std.proofs.Common.{sym, subst}
 use Rattle.std.proofs.lemmas.Slice.Eq.{bytes_eq-Decides}
 use Rattle.std.proofs.lemmas.List.Elements.{Contains-append_left, Contains-append_right}
@@ -45,16 +45,15 @@ field_answered : (m : MetaFields) (t n : List ℕ) (composite root : Bool) (own 
 field_answered m t n composite root own p =
     either t n (bytes_eq n (codes "__typename"))
     (fact_if composite (fact.Field m.typename))
-    (if bytes_eq n (codes "__schema") then fact_if root (fact.Field m.schema)
-    else if bytes_eq n (codes "__type") then fact_if root (fact.Field m.of_type)
+    (if bytes_eq n (codes "__schema") && root then fact.Field m.schema
+    else if bytes_eq n (codes "__type") && root then fact.Field m.of_type
     else own)
     (under t n composite m.typename)
-    (either t n (bytes_eq n (codes "__schema"))
-    (fact_if root (fact.Field m.schema))
-    (if bytes_eq n (codes "__type") then fact_if root (fact.Field m.of_type) else own)
-    (under t n root m.schema)
-    (either t n (bytes_eq n (codes "__type"))
-    (fact_if root (fact.Field m.of_type)) own (under t n root m.of_type) p))
+    (either t n (bytes_eq n (codes "__schema") && root)
+    (fact.Field m.schema)
+    (if bytes_eq n (codes "__type") && root then fact.Field m.of_type else own)
+    tt
+    (either t n (bytes_eq n (codes "__type") && root) (fact.Field m.of_type) own tt p))
 
 kinds : (s : SchemaFacts) (fs : List FragmentFact) (k : Key) → Answers k (kept_fact s fs k)
 kinds s fs (key.KindOf t) =

@@ -106,10 +106,10 @@ fn field_of(schema: &SchemaFacts, of_type: &str, name: &str) -> Result<Fact, All
 {
     if name == "__typename" {
         fact_if(is_composite(schema, of_type), &schema.meta.typename)
-    } else if name == "__schema" {
-        fact_if(is_query_root(schema, of_type), &schema.meta.schema)
-    } else if name == "__type" {
-        fact_if(is_query_root(schema, of_type), &schema.meta.of_type)
+    } else if name == "__schema" && is_query_root(schema, of_type) {
+        Ok(Fact::Field(schema.meta.schema.clone()?))
+    } else if name == "__type" && is_query_root(schema, of_type) {
+        Ok(Fact::Field(schema.meta.of_type.clone()?))
     } else {
         own_field(schema, of_type, name)
     }

@@ -1,7 +1,8 @@
 -- A pipe's pieces, one after the other.
-use Rattle.std.proofs.Common.{◌≡◌, ◌≢◌, ◌⊎◌, inl, inr, ℕ, ◌+◌, List, [], ◌∷◌, ◌++◌, length, map, take, Bool, true, false, cond, Option, Some, None, Ok, Err, refl, sym, ap, ap₂, ◌∙◌, subst, append_assoc, append-nil, zero-add, suc-add}
+use Rattle.std.proofs.Common.{◌≡◌, ◌≢◌, ◌≤◌, ◌⊎◌, inl, inr, ℕ, ◌+◌, List, [], ◌∷◌, ◌++◌, length, map, take, Bool, true, false, cond, Option, Some, None, Ok, Err, refl, sym, ap, ap₂, ◌∙◌, subst, append_assoc, append-nil, zero-add, suc-add, arith, length-take}
 use Rattle.std.specs.Prelude.{is_none}
-use Rattle.std.specs.List.{concat}
+use Rattle.std.specs.List.{concat, Contains}
+use Rattle.std.proofs.lemmas.List.Elements.{Contains-append_cases, Contains-push_cases}
 use Rattle.gql_registry.specs.State.{State}
 use Rattle.gql_wire.specs.Peer.{Passage, received, sent, received_in, sent_in, Adds, SendsAll, SendsFront}
 use Rattle.gql_wire.specs.Stream.{Placed, Splits}
@@ -9,7 +10,7 @@ use Rattle.gql_wire.specs.Laws.{MoreBytes, SomeSplit, OneSplit, NothingUnfinishe
 use Rattle.gql_http.specs.Connections.{requests_of, joined, is_closed, Serves, Breaks}
 use Rattle.gql_http.specs.Events.{Event, feeds, breaks, connection_of, Connections, Does, does_open, does_feed, does_break, does_close, ignores}
 use Rattle.gql_http.specs.Hubs.{is_unfinished, IsFeedOf}
-use Rattle.gql_http.specs.Pipes.{IsPrompt, IsExchange}
+use Rattle.gql_http.specs.Pipes.{IsPrompt, IsExchange, ReadsPieces, most_bytes}
 use Rattle.gql_http.specs.declared.piping.PipeEnd.{PipeEnd}
 use Rattle.gql_http.specs.declared.piping.PipeEnd.TheVariants as ends
 use Rattle.gql_http.specs.declared.piping.PipeFault.{PipeFault}
@@ -24,6 +25,7 @@ pub record Exchanged (s : State) (old new : Option (List Passage)) (u : State) (
   pub held : List ℕ
   pub adds : Adds old new passed
   pub prompt : IsPrompt s passed
+  pub pieces : ReadsPieces passed
   pub serves : Serves s (received_in passed) (sent_in passed) u (Some held)
   pub stays : rest ≡ Some held
 
@@ -100,6 +102,41 @@ prompt_turn s u passed held piece parts prompt serves front after p e = elim (wh
   | inr (between, is) ↦ prompt front between p is
 ]
 
+-- ---- how much is read
+
+nothing_in : (x : Passage) → Contains [] x → ⊥
+nothing_in x (i, within, is) = absurd (omega (arith, within))
+
+the_one : (a x : Passage) → Contains (a ∷ []) x → a ≡ x
+the_one a x h = elim (Contains-push_cases [] a x h) [ inl none ↦ absurd (nothing_in x none) | inr is ↦ is ]
+
+sent_alone : (parts : List (List ℕ)) (piece : List ℕ) → Contains (map sent parts) (received piece) → ⊥
+sent_alone [] piece h = nothing_in (received piece) h
+sent_alone (part ∷ parts) piece h = elim (Contains-append_cases (sent part ∷ []) (map sent parts) (received piece) h) [
+  | inl first ↦ let clash : sent part ≡ received piece = the_one (sent part) (received piece) first in cc
+  | inr later ↦ sent_alone parts piece later
+]
+
+same_piece : (a b : List ℕ) → received a ≡ received b → a ≡ b
+same_piece a b is = cc
+
+-- the front of a list is no longer than the list
+pub front_short : (n : ℕ) (xs : List ℕ) → length xs ≡ most_bytes → length (take n xs) ≤ most_bytes
+front_short n xs is = let cut = length-take n xs in omega (arith, cut, is)
+
+no_pieces : ReadsPieces []
+no_pieces piece h = absurd (nothing_in (received piece) h)
+
+-- one read more, of at most so many bytes
+pieces_turn : (passed : List Passage) (piece : List ℕ) (parts : List (List ℕ)) → ReadsPieces passed → length piece ≤ most_bytes → ReadsPieces (turned passed piece parts)
+pieces_turn passed piece parts pieces short p h = elim (Contains-append_cases passed (received piece ∷ map sent parts) (received p) h) [
+  | inl before ↦ pieces p before
+  | inr later ↦ elim (Contains-append_cases (received piece ∷ []) (map sent parts) (received p) later) [
+    | inl read ↦ subst (λ (bytes : List ℕ). length bytes ≤ most_bytes) (same_piece piece p (the_one (received piece) (received p) read)) short
+    | inr writes ↦ absurd (sent_alone parts p writes)
+  ]
+]
+
 -- ---- what a feed does
 
 feed_by : (s t : State) (rests : Connections) (c : ℕ) (piece out held : List ℕ) (next : Connections) → Does s rests (feeds c piece) out t next → rests c ≡ Some held → Serves s (held ++ piece) out t (next c)
@@ -171,6 +208,7 @@ module _ (some : SomeSplit) (one : OneSplit) (more_bytes : MoreBytes) where
     held = [];
     adds = adds_nil transcript;
     prompt = λ front after p e. absurd (no_read [] front after p e);
+    pieces = no_pieces;
     serves = serves_nothing nothing s;
     stays = unclosed;
   }
@@ -201,13 +239,14 @@ module _ (some : SomeSplit) (one : OneSplit) (more_bytes : MoreBytes) where
     turn_prompt piece parts = prompt_turn s u x.passed x.held piece parts x.prompt x.serves
 
     -- one more turn, after which the connection is open
-    pub exchanged_more : (t : State) (between after : Option (List Passage)) (piece out : List ℕ) (left : Option (List ℕ)) (held : List ℕ) → Adds new between (received piece ∷ [])
+    pub exchanged_more : (t : State) (between after : Option (List Passage)) (piece out : List ℕ) (left : Option (List ℕ)) (held : List ℕ) → length piece ≤ most_bytes → Adds new between (received piece ∷ [])
         → SendsAll between after out → Serves u (x.held ++ piece) out t left → left ≡ Some held → Exchanged s old after t left
-    exchanged_more t between after piece out left held reads (parts, writes, is) h still = record {
+    exchanged_more t between after piece out left held short reads (parts, writes, is) h still = record {
       passed = turned x.passed piece parts;
       held = held;
       adds = adds_turn old new between after x.passed piece parts x.adds reads writes;
       prompt = turn_prompt piece parts;
+      pieces = pieces_turn x.passed piece parts x.pieces short;
       serves = subst (λ r. Serves s (received_in (turned x.passed piece parts)) (sent_in (turned x.passed piece parts)) t r) still (all_answered t piece out parts left is h);
       stays = still;
     }
@@ -230,24 +269,28 @@ module _ (some : SomeSplit) (one : OneSplit) (more_bytes : MoreBytes) where
           ended_by (is_unfinished rest) refl answered,
         )
       where
+        none_read : length piece ≤ most_bytes
+        none_read = subst (λ (bytes : List ℕ). length bytes ≤ most_bytes) (sym empty) (omega arith)
+
         ended_by : (b : Bool) → is_unfinished rest ≡ b → Serves s (received_in (turned x.passed piece [])) (sent_in (turned x.passed piece [])) u rest
             → IsExchange (record { before = s; after = u; passed = turned x.passed piece []; ended = ended; result = Ok result })
         ended_by true unfinished answered =
             subst (λ r. IsExchange (record { before = s; after = u; passed = turned x.passed piece []; ended = ended; result = Ok r }))
-            (sym (is ∙ ap (λ b. cond b ends.Rest ends.Whole) unfinished)) (record { prompt = turn_prompt piece []; sends = (rest, answered, inr over, unfinished) })
+            (sym (is ∙ ap (λ b. cond b ends.Rest ends.Whole) unfinished)) (record { prompt = turn_prompt piece []; pieces = pieces_turn x.passed piece [] x.pieces none_read; sends = (rest, answered, inr over, unfinished) })
         ended_by false unfinished answered =
             subst (λ r. IsExchange (record { before = s; after = u; passed = turned x.passed piece []; ended = ended; result = Ok r }))
-            (sym (is ∙ ap (λ b. cond b ends.Rest ends.Whole) unfinished)) (record { prompt = turn_prompt piece []; sends = (rest, answered, inr over, unfinished) })
+            (sym (is ∙ ap (λ b. cond b ends.Rest ends.Whole) unfinished)) (record { prompt = turn_prompt piece []; pieces = pieces_turn x.passed piece [] x.pieces none_read; sends = (rest, answered, inr over, unfinished) })
 
     -- a write failed
-    pub write_failed : (t : State) (between after : Option (List Passage)) (piece out : List ℕ) (ended : Bool) → Adds new between (received piece ∷ []) → SendsFront between after out
+    pub write_failed : (t : State) (between after : Option (List Passage)) (piece out : List ℕ) (ended : Bool) → length piece ≤ most_bytes → Adds new between (received piece ∷ []) → SendsFront between after out
         → ((left : Option (List ℕ)) × Serves u (x.held ++ piece) out t left) ⊎ ((made : ℕ) × Breaks u (x.held ++ piece) out t made)
         → (passed : List Passage) × Adds old after passed × IsExchange (record { before = s; after = t; passed = passed; ended = ended; result = Err faults.WriteFailed })
-    write_failed t between after piece out ended reads (parts, unsent, writes, cut) made = (
+    write_failed t between after piece out ended short reads (parts, unsent, writes, cut) made = (
       turned x.passed piece parts,
       adds_turn old new between after x.passed piece parts x.adds reads writes,
       record {
         prompt = turn_prompt piece parts;
+        pieces = pieces_turn x.passed piece parts x.pieces short;
         sends = (
           sent_in x.passed ++ out,
           unsent,
@@ -262,23 +305,23 @@ module _ (some : SomeSplit) (one : OneSplit) (more_bytes : MoreBytes) where
     )
 
     -- an allocation failed
-    pub memory_failed : (t : State) (between after : Option (List Passage)) (piece out : List ℕ) (ended : Bool) → Adds new between (received piece ∷ []) → SendsAll between after out
+    pub memory_failed : (t : State) (between after : Option (List Passage)) (piece out : List ℕ) (ended : Bool) → length piece ≤ most_bytes → Adds new between (received piece ∷ []) → SendsAll between after out
         → (made : ℕ) × Breaks u (x.held ++ piece) out t made
         → (passed : List Passage) × Adds old after passed × IsExchange (record { before = s; after = t; passed = passed; ended = ended; result = Err faults.Memory })
-    memory_failed t between after piece out ended reads (parts, writes, is) (made, h) = (
+    memory_failed t between after piece out ended short reads (parts, writes, is) (made, h) = (
       turned x.passed piece parts,
       adds_turn old new between after x.passed piece parts x.adds reads writes,
-      record { prompt = turn_prompt piece parts; sends = some_answered t piece out parts made is h },
+      record { prompt = turn_prompt piece parts; pieces = pieces_turn x.passed piece parts x.pieces short; sends = some_answered t piece out parts made is h },
     )
 
     -- a request closed the connection
-    pub closed_by : (t : State) (between after : Option (List Passage)) (piece out : List ℕ) (left : Option (List ℕ)) (ended : Bool) → Adds new between (received piece ∷ []) → SendsAll between after out
+    pub closed_by : (t : State) (between after : Option (List Passage)) (piece out : List ℕ) (left : Option (List ℕ)) (ended : Bool) → length piece ≤ most_bytes → Adds new between (received piece ∷ []) → SendsAll between after out
         → Serves u (x.held ++ piece) out t left → left ≡ None
         → (passed : List Passage) × Adds old after passed × IsExchange (record { before = s; after = t; passed = passed; ended = ended; result = Ok ends.Whole })
-    closed_by t between after piece out left ended reads (parts, writes, is) h shut = (
+    closed_by t between after piece out left ended short reads (parts, writes, is) h shut = (
       turned x.passed piece parts,
       adds_turn old new between after x.passed piece parts x.adds reads writes,
-      record { prompt = turn_prompt piece parts; sends = (left, all_answered t piece out parts left is h, inl shut, ap is_unfinished shut) },
+      record { prompt = turn_prompt piece parts; pieces = pieces_turn x.passed piece parts x.pieces short; sends = (left, all_answered t piece out parts left is h, inl shut, ap is_unfinished shut) },
     )
 
     -- no more reads are made, or one failed
@@ -287,12 +330,12 @@ module _ (some : SomeSplit) (one : OneSplit) (more_bytes : MoreBytes) where
     no_more after ended fault none (inl is) = (
       x.passed,
       stopped after none,
-      subst (λ f. IsExchange (record { before = s; after = u; passed = x.passed; ended = ended; result = Err f })) (sym is) (record { prompt = x.prompt; sends = (Some x.held, x.serves) }),
+      subst (λ f. IsExchange (record { before = s; after = u; passed = x.passed; ended = ended; result = Err f })) (sym is) (record { prompt = x.prompt; pieces = x.pieces; sends = (Some x.held, x.serves) }),
     )
     no_more after ended fault none (inr is) = (
       x.passed,
       stopped after none,
-      subst (λ f. IsExchange (record { before = s; after = u; passed = x.passed; ended = ended; result = Err f })) (sym is) (record { prompt = x.prompt; sends = (Some x.held, x.serves) }),
+      subst (λ f. IsExchange (record { before = s; after = u; passed = x.passed; ended = ended; result = Err f })) (sym is) (record { prompt = x.prompt; pieces = x.pieces; sends = (Some x.held, x.serves) }),
     )
 
 -- what was fed, whether an allocation failed or not

@@ -74,7 +74,7 @@ removal_refused s side method target body name closing expected r is fails e h =
     by _ wanted (asks_to_put_data asks) accepted =
         let clash : remove side name expected ≡ put_data wanted = sym is ∙ asks in cc
 
-data_refused : (s : State) (method target body : List ℕ) (closing : Bool) (expected : Option ℕ) (r : Refusal) → call_of method target ≡ put_data expected → Fails s expected (edit.put_data body) r
+pub data_refused : (s : State) (method target body : List ℕ) (closing : Bool) (expected : Option ℕ) (r : Refusal) → call_of method target ≡ put_data expected → Fails s expected (edit.put_data body) r
     → (e : Edit) → IsAcceptedEdit s (request method target body closing) e → ⊥
 data_refused s method target body closing expected r is fails e h = by e h.expected h.asks h.accepted
   where
@@ -155,7 +155,7 @@ module _ (holds : HoldsAfter) where
 
 -- ---- the report of the files then present
 
-record Split (s u : State) (front rest : List Req) (r : Req) (answers : List (List ℕ)) : Type 0 where
+pub record Split (s u : State) (front rest : List Req) (r : Req) (answers : List (List ℕ)) : Type 0 where
   pub before : List (List ℕ)
   pub after : List (List ℕ)
   pub bytes : List ℕ
@@ -166,7 +166,7 @@ record Split (s u : State) (front rest : List Req) (r : Req) (answers : List (Li
   pub then : Run v rest after u
   pub is : answers ≡ before ++ (bytes ∷ after)
 
-split_run : (s u : State) (front rest : List Req) (r : Req) (answers : List (List ℕ)) → Run s (front ++ (r ∷ rest)) answers u → Split s u front rest r answers
+pub split_run : (s u : State) (front rest : List Req) (r : Req) (answers : List (List ℕ)) → Run s (front ++ (r ∷ rest)) answers u → Split s u front rest r answers
 split_run s u [] rest r _ (more {t = v} {bytes = bytes} {answers = after} step run) =
     record { before = []; after = after; bytes = bytes; t = s; v = v; first = done; step = step; then = run; is = refl }
 split_run s u (q ∷ front) rest r _ (more {t = v} {bytes = bytes} {answers = answers} step run) =

@@ -1,7 +1,8 @@
--- The document that a name of a side was given last.
+-- The document that a name of a side was given last, and the data that was put last.
 use Rattle.std.specs.Prelude.{ℕ, ◌≡◌, List, [], ◌∷◌, Bool, Option}
 use Rattle.gql_ast.specs.declared.definition.Document.{Document}
 use Rattle.gql_ast.specs.declared.fault.FileSide.{FileSide}
+use Rattle.gql_bodies.specs.DataBodies.{IsDataText}
 use Rattle.gql_registry.specs.Edits.{Edit, IsAccepted}
 use Rattle.gql_registry.specs.Edits as edit
 use Rattle.gql_registry.specs.Laws.{LeavesUnder}
@@ -9,6 +10,7 @@ use Rattle.gql_registry.specs.State.{State}
 use Rattle.gql_wire.specs.Stream.{Req, request}
 use Rattle.gql_http.specs.Routes.{put, remove, put_data, call_of}
 use Rattle.gql_http.specs.Service.{Step}
+use Rattle.serde_json.specs.Data.{Data}
 
 -- the request asks for this edit, and expects this revision or any
 pub data AsksFor : Req → Option ℕ → Edit → Type 0 where
@@ -43,3 +45,14 @@ pub data Holds (side : FileSide) (name : List ℕ) : State
   by_other : {s t : State} {before last : Option Document} {r : Req} {rs : List Req}
       (bytes : List ℕ) → ((e : Edit) → IsAcceptedEdit s r e → ⊥)
       → Step s r bytes t → Holds side name t before rs last → Holds side name s before (r ∷ rs) last
+
+-- The data after requests, by the accepted edits among them alone: that of the last edit that put
+-- data, and what it was before if there was no such edit.
+pub data HoldsData : State → Data → List Req → Data → Type 0 where
+  no_more_requests : {s : State} {d : Data} → HoldsData s d [] d
+  by_data : {s t : State} {before after last : Data} {body : List ℕ} {r : Req} {rs : List Req}
+      (bytes : List ℕ) → IsAcceptedEdit s r (edit.put_data body) → IsDataText body after
+      → Step s r bytes t → HoldsData t after rs last → HoldsData s before (r ∷ rs) last
+  by_no_data : {s t : State} {before last : Data} {r : Req} {rs : List Req} (bytes : List ℕ)
+      → ((body : List ℕ) → IsAcceptedEdit s r (edit.put_data body) → ⊥)
+      → Step s r bytes t → HoldsData t before rs last → HoldsData s before (r ∷ rs) last

@@ -7,13 +7,13 @@ use Rattle.gql_registry.specs.Report.{IsReport}
 use Rattle.gql_registry.specs.State.{State, empty}
 use Rattle.gql_wire.specs.Head.{is_head}
 use Rattle.gql_wire.specs.Stream.{Req, request, Placed, Requests}
-use Rattle.gql_http.specs.Answers.{answer_bytes, report_said}
+use Rattle.gql_http.specs.Answers.{Said, answer_bytes, report_said}
 use Rattle.gql_http.specs.Connections.{requests_of, joined}
 use Rattle.gql_http.specs.Events.{Event, opens, feeds, breaks, closes, Connections, all_closed, Does, Behaves}
-use Rattle.gql_http.specs.History.{Holds}
+use Rattle.gql_http.specs.History.{Holds, HoldsData}
 use Rattle.gql_http.specs.Order.{Order, Answers, on}
-use Rattle.gql_http.specs.Routes.{report, call_of}
-use Rattle.gql_http.specs.Service.{Step, Run}
+use Rattle.gql_http.specs.Routes.{report, run, call_of}
+use Rattle.gql_http.specs.Service.{Step, Run, Runs}
 
 -- a request has at most one answer, and leaves at most one state
 abbrev pub OneStep : Type 0
@@ -110,3 +110,21 @@ ReportThen = (s u : State) (front rest : List Req) (method target body : List �
     × IsReport t.files faults
     × (answers ≡ before ++ (answer_bytes closing (is_head method) (report_said t.revision faults)
     ∷ after)) × Run t rest after u
+
+-- After requests, the data is that of the last accepted edit that put data, and what it was before
+-- if there was no such edit. A new registry has an object without members.
+abbrev pub DataPresent : Type 0
+DataPresent = (s t : State) (rs : List Req) (answers : List (List ℕ)) → Run s rs answers t
+    → HoldsData s s.stored rs t.stored
+
+-- A request to run an operation, among others, is answered as the registry answers it on the files
+-- and the data that are present after the requests before it, and changes nothing.
+abbrev pub CallThen : Type 0
+CallThen = (s u : State) (front rest : List Req) (method target body : List ℕ) (closing : Bool)
+    (answers : List (List ℕ))
+    → call_of method target ≡ run
+    → Run s (front ++ (request method target body closing ∷ rest)) answers u
+    → (before after : List (List ℕ)) × (t : State) × (said : Said) × Run s front before t
+    × Runs t body said
+    × (answers ≡ before ++ (answer_bytes closing (is_head method) said ∷ after))
+    × Run t rest after u

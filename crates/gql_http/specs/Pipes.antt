@@ -1,5 +1,5 @@
 -- What a pipe does: the requests that it reads from its peer, answered on the same connection.
-use Rattle.std.specs.Prelude.{ℕ, ◌≡◌, List, ◌∷◌, ◌++◌, Bool, true, false, Option, Some, None, Result, Ok, Err, ◌⊎◌}
+use Rattle.std.specs.Prelude.{ℕ, ◌≡◌, ◌≤◌, Contains, length, List, ◌∷◌, ◌++◌, Bool, true, false, Option, Some, None, Result, Ok, Err, ◌⊎◌}
 use Rattle.gql_registry.specs.State.{State}
 use Rattle.gql_wire.specs.Peer.{Passage, received, received_in, sent_in}
 use Rattle.gql_http.specs.Connections.{Serves, Breaks}
@@ -12,6 +12,10 @@ use Rattle.gql_http.specs.declared.piping.PipeFault.TheVariants.{ReadFailed, Wri
 -- how many reads a pipe makes at most
 abbrev pub most_reads : ℕ
 most_reads = 1048576
+
+-- how many bytes a read of a pipe brings at most
+abbrev pub most_bytes : ℕ
+most_bytes = 4096
 
 -- What a pipe did: the state of the service before and after it, what passed between it and its
 -- peer, whether the peer's input was at its end then, and how the pipe ended.
@@ -28,6 +32,11 @@ abbrev pub IsPrompt : State → List Passage → Type 0
 IsPrompt s passed = (front after : List Passage) (piece : List ℕ)
     → passed ≡ front ++ (received piece ∷ after)
     → (t : State) × (held : List ℕ) × Serves s (received_in front) (sent_in front) t (Some held)
+
+-- no read brings more bytes than `most_bytes`
+abbrev pub ReadsPieces : List Passage → Type 0
+ReadsPieces passed =
+    (piece : List ℕ) → Contains passed (received piece) → length piece ≤ most_bytes
 
 -- all that was received is answered, and `held` is held then
 abbrev pub IsAnswered : Exchange → Option (List ℕ) → Type 0
@@ -55,6 +64,7 @@ Sends (Err WriteFailed) x = (out unsent : List ℕ) × (out ≡ sent_in x.passed
 -- a pipe does this
 pub record IsExchange (x : Exchange) : Type 0 where
   pub prompt : IsPrompt x.before x.passed
+  pub pieces : ReadsPieces x.passed
   pub sends : Sends x.result x
 
 -- how many reads failed in a pipe that ended in this way

@@ -1,5 +1,5 @@
 //! Laws of the service and its hub. The functions do nothing: what they ensure is the law.
-ghost use Rattle.gql_http.specs.Laws.{AnyPieces, FilesPresent, InOrder, OneDeed, OneOrder, OneRun, OneStep, ReportThen, SomeOrder, TwoParts};
+ghost use Rattle.gql_http.specs.Laws.{AnyPieces, CallThen, DataPresent, FilesPresent, InOrder, OneDeed, OneOrder, OneRun, OneStep, ReportThen, SomeOrder, TwoParts};
 
 /// A request has at most one answer, and leaves at most one state.
 pub fn one_step()
@@ -76,4 +76,16 @@ pub fn files_present()
 /// requests before it.
 pub fn report_then()
     ensures { ReportThen }
+{}
+
+/// After requests, the data is that of the last accepted edit that put data, and what it was before
+/// if there was no such edit.
+pub fn data_present()
+    ensures { DataPresent }
+{}
+
+/// A request to run an operation is answered as the registry answers it on the files and the data
+/// that are present after the requests before it, and changes nothing.
+pub fn call_then()
+    ensures { CallThen }
 {}

@@ -1,8 +1,12 @@
+pub mod AnswerTypes
 pub mod Applied
 pub mod Borrowed
 pub mod Examples
+pub mod InFiles
 pub mod Introspection
+pub mod Laws
 pub mod Made
 pub mod MetaFields
 pub mod Nodes
 pub mod References
+pub mod SchemaNodes

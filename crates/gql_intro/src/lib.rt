@@ -4,6 +4,7 @@
 
 mod answer;
 mod applied;
+pub mod laws;
 mod made;
 mod meta_fields;
 mod named_type;

@@ -3,7 +3,11 @@ ghost use Rattle.std.specs.Prelude.{◌≡◌, None, Some, option_and_then, opti
 ghost use Rattle.std.specs.Option.{option_copied};
 ghost use Rattle.gql_intro.specs.Borrowed.{answer_of, given_of, node_of};
 ghost use Rattle.gql_intro.specs.Introspection as spec;
+ghost use Rattle.gql_intro.specs.InFiles.{resolve_in};
+ghost use Rattle.gql_intro.specs.Made.{made_of};
 ghost use Rattle.gql_intro.specs.Nodes.{answer_in};
+ghost use Rattle.gql_ast.specs.declared.files.Files.{Files as AFiles};
+ghost use Rattle.gql_types.specs.Schemas.{schema_of};
 ghost use Rattle.gql_types.specs.declared.schema.Schema.{Schema as ASchema};
 
 use crate::answer::{IntroAnswer, IntroArguments, node_or_null, optional_text, text_or_null};
@@ -168,9 +172,8 @@ fn of_directive<'s>(definition: &'s DirectiveDefinition, field: &str) -> Option<
     })
 }
 
-/// What the field of that name of a node resolves to, called with these arguments; `None` if the
-/// type of the node has no such field. `made` is what `intro_schema` made for the schema.
-pub fn intro_resolve<'s>(
+/// What the field of that name of a node resolves to, by the form of the node.
+fn of_node<'s>(
     schema: &'s Schema,
     made: &'s IntroSchema,
     node: IntroNode<'s>,
@@ -194,4 +197,25 @@ pub fn intro_resolve<'s>(
         IntroNode::EnumValue(definition) => of_value(definition, field),
         IntroNode::Directive(definition) => of_directive(definition, field),
     }
+}
+
+/// What the field of that name of a node resolves to, called with these arguments; `None` if the
+/// node has no such field. `made` is what `intro_schema` made for the schema; where the schema is
+/// that of schema files, `files` says what the field resolves to there.
+pub fn intro_resolve<'s>(
+    schema: &'s Schema,
+    made: &'s IntroSchema,
+    node: IntroNode<'s>,
+    field: &str,
+    arguments: IntroArguments<'_>,
+) -> Option<IntroAnswer<'s>>
+    ensures made { option_map (answer_of schema.now) result
+        ≡ spec.resolve schema.now made.now (given_of arguments.entry)
+        (node_of node.entry) field.now }
+    ensures files { (files : AFiles) → schema.now ≡ schema_of files
+        → made.now ≡ made_of files schema.now
+        → option_map (answer_of schema.now) result
+        ≡ resolve_in files (given_of arguments.entry) (node_of node.entry) field.now }
+{
+    of_node(schema, made, node, field, arguments)
 }

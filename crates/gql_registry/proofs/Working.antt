@@ -16,38 +16,37 @@ use Rattle.gql_registry.specs.declared.refusal.Refusal.TheVariants as refusal
 use Rattle.gql_registry.specs.declared.registry.Edited.{Edited}
 use Rattle.gql_verdict.specs.Definitions.{all_definitions}
 use Rattle.gql_verdict.specs.Verdicts.{Judgement}
-use Rattle.gql_verdict.proofs.Steps.{work_all, work_none}
+use Rattle.gql_verdict.proofs.Picked.{no_entries}
 use Rattle.gql_registry.proofs.FirstRefusals.{makes_refusal}
 
 -- nothing was examined
 pub no_work : (files : Files) (shelf : List Judgement) (m : List DefinitionId) → IsWorkOn files shelf m m
 no_work files shelf m =
-    let ds = all_definitions files.documents in
-    work_all (fact_of files) shelf ds 0 m m (work_none (fact_of files) shelf ds m)
+    no_entries (fact_of files) shelf (all_definitions files.documents) m
 
 -- an edit that is refused before anything is examined
-pub idle : (s t : State) (shelf : List Judgement) (e : Edit) (r : Refusal) (m : List DefinitionId) → Works s shelf e (Err r) t m m
-idle s t shelf e refusal.Memory m = inl refl
-idle s t shelf e (refusal.Syntax number place) m = refl
-idle s t shelf e refusal.NotText m = refl
-idle s t shelf e refusal.TooLong m = refl
-idle s t shelf e refusal.NoFile m = refl
-idle s t shelf e refusal.FilesFull m = refl
-idle s t shelf e (refusal.Stale revision) m = refl
-idle s t shelf e refusal.BadData m = refl
-idle s t shelf e refusal.NoOperation m = refl
-idle s t shelf e (refusal.Faulty faults) m = refl
-idle s t shelf e refusal.TooLarge m = refl
-idle s t shelf e refusal.Spent m = refl
+pub idle : (s t : State) (expected : Option ℕ) (shelf : List Judgement) (e : Edit) (r : Refusal) (m : List DefinitionId) → Works s expected shelf e (Err r) t m m
+idle s t expected shelf e refusal.Memory m = inl refl
+idle s t expected shelf e (refusal.Syntax number place) m = refl
+idle s t expected shelf e refusal.NotText m = refl
+idle s t expected shelf e refusal.TooLong m = refl
+idle s t expected shelf e refusal.NoFile m = refl
+idle s t expected shelf e refusal.FilesFull m = refl
+idle s t expected shelf e (refusal.Stale revision) m = refl
+idle s t expected shelf e refusal.BadData m = refl
+idle s t expected shelf e refusal.NoOperation m = refl
+idle s t expected shelf e (refusal.Faulty faults) m = refl
+idle s t expected shelf e refusal.TooLarge m = refl
+idle s t expected shelf e refusal.Spent m = refl
 
 -- an edit that failed for memory
 pub makes_memory : (s t : State) (expected : Option ℕ) (e : Edit) (r : Result Edited Refusal) → IsErrAnd r (λ q. q ≡ refusal.Memory) → t ≡ s → Makes s expected e r t
 makes_memory s t expected e (Ok edited) is same = absurd is
 makes_memory s t expected e (Err q) is same = subst (λ x. Makes s expected e (Err x) t) (sym is) same
 
-pub works_in_vain : (s t : State) (shelf : List Judgement) (e : Edit) (r : Result Edited Refusal) (old new : List DefinitionId) → IsErrAnd r (λ q. q ≡ refusal.Memory) → WorksInVain s shelf e old new → Works s shelf e r t old new
-works_in_vain s t shelf e (Ok edited) old new is w = absurd is
-works_in_vain s t shelf e (Err q) old new is w = subst (λ x. Works s shelf e (Err x) t old new) (sym is) w
+pub works_in_vain : (s t : State) (expected : Option ℕ) (shelf : List Judgement) (e : Edit) (r : Result Edited Refusal) (old new : List DefinitionId) → IsErrAnd r (λ q. q ≡ refusal.Memory) → WorksInVain s expected shelf e old new → Works s expected shelf e r t old new
+works_in_vain s t expected shelf e (Ok edited) old new is w = absurd is
+works_in_vain s t expected shelf e (Err q) old new is w = subst (λ x. Works s expected shelf e (Err x) t old new) (sym is) w
 
 -- an edit that is refused with the first check that it fails
 pub first_answer : (s t : State) (expected : Option ℕ) (e : Edit) (r : Result Edited Refusal) (q : Refusal) → IsErrAnd r (λ x. x ≡ q) → IsFirstRefusal s expected e q → t ≡ s → Makes s expected e r t
@@ -81,9 +80,9 @@ accepted_answer s t expected e c edited by time is reports = (
 )
 
 -- an edit that is refused examined nothing before
-pub idle_answer : (s t : State) (shelf : List Judgement) (e : Edit) (r : Result Edited Refusal) (q : Refusal) (old new : List DefinitionId) → IsErrAnd r (λ x. x ≡ q) → new ≡ old → Works s shelf e r t old new
-idle_answer s t shelf e (Ok edited) q old new is same = absurd is
-idle_answer s t shelf e (Err x) q old new is same = subst (λ m. Works s shelf e (Err x) t old m) (sym same) (idle s t shelf e x old)
+pub idle_answer : (s t : State) (expected : Option ℕ) (shelf : List Judgement) (e : Edit) (r : Result Edited Refusal) (q : Refusal) (old new : List DefinitionId) → IsErrAnd r (λ x. x ≡ q) → new ≡ old → Works s expected shelf e r t old new
+idle_answer s t expected shelf e (Ok edited) q old new is same = absurd is
+idle_answer s t expected shelf e (Err x) q old new is same = subst (λ m. Works s expected shelf e (Err x) t old m) (sym same) (idle s t expected shelf e x old)
 
 -- what holds of the error that this answer is
 pub err_of : {T E : Type 0} (P : E → Type 0) (r : Result T E) (e : E) → IsErrAnd r (λ x. x ≡ e) → P e → IfErr r P

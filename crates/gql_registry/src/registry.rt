@@ -240,7 +240,7 @@ impl Registry {
         ensures makes { Makes (state_of self.old) expected (edit.put side name bytes.now) result
             (state_of self.new) }
         ensures shelf { OnErr result (shelf_of self.new ≡ shelf_of self.old) }
-        ensures works { Works (state_of self.old) (shelf_of self.old)
+        ensures works { Works (state_of self.old) expected (shelf_of self.old)
             (edit.put side name bytes.now) result (state_of self.new) meter.old meter.new }
     {
         let revision = self.next_revision(expected)?;
@@ -261,7 +261,7 @@ impl Registry {
         ensures makes { Makes (state_of self.old) expected (edit.remove side name) result
             (state_of self.new) }
         ensures shelf { OnErr result (shelf_of self.new ≡ shelf_of self.old) }
-        ensures works { Works (state_of self.old) (shelf_of self.old)
+        ensures works { Works (state_of self.old) expected (shelf_of self.old)
             (edit.remove side name) result (state_of self.new) meter.old meter.new }
     {
         let revision = self.next_revision(expected)?;
@@ -285,7 +285,7 @@ impl Registry {
         ensures makes { Makes (state_of self.old) expected
             (edit.put side.Schema name bytes.now) result (state_of self.new) }
         ensures shelf { OnErr result (shelf_of self.new ≡ shelf_of self.old) }
-        ensures works { Works (state_of self.old) (shelf_of self.old)
+        ensures works { Works (state_of self.old) expected (shelf_of self.old)
             (edit.put side.Schema name bytes.now) result (state_of self.new)
             meter.old meter.new }
     {
@@ -307,7 +307,7 @@ impl Registry {
         ensures makes { Makes (state_of self.old) expected
             (edit.put side.Documents name bytes.now) result (state_of self.new) }
         ensures shelf { OnErr result (shelf_of self.new ≡ shelf_of self.old) }
-        ensures works { Works (state_of self.old) (shelf_of self.old)
+        ensures works { Works (state_of self.old) expected (shelf_of self.old)
             (edit.put side.Documents name bytes.now) result (state_of self.new)
             meter.old meter.new }
     {
@@ -326,7 +326,7 @@ impl Registry {
         ensures makes { Makes (state_of self.old) expected (edit.remove side.Schema name)
             result (state_of self.new) }
         ensures shelf { OnErr result (shelf_of self.new ≡ shelf_of self.old) }
-        ensures works { Works (state_of self.old) (shelf_of self.old)
+        ensures works { Works (state_of self.old) expected (shelf_of self.old)
             (edit.remove side.Schema name) result (state_of self.new)
             meter.old meter.new }
     {
@@ -345,7 +345,7 @@ impl Registry {
         ensures makes { Makes (state_of self.old) expected (edit.remove side.Documents name)
             result (state_of self.new) }
         ensures shelf { OnErr result (shelf_of self.new ≡ shelf_of self.old) }
-        ensures works { Works (state_of self.old) (shelf_of self.old)
+        ensures works { Works (state_of self.old) expected (shelf_of self.old)
             (edit.remove side.Documents name) result (state_of self.new)
             meter.old meter.new }
     {

@@ -6,6 +6,7 @@ pub mod FileLists
 pub mod Filled
 pub mod Members
 pub mod Ordered
+pub mod Picked
 pub mod Refreshed
 pub mod Seen
 pub mod SpreadForms

@@ -36,7 +36,7 @@ exact : (a b : DefinitionId) → id_order a b ≡ Equal → a ≡ b
 exact a b e = ap id_from (exact_pairs name_order nat_cmp exact_bytes exact_unsigned (a.file, a.offset) (b.file, b.offset) e)
 
 -- two definitions of one name are not one before the other
-apart : (d e : Definition) → IsBefore d e → id_of d ≡ id_of e → ⊥
+pub apart : (d e : Definition) → IsBefore d e → id_of d ≡ id_of e → ⊥
 apart d e before same = let t : Equal ≡ Less = sym (tied_itself id_total (id_of d)) ∙ (ap (id_order (id_of d)) same ∙ before) in cc t
 
 not_after : (a b : DefinitionId) → id_order a b ≡ Less → is_lt (id_order b a) ≡ false

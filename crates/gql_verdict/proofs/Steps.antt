@@ -11,7 +11,7 @@ use Rattle.gql_facts.specs.declared.fact.Fact.{Fact}
 use Rattle.gql_verdict.specs.declared.observation.Observation.{Observation}
 use Rattle.gql_facts.specs.ListMembers.{Contains-nil, Contains-here, Contains-cases, either}
 use Rattle.gql_verdict.specs.Verdicts.{Hold, Judgement}
-use Rattle.gql_verdict.specs.Shelves.{IsDue, IsBroken, Picks, pick_none, skip, pick, IsWork, IsStepWork}
+use Rattle.gql_verdict.specs.Shelves.{IsDue, IsBroken, Picks, pick_none, skip, pick, IsDueWork, IsStepWork}
 use Rattle.gql_verdict.specs.TouchedFacts.{touches, touches_definition, HoldWhere, IsKnown}
 use Rattle.gql_verdict.specs.declared.touched.Touched.{Touched}
 use Rattle.gql_verdict.specs.declared.touched.Touched.TheVariants.{All, File}
@@ -28,15 +28,15 @@ picks_rest xs ys [] p = subst (λ ws. Picks xs ws) (sym (append-nil ys)) p
 picks_rest xs ys (z ∷ zs) p = subst (λ ws. Picks xs ws) (append_assoc ys (z ∷ []) zs) (picks_rest xs (ys ++ z ∷ []) zs (skip z p))
 
 module _ (F : Facts) (kept : List Judgement) (ds : List Definition) where
-  pub work_none : (m : List DefinitionId) → IsWork F kept [] m m
+  pub work_none : (m : List DefinitionId) → IsDueWork F kept [] m m
   work_none m = record { work = []; picks = pick_none; entries = sym (append-nil m); due = λ d c. absurd (Contains-nil d c) }
 
   -- what was written down so far is for all as well
-  pub work_all : (i : ℕ) (old new : List DefinitionId) → IsWork F kept (take i ds) old new → IsWork F kept ds old new
+  pub work_all : (i : ℕ) (old new : List DefinitionId) → IsDueWork F kept (take i ds) old new → IsDueWork F kept ds old new
   work_all i old new w = record { work = w.work; picks = subst (λ ws. Picks w.work ws) (take-append-drop i ds) (picks_rest w.work (take i ds) (drop i ds) w.picks); entries = w.entries; due = w.due }
 
   -- one more definition, whether it was examined or not
-  pub work_more : (i : ℕ) (d : Definition) → i < length ds → d ≡ get_or ds i d → (old mid new : List DefinitionId) → IsWork F kept (take i ds) old mid → IsStepWork F kept d mid new → IsWork F kept (take (i + 1) ds) old new
+  pub work_more : (i : ℕ) (d : Definition) → i < length ds → d ≡ get_or ds i d → (old mid new : List DefinitionId) → IsDueWork F kept (take i ds) old mid → IsStepWork F kept d mid new → IsDueWork F kept (take (i + 1) ds) old new
   work_more i d lt is old mid new w (inl e) = record { work = w.work; picks = subst (λ ws. Picks w.work ws) (sym (take_next ds i d lt is)) (skip d w.picks); entries = e ∙ w.entries; due = w.due }
   work_more i d lt is old mid new w (inr s) = record {
     work = w.work ++ d ∷ [];

@@ -1,5 +1,6 @@
 -- What a shelf of verdicts answers, and what an edit examines.
-use Rattle.std.specs.Prelude.{◌≡◌, ◌⊎◌, List, [], ◌∷◌, ◌++◌, map, Contains, Option, Some, None, MatchOption}
+use Rattle.std.specs.Prelude.{◌≡◌, ◌≢◌, ◌⊎◌, List, [], ◌∷◌, ◌++◌, map, Contains, Option, Some, None, MatchOption}
+use Rattle.std.specs.List.{AllPairs}
 use Rattle.gql_ast.specs.Trees.{id_of}
 use Rattle.gql_ast.specs.declared.definition.Definition.{Definition}
 use Rattle.gql_ast.specs.declared.definition.DefinitionId.{DefinitionId}
@@ -58,20 +59,27 @@ abbrev pub IsDue : Facts → List Judgement → Definition → Type 0
 IsDue facts kept d = ((v : Judgement) → Contains kept v → v.def ≡ d → ⊥)
     ⊎ ((v : Judgement) × Contains kept v × (v.def ≡ d) × IsBroken facts v.observations)
 
--- the first are some of the second, in their order, each at most once
+-- the first are some of the second, in their order, each position at most once
 pub data Picks : List Definition → List Definition → Type 0 where
   pick_none : Picks [] []
   skip : {xs ys : List Definition} (y : Definition) → Picks xs ys → Picks xs (ys ++ y ∷ [])
   pick : {xs ys : List Definition} (y : Definition) → Picks xs ys
       → Picks (xs ++ y ∷ []) (ys ++ y ∷ [])
 
--- the meter has only gained entries at its end: for definitions that were due, each at most once
-pub record IsWork (facts : Facts) (kept : List Judgement) (definitions : List Definition)
+-- the meter has only gained entries at its end: for definitions that were due
+pub record IsDueWork (facts : Facts) (kept : List Judgement) (definitions : List Definition)
     (old new : List DefinitionId) : Type 0 where
   pub work : List Definition
   pub picks : Picks work definitions
   pub entries : new ≡ old ++ map id_of work
   pub due : (d : Definition) → Contains work d → IsDue facts kept d
+
+-- the meter has only gained entries at its end: for definitions that were due, each at most once, as
+-- no two of them have the same file and offset
+pub record IsWork (facts : Facts) (kept : List Judgement) (definitions : List Definition)
+    (old new : List DefinitionId) : Type 0 where
+  pub does : IsDueWork facts kept definitions old new
+  pub once : AllPairs (λ (d e : Definition). id_of d ≢ id_of e) does.work
 
 -- the meter has gained at most an entry for this definition, and that only if it was due
 abbrev pub IsStepWork : Facts → List Judgement → Definition → List DefinitionId → List DefinitionId

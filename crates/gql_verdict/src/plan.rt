@@ -3,7 +3,7 @@ ghost use Rattle.std.specs.Prelude.{◌≡◌, ◌↔◌, ◌⊎◌, ◌∷◌, 
 ghost use Rattle.std.specs.List.{AllZip};
 ghost use Rattle.gql_verdict.specs.Definitions.{all_definitions as definitions_of};
 ghost use Rattle.gql_verdict.specs.FileOrder.{AreFilesPlaced, InFileOrder};
-ghost use Rattle.gql_verdict.specs.Shelves.{IsBroken, IsDue, IsStepWork, IsWork};
+ghost use Rattle.gql_verdict.specs.Shelves.{IsBroken, IsDue, IsDueWork, IsStepWork};
 ghost use Rattle.gql_verdict.specs.Plans.{IsStep};
 ghost use Rattle.gql_verdict.specs.Slots.{IsInOrder, verdicts};
 ghost use Rattle.gql_verdict.specs.TouchedFacts.{HoldWhere, IsKnown, touches_definition};
@@ -185,7 +185,7 @@ fn plan_all<W: World>(
     ensures lent { W.lent world.new ≡ W.lent world.old }
     ensures steps { IfOk result (λ steps. AllZip (IsStep (W.facts world.old) kept.now)
         (map (λ d. d.now) definitions.now) steps.items) }
-    ensures work { IsWork (W.facts world.old) (verdicts kept.now)
+    ensures work { IsDueWork (W.facts world.old) (verdicts kept.now)
         (map (λ d. d.now) definitions.now) meter.old meter.new }
 {
     let mut steps = Vec::new(alloc);
@@ -218,7 +218,7 @@ pub fn plan<W: World>(
         → InFileOrder (definitions_of files.now.documents) }
     ensures steps { IfOk result (λ steps. AllZip (IsStep (W.facts world.old) kept.now)
         (definitions_of files.now.documents) steps.items) }
-    ensures work { IsWork (W.facts world.old) (verdicts kept.now)
+    ensures work { IsDueWork (W.facts world.old) (verdicts kept.now)
         (definitions_of files.now.documents) meter.old meter.new }
 {
     let definitions = all_definitions(alloc, &files.documents)?;

@@ -165,18 +165,17 @@ impl Shelf {
         self.slots = steps;
     }
 
-    /// Makes the shelf current after an edit. If an allocation fails, the shelf is as before.
+    /// Makes the shelf current, whatever changed since: every verdict is tested. If an allocation
+    /// fails, the shelf is as before. Where it is known what an edit touched, `prepare` and `commit`
+    /// do it with fewer tests.
     pub fn refresh<W: World>(
         &mut self,
         alloc: Global,
         world: &mut W,
         files: &Files,
-        touched: &Touched,
         meter: &mut Meter,
     ) -> Result<(), AllocError>
         requires placed { AreFilesPlaced files.now.documents }
-        requires known { IsKnown (W.facts world.old) (definitions_of files.now.documents)
-            self.old touched.now }
         ensures facts { W.facts world.new ≡ W.facts world.old }
         ensures names { W.names world.new ≡ W.names world.old }
         ensures lent { W.lent world.new ≡ W.lent world.old }
@@ -186,7 +185,7 @@ impl Shelf {
         ensures work { IsWork (W.facts world.old) self.old
             (definitions_of files.now.documents) meter.old meter.new }
     {
-        let prepared = self.prepare(alloc, world, files, touched, meter)?;
+        let prepared = self.prepare(alloc, world, files, &Touched::All, meter)?;
         self.commit(prepared);
         Ok(())
     }

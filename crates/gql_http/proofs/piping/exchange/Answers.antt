@@ -1,5 +1,5 @@
 use Rattle.std.proofs.Common.{rules, arith, refl, sym, inl, inr, ◌∙◌}
-use Rattle.gql_http.proofs.Exchanging.{adds_nil, exchanged_init, exchanged_more, at_end, write_failed, memory_failed, closed_by, no_more, fed_serves, fed_breaks, fed_either, does_others, feed_connection, none_of, some_of}
+use Rattle.gql_http.proofs.Exchanging.{adds_nil, exchanged_init, exchanged_more, at_end, write_failed, memory_failed, closed_by, no_more, fed_serves, fed_breaks, fed_either, does_others, feed_connection, front_short, none_of, some_of}
 use Rattle.gql_http.proofs.piping.exchange.Goals as goal
 
 pub loop-turn-init : goal.loop-turn-init
@@ -24,7 +24,7 @@ returns-then-count-eq0-clause-exchange g c =
 pub returns-in_default-write_all-clause-exchange : goal.returns-in_default-write_all-clause-exchange
 returns-in_default-write_all-clause-exchange g c =
     let d = c.feed-fed.ensures.does in
-    write_failed c.some_split.ensures c.one_split.ensures c.more_bytes.ensures c.loop-turn.invariant.exchanged _ _ _ _ _ _ c.in-Ok.ensures.received (rw c.as_slice.ensures.value at c.in_default-write_all.ensures.err)
+    write_failed c.some_split.ensures c.one_split.ensures c.more_bytes.ensures c.loop-turn.invariant.exchanged _ _ _ _ _ _ (front_short _ _ (search rules)) c.in-Ok.ensures.received (rw c.as_slice.ensures.value at c.in_default-write_all.ensures.err)
     (fed_either _ _ _ _ _ _ _ c.loop-turn.invariant.exchanged.held c.feed-fed.result.memory d.0 d.1 d.2 c.loop-turn.invariant.exchanged.stays)
 
 pub returns-in_default-write_all-clause-others : goal.returns-in_default-write_all-clause-others
@@ -34,7 +34,7 @@ returns-in_default-write_all-clause-others g c = λ d apart.
 pub returns-then-fed-clause-exchange : goal.returns-then-fed-clause-exchange
 returns-then-fed-clause-exchange g c =
     let d = c.feed-fed.ensures.does in
-    memory_failed c.some_split.ensures c.one_split.ensures c.more_bytes.ensures c.loop-turn.invariant.exchanged _ _ _ _ _ _ c.in-Ok.ensures.received (rw c.as_slice.ensures.value at c.in-Ok-write_all.ensures.ok)
+    memory_failed c.some_split.ensures c.one_split.ensures c.more_bytes.ensures c.loop-turn.invariant.exchanged _ _ _ _ _ _ (front_short _ _ (search rules)) c.in-Ok.ensures.received (rw c.as_slice.ensures.value at c.in-Ok-write_all.ensures.ok)
     (fed_breaks _ _ _ _ _ _ _ c.loop-turn.invariant.exchanged.held d.0 (rw c.if-fed.true at d.1) d.2 c.loop-turn.invariant.exchanged.stays)
 
 pub returns-then-fed-clause-others : goal.returns-then-fed-clause-others
@@ -44,7 +44,7 @@ returns-then-fed-clause-others g c = λ d apart.
 pub returns-then-fed-2-clause-exchange : goal.returns-then-fed-2-clause-exchange
 returns-then-fed-2-clause-exchange g c =
     let d = c.feed-fed.ensures.does in
-    closed_by c.some_split.ensures c.one_split.ensures c.more_bytes.ensures c.loop-turn.invariant.exchanged _ _ _ _ _ _ _ c.in-Ok.ensures.received (rw c.as_slice.ensures.value at c.in-Ok-write_all.ensures.ok)
+    closed_by c.some_split.ensures c.one_split.ensures c.more_bytes.ensures c.loop-turn.invariant.exchanged _ _ _ _ _ _ _ (front_short _ _ (search rules)) c.in-Ok.ensures.received (rw c.as_slice.ensures.value at c.in-Ok-write_all.ensures.ok)
     (fed_serves _ _ _ _ _ _ _ c.loop-turn.invariant.exchanged.held d.0 (rw c.if-fed.false at d.1) d.2 c.loop-turn.invariant.exchanged.stays)
     (none_of _ (sym c.feed-fed.ensures.closed ∙ c.if-fed-2.true))
 
@@ -61,7 +61,7 @@ loop-turn-preserved g c =
       reading = c.in-Ok-write_all.ensures.others.1 ∙ c.in-Ok.ensures.failed ∙ c.loop-turn.invariant.reading;
       writing = c.in-Ok-write_all.ensures.failed ∙ c.in-Ok.ensures.others ∙ c.loop-turn.invariant.writing;
       others = λ n apart. does_others _ _ _ _ d.0 _ n d.2 (λ is. apart (is ∙ feed_connection _ _ _ _ d.1)) ∙ c.loop-turn.invariant.others n apart;
-      exchanged = exchanged_more c.some_split.ensures c.one_split.ensures c.more_bytes.ensures c.loop-turn.invariant.exchanged _ _ _ _ _ _ left.0 c.in-Ok.ensures.received
+      exchanged = exchanged_more c.some_split.ensures c.one_split.ensures c.more_bytes.ensures c.loop-turn.invariant.exchanged _ _ _ _ _ _ left.0 (front_short _ _ (search rules)) c.in-Ok.ensures.received
           (rw c.as_slice.ensures.value at c.in-Ok-write_all.ensures.ok) (fed_serves _ _ _ _ _ _ _ c.loop-turn.invariant.exchanged.held d.0 (rw c.if-fed.false at d.1) d.2 c.loop-turn.invariant.exchanged.stays) left.1;
     }
 

@@ -1,6 +1,6 @@
 use Rattle.std.proofs.Common.{◌≡◌, map, take}
 use Rattle.std.specs.List.{AllZip}
-use Rattle.gql_verdict.specs.Shelves.{IsWork}
+use Rattle.gql_verdict.specs.Shelves.{IsDueWork}
 use Rattle.gql_verdict.specs.Plans.{IsStep}
 use Rattle.gql_verdict.specs.Slots.{verdicts}
 use Rattle.gql_verdict.proofs.plan.plan_all.Given as goal
@@ -11,5 +11,5 @@ invariant-loop-definition g l = record {
   same_names : g.W.World.names l.world ≡ g.W.World.names l.fn.world;
   same_lent : g.W.World.lent l.world ≡ g.W.World.lent l.fn.world;
   steps : AllZip (IsStep (g.W.World.facts l.fn.world) l.kept) (take l.definition-index (map (λ d. d.now) l.definitions)) l.steps.items;
-  work : IsWork (g.W.World.facts l.fn.world) (verdicts l.kept) (take l.definition-index (map (λ d. d.now) l.definitions)) l.fn.meter l.meter;
+  work : IsDueWork (g.W.World.facts l.fn.world) (verdicts l.kept) (take l.definition-index (map (λ d. d.now) l.definitions)) l.fn.meter l.meter;
 }

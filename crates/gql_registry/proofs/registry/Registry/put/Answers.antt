@@ -12,7 +12,7 @@ pub returns-in_err-revision-clause-shelf : goal.returns-in_err-revision-clause-s
 returns-in_err-revision-clause-shelf c = on_err_of _ refl
 
 pub returns-in_err-revision-clause-works : goal.returns-in_err-revision-clause-works
-returns-in_err-revision-clause-works c = idle_answer (state_of c.args.self.now) (state_of c.args.self.now) (shelf_of c.args.self.now) (put c.args.side c.args.name c.args.bytes.now) _ c.in_err-revision.field-0.0 c.args.meter.now c.args.meter.now c.from_residual.ensures.1 refl
+returns-in_err-revision-clause-works c = idle_answer (state_of c.args.self.now) (state_of c.args.self.now) c.args.expected (shelf_of c.args.self.now) (put c.args.side c.args.name c.args.bytes.now) _ c.in_err-revision.field-0.0 c.args.meter.now c.args.meter.now c.from_residual.ensures.1 refl
 
 pub returns-in_err-change-clause-makes : goal.returns-in_err-change-clause-makes
 returns-in_err-change-clause-makes c = refused_answer (state_of c.args.self.now) c.args.expected (put c.args.side c.args.name c.args.bytes.now) _ _ c.from_residual-in_err-change.ensures.1 c.in_err-change.ensures.err c.in_ok-revision.ensures.time
@@ -21,7 +21,7 @@ pub returns-in_err-change-clause-shelf : goal.returns-in_err-change-clause-shelf
 returns-in_err-change-clause-shelf c = on_err_of _ refl
 
 pub returns-in_err-change-clause-works : goal.returns-in_err-change-clause-works
-returns-in_err-change-clause-works c = idle_answer (state_of c.args.self.now) (state_of c.args.self.now) (shelf_of c.args.self.now) (put c.args.side c.args.name c.args.bytes.now) _ c.in_err-change.field-0.0 c.args.meter.now c.args.meter.now c.from_residual-in_err-change.ensures.1 refl
+returns-in_err-change-clause-works c = idle_answer (state_of c.args.self.now) (state_of c.args.self.now) c.args.expected (shelf_of c.args.self.now) (put c.args.side c.args.name c.args.bytes.now) _ c.in_err-change.field-0.0 c.args.meter.now c.args.meter.now c.from_residual-in_err-change.ensures.1 refl
 
 pub accept-requires-clause-revision : goal.accept-requires-clause-revision
 accept-requires-clause-revision c = c.in_ok-revision.ensures.next
@@ -37,8 +37,8 @@ returns-in_err-edited-clause-shelf c = on_err_of _ c.in_err-edited.ensures.shelf
 
 pub returns-in_err-edited-clause-works : goal.returns-in_err-edited-clause-works
 returns-in_err-edited-clause-works c =
-    works_in_vain (state_of c.args.self.now) _ (shelf_of c.args.self.now) (put c.args.side c.args.name c.args.bytes.now) _ _ _ c.from_residual-in_err-edited.ensures.1
-    (inr (next (state_of c.args.self.now) c.in_ok-change.change.files, c.in_ok-change.ensures.change.leaves, c.in_err-edited.ensures.work))
+    works_in_vain (state_of c.args.self.now) _ c.args.expected (shelf_of c.args.self.now) (put c.args.side c.args.name c.args.bytes.now) _ _ _ c.from_residual-in_err-edited.ensures.1
+    (inr (c.in_ok-change.ensures.change.accepted c.args.expected c.in_ok-revision.ensures.time, next (state_of c.args.self.now) c.in_ok-change.change.files, c.in_ok-change.ensures.change.leaves, c.in_err-edited.ensures.work))
 
 pub returns-clause-makes : goal.returns-clause-makes
 returns-clause-makes c = accepted_answer (state_of c.args.self.now) _ c.args.expected (put c.args.side c.args.name c.args.bytes.now) _ _ c.in_ok-change.ensures.change c.in_ok-revision.ensures.time c.in_ok-edited.ensures.next c.in_ok-edited.ensures.reports

@@ -12,7 +12,7 @@ pub returns-in_err-revision-clause-shelf : goal.returns-in_err-revision-clause-s
 returns-in_err-revision-clause-shelf c = on_err_of _ refl
 
 pub returns-in_err-revision-clause-works : goal.returns-in_err-revision-clause-works
-returns-in_err-revision-clause-works c = idle_answer (state_of c.args.self.now) (state_of c.args.self.now) (shelf_of c.args.self.now) (remove c.args.side c.args.name) _ c.in_err-revision.field-0.0 c.args.meter.now c.args.meter.now c.from_residual.ensures.1 refl
+returns-in_err-revision-clause-works c = idle_answer (state_of c.args.self.now) (state_of c.args.self.now) c.args.expected (shelf_of c.args.self.now) (remove c.args.side c.args.name) _ c.in_err-revision.field-0.0 c.args.meter.now c.args.meter.now c.from_residual.ensures.1 refl
 
 pub returns-in_err-change-clause-makes : goal.returns-in_err-change-clause-makes
 returns-in_err-change-clause-makes c = refused_answer (state_of c.args.self.now) c.args.expected (remove c.args.side c.args.name) _ _ c.from_residual-in_err-change.ensures.1 c.in_err-change.ensures.err c.in_ok-revision.ensures.time
@@ -21,7 +21,7 @@ pub returns-in_err-change-clause-shelf : goal.returns-in_err-change-clause-shelf
 returns-in_err-change-clause-shelf c = on_err_of _ refl
 
 pub returns-in_err-change-clause-works : goal.returns-in_err-change-clause-works
-returns-in_err-change-clause-works c = idle_answer (state_of c.args.self.now) (state_of c.args.self.now) (shelf_of c.args.self.now) (remove c.args.side c.args.name) _ c.in_err-change.field-0.0 c.args.meter.now c.args.meter.now c.from_residual-in_err-change.ensures.1 refl
+returns-in_err-change-clause-works c = idle_answer (state_of c.args.self.now) (state_of c.args.self.now) c.args.expected (shelf_of c.args.self.now) (remove c.args.side c.args.name) _ c.in_err-change.field-0.0 c.args.meter.now c.args.meter.now c.from_residual-in_err-change.ensures.1 refl
 
 pub accept-requires-clause-revision : goal.accept-requires-clause-revision
 accept-requires-clause-revision c = c.in_ok-revision.ensures.next
@@ -37,8 +37,8 @@ returns-in_err-accept-clause-shelf c = on_err_of _ c.in_err-accept.ensures.shelf
 
 pub returns-in_err-accept-clause-works : goal.returns-in_err-accept-clause-works
 returns-in_err-accept-clause-works c =
-    works_in_vain (state_of c.args.self.now) _ (shelf_of c.args.self.now) (remove c.args.side c.args.name) _ _ _ c.from_residual-in_err-accept.ensures.1
-    (inr (next (state_of c.args.self.now) c.in_ok-change.change.files, c.in_ok-change.ensures.change.leaves, c.in_err-accept.ensures.work))
+    works_in_vain (state_of c.args.self.now) _ c.args.expected (shelf_of c.args.self.now) (remove c.args.side c.args.name) _ _ _ c.from_residual-in_err-accept.ensures.1
+    (inr (c.in_ok-change.ensures.change.accepted c.args.expected c.in_ok-revision.ensures.time, next (state_of c.args.self.now) c.in_ok-change.change.files, c.in_ok-change.ensures.change.leaves, c.in_err-accept.ensures.work))
 
 pub returns-clause-makes : goal.returns-clause-makes
 returns-clause-makes c = accepted_answer (state_of c.args.self.now) _ c.args.expected (remove c.args.side c.args.name) _ _ c.in_ok-change.ensures.change c.in_ok-revision.ensures.time c.in_ok-accept.ensures.next c.in_ok-accept.ensures.reports

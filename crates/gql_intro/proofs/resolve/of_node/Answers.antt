@@ -2,7 +2,7 @@ use Rattle.std.proofs.Common.{ap, sym, ◌∙◌}
 use Rattle.gql_intro.specs.Borrowed.{given_of, node_of}
 use Rattle.gql_intro.specs.Introspection.{resolve, type_rows}
 use Rattle.gql_intro.specs.Nodes.{answer_in}
-use Rattle.gql_intro.proofs.resolve.intro_resolve.Goals as goal
+use Rattle.gql_intro.proofs.resolve.of_node.Goals as goal
 
 pub returns-in-Named : goal.returns-in-Named
 returns-in-Named c = c.of_named.ensures
