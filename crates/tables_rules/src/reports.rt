@@ -8,7 +8,7 @@ use gql_facts::{Fragments, Present, SchemaFacts};
 use gql_report::in_order;
 use gql_schema_rules::schema_faults;
 use gql_types::{Schema, assemble};
-use gql_verdict::{Meter, Shelf, Touched, name_faults};
+use gql_verdict::{Meter, Shelf, name_faults};
 use std::alloc::{AllocError, Global};
 use table_rows::join;
 
@@ -32,9 +32,7 @@ fn refresh(
     let facts = SchemaFacts::new(alloc, schema).ok()?;
     let fragments = Fragments::new(alloc, &files.documents).ok()?;
     let mut world = Present::new(&facts, &fragments);
-    shelf
-        .refresh(alloc, &mut world, files, &Touched::All, meter)
-        .ok()
+    shelf.refresh(alloc, &mut world, files, meter).ok()
 }
 
 /// The faults of the document file `d` with this text, after an edit that puts it.
