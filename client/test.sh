@@ -26,6 +26,7 @@ fi
 client=$place/client
 passed=0
 failed=0
+echo "the client's tests run, in some twenty seconds" >&2
 
 # try NAME STATUS COMMAND..: runs a command, whose output has to be that of the standard input
 try() {

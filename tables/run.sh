@@ -30,7 +30,7 @@ stop() {
 
 # every table is named in the `args` of its crate, so that the gate runs it, too
 for folder in crates/tables_*/data; do
-    (cd "$folder" && ls ./*.txt | sed 's,^\./,,' | sort) > "$work/there"
+    (cd "$folder" && printf '%s\n' *.txt | sort) > "$work/there"
     sort "${folder%/data}/args" | comm -3 "$work/there" - > "$work/apart"
     [ ! -s "$work/apart" ] \
         || stop "the files of $folder and those that ${folder%/data}/args names differ: $(tr -s '\n\t' '  ' < "$work/apart")"

@@ -8,6 +8,7 @@ mod built_in_names;
 mod clashing_fields;
 mod coerced;
 mod cycles;
+mod document_files;
 mod fact_words;
 mod facts;
 mod faults;

@@ -1,6 +1,8 @@
 //! Fields and selection sets that are numbers, as a row writes them: an object of JSON with `fields`
 //! and `bodies`.
-ghost use Rattle.std.specs.Prelude.{◌≡◌, ◌<◌, ℕ, Some, length, Contains, IsTrue, IfSome};
+ghost use Rattle.std.specs.Prelude.{◌≡◌, ◌∷◌, IfSome, nat_eq};
+ghost use Rattle.std.specs.List.{list_all, list_any};
+ghost use Rattle.tables_rules.specs.Tested as tested;
 ghost use Rattle.gql_clashes.specs.Numbered.{IsWhole, Lists, nodes_of};
 ghost use Rattle.gql_clashes.specs.Parts.{SpreadsTo};
 
@@ -48,27 +50,21 @@ fn field_in(value: &Value, start: usize) -> Option<NumberedField> {
 
 /// Whether all numbers are below a limit.
 fn are_below(numbers: &[usize], limit: usize) -> bool
-    ensures { IsTrue result → (n : ℕ) → Contains numbers.now n → n < limit }
+    ensures { result ≡ tested.are_below limit numbers.now }
 {
-    for number in numbers {
-        if *number >= limit {
-            return false;
-        }
-    }
-    true
+    numbers.iter().all(|number| *number < limit)
 }
 
-/// Whether a body has only numbers of fields and of bodies.
+/// Whether the numbers of a body are those of fields and of bodies.
 fn is_body(body: &Body, fields: usize, bodies: usize) -> bool
-    ensures fields { IsTrue result → (n : ℕ) → Contains body.now.fields.items n → n < fields }
-    ensures bodies { IsTrue result → (n : ℕ) → Contains body.now.spreads.items n → n < bodies }
+    ensures { result ≡ tested.is_body fields bodies body.now }
 {
     are_below(body.fields.as_slice(), fields) && are_below(body.spreads.as_slice(), bodies)
 }
 
-/// Whether the body below a field is one, if there is one.
+/// Whether the number below a field, if there is one, is that of a body.
 fn is_field(field: &NumberedField, bodies: usize) -> bool
-    ensures { IsTrue result → (s : ℕ) → field.now.below ≡ Some s → s < bodies }
+    ensures { result ≡ tested.is_below bodies field.now.below }
 {
     match field.below {
         Some(body) => body < bodies,
@@ -76,23 +72,34 @@ fn is_field(field: &NumberedField, bodies: usize) -> bool
     }
 }
 
+/// Whether the numbers of all bodies are those of fields and of bodies.
+fn are_bodies(list: &[Body], fields: usize, bodies: usize) -> bool
+    ensures { result ≡ list_all (tested.is_body fields bodies) list.now }
+{
+    list.iter().all(|body| is_body(body, fields, bodies))
+}
+
+/// Whether the numbers below all fields are those of bodies.
+fn are_fields(list: &[NumberedField], bodies: usize) -> bool
+    ensures { result ≡ list_all (λ f. tested.is_below bodies f.below) list.now }
+{
+    list.iter().all(|field| is_field(field, bodies))
+}
+
 /// Whether each number that occurs is that of a field, or of a body.
 fn is_whole(sets: &Sets) -> bool
-    ensures { IsTrue result → IsWhole sets.now }
+    ensures { result ≡ tested.is_whole sets.now }
 {
     let fields = sets.fields.len();
     let bodies = sets.bodies.len();
-    for body in sets.bodies.as_slice() {
-        if !is_body(body, fields, bodies) {
-            return false;
-        }
-    }
-    for field in sets.fields.as_slice() {
-        if !is_field(field, bodies) {
-            return false;
-        }
-    }
-    true
+    are_bodies(sets.bodies.as_slice(), fields, bodies) && are_fields(sets.fields.as_slice(), bodies)
+}
+
+/// Sets in which each number that occurs is that of a field, or of a body; `None` for others.
+fn whole(sets: Sets) -> Option<Sets>
+    ensures { IfSome result IsWhole }
+{
+    if is_whole(&sets) { Some(sets) } else { None }
 }
 
 /// The fields and bodies of a text; `None` if a number that occurs is not one of them.
@@ -112,44 +119,56 @@ pub fn sets_in(alloc: Global, text: &str) -> Option<Sets>
         let spreads = numbers_in(alloc, body, "spreads")?;
         sets.bodies.push(Body { fields, spreads }).ok()?;
     }
-    if is_whole(&sets) { Some(sets) } else { None }
+    whole(sets)
+}
+
+/// The bodies that a body spreads, none if there is no such body.
+fn spreads_at(sets: &Sets, body: usize) -> &[usize]
+    ensures { result.now ≡ (nodes_of sets.now).spreads body }
+{
+    match sets.bodies.get(body) {
+        Some(body) => body.spreads.as_slice(),
+        None => &[],
+    }
+}
+
+/// Whether a number is in a list.
+fn is_among(list: &[usize], number: usize) -> bool
+    ensures { result ≡ list_any (λ m. nat_eq m number) list.now }
+{
+    list.iter().any(|one| *one == number)
 }
 
 /// Whether all numbers are in a list.
 fn are_in(numbers: &[usize], list: &[usize]) -> bool
-    ensures { IsTrue result → (n : ℕ) → Contains numbers.now n → Contains list.now n }
+    ensures { result ≡ tested.are_in list.now numbers.now }
 {
-    for number in numbers {
-        if !list.contains(number) {
-            return false;
-        }
-    }
-    true
+    numbers.iter().all(|number| is_among(list, *number))
 }
 
 /// Whether what each body of a list spreads is in the list.
 fn is_closed(sets: &Sets, list: &[usize]) -> bool
-    ensures { IsTrue result → (s t : ℕ) → Contains list.now s
-        → Contains ((nodes_of sets.now).spreads s) t → Contains list.now t }
+    ensures { result ≡ tested.is_closed sets.now list.now }
 {
-    for number in list {
-        if let Some(body) = sets.bodies.get(*number) {
-            if !are_in(body.spreads.as_slice(), list) {
-                return false;
-            }
-        }
-    }
-    true
+    list.iter()
+        .all(|body| are_in(spreads_at(sets, *body), list))
+}
+
+/// A number before others.
+fn list_of(alloc: Global, first: usize, others: &[usize]) -> Option<Vec<usize>>
+    ensures { IfSome result (λ list. list.items ≡ first ∷ others.now) }
+{
+    let mut list = Vec::new(alloc);
+    list.push(first).ok()?;
+    list.extend_from_slice(others).ok()?;
+    Some(list)
 }
 
 /// A body and those that it spreads; `None` if one of these spreads another one.
 pub fn spread_bodies(alloc: Global, sets: &Sets, body: usize) -> Option<Vec<usize>>
     ensures { IfSome result (λ list. Lists list.items (SpreadsTo (nodes_of sets.now) body)) }
 {
-    let mut list = Vec::new(alloc);
-    list.push(body).ok()?;
-    list.extend_from_slice(sets.bodies.get(body)?.spreads.as_slice())
-        .ok()?;
+    let list = list_of(alloc, body, spreads_at(sets, body))?;
     if is_closed(sets, list.as_slice()) {
         Some(list)
     } else {

@@ -1,37 +1,22 @@
 //! The faults of schema files and of a document file `d`, and the verdicts on its definitions.
-ghost use Rattle.std.specs.Prelude.{IfSome};
 ghost use Rattle.gql_verdict.specs.FileOrder.{AreFilesPlaced};
 
+use crate::document_files::document_files;
 use crate::faults::written_faults;
-use gql_ast::{Fault, FileName, Files, Shared};
+use gql_ast::{Fault, Files};
 use gql_facts::{Fragments, Present, SchemaFacts};
-use gql_parse_sdl::parse_any;
 use gql_report::in_order;
 use gql_schema_rules::schema_faults;
 use gql_types::{Schema, assemble};
-use gql_verdict::{Meter, Shelf, Touched, name_faults};
-use std::alloc::Global;
+use gql_verdict::{Meter, Shelf, name_faults};
+use std::alloc::{AllocError, Global};
 use table_rows::join;
 
-/// The document file `d` with this text; no file if it is empty. `None` if it is not a document.
-fn document_files(alloc: Global, text: &str) -> Option<Files>
-    ensures { IfSome result (λ files. AreFilesPlaced files.documents) }
-{
-    let mut files = Files::new(alloc);
-    if text.is_empty() {
-        return Some(files);
-    }
-    let name = FileName::read("d")?;
-    let document = parse_any(alloc, name.copy(), text).ok()?;
-    let document = Shared::new(alloc, document).ok()?;
-    files.documents.put(name, document).ok()?;
-    Some(files)
-}
-
 /// The faults of schema files.
-fn faults_of_schema(alloc: Global, files: &Files) -> Option<Vec<Fault>> {
-    let schema = assemble(alloc, files).ok()?;
-    schema_faults(alloc, files, &schema).ok()
+fn faults_of_schema(alloc: Global, files: &Files) -> Result<Vec<Fault>, AllocError> {
+    let schema = assemble(alloc, files)?;
+    let faults = schema_faults(alloc, files, &schema)?;
+    Ok(faults)
 }
 
 /// Makes a shelf current after an edit that leaves these document files.
@@ -47,9 +32,7 @@ fn refresh(
     let facts = SchemaFacts::new(alloc, schema).ok()?;
     let fragments = Fragments::new(alloc, &files.documents).ok()?;
     let mut world = Present::new(&facts, &fragments);
-    shelf
-        .refresh(alloc, &mut world, files, &Touched::All, meter)
-        .ok()
+    shelf.refresh(alloc, &mut world, files, meter).ok()
 }
 
 /// The faults of the document file `d` with this text, after an edit that puts it.
@@ -77,7 +60,7 @@ pub fn report_answer(
     shelf: &mut Shelf,
     text: &str,
 ) -> Option<String> {
-    let of_schema = faults_of_schema(alloc, files)?;
+    let of_schema = faults_of_schema(alloc, files).ok()?;
     let faults = if of_schema.is_empty() {
         faults_of_document(alloc, schema, shelf, text)?
     } else {

@@ -1,0 +1,2 @@
+mod OneFile
+mod Whole
