@@ -100,7 +100,7 @@ in_extension file (tree.Type definition) e has = absurd (Contains-nil e has)
 in_extension file (tree.Directive definition) e has = absurd (Contains-nil e has)
 in_extension file (tree.SchemaExtension extension) e has = absurd (Contains-nil e has)
 
-of_a_file : (files : List (List ℕ × Document)) (x : Sited Tree) → Contains (of_files files) x → is_some x.file ≡ true
+pub of_a_file : (files : List (List ℕ × Document)) (x : Sited Tree) → Contains (of_files files) x → is_some x.file ≡ true
 of_a_file files x has =
     let f = Contains-flat_map_from (λ (f : List ℕ × Document). in_order_of f.1.definitions) files x has in
     let d = Contains-map_from of_file f.0.1.definitions x f.2 in
@@ -128,7 +128,7 @@ module _ (files : Files) where
 
   -- ---- the input fields of a type
 
-  first_of : (ds : List (Sited TypeDefinition)) (d : Sited TypeDefinition) → Contains (first_definitions ds) d → Contains ds d
+  pub first_of : (ds : List (Sited TypeDefinition)) (d : Sited TypeDefinition) → Contains (first_definitions ds) d → Contains ds d
   first_of [] d has = absurd (Contains-nil d has)
   first_of (x ∷ ds) d has = elim (Contains-cases d x (filter (λ (e : Sited TypeDefinition). not (bytes_eq x.node.name.text e.node.name.text)) (first_definitions ds)) has) [
     | inl e ↦ subst (Contains (x ∷ ds)) (sym e) (Contains-here x ds)

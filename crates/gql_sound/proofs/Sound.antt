@@ -43,12 +43,12 @@ use Rattle.gql_sound.proofs.Needing.{FieldsDiffer}
 use Rattle.gql_sound.proofs.Numbering.{contains_at, is_input_object, named_type}
 
 -- what is in a file has its name
-some_is : {A : Type 0} (o : Option A) → is_some o ≡ true → (x : A) × (o ≡ Some x)
+pub some_is : {A : Type 0} (o : Option A) → is_some o ≡ true → (x : A) × (o ≡ Some x)
 some_is None is = absurd (true≢false (sym is))
 some_is (Some x) is = (x, refl)
 
 -- a fault is found at a place that is in a file
-fault_there : (r : Rule) (about : List ℕ) (file : Option (List ℕ)) (place : Place) → is_some file ≡ true → (f : Fault) × Contains (fault_in r about file place) f
+pub fault_there : (r : Rule) (about : List ℕ) (file : Option (List ℕ)) (place : Place) → is_some file ≡ true → (f : Fault) × Contains (fault_in r about file place) f
 fault_there r about file place is =
     let name = some_is file is in
     let f = fault r about (in_file name.0 place ∷ []) in
