@@ -1,8 +1,7 @@
 -- Each input field of a schema stands in a file: what is built in has no input object.
-use Rattle.std.proofs.Common.{◌≡◌, ◌++◌, ◌||◌, inl, inr, ℕ, List, [], ◌∷◌, Bool, true, false, true≢false, not, cond, if◌then◌else◌, map, flat_map, filter, bytes_eq, is_some, Option, Some, None, Contains, refl, ap, sym, subst, ◌∙◌}
+use Rattle.std.proofs.Common.{◌≡◌, ◌||◌, inl, inr, ℕ, List, [], ◌∷◌, Bool, true, false, true≢false, not, if◌then◌else◌, map, flat_map, filter, bytes_eq, is_some, Option, Contains, refl, ap, sym, subst, ◌∙◌}
 use Rattle.std.specs.List.{list_any}
 use Rattle.std.proofs.lemmas.List.Elements.{Contains-append_cases}
-use Rattle.gql_ast.specs.declared.definition.Definition.{Definition}
 use Rattle.gql_ast.specs.declared.definition.Document.{Document}
 use Rattle.gql_ast.specs.declared.definition.Tree.{Tree}
 use Rattle.gql_ast.specs.declared.definition.Tree.TheVariants as tree
@@ -12,7 +11,7 @@ use Rattle.gql_ast.specs.declared.type_system.TypeDefinition.{TypeDefinition}
 use Rattle.gql_ast.specs.declared.type_system.TypeExtension.{TypeExtension}
 use Rattle.gql_ast.specs.declared.type_system.TypeParts.{TypeParts}
 use Rattle.gql_built_in.specs.BuiltIn.{built_in, scalars, introspection, type_kinds, directive_locations, directives, skip, include, deprecated, specified_by}
-use Rattle.gql_built_in.specs.BuiltInWords.{type_of, directive, a_type, a_directive, of_no_file}
+use Rattle.gql_built_in.specs.BuiltInWords.{type_of, directive, of_no_file}
 use Rattle.gql_built_in.specs.declared.sited.Sited.{Sited}
 use Rattle.gql_cycles.proofs.Members.{Contains-nil, Contains-there, Contains-here, Contains-cases, Contains-map_from, Contains-flat_map_from}
 use Rattle.gql_types.specs.Definitions.{of_file, in_order_of, of_files, definitions, names_a_type, type_in, extension_in, type_definitions, type_extensions}
@@ -21,7 +20,6 @@ use Rattle.gql_types.specs.Parts.{kind_of, input_fields_of, sited}
 use Rattle.gql_types.specs.Schemas.{schema_of}
 use Rattle.gql_types.specs.Types.{first_definitions, extends, extensions_of, parts_in, assembled}
 use Rattle.gql_types.specs.declared.kind.TypeKind.TheVariants as kind
-use Rattle.gql_types.specs.declared.schema.Schema.{Schema}
 use Rattle.gql_types.specs.declared.schema_type.SchemaType.{SchemaType}
 
 -- ---- of a filter, and of tests
