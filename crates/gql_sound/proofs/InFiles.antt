@@ -1,8 +1,7 @@
 -- Each input field of a schema stands in a file: what is built in has no input object.
-use Rattle.std.proofs.Common.{◌≡◌, ◌++◌, ◌||◌, inl, inr, ℕ, List, [], ◌∷◌, Bool, true, false, true≢false, not, cond, if◌then◌else◌, map, flat_map, filter, bytes_eq, is_some, Option, Some, None, Contains, refl, ap, sym, subst, ◌∙◌}
+use Rattle.std.proofs.Common.{◌≡◌, ◌||◌, inl, inr, ℕ, List, [], ◌∷◌, Bool, true, false, true≢false, not, if◌then◌else◌, map, flat_map, filter, bytes_eq, is_some, Option, Contains, refl, ap, sym, subst, ◌∙◌}
 use Rattle.std.specs.List.{list_any}
 use Rattle.std.proofs.lemmas.List.Elements.{Contains-append_cases}
-use Rattle.gql_ast.specs.declared.definition.Definition.{Definition}
 use Rattle.gql_ast.specs.declared.definition.Document.{Document}
 use Rattle.gql_ast.specs.declared.definition.Tree.{Tree}
 use Rattle.gql_ast.specs.declared.definition.Tree.TheVariants as tree
@@ -12,7 +11,7 @@ use Rattle.gql_ast.specs.declared.type_system.TypeDefinition.{TypeDefinition}
 use Rattle.gql_ast.specs.declared.type_system.TypeExtension.{TypeExtension}
 use Rattle.gql_ast.specs.declared.type_system.TypeParts.{TypeParts}
 use Rattle.gql_built_in.specs.BuiltIn.{built_in, scalars, introspection, type_kinds, directive_locations, directives, skip, include, deprecated, specified_by}
-use Rattle.gql_built_in.specs.BuiltInWords.{type_of, directive, a_type, a_directive, of_no_file}
+use Rattle.gql_built_in.specs.BuiltInWords.{type_of, directive, of_no_file}
 use Rattle.gql_built_in.specs.declared.sited.Sited.{Sited}
 use Rattle.gql_cycles.proofs.Members.{Contains-nil, Contains-there, Contains-here, Contains-cases, Contains-map_from, Contains-flat_map_from}
 use Rattle.gql_types.specs.Definitions.{of_file, in_order_of, of_files, definitions, names_a_type, type_in, extension_in, type_definitions, type_extensions}
@@ -21,7 +20,6 @@ use Rattle.gql_types.specs.Parts.{kind_of, input_fields_of, sited}
 use Rattle.gql_types.specs.Schemas.{schema_of}
 use Rattle.gql_types.specs.Types.{first_definitions, extends, extensions_of, parts_in, assembled}
 use Rattle.gql_types.specs.declared.kind.TypeKind.TheVariants as kind
-use Rattle.gql_types.specs.declared.schema.Schema.{Schema}
 use Rattle.gql_types.specs.declared.schema_type.SchemaType.{SchemaType}
 
 -- ---- of a filter, and of tests
@@ -100,7 +98,7 @@ in_extension file (tree.Type definition) e has = absurd (Contains-nil e has)
 in_extension file (tree.Directive definition) e has = absurd (Contains-nil e has)
 in_extension file (tree.SchemaExtension extension) e has = absurd (Contains-nil e has)
 
-of_a_file : (files : List (List ℕ × Document)) (x : Sited Tree) → Contains (of_files files) x → is_some x.file ≡ true
+pub of_a_file : (files : List (List ℕ × Document)) (x : Sited Tree) → Contains (of_files files) x → is_some x.file ≡ true
 of_a_file files x has =
     let f = Contains-flat_map_from (λ (f : List ℕ × Document). in_order_of f.1.definitions) files x has in
     let d = Contains-map_from of_file f.0.1.definitions x f.2 in
@@ -128,7 +126,7 @@ module _ (files : Files) where
 
   -- ---- the input fields of a type
 
-  first_of : (ds : List (Sited TypeDefinition)) (d : Sited TypeDefinition) → Contains (first_definitions ds) d → Contains ds d
+  pub first_of : (ds : List (Sited TypeDefinition)) (d : Sited TypeDefinition) → Contains (first_definitions ds) d → Contains ds d
   first_of [] d has = absurd (Contains-nil d has)
   first_of (x ∷ ds) d has = elim (Contains-cases d x (filter (λ (e : Sited TypeDefinition). not (bytes_eq x.node.name.text e.node.name.text)) (first_definitions ds)) has) [
     | inl e ↦ subst (Contains (x ∷ ds)) (sym e) (Contains-here x ds)

@@ -1,5 +1,5 @@
 -- Where defaults lead back to themselves, the graph of rule S19 has a trail that does.
-use Rattle.std.proofs.Common.{◌≡◌, ◌⊎◌, inl, inr, ℕ, List, [], ◌∷◌, Bool, true, false, flat_map, is_some, Option, Some, None, Contains, refl, ap, sym, subst, ◌∙◌}
+use Rattle.std.proofs.Common.{◌≡◌, ◌⊎◌, inl, inr, ℕ, List, [], true, false, is_some, Option, Some, None, Contains, refl, ap, sym, subst, ◌∙◌}
 use Rattle.std.specs.List.{slice_get}
 use Rattle.std.specs.Option.{option_map_or}
 use Rattle.gql_ast.specs.declared.literal.Literal.{Literal}
@@ -7,7 +7,7 @@ use Rattle.gql_ast.specs.declared.type_system.InputValueDefinition.{InputValueDe
 use Rattle.gql_built_in.specs.declared.sited.Sited.{Sited}
 use Rattle.gql_cycles.proofs.Members.{Contains-flat_map}
 use Rattle.gql_cycles.specs.Nodes.{IsEdge, Trail, edge, next}
-use Rattle.gql_coerce.specs.Coercion.{Entry, are, defined_entry, entries_for}
+use Rattle.gql_coerce.specs.Coercion.{Entry, are, entries_for}
 use Rattle.gql_coerce.specs.Defaults.{Takes, here, in_field, in_item, DefaultTakes, LeadsTo, one, more, HasNoCycle}
 use Rattle.gql_coerce.specs.Inputs.{Input, Field, all_fields}
 use Rattle.gql_iface_rules.specs.S19DefaultValueCycles.{ObjectValue, all_inputs, objects, object_values, missing_defaults, default_graph}

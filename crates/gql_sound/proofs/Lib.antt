@@ -4,3 +4,6 @@ pub mod Needing
 pub mod Leading
 pub mod InFiles
 pub mod Sound
+pub mod Known
+pub mod Referring
+pub mod Introspecting

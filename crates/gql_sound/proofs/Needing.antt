@@ -1,6 +1,5 @@
 -- A default that coercion takes in a value is one that rule S19 finds to be needed there.
-use Rattle.std.proofs.Common.{◌≡◌, ◌++◌, ◌&&◌, ◌||◌, ◌⊎◌, inl, inr, ℕ, List, [], ◌∷◌, Bool, true, false, true≢false, not, cond, if◌then◌else◌, map, flat_map, filter, find, bytes_eq, is_some, Option, Some, None, option_map, Contains, refl, ap, sym, subst, ◌∙◌, arith}
-use Rattle.std.specs.List.{list_any}
+use Rattle.std.proofs.Common.{◌≡◌, ◌&&◌, ◌⊎◌, inl, inr, ℕ, List, [], ◌∷◌, Bool, true, false, true≢false, not, cond, if◌then◌else◌, map, flat_map, filter, find, bytes_eq, is_some, Option, Some, None, option_map, Contains, refl, ap, sym, subst, ◌∙◌}
 use Rattle.std.specs.Option.{option_map_or}
 use Rattle.std.proofs.lemmas.Slice.Eq.{bytes_eq-Decides}
 use Rattle.std.proofs.lemmas.List.Elements.{Contains-append_left, Contains-append_right}
@@ -14,14 +13,14 @@ use Rattle.gql_cycles.proofs.Members.{Contains-nil, Contains-here, Contains-case
 use Rattle.gql_coerce.proofs.Fitted.{empty_left, none_found, none_passes, unique, item_no_repeats, field_no_repeats}
 use Rattle.gql_coerce.proofs.Found as mapped
 use Rattle.gql_coerce.proofs.Reading as reading
-use Rattle.gql_coerce.specs.Coercion.{Entry, are, defined_entry, entries_for, given_as, is_list_expected}
+use Rattle.gql_coerce.specs.Coercion.{Entry, defined_entry, entries_for, given_as, is_list_expected}
 use Rattle.gql_coerce.specs.Defaults.{is_absent, is_left_out, Takes}
-use Rattle.gql_coerce.specs.Inputs.{Input, Field, given, single, list, object, all_inputs, all_fields, inputs_of, fields_of, firsts_by, firsts, of_variable, literal, literal_field, may_be_list}
+use Rattle.gql_coerce.specs.Inputs.{Input, Field, list, object, inputs_of, fields_of, firsts, of_variable, literal, literal_field, may_be_list}
 use Rattle.gql_iface_rules.proofs.S19Equations as forms
 use Rattle.gql_iface_rules.proofs.S19Literals.{Each, by_literal}
 use Rattle.gql_iface_rules.proofs.S19Missing.{found_in, finds}
 use Rattle.gql_iface_rules.proofs.S19Steps.{given_names}
-use Rattle.gql_iface_rules.specs.S19DefaultValueCycles.{Numbered, NumberedObject, ObjectValue, ObjectsAt, is_variable, is_variable_value, name_given, name_of_given, objects, object_named, object_values, object_at, list_at, values_in_field, values_of_object, given as s19_given, is_among, missing_default, missing_defaults}
+use Rattle.gql_iface_rules.specs.S19DefaultValueCycles.{Numbered, NumberedObject, ObjectValue, ObjectsAt, is_variable, is_variable_value, name_given, name_of_given, objects, object_named, object_values, list_at, values_in_field, values_of_object, given as s19_given, is_among, missing_default, missing_defaults}
 use Rattle.gql_inputs.proofs.Repeating.{repeats_object}
 use Rattle.gql_inputs.proofs.ValueForms.{value_variable}
 use Rattle.gql_inputs.specs.BadValues.{repeats, field_repeats}

@@ -1,5 +1,5 @@
 -- The number of an input field, as rule S19 numbers them, by the type that names its input object.
-use Rattle.std.proofs.Common.{◌≡◌, ◌+◌, ◌<◌, ◌++◌, inl, inr, ℕ, zero, suc, List, [], ◌∷◌, Bool, true, false, true≢false, cond, if◌then◌else◌, map, filter, find, bytes_eq, length, unwrap_or, Option, Some, None, option_map, option_and_then, Contains, refl, ap, sym, subst, ◌∙◌, arith}
+use Rattle.std.proofs.Common.{◌≡◌, ◌+◌, ◌++◌, inl, inr, ℕ, zero, suc, List, [], ◌∷◌, Bool, true, false, true≢false, cond, if◌then◌else◌, filter, find, bytes_eq, length, unwrap_or, Option, Some, None, option_map, option_and_then, Contains, refl, ap, sym, subst, ◌∙◌, arith}
 use denote.Enum.Bare.{true_same}
 use Rattle.std.specs.List.{slice_get}
 use Rattle.std.proofs.lemmas.Option.{slice_get_within, get_or_from_slice_get, slice_get-map}

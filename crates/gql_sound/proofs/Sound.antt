@@ -1,5 +1,5 @@
 -- In a schema without faults no default leads back to itself.
-use Rattle.std.proofs.Common.{◌≡◌, ◌++◌, ◌≤◌, inl, inr, ℕ, zero, suc, List, [], ◌∷◌, Bool, true, false, true≢false, if◌then◌else◌, map, flat_map, filter, bytes_eq, is_some, length, nat_eq, nat_lt, count_by, Option, Some, None, Contains, refl, ap, sym, subst, ◌∙◌, arith}
+use Rattle.std.proofs.Common.{◌≡◌, ◌≤◌, ℕ, List, [], ◌∷◌, Bool, true, false, true≢false, if◌then◌else◌, map, flat_map, bytes_eq, is_some, length, nat_eq, nat_lt, count_by, Option, Some, None, Contains, refl, ap, sym, subst, ◌∙◌, arith}
 use Rattle.std.specs.List.{slice_get}
 use Rattle.std.proofs.lemmas.Bool.Decides.{nat_tests}
 use Rattle.std.proofs.lemmas.List.Elements.{Contains-append_left, Contains-append_right}
@@ -15,23 +15,22 @@ use Rattle.gql_ast.specs.declared.type_system.FieldDefinition.{FieldDefinition}
 use Rattle.gql_ast.specs.declared.type_system.InputValueDefinition.{InputValueDefinition}
 use Rattle.gql_built_in.specs.declared.sited.Sited.{Sited}
 use Rattle.gql_coerce.proofs.Fitted.{at_most_one, count_made, no_filtered, empty_right}
-use Rattle.gql_cycles.proofs.Members.{Contains-nil, Contains-here, Contains-map, Contains-map_from, Contains-flat_map, Contains-flat_map_from}
+use Rattle.gql_cycles.proofs.Members.{Contains-here, Contains-map, Contains-map_from, Contains-flat_map, Contains-flat_map_from}
 use Rattle.gql_cycles.specs.Nodes.{Trail}
 use Rattle.gql_faults.specs.Directives.{first_directives}
 use Rattle.gql_faults.specs.Faults.{in_file, fault, fault_in, fault_of, own_name_of, where_known}
 use Rattle.gql_faults.specs.Names.{count_of, repeated, repeated_faults}
 use Rattle.gql_iface_rules.specs.S19DefaultValueCycles.{input_objects, all_inputs, default_graph, fault_at_number}
 use Rattle.gql_inputs.specs.BadValues.{bad_values, fits, misfits, repeats}
-use Rattle.gql_inputs.specs.InputTypes.{input_type, name_in}
 use Rattle.gql_inputs.specs.Lookups.{in_schema}
 use Rattle.gql_inputs.specs.Values.{place_of, value_of}
-use Rattle.gql_node_rules.specs.ValueFaults.{fault_unless_fit, start_of}
+use Rattle.gql_node_rules.specs.ValueFaults.{fault_unless_fit}
 use Rattle.gql_schema_rules.specs.S06DuplicateFields as s06
 use Rattle.gql_schema_rules.specs.S18BadDefaultValues as s18
-use Rattle.gql_schema_rules.specs.SchemaFaults.{IsSchemaFault, by_s06, by_s18, by_s19}
+use Rattle.gql_schema_rules.specs.SchemaFaults.{by_s06, by_s18, by_s19}
 use Rattle.gql_types.specs.Kinds.{same_kind}
 use Rattle.gql_types.specs.Schemas.{schema_of}
-use Rattle.gql_types.specs.Written.{Written, written}
+use Rattle.gql_types.specs.Written.{written}
 use Rattle.gql_types.specs.declared.kind.TypeKind.TheVariants as kind
 use Rattle.gql_types.specs.declared.schema.Schema.{Schema}
 use Rattle.gql_types.specs.declared.schema_type.SchemaType.{SchemaType}
@@ -43,12 +42,12 @@ use Rattle.gql_sound.proofs.Needing.{FieldsDiffer}
 use Rattle.gql_sound.proofs.Numbering.{contains_at, is_input_object, named_type}
 
 -- what is in a file has its name
-some_is : {A : Type 0} (o : Option A) → is_some o ≡ true → (x : A) × (o ≡ Some x)
+pub some_is : {A : Type 0} (o : Option A) → is_some o ≡ true → (x : A) × (o ≡ Some x)
 some_is None is = absurd (true≢false (sym is))
 some_is (Some x) is = (x, refl)
 
 -- a fault is found at a place that is in a file
-fault_there : (r : Rule) (about : List ℕ) (file : Option (List ℕ)) (place : Place) → is_some file ≡ true → (f : Fault) × Contains (fault_in r about file place) f
+pub fault_there : (r : Rule) (about : List ℕ) (file : Option (List ℕ)) (place : Place) → is_some file ≡ true → (f : Fault) × Contains (fault_in r about file place) f
 fault_there r about file place is =
     let name = some_is file is in
     let f = fault r about (in_file name.0 place ∷ []) in

@@ -3,7 +3,7 @@ use Rattle.std.proofs.Common.{◌≡◌, ◌&&◌, ◌⊎◌, inl, inr, ℕ, Lis
 use Rattle.gql_ast.specs.declared.type_system.InputValueDefinition.{InputValueDefinition}
 use Rattle.gql_built_in.specs.declared.sited.Sited.{Sited}
 use Rattle.gql_cycles.proofs.Members.{Contains-map_from}
-use Rattle.gql_inputs.specs.InputTypes.{input_type, is_custom_scalar, item_of}
+use Rattle.gql_inputs.specs.InputTypes.{input_type, is_custom_scalar}
 use Rattle.gql_types.specs.Written.{Written, written}
 use Rattle.gql_types.specs.declared.kind.TypeKind.{TypeKind}
 use Rattle.gql_types.specs.declared.kind.TypeKind.TheVariants as kind
