@@ -161,8 +161,8 @@ on_node s name p n = s.below name p (described n)
 
 -- What introspection answers for a field of this type. A null, or no answer, is completed as a null
 -- of the data: at a Non-Null type it is an error (CompleteValue). Every other answer is written as
--- it is. Its type is not checked, because it is the field's type if the schema files have no fault:
--- that is the law `gql_intro::laws::answers_have_their_types`.
+-- it is. Its type is not checked: in schema files that have what introspection needs of them, it is
+-- the field's type. That is the law `gql_intro::laws::answers_have_their_types`.
 abbrev pub on_answer : Site → Written → Path → Option intro.Answer → Reply Data
 on_answer s t p None = complete s t p json.null
 on_answer s t p (Some intro.null) = complete s t p json.null
