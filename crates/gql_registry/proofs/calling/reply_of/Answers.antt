@@ -1,0 +1,31 @@
+use Rattle.std.proofs.Common.{◌≡◌, sym, ap, subst, ◌∙◌}
+use Rattle.gql_ast.specs.declared.files.Files.{Files}
+use Rattle.gql_facts.specs.declared.fragments.Fragments.{Fragments}
+use Rattle.gql_exec.specs.Requests.{IsKeptOf}
+use Rattle.gql_intro.specs.Made.{made_of}
+use Rattle.gql_reply.specs.ReplyText.{reply_text}
+use Rattle.gql_registry.specs.Keeping.{IsKnownOf}
+use Rattle.gql_registry.specs.declared.report.Known.{Known}
+use Rattle.gql_registry.specs.declared.report.SchemaSide.{SchemaSide}
+use Rattle.gql_types.specs.Schemas.{schema_of}
+use Rattle.gql_registry.proofs.calling.reply_of.Goals as goal
+
+-- what is known of files is what execution takes as kept of them
+kept_of : (files : Files) (known : Known) (side : SchemaSide) → side ≡ known.schema → IsKnownOf files known
+    → IsKeptOf files side.schema side.made known.index.fragments.all
+kept_of files known side is h = record {
+  schema = ap (λ (x : SchemaSide). x.schema) is ∙ h.schema.schema;
+  made = ap (λ (x : SchemaSide). x.made) is ∙ h.schema.made;
+  fragments = h.index.fragments;
+}
+
+pub returns-in_ok-reply_text-in-Ok-clause-reply : goal.returns-in_ok-reply_text-in-Ok-clause-reply
+returns-in_ok-reply_text-in-Ok-clause-reply c = λ files known operation is p executes.
+    let kept = kept_of files c.args.known.now c.get-schema.result.now c.get-schema.ensures known in
+    let h = c.in-Ok.ensures.outcome files operation kept is p executes in
+    (h.0, c.in_ok-reply_text-in-Ok.ensures ∙ ap reply_text h.1)
+
+pub returns-in-Err-TooHeavy-clause-err : goal.returns-in-Err-TooHeavy-clause-err
+returns-in-Err-TooHeavy-clause-err c = λ files known operation is p executes.
+    let kept = kept_of files c.args.known.now c.get-schema.result.now c.get-schema.ensures known in
+    c.in-Err-TooHeavy.ensures.heavy (rw c.in-Err-TooHeavy.is refl) files operation kept is p executes
