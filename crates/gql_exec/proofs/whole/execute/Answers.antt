@@ -4,7 +4,7 @@ use Rattle.gql_ast.specs.declared.definition.Tree.TheVariants as tree
 use Rattle.gql_ast.specs.declared.executable.Operation.{Operation}
 use Rattle.serde_json.specs.View.{view}
 use Rattle.gql_exec.specs.Outcomes.{outcome_of}
-use Rattle.gql_exec.specs.Requests.{IsOutcome, IsTooHeavy}
+use Rattle.gql_exec.specs.Requests.{IsOutcome, IsTooHeavy, Request}
 use Rattle.gql_exec.specs.Runs.{request}
 use Rattle.gql_exec.specs.declared.refusal.ExecRefusal.TheVariants.{TooHeavy}
 use Rattle.gql_exec.proofs.Ending.{by_files, err_then, ok_then}
@@ -17,7 +17,7 @@ operation_same t a b is_a is_b = let same : tree.Operation a ≡ tree.Operation 
 pub returns-clause-outcome : goal.returns-clause-outcome
 returns-clause-outcome c =
     let d = c.args.definition.now in
-    let of = λ y. request c.args.schema.now c.args.made.now c.args.fragments.now.all d.file y (view c.args.variables.now) (view c.args.stored.now) in
+    let of : Operation → Request = λ y. request c.args.schema.now c.args.made.now c.args.fragments.now.all d.file y (view c.args.variables.now) (view c.args.stored.now) in
     ok_then c.execute_request.result (λ o. IsOutcome (of c.get-operation.result.now) (outcome_of o)) _
     (λ o h files operation kept is. subst (λ r. IsOutcome r (outcome_of o))
     (ap of (c.get-operation.ensures ∙ operation_same d.tree c.in-Operation.operation operation c.in-Operation.is is)
@@ -27,7 +27,7 @@ returns-clause-outcome c =
 pub returns-clause-heavy : goal.returns-clause-heavy
 returns-clause-heavy c =
     let d = c.args.definition.now in
-    let of = λ y. request c.args.schema.now c.args.made.now c.args.fragments.now.all d.file y (view c.args.variables.now) (view c.args.stored.now) in
+    let of : Operation → Request = λ y. request c.args.schema.now c.args.made.now c.args.fragments.now.all d.file y (view c.args.variables.now) (view c.args.stored.now) in
     err_then c.execute_request.result (λ e. e ≡ TooHeavy → IsTooHeavy (of c.get-operation.result.now)) _
     (λ e h heavy files operation kept is. subst IsTooHeavy
     (ap of (c.get-operation.ensures ∙ operation_same d.tree c.in-Operation.operation operation c.in-Operation.is is)
