@@ -1,7 +1,7 @@
 -- Definitions that are picked from a list in file order: no two of them have the same file and offset.
 use Rattle.std.specs.Prelude.{◌≡◌, ◌≢◌, ◌+◌, ◌<◌, ℕ, List, [], ◌∷◌, ◌++◌, length, Contains}
 use Rattle.std.specs.List.{AllPairs}
-use Rattle.std.proofs.Common.{refl, sym, ◌∙◌, subst, inl, inr, arith, get_or, length-append}
+use Rattle.std.proofs.Common.{refl, append-nil, sym, ◌∙◌, subst, inl, inr, arith, get_or, length-append}
 use Rattle.std.proofs.lemmas.List.{get_or_append_left, get_or_push}
 use Rattle.std.proofs.lemmas.List.Elements.{Contains-append_left, Contains-append_right, Contains-push, Contains-push_cases}
 use Rattle.gql_ast.specs.Trees.{id_of}
@@ -14,7 +14,7 @@ use Rattle.gql_verdict.specs.Shelves.{Picks, pick_none, skip, pick, IsDueWork, I
 use Rattle.gql_verdict.specs.Verdicts.{Judgement}
 use Rattle.gql_verdict.proofs.FileLists.{pairs_append}
 use Rattle.gql_verdict.proofs.Ordered.{apart}
-use Rattle.gql_verdict.proofs.Steps.{work_all, work_none}
+use Rattle.gql_verdict.proofs.Steps.{picks_rest}
 
 -- what is picked is in the list
 picked_in : (xs ys : List Definition) → Picks xs ys → (d : Definition) → Contains xs d → Contains ys d
@@ -62,4 +62,7 @@ work_once F kept ds old new up w = record {
 
 -- nothing was examined
 pub no_entries : (F : Facts) (kept : List Judgement) (ds : List Definition) (m : List DefinitionId) → IsWork F kept ds m m
-no_entries F kept ds m = record { does = work_all F kept ds 0 m m (work_none F kept ds m); once = λ i j d lt within. absurd (omega (arith, within)) }
+no_entries F kept ds m = record {
+  does = record { work = []; picks = picks_rest [] [] ds pick_none; entries = sym (append-nil m); due = λ d c. absurd (Contains-nil d c) };
+  once = λ i j d lt within. absurd (omega (arith, within));
+}

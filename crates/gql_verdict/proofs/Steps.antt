@@ -23,7 +23,7 @@ use Rattle.gql_verdict.proofs.Members.{Contains-map_from}
 use Rattle.gql_verdict.proofs.Seen.{take_next}
 use Rattle.gql_verdict.proofs.Ordered.{same_verdict, kept_at}
 
-picks_rest : (xs ys zs : List Definition) → Picks xs ys → Picks xs (ys ++ zs)
+pub picks_rest : (xs ys zs : List Definition) → Picks xs ys → Picks xs (ys ++ zs)
 picks_rest xs ys [] p = subst (λ ws. Picks xs ws) (sym (append-nil ys)) p
 picks_rest xs ys (z ∷ zs) p = subst (λ ws. Picks xs ws) (append_assoc ys (z ∷ []) zs) (picks_rest xs (ys ++ z ∷ []) zs (skip z p))
 
