@@ -1,4 +1,4 @@
-use Rattle.std.proofs.Common.{◌≡◌, sym, ap, subst, ◌∙◌}
+use Rattle.std.proofs.Common.{◌≡◌, ap, ◌∙◌}
 use Rattle.gql_ast.specs.declared.files.Files.{Files}
 use Rattle.gql_facts.specs.declared.fragments.Fragments.{Fragments}
 use Rattle.gql_exec.specs.Requests.{IsKeptOf}
@@ -28,4 +28,4 @@ returns-in_ok-reply_text-in-Ok-clause-reply c = λ files known operation is p ex
 pub returns-in-Err-TooHeavy-clause-err : goal.returns-in-Err-TooHeavy-clause-err
 returns-in-Err-TooHeavy-clause-err c = λ files known operation is p executes.
     let kept = kept_of files c.args.known.now c.get-schema.result.now c.get-schema.ensures known in
-    c.in-Err-TooHeavy.ensures.heavy (rw c.in-Err-TooHeavy.is refl) files operation kept is p executes
+    c.in-Err-TooHeavy.ensures.heavy c.in-Err-TooHeavy.field-0-is files operation kept is p executes
