@@ -42,6 +42,8 @@ pub fn document_files(alloc: Global, text: &str) -> Option<Files>
     let name = FileName::read("d")?;
     let document = document_in(alloc, &name, text).ok()?;
     let document = Shared::new(alloc, document).ok()?;
-    let files = one_file(alloc, name, document).ok()?;
-    Some(files)
+    match one_file(alloc, name, document) {
+        Ok(files) => Some(files),
+        Err(_) => None,
+    }
 }
