@@ -16,7 +16,7 @@ use Rattle.gql_verdict.specs.Slots.{verdicts, IsInOrder, resolve, slot_faults, I
 use Rattle.gql_verdict.specs.Verdicts.{Judgement, IsCertificate}
 use Rattle.gql_verdict.specs.declared.slot.Slot.{Slot}
 use Rattle.gql_verdict.specs.declared.slot.Slot.TheVariants.{Here, At}
-use Rattle.gql_verdict.proofs.Members.{Contains-map_from}
+use Rattle.gql_reads.proofs.Members.{Contains-map_from}
 use Rattle.gql_verdict.proofs.Ordered.{same_verdict, kept_at}
 use Rattle.gql_verdict.proofs.Refreshed.{planned_served, served_current}
 

@@ -1,5 +1,5 @@
 -- What a world recorded of what a definition reads, with the faults, makes a verdict.
-use Rattle.std.specs.Prelude.{◌≡◌, ◌⊎◌, List, ◌++◌, refl, map, Contains}
+use Rattle.std.specs.Prelude.{◌≡◌, ◌⊎◌, List, ◌++◌, map, Contains}
 use Rattle.std.proofs.Common.{ap, sym, ◌∙◌, subst, inl, inr}
 use Rattle.std.proofs.lemmas.List.Elements.{Contains-append_left, Contains-append_right, Contains-append_cases}
 use Rattle.gql_ast.specs.declared.definition.Definition.{Definition}
@@ -16,27 +16,10 @@ use Rattle.gql_rules.proofs.View as definitions
 use Rattle.gql_vars.specs.VariableFaults.{IsVariableFault}
 use Rattle.gql_vars.proofs.View as variables
 use Rattle.gql_verdict.specs.Faults.{IsFaultIn, by_definition, by_merging, by_variables}
-use Rattle.gql_verdict.specs.Verdicts.{Hold, IsCertificate, Judges, keys_of, observed}
-use Rattle.gql_verdict.specs.declared.observation.Observation.{Observation}
-use Rattle.gql_verdict.proofs.Members.{Contains-map_from}
-
--- ---- what was observed
-
-module _ (F : Facts) (P : Key → Type 0) (keys : List Key) (os : List Observation) (is : os ≡ map (observed F) keys) (lists : Lists keys P) where
-  pub observed_hold : Hold F os
-  observed_hold o c =
-      let m = Contains-map_from (observed F) keys o (subst (λ l. Contains l o) is c) in
-      subst (λ (p : Observation). F p.key ≡ p.fact) m.2 refl
-
-  pub observed_keys : Lists (keys_of os) P
-  observed_keys = record {
-    sound = λ k c.
-        let m = Contains-map_from (λ (o : Observation). o.key) os k c in
-        let n = Contains-map_from (observed F) keys m.0 (subst (λ l. Contains l m.0) is m.1) in
-        lists.sound k (subst (λ j. Contains keys j) (ap (λ (o : Observation). o.key) n.2 ∙ m.2) n.1);
-    complete = λ k p. Contains-map (λ (o : Observation). o.key) os (observed F k)
-        (subst (λ l. Contains l (observed F k)) (sym is) (Contains-map (observed F) keys k (lists.complete k p)));
-  }
+use Rattle.gql_reads.specs.Observations.{Hold, keys_of}
+use Rattle.gql_reads.specs.declared.observation.Observation.{Observation}
+use Rattle.gql_reads.proofs.Members.{Contains-map_from}
+use Rattle.gql_verdict.specs.Verdicts.{IsCertificate, Judges}
 
 -- ---- faults by all rules
 

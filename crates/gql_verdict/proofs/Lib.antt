@@ -4,7 +4,6 @@ pub mod Certified
 pub mod Edited
 pub mod FileLists
 pub mod Filled
-pub mod Members
 pub mod Ordered
 pub mod Picked
 pub mod Refreshed

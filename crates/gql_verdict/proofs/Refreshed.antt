@@ -5,7 +5,8 @@ use Rattle.gql_ast.specs.Trees.{id_of}
 use Rattle.gql_ast.specs.declared.definition.Definition.{Definition}
 use Rattle.gql_facts.specs.Worlds.{Facts}
 use Rattle.gql_facts.specs.ListMembers.{Contains-nil, Contains-cases}
-use Rattle.gql_verdict.specs.Verdicts.{Hold, Judgement}
+use Rattle.gql_reads.specs.Observations.{Hold}
+use Rattle.gql_verdict.specs.Verdicts.{Judgement}
 use Rattle.gql_verdict.specs.Shelves.{IsCurrent, Serves, defs}
 use Rattle.gql_verdict.specs.FileOrder.{InFileOrder}
 use Rattle.gql_verdict.specs.Plans.{IsPlanned, IsStep}

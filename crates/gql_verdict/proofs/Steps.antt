@@ -8,10 +8,11 @@ use Rattle.gql_ast.specs.declared.definition.Definition.{Definition}
 use Rattle.gql_ast.specs.declared.definition.DefinitionId.{DefinitionId}
 use Rattle.gql_facts.specs.Worlds.{Facts}
 use Rattle.gql_facts.specs.declared.fact.Fact.{Fact}
-use Rattle.gql_verdict.specs.declared.observation.Observation.{Observation}
+use Rattle.gql_reads.specs.declared.observation.Observation.{Observation}
 use Rattle.gql_facts.specs.ListMembers.{Contains-nil, Contains-here, Contains-cases, either}
-use Rattle.gql_verdict.specs.Verdicts.{Hold, Judgement}
-use Rattle.gql_verdict.specs.Shelves.{IsDue, IsBroken, Picks, pick_none, skip, pick, IsDueWork, IsStepWork}
+use Rattle.gql_reads.specs.Observations.{Hold, IsBroken}
+use Rattle.gql_verdict.specs.Verdicts.{Judgement}
+use Rattle.gql_verdict.specs.Shelves.{IsDue, Picks, pick_none, skip, pick, IsDueWork, IsStepWork}
 use Rattle.gql_verdict.specs.TouchedFacts.{touches, touches_definition, HoldWhere, IsKnown}
 use Rattle.gql_verdict.specs.declared.touched.Touched.{Touched}
 use Rattle.gql_verdict.specs.declared.touched.Touched.TheVariants.{All, File}
@@ -19,7 +20,7 @@ use Rattle.gql_verdict.specs.Plans.{IsAt, IsStep}
 use Rattle.gql_verdict.specs.Slots.{verdicts, IsInOrder, IsFound}
 use Rattle.gql_verdict.specs.declared.slot.Slot.{Slot}
 use Rattle.gql_verdict.specs.declared.slot.Slot.TheVariants.{Here, At}
-use Rattle.gql_verdict.proofs.Members.{Contains-map_from}
+use Rattle.gql_reads.proofs.Members.{Contains-map_from}
 use Rattle.gql_verdict.proofs.Seen.{take_next}
 use Rattle.gql_verdict.proofs.Ordered.{same_verdict, kept_at}
 

@@ -7,8 +7,8 @@ use Rattle.gql_ast.specs.declared.definition.DefinitionId.{DefinitionId}
 use Rattle.gql_ast.specs.declared.fault.Fault.{Fault}
 use Rattle.gql_facts.specs.Worlds.{Facts}
 use Rattle.gql_verdict.specs.Faults.{IsFaultIn}
-use Rattle.gql_verdict.specs.Verdicts.{Hold, Judgement}
-use Rattle.gql_verdict.specs.declared.observation.Observation.{Observation}
+use Rattle.gql_verdict.specs.Verdicts.{Judgement}
+use Rattle.gql_reads.specs.Observations.{Hold, IsBroken}
 
 -- ---- what a shelf answers
 
@@ -47,11 +47,6 @@ IsFaultOfAny facts definitions f =
     (d : Definition) × Contains definitions d × IsFaultIn facts d f
 
 -- ---- what an edit examines
-
--- some observation does not hold
-abbrev pub IsBroken : Facts → List Observation → Type 0
-IsBroken facts observations =
-    (o : Observation) × Contains observations o × (facts o.key ≡ o.fact → ⊥)
 
 -- a definition is examined only if no verdict on it is kept, place included, or if one is kept with
 -- an observation that does not hold

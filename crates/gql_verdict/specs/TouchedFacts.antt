@@ -5,8 +5,9 @@ use Rattle.gql_facts.specs.Worlds.{Facts}
 use Rattle.gql_facts.specs.declared.key.Key.{Key}
 use Rattle.gql_facts.specs.declared.key.Key.TheVariants as key
 use Rattle.gql_verdict.specs.Shelves.{defs}
-use Rattle.gql_verdict.specs.Verdicts.{Hold, Judgement}
-use Rattle.gql_verdict.specs.declared.observation.Observation.{Observation}
+use Rattle.gql_reads.specs.Observations.{Hold}
+use Rattle.gql_verdict.specs.Verdicts.{Judgement}
+use Rattle.gql_reads.specs.declared.observation.Observation.{Observation}
 use Rattle.gql_verdict.specs.declared.touched.Touched.{Touched}
 use Rattle.gql_verdict.specs.declared.touched.Touched.TheVariants as touched
 

@@ -1,17 +1,13 @@
 -- What a verdict guarantees: the faults of a definition, wherever its observations hold.
-use Rattle.std.specs.Prelude.{◌≡◌, List, map, Contains}
+use Rattle.std.specs.Prelude.{◌≡◌, List}
 use Rattle.gql_ast.specs.declared.definition.Definition.{Definition}
 use Rattle.gql_ast.specs.declared.fault.Fault.{Fault}
 use Rattle.gql_facts.specs.Members.{Lists}
 use Rattle.gql_facts.specs.Reads.{Reads}
 use Rattle.gql_facts.specs.Worlds.{Facts}
-use Rattle.gql_facts.specs.declared.key.Key.{Key}
 use Rattle.gql_verdict.specs.Faults.{IsFaultIn}
-use Rattle.gql_verdict.specs.declared.observation.Observation.{Observation}
-
--- each observed key has the answer that it had
-abbrev pub Hold : Facts → List Observation → Type 0
-Hold facts observations = (o : Observation) → Contains observations o → facts o.key ≡ o.fact
+use Rattle.gql_reads.specs.Observations.{Hold, keys_of}
+use Rattle.gql_reads.specs.declared.observation.Observation.{Observation}
 
 -- these are the faults of d wherever the observations hold
 abbrev pub IsCertificate : Definition → List Fault → List Observation → Type 0
@@ -23,14 +19,6 @@ pub record Judgement : Type 0 where
   pub def : Definition
   pub faults : List Fault
   pub observations : List Observation
-
--- the observation of a key's answer, by these facts
-abbrev pub observed : Facts → Key → Observation
-observed facts k = record { key = k; fact = facts k }
-
--- the observed keys
-abbrev pub keys_of : List Observation → List Key
-keys_of observations = map (λ (o : Observation). o.key) observations
 
 -- The verdict on d that is made with these facts: it has a certificate, its observations hold, and
 -- their keys are those that d reads.

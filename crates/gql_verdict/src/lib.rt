@@ -9,7 +9,6 @@ pub mod laws;
 mod meter;
 mod names;
 mod naming;
-mod observation;
 mod plan;
 mod shelf;
 mod slot;
@@ -24,7 +23,6 @@ mod verdict;
 
 pub use meter::Meter;
 pub use names::name_faults;
-pub use observation::Observation;
 pub use shelf::{Prepared, Shelf};
 pub use touched::Touched;
 pub use verdict::{Verdict, examine};

@@ -3,7 +3,8 @@ ghost use Rattle.std.specs.Prelude.{◌≡◌, ◌↔◌, ◌⊎◌, ◌∷◌, 
 ghost use Rattle.std.specs.List.{AllZip};
 ghost use Rattle.gql_verdict.specs.Definitions.{all_definitions as definitions_of};
 ghost use Rattle.gql_verdict.specs.FileOrder.{AreFilesPlaced, InFileOrder};
-ghost use Rattle.gql_verdict.specs.Shelves.{IsBroken, IsDue, IsDueWork, IsStepWork};
+ghost use Rattle.gql_reads.specs.Observations.{IsBroken};
+ghost use Rattle.gql_verdict.specs.Shelves.{IsDue, IsDueWork, IsStepWork};
 ghost use Rattle.gql_verdict.specs.Plans.{IsStep};
 ghost use Rattle.gql_verdict.specs.Slots.{IsInOrder, verdicts};
 ghost use Rattle.gql_verdict.specs.TouchedFacts.{HoldWhere, IsKnown, touches_definition};
@@ -11,12 +12,12 @@ ghost use Rattle.gql_verdict.specs.declared.slot.Slot.TheVariants.{At};
 
 use crate::definitions::all_definitions;
 use crate::meter::Meter;
-use crate::observation::Observation;
 use crate::slot::{Slot, find_near};
 use crate::touched::Touched;
 use crate::verdict::{Verdict, examine};
 use gql_ast::{Definition, Files, Same};
 use gql_facts::World;
+use gql_reads::Observation;
 use std::alloc::{AllocError, Global};
 
 /// Whether a world still gives this answer.

@@ -6,10 +6,10 @@ ghost use Rattle.gql_verdict.specs.Faults.{IsFaultIn};
 ghost use Rattle.gql_verdict.specs.Verdicts.{IsCertificate, Judges};
 
 use crate::meter::Meter;
-use crate::observation::{Observation, observe};
 use gql_ast::{Definition, Fault, Same};
 use gql_facts::World;
 use gql_merge::merge_faults;
+use gql_reads::{Observation, observe};
 use gql_rules::local_faults;
 use gql_vars::variable_faults;
 use std::alloc::{AllocError, Global};

@@ -1,6 +1,6 @@
 use Rattle.std.proofs.Common.{◌≡◌, sym, subst, ◌⊎◌}
 use Rattle.gql_verdict.specs.Verdicts.{Judgement}
-use Rattle.gql_verdict.specs.Shelves.{IsBroken}
+use Rattle.gql_reads.specs.Observations.{IsBroken}
 use Rattle.gql_verdict.proofs.Steps.{none_kept, found_bad, found_good, read_at, same_if_untouched, at_false, at_true}
 use Rattle.gql_verdict.proofs.plan.kept_verdict.Goals as goal
 

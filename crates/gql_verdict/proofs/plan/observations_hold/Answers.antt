@@ -1,6 +1,6 @@
 use Rattle.std.proofs.Common.{◌≡◌, ◌+◌, List, inl, inr, subst, ◌∙◌, sym, take, ap, true}
 use Rattle.std.proofs.lemmas.List.{take_all}
-use Rattle.gql_verdict.specs.declared.observation.Observation.{Observation}
+use Rattle.gql_reads.specs.declared.observation.Observation.{Observation}
 use Rattle.gql_facts.specs.Worlds.{Facts}
 use Rattle.gql_verdict.specs.TouchedFacts.{touches, HoldWhere}
 use Rattle.gql_verdict.proofs.Seen.{seen_more}

@@ -1,6 +1,6 @@
 use Rattle.gql_facts.specs.Reads.{Reads}
-use Rattle.gql_verdict.proofs.Certified.{observed_hold, observed_keys}
-use Rattle.gql_verdict.proofs.observation.observe.Goals as goal
+use Rattle.gql_reads.proofs.Observed.{observed_hold, observed_keys}
+use Rattle.gql_reads.proofs.observation.observe.Goals as goal
 
 pub returns-clause-hold : goal.returns-clause-hold
 returns-clause-hold g c =

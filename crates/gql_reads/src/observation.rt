@@ -2,7 +2,7 @@
 ghost use Rattle.std.specs.Prelude.{◌≡◌, IfOk, map};
 ghost use Rattle.gql_facts.specs.Members.{Lists};
 ghost use Rattle.gql_facts.specs.Reads.{Reads};
-ghost use Rattle.gql_verdict.specs.Verdicts.{Hold, keys_of, observed};
+ghost use Rattle.gql_reads.specs.Observations.{Hold, keys_of, observed};
 
 use gql_ast::Definition;
 use gql_facts::{Fact, Key, World, walk_reads};

@@ -1,6 +1,6 @@
 use Rattle.std.proofs.Common.{◌≡◌, ◌++◌, map}
-use Rattle.gql_verdict.specs.Verdicts.{observed}
-use Rattle.gql_verdict.proofs.observation.answers.Given as goal
+use Rattle.gql_reads.specs.Observations.{observed}
+use Rattle.gql_reads.proofs.observation.answers.Given as goal
 
 abbrev pub invariant-loop-key : goal.invariant-loop-key
 invariant-loop-key g l = record {
