@@ -3,10 +3,12 @@
 #![tactic(auto)]
 
 use gql_command::{Command, CommandFault, read_command};
-use gql_http::{Hub, pipe, serve_on, status_of};
+use gql_http::{Hub, pipe, status_of};
 use gql_registry::Registry;
+use gql_server::{TogetherFault, serve_together};
 use gql_wire::DevicePeer;
-use std::net::TcpListener;
+use mio::net::TcpListener;
+use std::net::{Ipv4Addr, SocketAddr};
 use std::process::ExitCode;
 use std::{env, io};
 
@@ -26,18 +28,19 @@ fn run_pipe(rt: &HostRuntime) -> u8 {
     status_of(&pipe(&mut hub, &mut peer))
 }
 
-/// Answers the requests of this many connections to a port of 127.0.0.1, one connection after the
-/// other.
+/// Answers the requests of this many connections to a port of 127.0.0.1, up to 16 at one time.
 fn run_serve(rt: &HostRuntime, port: u16, connections: u32) -> u8 {
-    let Ok(listener) = TcpListener::bind(rt, ("127.0.0.1", port)) else {
+    let address = SocketAddr::from((Ipv4Addr::LOCALHOST, port));
+    let Ok(mut listener) = TcpListener::bind(rt, address) else {
         return 1;
     };
     if rt.print("listening\n").is_err() {
         return 1;
     }
     let mut hub = Hub::new(rt.alloc(), Registry::new(rt.alloc()));
-    match serve_on(&listener, &mut hub, connections) {
+    match serve_together(rt, rt.alloc(), &mut listener, &mut hub, connections, 16) {
         Ok(()) => 0,
+        Err(TogetherFault::Memory) => 4,
         Err(_) => 1,
     }
 }
