@@ -1,7 +1,8 @@
 -- Events one after the other.
 use Rattle.std.proofs.Common.{◌≡◌, ◌≢◌, ◌<◌, ◌≤◌, ◌∙◌, ℕ, List, [], ◌∷◌, ◌++◌, Bool, true, false, Option, None, refl, sym, ap, arith, ◌⊎◌, inl, inr, ◌+◌}
 use Rattle.std.proofs.lemmas.Bool.{cases_lt, cases_order}
-use Rattle.gql_http.specs.Events.{State, Event, opens, feeds, breaks, closes, Connections, Does, Behaves, connection_of, does_nothing, does_first}
+use Rattle.gql_registry.specs.State.{State}
+use Rattle.gql_http.specs.Events.{Event, opens, feeds, breaks, closes, Connections, Does, Behaves, connection_of, does_nothing, does_first}
 use Rattle.gql_http.specs.Hubs.{rests_of, service_of}
 use Rattle.gql_http.specs.declared.hub.Hub.{Hub}
 use Rattle.gql_http.proofs.Exchanging.{does_others, feed_connection}

@@ -1,3 +1,4 @@
+mod Adding
 mod Going
 mod Parts
 mod Turning

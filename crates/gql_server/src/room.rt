@@ -54,9 +54,10 @@ impl Seat {
         }
     }
 
-    /// Whether nothing is left to read, to answer or to write, as far as is known.
-    fn is_idle(&self) -> bool {
-        !self.is_ready && self.place.is_quiet()
+    /// Whether nothing is left to read, to answer or to write, as far as is known, and no byte came
+    /// or went for so long.
+    fn is_idle(&self, now: Instant, least: Duration) -> bool {
+        !self.is_ready && self.place.is_quiet() && now.duration_since(self.since) >= least
     }
 
     /// How long the connection may still be quiet.
@@ -103,8 +104,15 @@ pub fn turn_of(hub: &mut Hub, at_once: u8, number: u8, slot: &mut Option<Seat>, 
 pub type Seats = [Option<Seat>; 16];
 
 /// A place for the next connection: a free one, or that of the connection which has been quiet
-/// longest, if it has no unfinished request and nothing is left to write to it.
-pub fn next_place(hub: &Hub, at_once: u8, seats: &Seats) -> Option<u8>
+/// longest, and for so long at least, if it has no unfinished request and nothing is left to write to
+/// it.
+pub fn next_place(
+    hub: &Hub,
+    at_once: u8,
+    seats: &Seats,
+    now: Instant,
+    least: Duration,
+) -> Option<u8>
     requires { at_once ≤ 16 }
     ensures { IfSome result (λ number. number < at_once) }
 {
@@ -113,7 +121,7 @@ pub fn next_place(hub: &Hub, at_once: u8, seats: &Seats) -> Option<u8>
         let Some(seat) = &seats[usize::from(number)] else {
             return Some(number);
         };
-        if seat.is_idle() && !hub.has_rest(number) && is_before(seat.since, &longest) {
+        if seat.is_idle(now, least) && !hub.has_rest(number) && is_before(seat.since, &longest) {
             longest = Some((number, seat.since));
         }
     }
@@ -132,7 +140,7 @@ fn is_before(since: Instant, found: &Option<(u8, Instant)>) -> bool {
 }
 
 /// The shorter of two waits; none is a wait without end.
-fn shorter(one: Option<Duration>, other: Duration) -> Option<Duration> {
+pub fn shorter(one: Option<Duration>, other: Duration) -> Option<Duration> {
     match one {
         Some(one) if one < other => Some(one),
         _ => Some(other),

@@ -3,9 +3,9 @@ ghost use Rattle.std.specs.Prelude.{◌≡◌, ◌<◌, ◌≤◌, IfSome, IfOk}
 ghost use Rattle.gql_http.specs.Hubs.{rests_of};
 ghost use Rattle.gql_server.specs.Together.{AreClosed, Goes};
 
-use crate::fault::TogetherFault;
+use crate::fault::ServeFault;
 use crate::place::Place;
-use crate::room::{Seat, Seats, close, next_place, open, turn_of, wait_time};
+use crate::room::{Seat, Seats, close, next_place, open, shorter, turn_of, wait_time};
 use crate::tcp_socket::TcpSocket;
 use gql_http::Hub;
 use mio::net::{TcpListener, TcpStream};
@@ -13,13 +13,19 @@ use mio::{Events, Interest, Poll, Token};
 use std::alloc::Global;
 use std::io::ErrorKind;
 use std::net::Net;
-use std::time::{Clock, Instant};
+use std::time::{Clock, Duration, Instant};
 
 /// The token of the listener; the token of a connection is its number.
 const LISTENER: Token = Token(16);
 
 /// How many events a wait reports at most.
 const EVENTS: usize = 64;
+
+/// A connection that was quiet for this many milliseconds yields its place to one that waits.
+const YIELD_MILLISECONDS: u64 = 50;
+
+/// Once a connection has waited for this many milliseconds, any idle one yields its place.
+const PATIENCE_MILLISECONDS: u64 = 1000;
 
 /// The connections that are still to be accepted.
 #[derive(Clone, Copy)]
@@ -28,6 +34,29 @@ struct Queue {
     left: u32,
     /// Whether one may wait at the listener.
     is_awaited: bool,
+    /// Since when, if one does.
+    since: Instant,
+}
+
+impl Queue {
+    /// How long a connection has to have been quiet to yield its place.
+    fn least_quiet(&self, now: Instant) -> Duration {
+        if now.duration_since(self.since) >= Duration::from_millis(PATIENCE_MILLISECONDS) {
+            Duration::ZERO
+        } else {
+            Duration::from_millis(YIELD_MILLISECONDS)
+        }
+    }
+
+    /// How long to wait for the next event, by what the connections ask for.
+    fn wait_time(&self, seats: &Seats, now: Instant) -> Option<Duration> {
+        let wait = wait_time(seats, now);
+        if self.is_awaited && self.left > 0 {
+            shorter(wait, Duration::from_millis(YIELD_MILLISECONDS))
+        } else {
+            wait
+        }
+    }
 }
 
 /// The seat of a stream that was accepted, which is watched from now on. None if the system refuses
@@ -84,19 +113,21 @@ fn admit_one(
     seats: &mut Seats,
     queue: &mut Queue,
     now: Instant,
-) -> Result<bool, TogetherFault>
+) -> Result<bool, ServeFault>
     requires { at_once ≤ 16 }
     ensures { Goes at_once hub.old hub.new }
 {
     if !queue.is_awaited || queue.left == 0 {
         return Ok(false);
     }
-    let Some(number) = next_place(hub, at_once, seats) else {
+    let least = queue.least_quiet(now);
+    let Some(number) = next_place(hub, at_once, seats, now, least) else {
         return Ok(false);
     };
     match listener.accept() {
         Ok((stream, _)) => {
             queue.left -= 1;
+            queue.since = now;
             let slot = &mut seats[usize::from(number)];
             seat(alloc, poll, hub, at_once, number, slot, stream, now);
             Ok(true)
@@ -108,7 +139,7 @@ fn admit_one(
             }
             // The peer is gone, or a signal came: the next may be there.
             ErrorKind::ConnectionAborted | ErrorKind::Interrupted => Ok(true),
-            _ => Err(TogetherFault::AcceptFailed),
+            _ => Err(ServeFault::AcceptFailed),
         },
     }
 }
@@ -124,7 +155,7 @@ fn admit(
     seats: &mut Seats,
     queue: &mut Queue,
     now: Instant,
-) -> Result<(), TogetherFault>
+) -> Result<(), ServeFault>
     requires { at_once ≤ 16 }
     ensures { Goes at_once hub.old hub.new }
 {
@@ -137,10 +168,13 @@ fn admit(
 }
 
 /// Notes what the system reports: which connections are ready, and whether one waits.
-fn note(events: &Events, seats: &mut Seats, queue: &mut Queue) {
+fn note(events: &Events, seats: &mut Seats, queue: &mut Queue, now: Instant) {
     for event in events.iter() {
         let token = event.token();
         if token == LISTENER {
+            if !queue.is_awaited {
+                queue.since = now;
+            }
             queue.is_awaited = true;
         } else if let Some(Some(seat)) = seats.get_mut(token.0) {
             seat.is_ready = true;
@@ -170,7 +204,7 @@ fn round(
     seats: &mut Seats,
     queue: &mut Queue,
     now: Instant,
-) -> Result<(), TogetherFault>
+) -> Result<(), ServeFault>
     requires { at_once ≤ 16 }
     ensures { Goes at_once hub.old hub.new }
 {
@@ -190,7 +224,7 @@ fn serve_all<R: Clock>(
     hub: &mut Hub,
     connections: u32,
     at_once: u8,
-) -> Result<(), TogetherFault>
+) -> Result<(), ServeFault>
     requires { at_once ≤ 16 }
     ensures { Goes at_once hub.old hub.new }
 {
@@ -198,22 +232,26 @@ fn serve_all<R: Clock>(
         None, None, None, None, None, None, None, None, None, None, None, None, None, None, None,
         None,
     ];
+    let Ok(begun) = Instant::now(rt) else {
+        return Err(ServeFault::WaitFailed);
+    };
     let mut queue = Queue {
         left: connections,
         is_awaited: true,
+        since: begun,
     };
     for _round in 0..u64::MAX {
         let Ok(now) = Instant::now(rt) else {
-            return Err(TogetherFault::WaitFailed);
+            return Err(ServeFault::WaitFailed);
         };
         round(alloc, poll, listener, hub, at_once, &mut seats, &mut queue, now)?;
         if queue.left == 0 && seats.iter().all(|seat| seat.is_none()) {
             return Ok(());
         }
-        let Ok(()) = poll.poll(events, wait_time(&seats, now)) else {
-            return Err(TogetherFault::WaitFailed);
+        let Ok(()) = poll.poll(events, queue.wait_time(&seats, now)) else {
+            return Err(ServeFault::WaitFailed);
         };
-        note(events, &mut seats, &mut queue);
+        note(events, &mut seats, &mut queue, now);
     }
     Ok(())
 }
@@ -236,7 +274,8 @@ fn close_all(hub: &mut Hub, at_once: u8)
 /// A connection is over once its peer has closed it, or a request, and its answers are written; if a
 /// read or a write fails; if an allocation fails; after 1,048,576 reads; after 60 seconds in which no
 /// byte came or went; and once another waits, no number is free, and it is the one that has been
-/// quiet longest, with no unfinished request and nothing to write.
+/// quiet longest, for 50 milliseconds at least, with no unfinished request and nothing to write. After
+/// a second of waiting, any that is idle will do.
 ///
 /// What the connections did to the hub are events one after the other. In the end all these
 /// connections of the hub are closed again, and all others are as they were.
@@ -247,7 +286,7 @@ pub fn serve_together<R: Net + Clock>(
     hub: &mut Hub,
     connections: u32,
     at_once: u8,
-) -> Result<(), TogetherFault>
+) -> Result<(), ServeFault>
     requires most { at_once ≤ 16 }
     requires closed { AreClosed at_once hub.old }
     ensures goes { Goes at_once hub.old hub.new }
@@ -267,18 +306,18 @@ fn serve_with<R: Net + Clock>(
     hub: &mut Hub,
     connections: u32,
     at_once: u8,
-) -> Result<(), TogetherFault>
+) -> Result<(), ServeFault>
     requires { at_once ≤ 16 }
     ensures { Goes at_once hub.old hub.new }
 {
     let Ok(mut poll) = Poll::new(rt) else {
-        return Err(TogetherFault::WaitFailed);
+        return Err(ServeFault::WaitFailed);
     };
     let Ok(mut events) = Events::with_capacity(alloc, EVENTS) else {
-        return Err(TogetherFault::Memory);
+        return Err(ServeFault::Memory);
     };
     let Ok(()) = poll.registry().register(listener, LISTENER, Interest::READABLE) else {
-        return Err(TogetherFault::WaitFailed);
+        return Err(ServeFault::WaitFailed);
     };
     let served = serve_all(rt, alloc, &mut poll, &mut events, listener, hub, connections, at_once);
     let _ = poll.registry().deregister(listener);

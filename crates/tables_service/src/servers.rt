@@ -1,8 +1,9 @@
 //! A server and its client in one process.
 use crate::bytes::bytes_in;
 use crate::written_answers::written_answers;
-use gql_http::{Hub, serve_on};
+use gql_http::Hub;
 use gql_registry::Registry;
+use gql_server::{NetListener, serve_on};
 use std::io::{Read, Write};
 use std::net::{Shutdown, TcpListener, TcpStream};
 
@@ -16,7 +17,7 @@ pub fn serves_answer(rt: &HostRuntime, text: &str) -> Option<String> {
     client.write_all(bytes.as_slice()).ok()?;
     client.shutdown(Shutdown::Write).ok()?;
     let mut hub = Hub::new(rt.alloc(), Registry::new(rt.alloc()));
-    serve_on(&listener, &mut hub, 1).ok()?;
+    serve_on(&mut NetListener::new(listener), &mut hub, 1).ok()?;
     let mut answer = Vec::new(rt.alloc());
     client.read_to_end(&mut answer).ok()?;
     written_answers(rt.alloc(), answer.as_slice(), "\n")
