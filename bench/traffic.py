@@ -169,6 +169,7 @@ class Traffic:
         self.model = Model()
         self.sent = self.answers = self.edits = self.runs = self.bad = self.dropped = 0
         self.connections = 0
+        self.company = {}
         self.wrong = []
 
     # ---- connections
@@ -375,18 +376,56 @@ class Traffic:
             self.ended(link, self.read(link, b"", what, answer), what)
 
     def several_at_once(self):
-        """Connections that wait for their turn: they are served in their order."""
-        waiting = []
-        for _ in range(self.random.randint(2, 6)):
+        """Up to twelve connections, each with an unfinished request, completed in any order."""
+        calls = []
+        for _ in range(self.random.randint(2, 12)):
             data, answer, what = self.request("1.1", "Connection: close\r\n")
             answer.close = True
-            self.sent += 1
-            link = self.connect()
-            link.sendall(data)
-            waiting.append((link, answer, what))
-        for link, answer, what in waiting:
+            calls.append((data, answer, what, self.connect()))
+        self.sent += len(calls)
+        for data, _, _, link in self.random.sample(calls, len(calls)):
+            at = self.random.randint(0, len(data) - 1)
+            link.sendall(data[:at])
+            link.sendall(data[at:-1])
+        for data, answer, what, link in calls:
             with link:
+                link.sendall(data[-1:])
                 self.ended(link, self.read(link, b"", what, answer), what)
+
+    def keep_company(self):
+        """Connections that are there all the time: one that is silent, one that sends a byte now and
+        then, and one that asks for reports and reads none. Where the server gave one up, another
+        takes its place."""
+        for name in ("silent", "slow", "deaf"):
+            link = self.company.get(name)
+            if link is None or self.is_over(link, name):
+                if link:
+                    link.close()
+                link = self.company[name] = self.connect()
+                if name == "slow":
+                    link.sendall(b"GET /report HTTP/1.1\r\nX: ")
+                elif name == "deaf":
+                    link.setblocking(False)
+            try:
+                if name == "slow":
+                    link.sendall(b"x")
+                elif name == "deaf":
+                    link.send(head("GET", "/report") * 50)
+            except OSError:
+                pass
+
+    @staticmethod
+    def is_over(link, name):
+        """Whether the server has closed it; what comes to the deaf one is left unread."""
+        link.setblocking(False)
+        try:
+            return name != "deaf" and link.recv(1, socket.MSG_PEEK) == b""
+        except BlockingIOError:
+            return False
+        except OSError:
+            return True
+        finally:
+            link.setblocking(name != "deaf")
 
     def bad_input(self):
         self.bad += 1
@@ -428,6 +467,8 @@ class Traffic:
             self.edits += 1
         link.close()
         if edit:
+            # the order between two connections is the server's: the edit is to be there first
+            time.sleep(0.02)
             self.look_up(edit)
 
     def look_up(self, edit):
@@ -464,6 +505,8 @@ class Traffic:
             self.several_at_once()
         elif choice < 0.88:
             self.bad_input()
+        elif choice < 0.90:
+            self.keep_company()
         else:
             self.drop()
 

@@ -1,5 +1,5 @@
 -- What `read_command` may answer, by the faults of the words.
-use Rattle.std.proofs.Common.{◌≡◌, ◌∙◌, ◌⊎◌, true, false, List, [], ◌∷◌, Option, Some, None, refl, sym, ap, ap₂, subst, inl, inr, codes, Ok, Err}
+use Rattle.std.proofs.Common.{◌≡◌, ◌∙◌, ◌⊎◌, ℕ, true, false, List, [], ◌∷◌, Option, Some, None, refl, sym, ap, ap₂, subst, inl, inr, codes, Ok, Err}
 use Rattle.std.specs.Prelude.{Box, IfOk, Result, option_map}
 use Rattle.std.specs.Option.{option_map_or}
 use Rattle.std.specs.Box.{box_value}
@@ -16,7 +16,7 @@ use Rattle.clap.specs.declared.parser.matches.ArgMatches.{ArgMatches}
 use Rattle.clap.specs.Matches.{subcommand_name_of}
 use Rattle.clap.specs.declared.parser.matches.SubCommand.{SubCommand}
 use Rattle.clap.proofs.OnLiterals.{clap_on_literals}
-use Rattle.gql_command.specs.CommandLine.{Answers, Asks, BeginsWithServe, GivesOrMemory, HasHelpFlag, HasRanges, HasVersionFlag, HelpOrMemory, VersionOrMemory, arguments}
+use Rattle.gql_command.specs.CommandLine.{Answers, AreServeWords, Asks, BeginsWithServe, GivesOrMemory, HasHelpFlag, HasRanges, HasVersionFlag, HelpOrMemory, VersionOrMemory, arguments}
 use Rattle.gql_command.specs.Grammar.{FollowsGrammar, GivesNumbers, IsAnswerTo, LacksNumbers, ReadsNumbers, command_line, faults, options}
 use Rattle.gql_command.specs.declared.command.Command.{Command}
 use Rattle.gql_command.specs.declared.command.Command.TheVariants.{Pipe, Serve}
@@ -25,7 +25,7 @@ use Rattle.gql_command.specs.declared.command.CommandFault.TheVariants.{Help, Ve
 use Rattle.gql_command.proofs.LineWords.{enters_serve, help_flag_faults, in_line, line_entered, line_faults, line_options, pipe_entered, pipe_has_no_fault, serve_entered, serve_options, version_flag_faults}
 use Rattle.gql_command.proofs.ServeOptions.{numbers_given}
 use Rattle.gql_command.proofs.ServeWords.{serve, serve_faults}
-use Rattle.gql_command.proofs.PlainServe.{same_connections, same_port, serve_gives, serve_has_no_fault}
+use Rattle.gql_command.proofs.PlainServe.{same_at_once, same_connections, same_port, serve_gives, serve_has_no_fault}
 
 -- ---- clap's clauses speak of the command line
 
@@ -57,7 +57,7 @@ entered_of app words rows is same = same (ap is_simple is ∙ simple) ∙ ap (λ
 -- words that ask for a command have no fault
 asks_no_fault : (command : Command) (words : List Text) → Asks command words → faults words ≡ []
 asks_no_fault Pipe words asks = pipe_has_no_fault (arguments words) asks
-asks_no_fault (Serve port connections) words asks = serve_has_no_fault (arguments words) port connections asks.0 asks.1 asks.2
+asks_no_fault (Serve port connections at_once) words asks = serve_has_no_fault (arguments words) port connections at_once asks.0 asks.1 asks.2 asks.3
 
 -- an error of words with no fault is out of memory
 memory_only : (e : Error) (fault : CommandFault) → HasKind [] e → IsAnswerTo (kind_of e) fault → fault ≡ Memory
@@ -177,28 +177,35 @@ serve_ok words none is = elim ((in_line (arguments words)).0 none) [
   | inr serve ↦ serve
 ]
 
+-- the plain words of `serve` begin with it
+begins_with_serve : (words : List Text) (port connections at_once : ℕ) → AreServeWords port connections at_once words
+    → (rest : List Text) × (words ≡ codes "serve" ∷ rest)
+begins_with_serve words port connections at_once (inl is) = (_, is.0)
+begins_with_serve words port connections at_once (inr is) = (_, is)
+
 -- no words ask for `serve` where it was not entered
 pub gives_pipe : (command : Command) (words : List Text) → (name_of (line_entered (arguments words)) ≡ Some (codes "serve") → ⊥) → Asks command words
     → GivesOrMemory command (Ok Pipe)
 gives_pipe Pipe words other asks = inl refl
-gives_pipe (Serve port connections) words other asks = absurd (other (entered_serve words (_, asks.0)))
+gives_pipe (Serve port connections at_once) words other asks = absurd (other (entered_serve words (begins_with_serve _ port connections at_once asks.0)))
 
 -- what `serve` answers, from the options of the words
 pub gives_serve : (command : Command) (words : List Text) (result : Result Command CommandFault) → name_of (line_entered (arguments words)) ≡ Some (codes "serve")
     → ReadsNumbers (options words) result → Asks command words → GivesOrMemory command result
 gives_serve Pipe words result is reads asks = absurd (not_both _ (entered_pipe words asks) is)
-gives_serve (Serve port connections) words result is reads asks = go result reads
+gives_serve (Serve port connections at_once) words result is reads asks = go result reads
   where
-    go : (r : Result Command CommandFault) → ReadsNumbers (options words) r → GivesOrMemory (Serve port connections) r
+    go : (r : Result Command CommandFault) → ReadsNumbers (options words) r → GivesOrMemory (Serve port connections at_once) r
     go (Ok Pipe) n = absurd n
-    go (Ok (Serve p c)) n =
-        let given = serve_gives (arguments words) port connections asks.0 asks.1 asks.2 in
-        let e = same_port (options words) p port c connections n given in
-        let f = same_connections (options words) p port c connections n given in
-        inl (ap₂ (λ x y. Ok (Serve x y)) e f)
+    go (Ok (Serve p c k)) n =
+        let given = serve_gives (arguments words) port connections at_once asks.0 asks.1 asks.2 asks.3 in
+        let e = same_port (options words) p port c connections k at_once n given in
+        let f = same_connections (options words) p port c connections k at_once n given in
+        let g = same_at_once (options words) p port c connections k at_once n given in
+        inl (ap₂ (λ x y. Ok (Serve x y k)) e f ∙ ap (λ z. Ok (Serve port connections z)) g)
     go (Err (Help text)) n = absurd n
     go (Err (Version text)) n = absurd n
-    go (Err (Refused text)) n = absurd (n port connections (serve_gives (arguments words) port connections asks.0 asks.1 asks.2))
+    go (Err (Refused text)) n = absurd (n port connections at_once (serve_gives (arguments words) port connections at_once asks.0 asks.1 asks.2 asks.3))
     go (Err Memory) n = inr refl
 
 -- options that the grammar takes do not lack their numbers
@@ -208,17 +215,17 @@ never_lacks words none begins lacks =
     let rows : options words ≡ rows_after serve.rules [] rest = ap line_options begins.1 ∙ serve_options rest in
     let serve_none : serve_faults rest ≡ [] = sym (enters_serve rest) ∙ (sym (ap line_faults begins.1) ∙ none) in
     let given = numbers_given rest serve_none in
-    lacks given.0 given.1 (subst (λ (r : List Row). GivesNumbers r given.0 given.1) (sym rows) given.2)
+    lacks given.0 given.1 given.2 (subst (λ (r : List Row). GivesNumbers r given.0 given.1 given.2) (sym rows) given.3)
 
 pub serve_ranges : (words : List Text) (result : Result Command CommandFault) → ReadsNumbers (options words) result → IfOk result HasRanges
 serve_ranges words (Ok Pipe) n = tt
-serve_ranges words (Ok (Serve p c)) n = (n.2, n.3)
+serve_ranges words (Ok (Serve p c k)) n = (n.3, n.4, n.5)
 serve_ranges words (Err e) n = tt
 
 pub serve_answers : (words : List Text) (result : Result Command CommandFault) → faults words ≡ [] → BeginsWithServe words
     → ReadsNumbers (options words) result → Answers words result
 serve_answers words (Ok Pipe) none begins n = absurd n
-serve_answers words (Ok (Serve p c)) none begins n = begins
+serve_answers words (Ok (Serve p c k)) none begins n = begins
 serve_answers words (Err (Help text)) none begins n = absurd n
 serve_answers words (Err (Version text)) none begins n = absurd n
 serve_answers words (Err (Refused text)) none begins n = (
@@ -231,7 +238,7 @@ serve_answers words (Err Memory) none begins n = tt
 pub serve_follows : (words : List Text) (result : Result Command CommandFault) → faults words ≡ [] → BeginsWithServe words
     → ReadsNumbers (options words) result → FollowsGrammar words result
 serve_follows words (Ok Pipe) none begins n = absurd n
-serve_follows words (Ok (Serve p c)) none begins n = (none, n)
+serve_follows words (Ok (Serve p c k)) none begins n = (none, n)
 serve_follows words (Err (Help text)) none begins n = absurd n
 serve_follows words (Err (Version text)) none begins n = absurd n
 serve_follows words (Err (Refused text)) none begins n = absurd (never_lacks words none begins n)

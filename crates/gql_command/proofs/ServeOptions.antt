@@ -1,4 +1,4 @@
--- Where clap's grammar takes the words of `serve`, its options give both numbers, in their ranges.
+-- Where clap's grammar takes the words of `serve`, its options give all numbers, in their ranges.
 use Rattle.std.proofs.Common.{◌≡◌, ◌⊎◌, ◌∙◌, ◌==◌, ◌≤◌, ◌||◌, ◌&&◌, not, ℕ, Bool, true, false, zero, suc, cond, List, [], ◌∷◌, ◌++◌, Option, Some, None, refl, sym, ap, subst, inl, inr, arith, codes, length}
 use Rattle.std.specs.Prelude.{find, fold, pos, slice_get, if◌then◌else◌}
 use Rattle.std.specs.Option.{option_map_or}
@@ -21,9 +21,9 @@ use Rattle.clap.specs.declared.builder.value_parser.ValueParser.TheVariants as p
 use Rattle.clap.specs.declared.error.kind.ErrorKind.TheVariants.{ArgumentConflict, DisplayHelp, ValueValidation, InvalidValue, WrongNumberOfValues}
 use Rattle.clap.specs.declared.parser.matches.ValueSource.TheVariants.{CommandLine}
 use Rattle.clap.proofs.ValueTestLemmas.{accepts-Accepts}
-use Rattle.gql_command.specs.Grammar.{GivesNumber, GivesNumbers, number_option}
+use Rattle.gql_command.specs.Grammar.{GivesAtOnce, GivesNumber, GivesNumbers, number_option}
 use Rattle.gql_command.proofs.FlagWords.{bundle_word, help, not_long, not_short, one_hyphen}
-use Rattle.gql_command.proofs.ServeWords.{IsHeld, IsPending, IsWalk, connections, found, no_subcommand, port, rules, serve, serve_faults, turns, walk_helps}
+use Rattle.gql_command.proofs.ServeWords.{IsHeld, IsPending, IsWalk, at_once, connections, found, no_subcommand, port, rules, serve, serve_faults, turns, walk_helps}
 
 -- ---- steps with no error
 
@@ -46,7 +46,9 @@ abbrev IsText : ℕ → Row → Type 0
 IsText most r = (v : Text) × (r.values ≡ v ∷ []) × (r.reading ≡ WithoutMinus) × (accepts false (parser.Signed (pos 1) (pos most)) v ≡ true)
 
 abbrev IsRow : Row → Type 0
-IsRow r = ((r.id ≡ codes "port") × IsText 65535 r) ⊎ ((r.id ≡ codes "connections") × IsText 1000000 r)
+IsRow r = ((r.id ≡ codes "port") × IsText 65535 r)
+    ⊎ (((r.id ≡ codes "connections") × IsText 1000000 r)
+    ⊎ ((r.id ≡ codes "at-once") × IsText 16 r))
 
 abbrev AreRows : List Row → Type 0
 AreRows [] = Unit {0}
@@ -72,7 +74,8 @@ one_more (s ∷ rs) r are is = (are.0, one_more rs r are.1 is)
 
 -- ---- one use of an option
 
-abbrev new_row : Text → Text → Row
+-- the row of an option that is used once, with this value
+abbrev pub new_row : Text → Text → Row
 new_row name v = record { id = name; values = v ∷ []; count = None; source = Some CommandLine; reading = WithoutMinus }
 
 one_value : (n : ℕ) → range_kinds 1 1 n ≡ [] → 1 ≡ n
@@ -91,9 +94,9 @@ is_accepted : (b : Bool) → or_else (if b then [] else ValueValidation ∷ []) 
 is_accepted true none = refl
 is_accepted false none = cc
 
-module _ (name : Text) (most : ℕ) (is_row : (v : Text) → accepts false (parser.Signed (pos 1) (pos most)) v ≡ true → IsRow (new_row name v)) where
+module _ (name : Text) (most : ℕ) (needed : Bool) (is_row : (v : Text) → accepts false (parser.Signed (pos 1) (pos most)) v ≡ true → IsRow (new_row name v)) where
   abbrev used_option : Rule
-  used_option = filled (number_option name most)
+  used_option = filled (number_option name most needed)
 
   used_is : (v : Text) (rows : List Row) → has_row name rows ≡ false → used used_option (v ∷ []) rows ≡ rows ++ new_row name v ∷ []
   used_is v rows none =
@@ -113,10 +116,13 @@ module _ (name : Text) (most : ℕ) (is_row : (v : Text) → accepts false (pars
       subst AreRows (sym (used_is v rows none)) (one_more rows (new_row name v) are (is_row v passes))
 
 port_rows : (vs : List Text) (rows : List Row) → use_fault false port vs rows ≡ [] → AreRows rows → AreRows (used port vs rows)
-port_rows = use_rows (codes "port") 65535 (λ v passes. inl (refl, (v, refl, refl, passes)))
+port_rows = use_rows (codes "port") 65535 true (λ v passes. inl (refl, (v, refl, refl, passes)))
 
 connections_rows : (vs : List Text) (rows : List Row) → use_fault false connections vs rows ≡ [] → AreRows rows → AreRows (used connections vs rows)
-connections_rows = use_rows (codes "connections") 1000000 (λ v passes. inr (refl, (v, refl, refl, passes)))
+connections_rows = use_rows (codes "connections") 1000000 true (λ v passes. inr (inl (refl, (v, refl, refl, passes))))
+
+at_once_rows : (vs : List Text) (rows : List Row) → use_fault false at_once vs rows ≡ [] → AreRows rows → AreRows (used at_once vs rows)
+at_once_rows = use_rows (codes "at-once") 16 false (λ v passes. inr (inr (refl, (v, refl, refl, passes))))
 
 -- ---- what is held
 
@@ -133,7 +139,8 @@ unfolding Settles
 settle_rows rows None skip is are e = are
 settle_rows rows (Some (id, vs)) skip is are e = elim is [
   | inl same ↦ subst (λ (t : Text). Settles rows t vs skip) (sym same) (λ f. port_rows vs rows f are) e
-  | inr same ↦ subst (λ (t : Text). Settles rows t vs skip) (sym same) (λ f. connections_rows vs rows f are) e
+  | inr (inl same) ↦ subst (λ (t : Text). Settles rows t vs skip) (sym same) (λ f. connections_rows vs rows f are) e
+  | inr (inr same) ↦ subst (λ (t : Text). Settles rows t vs skip) (sym same) (λ f. at_once_rows vs rows f are) e
 ]
 
 settle_held : (h : Held) → IsHeld h → AreRows h.rows → settle_fault rules false h ≡ [] → AreRows (settled rules h).rows
@@ -141,19 +148,23 @@ settle_held h is are e = settle_rows h.rows h.pending h.skip is.0 are e
 
 -- ---- one word
 
-long_rows : (a b c : Bool) (v : Option Text) (h : Held) → IsHeld h → AreRows h.rows → long_fault rules false (found a b c) v h ≡ []
-    → AreRows (long_met rules (found a b c) v h).0.rows
-long_rows true b c (Some v) h is are e =
+long_rows : (a b o c : Bool) (v : Option Text) (h : Held) → IsHeld h → AreRows h.rows → long_fault rules false (found a b o c) v h ≡ []
+    → AreRows (long_met rules (found a b o c) v h).0.rows
+long_rows true b o c (Some v) h is are e =
     port_rows (v ∷ []) (settled rules h).rows (second_none (settle_fault rules false h) (use_fault false port (v ∷ []) (settled rules h).rows) e)
     (settle_held h is are (first_none (settle_fault rules false h) (use_fault false port (v ∷ []) (settled rules h).rows) e))
-long_rows true b c None h is are e = settle_held h is are e
-long_rows false true c (Some v) h is are e =
+long_rows true b o c None h is are e = settle_held h is are e
+long_rows false true o c (Some v) h is are e =
     connections_rows (v ∷ []) (settled rules h).rows (second_none (settle_fault rules false h) (use_fault false connections (v ∷ []) (settled rules h).rows) e)
     (settle_held h is are (first_none (settle_fault rules false h) (use_fault false connections (v ∷ []) (settled rules h).rows) e))
-long_rows false true c None h is are e = settle_held h is are e
-long_rows false false true (Some v) h is are e = cc
-long_rows false false true None h is are e = absurd (never_help (settle_fault rules false h) e)
-long_rows false false false v h is are e = cc
+long_rows false true o c None h is are e = settle_held h is are e
+long_rows false false true c (Some v) h is are e =
+    at_once_rows (v ∷ []) (settled rules h).rows (second_none (settle_fault rules false h) (use_fault false at_once (v ∷ []) (settled rules h).rows) e)
+    (settle_held h is are (first_none (settle_fault rules false h) (use_fault false at_once (v ∷ []) (settled rules h).rows) e))
+long_rows false false true c None h is are e = settle_held h is are e
+long_rows false false false true (Some v) h is are e = cc
+long_rows false false false true None h is are e = absurd (never_help (settle_fault rules false h) e)
+long_rows false false false false v h is are e = cc
 
 plain_rows : (waiting : Waiting) (word : Text) (h : Held) → AreRows h.rows → AreRows (plain_word rules waiting word h).0.rows
 plain_rows idle word h are = are
@@ -196,8 +207,9 @@ double waiting (z ∷ zs) h is are =
     let v = (name_and_value (z ∷ zs)).1 in
     let a = has_long port name in
     let b = has_long connections name in
+    let o = has_long at_once name in
     let c = has_long help name in
-    λ e. after_rows waiting (45 ∷ 45 ∷ z ∷ zs) (long_met rules (found a b c) v h).0 (long_met rules (found a b c) v h).1 (long_rows a b c v h is are e)
+    λ e. after_rows waiting (45 ∷ 45 ∷ z ∷ zs) (long_met rules (found a b o c) v h).0 (long_met rules (found a b o c) v h).1 (long_rows a b o c v h is are e)
 
 no_flag : (waiting : Waiting) (word : Text) (h : Held) → AreRows h.rows → long_of word ≡ None → short_of word ≡ None → Keeps waiting word h
 no_flag waiting word h are long short = rw (long, short) (λ e. plain_rows waiting word h are)
@@ -309,8 +321,14 @@ is_found id rows given = go (find (λ s. bytes_eq s.id id) rows) refl given
     go None e g = cc
     go (Some r) e g = (r, e)
 
-other_id : codes "port" ≡ codes "connections" → ⊥
-other_id e = cc
+port_connections : codes "port" ≡ codes "connections" → ⊥
+port_connections e = cc
+
+port_at_once : codes "port" ≡ codes "at-once" → ⊥
+port_at_once e = cc
+
+connections_at_once : codes "connections" ≡ codes "at-once" → ⊥
+connections_at_once e = cc
 
 port_given : (rows : List Row) → AreRows rows → is_given (codes "port") rows ≡ true → (n : ℕ) × GivesNumber (codes "port") rows n × (1 ≤ n) × (n ≤ 65535)
 port_given rows are given =
@@ -318,7 +336,8 @@ port_given rows are given =
     let is = row_found (codes "port") rows row.0 are row.1 in
     elim is.0 [
       | inl p ↦ number_of (codes "port") 65535 rows row.0 row.1 p.1
-      | inr p ↦ absurd (other_id (sym is.1 ∙ p.0))
+      | inr (inl p) ↦ absurd (port_connections (sym is.1 ∙ p.0))
+      | inr (inr p) ↦ absurd (port_at_once (sym is.1 ∙ p.0))
     ]
 
 connections_given : (rows : List Row) → AreRows rows → is_given (codes "connections") rows ≡ true
@@ -327,9 +346,27 @@ connections_given rows are given =
     let row = is_found (codes "connections") rows given in
     let is = row_found (codes "connections") rows row.0 are row.1 in
     elim is.0 [
-      | inl p ↦ absurd (other_id (sym p.0 ∙ is.1))
-      | inr p ↦ number_of (codes "connections") 1000000 rows row.0 row.1 p.1
+      | inl p ↦ absurd (port_connections (sym p.0 ∙ is.1))
+      | inr (inl p) ↦ number_of (codes "connections") 1000000 rows row.0 row.1 p.1
+      | inr (inr p) ↦ absurd (connections_at_once (sym is.1 ∙ p.0))
     ]
+
+-- the number of connections at one time: 16 if the option is left out, or else one in the range
+at_once_given : (rows : List Row) → AreRows rows → (n : ℕ) × GivesAtOnce rows n × (1 ≤ n) × (n ≤ 16)
+at_once_given rows are = go (find (λ s. bytes_eq s.id (codes "at-once")) rows) refl
+  where
+    number : (r : Row) → find (λ s. bytes_eq s.id (codes "at-once")) rows ≡ Some r → IsRow r → r.id ≡ codes "at-once"
+        → (n : ℕ) × GivesNumber (codes "at-once") rows n × (1 ≤ n) × (n ≤ 16)
+    number r e (inl p) id = absurd (port_at_once (sym p.0 ∙ id))
+    number r e (inr (inl p)) id = absurd (connections_at_once (sym p.0 ∙ id))
+    number r e (inr (inr p)) id = number_of (codes "at-once") 16 rows r e p.1
+
+    go : (o : Option Row) → find (λ s. bytes_eq s.id (codes "at-once")) rows ≡ o → (n : ℕ) × GivesAtOnce rows n × (1 ≤ n) × (n ≤ 16)
+    go None e = (16, inl (rw e refl, refl), omega arith, omega arith)
+    go (Some r) e =
+        let is = row_found (codes "at-once") rows r are e in
+        let given = number r e is.0 is.1 in
+        (given.0, inr given.1, given.2, given.3)
 
 -- ---- after the walk
 
@@ -342,8 +379,10 @@ finished_is : (rows : List Row) → fold with_default rows rules ≡ rows
 finished_is rows =
     let one : with_default rows port ≡ rows = default_kept (has_row (codes "port") rows) rows in
     let two : with_default rows connections ≡ rows = default_kept (has_row (codes "connections") rows) rows in
-    let three : with_default rows help ≡ rows = default_kept (has_row (codes "help") rows) rows in
-    ap (λ (r : List Row). with_default (with_default r connections) help) one ∙ (ap (λ (r : List Row). with_default r help) two ∙ three)
+    let three : with_default rows at_once ≡ rows = default_kept (has_row (codes "at-once") rows) rows in
+    let four : with_default rows help ≡ rows = default_kept (has_row (codes "help") rows) rows in
+    ap (λ (r : List Row). with_default (with_default (with_default r connections) at_once) help) one
+    ∙ (ap (λ (r : List Row). with_default (with_default r at_once) help) two ∙ (ap (λ (r : List Row). with_default r help) three ∙ four))
 
 -- what is required was given
 both_given : (a b : Bool) → check_kinds false false (not a || (not b || false)) ≡ [] → (a ≡ true) × (b ≡ true)
@@ -351,8 +390,9 @@ both_given true true e = (refl, refl)
 both_given true false e = cc
 both_given false b e = cc
 
--- where the words have no fault, the options give both numbers, in their ranges
-pub numbers_given : (words : List Text) → serve_faults words ≡ [] → (p : ℕ) × (c : ℕ) × GivesNumbers (rows_after serve.rules [] words) p c
+-- where the words have no fault, the options give all numbers, in their ranges
+pub numbers_given : (words : List Text) → serve_faults words ≡ []
+    → (p : ℕ) × (c : ℕ) × (k : ℕ) × GivesNumbers (rows_after serve.rules [] words) p c k
 numbers_given words none =
     let start : IsWalk (walk_from nothing_held) = ((tt, refl), tt, refl) in
     let end : Held = (walk rules [] nothing_held words).held in
@@ -369,4 +409,16 @@ numbers_given words none =
     let given = both_given (is_given (codes "port") (finished rules end)) (is_given (codes "connections") (finished rules end)) check_none in
     let port_number = port_given (finished rules end) are given.0 in
     let connections_number = connections_given (finished rules end) are given.1 in
-    (port_number.0, connections_number.0, (port_number.1, connections_number.1, (port_number.2, port_number.3), (connections_number.2, connections_number.3)))
+    let at_once_number = at_once_given (finished rules end) are in (
+      port_number.0,
+      connections_number.0,
+      at_once_number.0,
+      (
+        port_number.1,
+        connections_number.1,
+        at_once_number.1,
+        (port_number.2, port_number.3),
+        (connections_number.2, connections_number.3),
+        (at_once_number.2, at_once_number.3),
+      ),
+    )

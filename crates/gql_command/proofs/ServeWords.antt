@@ -15,7 +15,7 @@ use Rattle.clap.specs.Takes.{is_given}
 use Rattle.clap.specs.declared.builder.value_parser.ValueParser.TheVariants as parser
 use Rattle.clap.specs.declared.error.kind.ErrorKind.TheVariants.{ArgumentConflict, DisplayHelp, InvalidValue, MissingRequiredArgument, MissingSubcommand, DisplayHelpOnMissingArgumentOrSubcommand, ValueValidation, WrongNumberOfValues}
 use Rattle.gql_command.specs.CommandLine.{IsHelpFlag}
-use Rattle.gql_command.specs.Grammar.{command_line, connections_option, number_option, port_option}
+use Rattle.gql_command.specs.Grammar.{at_once_option, command_line, connections_option, number_option, port_option}
 use Rattle.gql_command.proofs.FlagWords.{NoRequest, help, no_unknown, no_many, not_long, not_short, one_hyphen, one_refusal, bundle_word, whole_name, or_nothing}
 
 -- ---- the level of `serve`
@@ -36,8 +36,11 @@ port = filled port_option
 abbrev pub connections : Rule
 connections = filled connections_option
 
+abbrev pub at_once : Rule
+at_once = filled at_once_option
+
 abbrev pub rules : List Rule
-rules = port ∷ connections ∷ help ∷ []
+rules = port ∷ connections ∷ at_once ∷ help ∷ []
 
 -- ---- errors that are no call for help or for the version
 
@@ -80,20 +83,20 @@ no_value most (v ∷ vs) =
     either_none (value_kinds false (parser.Signed (pos 1) (pos most)) v) (values_kinds false (parser.Signed (pos 1) (pos most)) vs)
     (if_none (accepts false (parser.Signed (pos 1) (pos most)) v) [] (ValueValidation ∷ []) no_error no_validation) (no_value most vs)
 
-no_use : (name : Text) (most : ℕ) (again : Bool) (vs : List Text) (rows : List Row) → NoRequest (use_fault again (filled (number_option name most)) vs rows)
-no_use name most again vs rows =
-    let a = filled (number_option name most) in
+no_use : (name : Text) (most : ℕ) (needed again : Bool) (vs : List Text) (rows : List Row) → NoRequest (use_fault again (filled (number_option name most needed)) vs rows)
+no_use name most needed again vs rows =
+    let a = filled (number_option name most needed) in
     either_none (range_kinds 1 1 (length vs)) (set_fault again a (values_or_missing a vs) rows) (no_range (length vs))
     (either_none (repeat_fault again name rows) (values_fault a (values_or_missing a vs))
     (if_none (has_row name rows && not again) (ArgumentConflict ∷ []) [] no_conflict no_error) (no_value most (values_or_missing a vs)))
 
 -- ---- what is held between two words
 
--- the id of one of the two options
+-- the id of one of the three options
 abbrev pub IsOption : Text → Type 0
-IsOption id = (id ≡ codes "port") ⊎ (id ≡ codes "connections")
+IsOption id = (id ≡ codes "port") ⊎ ((id ≡ codes "connections") ⊎ (id ≡ codes "at-once"))
 
--- what is pending is one of the two options
+-- what is pending is one of the three options
 abbrev pub IsPending : Option (Text × List Text) → Type 0
 IsPending None = Unit {0}
 IsPending (Some p) = IsOption p.0
@@ -101,7 +104,7 @@ IsPending (Some p) = IsOption p.0
 abbrev pub IsHeld : Held → Type 0
 IsHeld h = IsPending h.pending × (h.skip ≡ 0)
 
--- what waits is one of the two options
+-- what waits is one of the three options
 abbrev pub IsWaiting : Waiting → Type 0
 IsWaiting idle = Unit {0}
 IsWaiting (option id) = IsOption id
@@ -127,8 +130,9 @@ no_settle : (again : Bool) (rows : List Row) (p : Option (Text × List Text)) (s
     → NoRequest (settle_fault rules again (record { rows = rows; pending = p; skip = skip }))
 no_settle again rows None skip is = no_error
 no_settle again rows (Some p) skip is = elim is [
-  | inl e ↦ rw e (no_use (codes "port") 65535 again p.1 rows)
-  | inr e ↦ rw e (no_use (codes "connections") 1000000 again p.1 rows)
+  | inl e ↦ rw e (no_use (codes "port") 65535 true again p.1 rows)
+  | inr (inl e) ↦ rw e (no_use (codes "connections") 1000000 true again p.1 rows)
+  | inr (inr e) ↦ rw e (no_use (codes "at-once") 16 false again p.1 rows)
 ]
 
 no_held_settle : (again : Bool) (h : Held) → IsHeld h → NoRequest (settle_fault rules again h)
@@ -164,31 +168,35 @@ abbrev pub Answered : Text → Kinds → Type 0
 Answered word kinds = (IsHelpFlag word × (kinds ≡ DisplayHelp ∷ [])) ⊎ NoRequest kinds
 
 -- what a long name finds
-abbrev pub found : Bool → Bool → Bool → Option Rule
-found a b c = cond a (Some port) (cond b (Some connections) (cond c (Some help) None))
+abbrev pub found : Bool → Bool → Bool → Bool → Option Rule
+found a b o c = cond a (Some port) (cond b (Some connections) (cond o (Some at_once) (cond c (Some help) None)))
 
 answers_flag : (word : Text) (a : Kinds) → IsHelpFlag word → NoRequest a → Answered word (or_else a (DisplayHelp ∷ []))
 answers_flag word a is none = elim (then_help a none) [ inl e ↦ inl (is, e) | inr n ↦ inr n ]
 
-long_answered : (again a b c : Bool) (v : Option Text) (word : Text) (h : Held) → IsHeld h → (c ≡ true → v ≡ None → IsHelpFlag word)
-    → Answered word (long_fault rules again (found a b c) v h)
-long_answered again true b c (Some v) word h held is = inr (either_none (settle_fault rules again h) (use_fault again port (v ∷ []) (settled rules h).rows) (no_held_settle again h held) (no_use (codes "port") 65535 again (v ∷ []) (settled rules h).rows))
-long_answered again true b c None word h held is = inr (no_held_settle again h held)
-long_answered again false true c (Some v) word h held is = inr (either_none (settle_fault rules again h) (use_fault again connections (v ∷ []) (settled rules h).rows) (no_held_settle again h held) (no_use (codes "connections") 1000000 again (v ∷ []) (settled rules h).rows))
-long_answered again false true c None word h held is = inr (no_held_settle again h held)
-long_answered again false false true (Some v) word h held is = inr no_many
-long_answered again false false true None word h held is = answers_flag word (settle_fault rules again h) (is refl refl) (no_held_settle again h held)
-long_answered again false false false v word h held is = inr no_unknown
+long_answered : (again a b o c : Bool) (v : Option Text) (word : Text) (h : Held) → IsHeld h → (c ≡ true → v ≡ None → IsHelpFlag word)
+    → Answered word (long_fault rules again (found a b o c) v h)
+long_answered again true b o c (Some v) word h held is = inr (either_none (settle_fault rules again h) (use_fault again port (v ∷ []) (settled rules h).rows) (no_held_settle again h held) (no_use (codes "port") 65535 true again (v ∷ []) (settled rules h).rows))
+long_answered again true b o c None word h held is = inr (no_held_settle again h held)
+long_answered again false true o c (Some v) word h held is = inr (either_none (settle_fault rules again h) (use_fault again connections (v ∷ []) (settled rules h).rows) (no_held_settle again h held) (no_use (codes "connections") 1000000 true again (v ∷ []) (settled rules h).rows))
+long_answered again false true o c None word h held is = inr (no_held_settle again h held)
+long_answered again false false true c (Some v) word h held is = inr (either_none (settle_fault rules again h) (use_fault again at_once (v ∷ []) (settled rules h).rows) (no_held_settle again h held) (no_use (codes "at-once") 16 false again (v ∷ []) (settled rules h).rows))
+long_answered again false false true c None word h held is = inr (no_held_settle again h held)
+long_answered again false false false true (Some v) word h held is = inr no_many
+long_answered again false false false true None word h held is = answers_flag word (settle_fault rules again h) (is refl refl) (no_held_settle again h held)
+long_answered again false false false false v word h held is = inr no_unknown
 
-long_outcome : (a b c : Bool) (v : Option Text) (h : Held) → IsHeld h
-    → IsHeld (long_met rules (found a b c) v h).0 × IsOutcome (long_met rules (found a b c) v h).1
-long_outcome true b c (Some v) h held = ((tt, held.1), tt)
-long_outcome true b c None h held = ((inl refl, held.1), inl refl)
-long_outcome false true c (Some v) h held = ((tt, held.1), tt)
-long_outcome false true c None h held = ((inr refl, held.1), inr refl)
-long_outcome false false true (Some v) h held = (held, tt)
-long_outcome false false true None h held = ((tt, held.1), tt)
-long_outcome false false false v h held = (held, tt)
+long_outcome : (a b o c : Bool) (v : Option Text) (h : Held) → IsHeld h
+    → IsHeld (long_met rules (found a b o c) v h).0 × IsOutcome (long_met rules (found a b o c) v h).1
+long_outcome true b o c (Some v) h held = ((tt, held.1), tt)
+long_outcome true b o c None h held = ((inl refl, held.1), inl refl)
+long_outcome false true o c (Some v) h held = ((tt, held.1), tt)
+long_outcome false true o c None h held = ((inr (inl refl), held.1), inr (inl refl))
+long_outcome false false true c (Some v) h held = ((tt, held.1), tt)
+long_outcome false false true c None h held = ((inr (inr refl), held.1), inr (inr refl))
+long_outcome false false false true (Some v) h held = (held, tt)
+long_outcome false false false true None h held = ((tt, held.1), tt)
+long_outcome false false false false v h held = (held, tt)
 
 -- a bundle of short flags keeps what is held
 short_found : (b : Bool) (rest : Text) (h : Held) (more : Held → Held × Outcome) → IsHeld h → ((k : Held) → IsHeld k → IsHeld (more k).0 × IsOutcome (more k).1)
@@ -224,10 +232,11 @@ double again waiting (z ∷ zs) h is held =
     let v = (name_and_value (z ∷ zs)).1 in
     let a = has_long port name in
     let b = has_long connections name in
+    let o = has_long at_once name in
     let c = has_long help name in
-    let after = long_outcome a b c v h held in (
-      long_answered again a b c v (45 ∷ 45 ∷ z ∷ zs) h held (λ t n. inl (whole_name (codes "help") (z ∷ zs) (or_nothing _ t) n)),
-      after_met waiting (45 ∷ 45 ∷ z ∷ zs) (long_met rules (found a b c) v h).0 (long_met rules (found a b c) v h).1 is after.0 after.1,
+    let after = long_outcome a b o c v h held in (
+      long_answered again a b o c v (45 ∷ 45 ∷ z ∷ zs) h held (λ t n. inl (whole_name (codes "help") (z ∷ zs) (or_nothing _ t) n)),
+      after_met waiting (45 ∷ 45 ∷ z ∷ zs) (long_met rules (found a b o c) v h).0 (long_met rules (found a b o c) v h).1 is after.0 after.1,
     )
 
 -- a word that is no flag
@@ -370,16 +379,18 @@ no_default : (b : Bool) (x : Kinds) → (if b || true then [] else x) ≡ []
 no_default true x = refl
 no_default false x = refl
 
-none_of_three : (a b c : Kinds) → a ≡ [] → b ≡ [] → c ≡ [] → or_else a (or_else b (or_else c [])) ≡ []
-none_of_three a b c x y z = rw (x, y, z) refl
+none_of_four : (a b o c : Kinds) → a ≡ [] → b ≡ [] → o ≡ [] → c ≡ [] → or_else a (or_else b (or_else o (or_else c []))) ≡ []
+none_of_four a b o c x y w z = rw (x, y, w, z) refl
 
 pub no_defaults : (rows : List Row) → defaults_fault rows rules ≡ []
 unfolding defaults_fault
-no_defaults rows = none_of_three (default_fault rows port) (default_fault (with_default rows port) connections)
-    (default_fault (with_default (with_default rows port) connections) help)
+no_defaults rows = none_of_four (default_fault rows port) (default_fault (with_default rows port) connections)
+    (default_fault (with_default (with_default rows port) connections) at_once)
+    (default_fault (with_default (with_default (with_default rows port) connections) at_once) help)
     (no_default (has_row (codes "port") rows) _)
     (no_default (has_row (codes "connections") (with_default rows port)) _)
-    (no_default (has_row (codes "help") (with_default (with_default rows port) connections)) _)
+    (no_default (has_row (codes "at-once") (with_default (with_default rows port) connections)) _)
+    (no_default (has_row (codes "help") (with_default (with_default (with_default rows port) connections) at_once)) _)
 
 no_check : (a b c : Bool) → NoRequest (check_kinds a b c)
 no_check true b c = one_refusal DisplayHelpOnMissingArgumentOrSubcommand (λ e. cc) (λ e. cc)

@@ -28,25 +28,42 @@ IsPort port = (1 ≤ port) × (port ≤ 65535)
 abbrev pub IsConnections : ℕ → Type 0
 IsConnections connections = (1 ≤ connections) × (connections ≤ 1000000)
 
+-- a number of connections at one time that `serve` takes, 1 to 16
+abbrev pub IsAtOnce : ℕ → Type 0
+IsAtOnce at_once = (1 ≤ at_once) × (at_once ≤ 16)
+
 -- the numbers of the command are in their ranges
 abbrev pub HasRanges : Command → Type 0
 HasRanges Pipe = ⊤
-HasRanges (Serve port connections) = IsPort port × IsConnections connections
+HasRanges (Serve port connections at_once) =
+    IsPort port × IsConnections connections × IsAtOnce at_once
 
 -- ---- what words ask for
 
--- `serve` with both options in this order, their numbers in decimal digits with no leading zero
+-- `serve` with its two required options in this order, their numbers in decimal digits with no
+-- leading zero
 abbrev pub serve_words : ℕ → ℕ → List Text
 serve_words port connections = codes "serve" ∷ codes "--port" ∷ decimal port
     ∷ codes "--connections" ∷ decimal connections ∷ []
+
+-- these words, and then `--at-once` with its number
+abbrev pub serve_at_once_words : ℕ → ℕ → ℕ → List Text
+serve_at_once_words port connections at_once = codes "serve" ∷ codes "--port" ∷ decimal port
+    ∷ codes "--connections" ∷ decimal connections ∷ codes "--at-once" ∷ decimal at_once ∷ []
+
+-- the words are those of `serve`; without `--at-once`, 16 connections are served at one time
+abbrev pub AreServeWords : ℕ → ℕ → ℕ → List Text → Type 0
+AreServeWords port connections at_once words =
+    ((words ≡ serve_words port connections) × (at_once ≡ 16))
+    ⊎ (words ≡ serve_at_once_words port connections at_once)
 
 -- the words ask for the command in its plain form: `pipe`, which `--` may end, or `serve` with
 -- numbers in their ranges
 abbrev pub Asks : Command → List Text → Type 0
 Asks Pipe words =
     (arguments words ≡ codes "pipe" ∷ []) ⊎ (arguments words ≡ codes "pipe" ∷ codes "--" ∷ [])
-Asks (Serve port connections) words =
-    (arguments words ≡ serve_words port connections) × IsPort port × IsConnections connections
+Asks (Serve port connections at_once) words = AreServeWords port connections at_once
+    (arguments words) × IsPort port × IsConnections connections × IsAtOnce at_once
 
 -- the first word after the program's name is `serve`
 abbrev pub BeginsWithServe : List Text → Type 0
@@ -98,7 +115,7 @@ AsksNothing words = ((command : Command) → Asks command words → ⊥)
 -- they ask for nothing
 abbrev pub Answers : List Text → Result Command CommandFault → Type 0
 Answers words (Ok Pipe) = Asks Pipe words
-Answers words (Ok (Serve port connections)) = BeginsWithServe words
+Answers words (Ok (Serve port connections at_once)) = BeginsWithServe words
 Answers words (Err (Help text)) = HasHelpFlag words ⊎ (HasHelpWord words ⊎ HasLaterHelpFlag words)
 Answers words (Err (Version text)) = HasVersionFlag words
 Answers words (Err (Refused text)) = AsksNothing words

@@ -1,6 +1,6 @@
 -- The grammar of the command line, as clap reads it, and the answers that follow from it.
 use Rattle.std.specs.Prelude.{◌≡◌, ◌≢◌, ⊤, ℕ, pos, true, false, List, [], ◌∷◌}
-use Rattle.std.specs.Prelude.{Result, Ok, Err, Some, codes}
+use Rattle.std.specs.Prelude.{◌⊎◌, Bool, Result, Ok, Err, Some, None, codes}
 use Rattle.std.specs.Option.{option_map_or}
 use Rattle.std.specs.Str.Parse.{IsNumeral, digits_value, without_leading_plus}
 use Rattle.clap.specs.Simple.{App, Shape, new_rule, new_shape, subcommand_of}
@@ -16,31 +16,36 @@ use Rattle.gql_command.specs.declared.command.Command.TheVariants.{Pipe, Serve}
 use Rattle.gql_command.specs.declared.command.CommandFault.{CommandFault}
 use Rattle.gql_command.specs.declared.command.CommandFault.TheVariants.{Help, Version, Refused}
 use Rattle.gql_command.specs.declared.command.CommandFault.TheVariants.{Memory}
-use Rattle.gql_command.specs.CommandLine.{IsConnections, IsPort}
+use Rattle.gql_command.specs.CommandLine.{IsAtOnce, IsConnections, IsPort}
 
 -- ---- the grammar
 
--- a required option `--NAME NUMBER`, whose number is 1 to `most`
-abbrev pub number_option : Text → ℕ → Rule
-number_option name most = record (new_rule name) {
+-- an option `--NAME NUMBER`, whose number is 1 to `most`, and whether it is required
+abbrev pub number_option : Text → ℕ → Bool → Rule
+number_option name most needed = record (new_rule name) {
   long = Some name;
   value_names = 1;
   parser = Some (parser.Signed (pos 1) (pos most));
-  required = true;
+  required = needed;
 }
 
 -- `--port P`
 abbrev pub port_option : Rule
-port_option = number_option (codes "port") 65535
+port_option = number_option (codes "port") 65535 true
 
 -- `--connections N`
 abbrev pub connections_option : Rule
-connections_option = number_option (codes "connections") 1000000
+connections_option = number_option (codes "connections") 1000000 true
 
--- `serve`, with its two options
+-- `--at-once K`, which may be left out
+abbrev pub at_once_option : Rule
+at_once_option = number_option (codes "at-once") 16 false
+
+-- `serve`, with its three options
 abbrev pub serve : Shape
-serve =
-    record (new_shape (codes "serve")) { rules = port_option ∷ connections_option ∷ [] }
+serve = record (new_shape (codes "serve")) {
+  rules = port_option ∷ connections_option ∷ at_once_option ∷ [];
+}
 
 -- `gqlreg` has no argument of its own but `-V` and `--version`, and requires a subcommand. The
 -- subcommands are `pipe`, which has no argument, and `serve`. clap adds `-h`, `--help` and the
@@ -71,19 +76,27 @@ GivesNumber name rows number = (text : Text) × (one_of name rows ≡ Some text)
     × IsNumeral 10 (without_leading_plus text)
     × (number ≡ digits_value 10 (without_leading_plus text))
 
--- the options have both numbers, in their ranges
-abbrev pub GivesNumbers : List Row → ℕ → ℕ → Type 0
-GivesNumbers rows port connections = GivesNumber (codes "port") rows port
-    × GivesNumber (codes "connections") rows connections
-    × IsPort port × IsConnections connections
+-- the text of `--at-once` is a numeral, and this is its number; it is 16 if the option is left out
+abbrev pub GivesAtOnce : List Row → ℕ → Type 0
+GivesAtOnce rows at_once = ((one_of (codes "at-once") rows ≡ None) × (at_once ≡ 16))
+    ⊎ GivesNumber (codes "at-once") rows at_once
 
--- the options do not have both numbers in their ranges
+-- the options have these numbers, in their ranges
+abbrev pub GivesNumbers : List Row → ℕ → ℕ → ℕ → Type 0
+GivesNumbers rows port connections at_once = GivesNumber (codes "port") rows port
+    × GivesNumber (codes "connections") rows connections
+    × GivesAtOnce rows at_once
+    × IsPort port × IsConnections connections × IsAtOnce at_once
+
+-- the options do not have all numbers in their ranges
 abbrev pub LacksNumbers : List Row → Type 0
-LacksNumbers rows = (port connections : ℕ) → GivesNumbers rows port connections → ⊥
+LacksNumbers rows =
+    (port connections at_once : ℕ) → GivesNumbers rows port connections at_once → ⊥
 
 -- `serve` with the numbers of its options, or a refusal if they are missing
 abbrev pub ReadsNumbers : List Row → Result Command CommandFault → Type 0
-ReadsNumbers rows (Ok (Serve port connections)) = GivesNumbers rows port connections
+ReadsNumbers rows (Ok (Serve port connections at_once)) =
+    GivesNumbers rows port connections at_once
 ReadsNumbers rows (Err (Refused text)) = LacksNumbers rows
 ReadsNumbers rows (Err Memory) = ⊤
 ReadsNumbers rows _ = ⊥
@@ -105,8 +118,8 @@ IsRefusedKind kind = (kind ≢ DisplayHelp) × (kind ≢ DisplayVersion) × (kin
 -- error.
 abbrev pub FollowsGrammar : List Text → Result Command CommandFault → Type 0
 FollowsGrammar words (Ok Pipe) = faults words ≡ []
-FollowsGrammar words (Ok (Serve port connections)) =
-    (faults words ≡ []) × GivesNumbers (options words) port connections
+FollowsGrammar words (Ok (Serve port connections at_once)) =
+    (faults words ≡ []) × GivesNumbers (options words) port connections at_once
 FollowsGrammar words (Err (Help text)) = IsAmong DisplayHelp (faults words)
 FollowsGrammar words (Err (Version text)) = IsAmong DisplayVersion (faults words)
 FollowsGrammar words (Err (Refused text)) =

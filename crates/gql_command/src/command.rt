@@ -17,13 +17,15 @@ use std::alloc::{AllocError, Global};
 pub enum Command {
     /// Answer the requests of standard input on standard output.
     Pipe,
-    /// Answer requests over connections to this port of 127.0.0.1, and end after this number of
-    /// connections.
+    /// Answer requests over connections to this port of 127.0.0.1, so many at one time, and end
+    /// after this number of connections.
     Serve {
         /// 1 to 65,535.
         port: u16,
         /// 1 to 1,000,000.
         connections: u32,
+        /// 1 to 16.
+        at_once: u8,
     },
 }
 

@@ -2,7 +2,7 @@
 ghost use Rattle.std.specs.Prelude.{◌≡◌, IfOk, false};
 ghost use Rattle.clap.specs.Words.{app_of, rule_of, shape_of};
 ghost use Rattle.clap.specs.declared.builder.command.Command.TheViews.{out-Command};
-ghost use Rattle.gql_command.specs.Grammar.{command_line, connections_option, port_option};
+ghost use Rattle.gql_command.specs.Grammar.{at_once_option, command_line, connections_option, port_option};
 ghost use Rattle.gql_command.specs.Grammar.{serve as serve_shape};
 
 use clap::{Arg, Command, value_parser};
@@ -49,14 +49,26 @@ fn connections<'a>(alloc: Global) -> Arg<'a>
         .help("The number of connections to answer before the program ends, 1 to 1000000")
 }
 
+fn at_once<'a>(alloc: Global) -> Arg<'a>
+    ensures option { rule_of result ≡ at_once_option }
+    ensures local { result.global ≡ false }
+{
+    Arg::new(alloc, "at-once")
+        .long("at-once")
+        .value_name("K")
+        .value_parser(value_parser!(u8).range(1..=16))
+        .help("The number of connections to serve at one time, 1 to 16; 16 if left out")
+}
+
 fn serve<'a>(alloc: Global) -> Result<Command<'a>, AllocError>
     ensures shape { IfOk result (λ c. shape_of c ≡ serve_shape) }
     ensures local { IfOk result (λ c. (out-Command c).has_globals ≡ false) }
 {
     Command::new(alloc, "serve")
-        .about("Answers HTTP/1.1 requests over connections to 127.0.0.1, one after the other")
+        .about("Answers HTTP/1.1 requests over connections to 127.0.0.1, many at one time")
         .arg(port(alloc))?
-        .arg(connections(alloc))
+        .arg(connections(alloc))?
+        .arg(at_once(alloc))
 }
 
 /// The grammar of the whole command line.

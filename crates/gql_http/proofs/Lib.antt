@@ -3,7 +3,6 @@ pub mod DataPresence
 pub mod Deeds
 pub mod Determined
 pub mod Exchanging
-pub mod Exchanges
 pub mod Framers
 pub mod Joining
 pub mod Names

@@ -12,11 +12,9 @@ mod refusal_body;
 mod report_body;
 mod route;
 mod serve;
-mod server;
 mod service;
 mod write;
 mod write_answer;
 
 pub use hub::{CONNECTIONS, Fed, Hub, OpenRefusal};
 pub use piping::{MAX_READS, PipeEnd, PipeFault, pipe, status_of};
-pub use server::{ServeFault, serve_on};

@@ -1,14 +1,18 @@
 //! `gqlreg pipe` answers the requests of standard input on standard output, `gqlreg serve` those of
 //! connections.
 #![tactic(auto)]
+ghost use Rattle.std.specs.Prelude.{◌≡◌, ◌≤◌, None};
+ghost use Rattle.gql_http.specs.Hubs.{rests_of};
+ghost use Rattle.gql_server.specs.Together.{AreClosed};
 
 use gql_command::{Command, CommandFault, read_command};
-use gql_http::{Hub, pipe, serve_on, status_of};
+use gql_http::{Hub, pipe, status_of};
 use gql_registry::Registry;
+use gql_server::{NetListener, ServeFault, serve_on, serve_together};
 use gql_wire::DevicePeer;
-use std::net::TcpListener;
+use std::net::{Ipv4Addr, SocketAddr};
 use std::process::ExitCode;
-use std::{env, io};
+use std::{env, io, net};
 
 /// The words of the command line, the program's name first.
 fn words(rt: &HostRuntime) -> io::Result<Vec<String>> {
@@ -26,19 +30,62 @@ fn run_pipe(rt: &HostRuntime) -> u8 {
     status_of(&pipe(&mut hub, &mut peer))
 }
 
-/// Answers the requests of this many connections to a port of 127.0.0.1, one connection after the
-/// other.
-fn run_serve(rt: &HostRuntime, port: u16, connections: u32) -> u8 {
-    let Ok(listener) = TcpListener::bind(rt, ("127.0.0.1", port)) else {
-        return 1;
-    };
-    if rt.print("listening\n").is_err() {
-        return 1;
+/// Reports that connections are accepted from now on, and returns whether that succeeded.
+fn report_listening(rt: &HostRuntime) -> bool {
+    rt.print("listening\n").is_ok()
+}
+
+/// Serves this many connections to an address, one after the other. None if the system does not let
+/// it listen there.
+fn serve_in_turn(
+    rt: &HostRuntime,
+    hub: &mut Hub,
+    address: SocketAddr,
+    connections: u32,
+) -> Option<Result<(), ServeFault>>
+    requires { rests_of hub.old 0 ≡ None }
+{
+    let listener = net::TcpListener::bind(rt, address).ok()?;
+    if !report_listening(rt) {
+        return None;
     }
+    Some(serve_on(&mut NetListener::new(listener), hub, connections))
+}
+
+/// Serves this many connections to an address, many at one time. None if the system does not let it
+/// listen there.
+fn serve_at_once(
+    rt: &HostRuntime,
+    hub: &mut Hub,
+    address: SocketAddr,
+    connections: u32,
+    at_once: u8,
+) -> Option<Result<(), ServeFault>>
+    requires closed { AreClosed at_once hub.old }
+    requires most { at_once ≤ 16 }
+{
+    let mut listener = mio::net::TcpListener::bind(rt, address).ok()?;
+    if !report_listening(rt) {
+        return None;
+    }
+    Some(serve_together(rt, rt.alloc(), &mut listener, hub, connections, at_once))
+}
+
+/// Answers the requests of this many connections to a port of 127.0.0.1, so many at one time.
+fn run_serve(rt: &HostRuntime, port: u16, connections: u32, at_once: u8) -> u8
+    requires { at_once ≤ 16 }
+{
     let mut hub = Hub::new(rt.alloc(), Registry::new(rt.alloc()));
-    match serve_on(&listener, &mut hub, connections) {
-        Ok(()) => 0,
-        Err(_) => 1,
+    let address = SocketAddr::from((Ipv4Addr::LOCALHOST, port));
+    let served = if at_once == 1 {
+        serve_in_turn(rt, &mut hub, address, connections)
+    } else {
+        serve_at_once(rt, &mut hub, address, connections, at_once)
+    };
+    match served {
+        Some(Ok(())) => 0,
+        Some(Err(ServeFault::Memory)) => 4,
+        _ => 1,
     }
 }
 
@@ -83,7 +130,11 @@ fn main(rt: HostRuntime) -> ExitCode {
     };
     ExitCode::from(match read_command(rt.alloc(), words.as_slice()) {
         Ok(Command::Pipe) => run_pipe(&rt),
-        Ok(Command::Serve { port, connections }) => run_serve(&rt, port, connections),
+        Ok(Command::Serve {
+            port,
+            connections,
+            at_once,
+        }) => run_serve(&rt, port, connections, at_once),
         Err(fault) => report_fault(&rt, fault),
     })
 }

@@ -62,7 +62,7 @@ impl ServiceRow {
             _ => {
                 let stream = stream_of(self.alloc, given.texts.as_slice())?;
                 if word == "serves" {
-                    return serves_answer(rt, stream.as_str());
+                    return serves_answer(rt, stream.as_str(), rest == "together");
                 }
                 stream_answer(self.alloc, stream.as_str(), word, rest)
             }

@@ -16,8 +16,12 @@ pub fn command_answer(alloc: Global, line: &str) -> Option<String> {
     let words = words_in(alloc, line).ok()?;
     let answer = match read_command(alloc, words.as_slice()) {
         Ok(Command::Pipe) => "pipe",
-        Ok(Command::Serve { port, connections }) => {
-            return format!(in alloc; "serve {port} {connections}").ok();
+        Ok(Command::Serve {
+            port,
+            connections,
+            at_once,
+        }) => {
+            return format!(in alloc; "serve {port} {connections} {at_once}").ok();
         }
         Err(CommandFault::Help(_)) => "help",
         Err(CommandFault::Version(_)) => "version",

@@ -1,0 +1,4 @@
+mod Adding
+mod Going
+mod Parts
+mod Turning

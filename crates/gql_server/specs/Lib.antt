@@ -1,0 +1,4 @@
+pub mod OneByOne
+pub mod Steps
+pub mod Together
+pub mod Turns

@@ -1,0 +1,16 @@
+//! Why a server ends early.
+use thiserror::Error;
+
+/// Why serving ended early.
+#[derive(Clone, Copy, Debug, PartialEq, Eq, Error)]
+pub enum ServeFault {
+    /// 341: a connection was not accepted.
+    #[error("accepting failed")]
+    AcceptFailed,
+    /// 342: the system does not tell which connections are ready, or what time it is.
+    #[error("waiting failed")]
+    WaitFailed,
+    /// 343: an allocation failed before the first connection was accepted.
+    #[error("out of memory")]
+    Memory,
+}

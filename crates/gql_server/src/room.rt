@@ -1,0 +1,163 @@
+//! The connections that are served at one time.
+ghost use Rattle.std.specs.Prelude.{◌≡◌, ◌<◌, ◌≤◌, ◌+◌, length, IfSome, ℕ, None};
+ghost use Rattle.gql_http.specs.Hubs.{rests_of};
+ghost use Rattle.gql_server.specs.Together.{Goes};
+
+use crate::place::{Next, Place};
+use crate::tcp_socket::TcpSocket;
+use gql_http::Hub;
+use std::time::{Duration, Instant};
+
+/// A connection that sends no byte and takes none for this many seconds is given up.
+const QUIET_SECONDS: u64 = 60;
+
+/// A connection that is served.
+#[derive(Drop)]
+pub struct Seat {
+    pub place: Place<TcpSocket>,
+    /// Whether it has a turn before the next wait.
+    pub is_ready: bool,
+    /// When bytes came or went last.
+    pub since: Instant,
+}
+
+impl Seat {
+    /// Gives the connection a turn. Returns whether it is over.
+    fn turn(&mut self, hub: &mut Hub, at_once: u8, number: u8, now: Instant) -> bool
+        requires { number < at_once }
+        ensures { Goes at_once hub.old hub.new }
+    {
+        let next = self.place.turn(hub, number);
+        if self.place.take_moved() {
+            self.since = now;
+        }
+        self.is_ready = next == Next::Ready;
+        matches!(next, Next::Over(_))
+    }
+
+    /// Whether no byte came or went for too long.
+    fn is_given_up(&self, now: Instant) -> bool {
+        now.duration_since(self.since).as_secs() >= QUIET_SECONDS
+    }
+
+    /// Gives the connection a turn if it is ready. Returns whether it is over, or was quiet for too
+    /// long.
+    #[tactic(auto, using(crate::proofs::Going::goes_nothing))]
+    fn advance(&mut self, hub: &mut Hub, at_once: u8, number: u8, now: Instant) -> bool
+        requires { number < at_once }
+        ensures { Goes at_once hub.old hub.new }
+    {
+        if self.is_ready {
+            self.turn(hub, at_once, number, now)
+        } else {
+            self.is_given_up(now)
+        }
+    }
+
+    /// Whether nothing is left to read, to answer or to write, as far as is known, and no byte came
+    /// or went for so long.
+    fn is_idle(&self, now: Instant, least: Duration) -> bool {
+        !self.is_ready && self.place.is_quiet() && now.duration_since(self.since) >= least
+    }
+
+    /// How long the connection may still be quiet.
+    fn time_left(&self, now: Instant) -> Duration {
+        Duration::from_secs(QUIET_SECONDS).saturating_sub(now.duration_since(self.since))
+    }
+}
+
+/// Closes a connection, if it is open.
+pub fn close(hub: &mut Hub, at_once: u8, number: u8)
+    requires { number < at_once }
+    ensures goes { Goes at_once hub.old hub.new }
+    ensures closed { rests_of hub.new number ≡ None }
+    ensures others { (c : ℕ) → rests_of hub.old c ≡ None → rests_of hub.new c ≡ None }
+{
+    hub.close(number);
+}
+
+/// Opens a connection, if it is closed.
+pub fn open(hub: &mut Hub, at_once: u8, number: u8)
+    requires { number < at_once }
+    ensures { Goes at_once hub.old hub.new }
+{
+    let _ = hub.open(number);
+}
+
+/// Gives a connection a turn if it is ready. If it is over, or was quiet for too long, it is closed.
+#[tactic(auto, using(crate::proofs::Going::goes_nothing, crate::proofs::Going::goes_join))]
+pub fn turn_of(hub: &mut Hub, at_once: u8, number: u8, slot: &mut Option<Seat>, now: Instant)
+    requires { number < at_once }
+    ensures { Goes at_once hub.old hub.new }
+{
+    let Some(seat) = slot else {
+        return;
+    };
+    let is_over = seat.advance(hub, at_once, number, now);
+    if is_over {
+        close(hub, at_once, number);
+        *slot = None;
+    }
+}
+
+/// The connections that are served, each under its number at the hub.
+pub type Seats = [Option<Seat>; 16];
+
+/// A place for the next connection: a free one, or that of the connection which has been quiet
+/// longest, and for so long at least, if it has no unfinished request and nothing is left to write to
+/// it.
+pub fn next_place(
+    hub: &Hub,
+    at_once: u8,
+    seats: &Seats,
+    now: Instant,
+    least: Duration,
+) -> Option<u8>
+    requires { at_once ≤ 16 }
+    ensures { IfSome result (λ number. number < at_once) }
+{
+    let mut longest: Option<(u8, Instant)> = None;
+    for number in 0..at_once {
+        let Some(seat) = &seats[usize::from(number)] else {
+            return Some(number);
+        };
+        if seat.is_idle(now, least) && !hub.has_rest(number) && is_before(seat.since, &longest) {
+            longest = Some((number, seat.since));
+        }
+    }
+    match longest {
+        Some((number, _)) => Some(number),
+        None => None,
+    }
+}
+
+/// Whether a time is before the one found so far, if there is one.
+fn is_before(since: Instant, found: &Option<(u8, Instant)>) -> bool {
+    match found {
+        Some((_, earlier)) => since < *earlier,
+        None => true,
+    }
+}
+
+/// The shorter of two waits; none is a wait without end.
+pub fn shorter(one: Option<Duration>, other: Duration) -> Option<Duration> {
+    match one {
+        Some(one) if one < other => Some(one),
+        _ => Some(other),
+    }
+}
+
+/// How long to wait for the next event: not at all if a connection is ready, and at most until one
+/// was quiet for too long.
+pub fn wait_time(seats: &Seats, now: Instant) -> Option<Duration> {
+    let mut wait = None;
+    for slot in seats.iter() {
+        if let Some(seat) = slot {
+            if seat.is_ready {
+                return Some(Duration::ZERO);
+            }
+            wait = shorter(wait, seat.time_left(now));
+        }
+    }
+    wait
+}
