@@ -1,5 +1,5 @@
-pub mod Asking
-pub mod Closing
+pub mod Answered
+pub mod Entered
 pub mod Many
 pub mod Meeting
 pub mod Members

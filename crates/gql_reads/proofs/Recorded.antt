@@ -1,5 +1,6 @@
 -- What a record of own reads tells.
-use Rattle.std.proofs.Common.{◌≡◌, ℕ, List, [], ◌∷◌, ap, sym, subst, ◌∙◌, refl, Contains, map}
+use Rattle.std.proofs.Common.{◌≡◌, inl, inr, ℕ, List, [], ◌∷◌, ◌++◌, ap, sym, subst, ◌∙◌, refl, Contains, map}
+use Rattle.std.proofs.lemmas.List.Elements.{Contains-append_left, Contains-append_right, Contains-append_cases, Contains-push, Contains-push_cases}
 use Rattle.gql_ast.specs.declared.definition.Definition.{Definition}
 use Rattle.gql_ast.specs.declared.definition.Tree.{Tree}
 use Rattle.gql_facts.specs.declared.fact.Fact.{Fact}
@@ -7,10 +8,11 @@ use Rattle.gql_facts.specs.declared.fact.Fact.TheVariants as fact
 use Rattle.gql_facts.specs.declared.fact.FragmentFact.{FragmentFact}
 use Rattle.gql_facts.specs.declared.key.Key.{Key}
 use Rattle.gql_facts.specs.declared.key.Key.TheVariants as key
-use Rattle.gql_facts.specs.ListMembers.{Contains-map}
+use Rattle.gql_facts.specs.ListMembers.{Contains-nil, Contains-here, Contains-cases, Contains-map}
 use Rattle.gql_facts.specs.Members.{Lists}
 use Rattle.gql_facts.specs.OwnReads.{tree_reads}
 use Rattle.gql_facts.specs.Reads.{Reads, Reaches}
+use Rattle.gql_facts.specs.Walks.{member_in}
 use Rattle.gql_facts.specs.Worlds.{Answers, Facts, IsWorld}
 use Rattle.gql_facts.proofs.Walked.{reached}
 use Rattle.gql_reads.specs.Closings.{AreRight, observation_of}
@@ -55,6 +57,33 @@ recorded F t es os right keys is = rw is (record {
 
 -- ---- fragments among the answers
 
+member_is : (f : Fact) (g : FragmentFact) → Contains (member_in f) g → f ≡ fact.Fragment g
+member_is (fact.Fragment f) g h = elim (Contains-cases g f [] h) [ inl e ↦ ap fact.Fragment (sym e) | inr t ↦ absurd (Contains-nil g t) ]
+member_is fact.Absent g h = absurd (Contains-nil g h)
+member_is (fact.Kind x) g h = absurd (Contains-nil g h)
+member_is (fact.Field x) g h = absurd (Contains-nil g h)
+member_is (fact.Possible x) g h = absurd (Contains-nil g h)
+member_is (fact.Input x) g h = absurd (Contains-nil g h)
+member_is (fact.Enum x) g h = absurd (Contains-nil g h)
+member_is (fact.Directive x) g h = absurd (Contains-nil g h)
+member_is (fact.Root x) g h = absurd (Contains-nil g h)
+
+-- one answer more
+pub told_more : (gs more : List FragmentFact) (os new : List Observation) (o : Observation) → more ≡ gs ++ member_in o.fact → new ≡ os ++ o ∷ [] → Lists gs (IsTold os) → Lists more (IsTold new)
+told_more gs more os new o e f l = rw (e, f) (record {
+  sound = λ g c. elim (Contains-append_cases gs (member_in o.fact) g c) [
+    | inl a ↦ let t = l.sound g a in (t.0, Contains-append_left os (o ∷ []) t.0 t.1, t.2)
+    | inr b ↦ (o, Contains-push os o, member_is o.fact g b)
+  ];
+  complete = λ g t. elim (Contains-push_cases os o t.0 t.1) [
+    | inl a ↦ Contains-append_left gs (member_in o.fact) g (l.complete g (t.0, a, t.2))
+    | inr s ↦ Contains-append_right gs (member_in o.fact) g (subst (λ x. Contains (member_in x) g) (sym (ap (λ (x : Observation). x.fact) s ∙ t.2)) (Contains-here g []))
+  ];
+})
+
+pub told_none : (gs : List FragmentFact) (os : List Observation) → gs ≡ [] → os ≡ [] → Lists gs (IsTold os)
+told_none gs os e f = rw (e, f) (record { sound = λ g c. absurd (Contains-nil g c); complete = λ g t. absurd (Contains-nil t.0 t.1) })
+
 module _ (F : Facts) (names : List (List ℕ)) (world : IsWorld F names) where
   -- only the keys of fragments are answered by fragments
   whose : (k : Key) (f : FragmentFact) → Answers k (fact.Fragment f) → (n : List ℕ) × (k ≡ key.FragmentOf n)
@@ -95,3 +124,6 @@ pub node_told : (F : Facts) (t : Tree) (os : List Observation) (n : List ℕ) (g
 node_told F t os n g r c e =
     let m = Contains-map_from (λ (o : Observation). o.key) os (key.FragmentOf n) (r.keys.complete (key.FragmentOf n) (by_node c)) in
     (m.0, m.1, sym (r.hold m.0 m.1) ∙ ap F m.2 ∙ e)
+
+pub same_certified : (f g : FragmentFact) (os ps : List Observation) → g ≡ f → ps ≡ os → IsCertified f os → IsCertified g ps
+same_certified f g os ps e p c = rw (e, p) c

@@ -7,6 +7,8 @@ use Rattle.std.proofs.lemmas.List.Elements.{Contains-append_left, Contains-appen
 use Rattle.std.proofs.lemmas.Map.Entries.{lookup-filter-keys}
 use Rattle.std.proofs.lemmas.Map.Views.{Contains-from_any, Contains-from_lookup, list_any-from_Contains, lookup-from_Contains}
 use Rattle.std.proofs.lemmas.Slice.Eq.{bytes_eq-Decides}
+use Rattle.indexmap.specs.IndexSet.{insert_key}
+use Rattle.indexmap.proofs.CallerLemmas.{Contains-insert_key}
 use Rattle.gql_facts.specs.ListMembers.{Contains-here, Contains-there, Contains-cases, Contains-flat_map, Contains-flat_map_from, either, some_same}
 use Rattle.gql_facts.specs.Worlds.{Facts}
 use Rattle.gql_reads.specs.Observations.{Hold, IsBroken}
@@ -15,9 +17,18 @@ use Rattle.gql_reads.specs.Records.{Kept}
 use Rattle.gql_reads.specs.Sweeps.{AreBroken, has_name, without}
 use Rattle.gql_reads.specs.Tables.{AllHold, Entries, Holds, IsEntryBroken, IsSwept, entry_at}
 use Rattle.gql_reads.specs.declared.reading.Reading.{Reading}
+use Rattle.gql_reads.proofs.Takes.{inserted_cases}
 
 exact : (a b : List ℕ) → bytes_eq a b ≡ true → a ≡ b
 exact a b = (bytes_eq-Decides a b).0
+
+-- ---- names of entries that do not hold
+
+pub broken_name : (names new : List (List ℕ)) (m n : List ℕ) (P : Type 0) → new ≡ insert_key bytes_eq names m → P → Contains new n → Contains names n ⊎ ((n ≡ m) × P)
+broken_name names new m n P is p c = elim (inserted_cases bytes_eq names m n (subst (λ l. Contains l n) is c)) [ inl o ↦ inl o | inr e ↦ inr (e, p) ]
+
+pub broken_here : (names new : List (List ℕ)) (m : List ℕ) → new ≡ insert_key bytes_eq names m → Contains new m
+broken_here names new m is = subst (λ l. Contains l m) (sym is) (Contains-insert_key bytes_eq exact names m)
 
 -- ---- without some names
 

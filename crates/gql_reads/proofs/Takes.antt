@@ -1,6 +1,7 @@
 -- The first members of a list that grows at its end.
-use Rattle.std.proofs.Common.{◌≡◌, ◌⊎◌, inl, inr, ℕ, zero, suc, ◌+◌, ◌≤◌, ◌<◌, List, [], ◌∷◌, ◌++◌, Bool, true, false, Some, None, length, take, slice_get, ap, sym, subst, ◌∙◌, refl, arith, append-nil, length-append, Contains, if◌then◌else◌}
+use Rattle.std.proofs.Common.{◌≡◌, ◌⊎◌, inl, inr, ℕ, zero, suc, ◌+◌, ◌≤◌, ◌<◌, List, [], ◌∷◌, ◌++◌, Bool, true, false, Some, None, length, take, get_or, slice_get, ap, sym, subst, ◌∙◌, refl, arith, append-nil, length-append, Contains, if◌then◌else◌}
 use Rattle.std.specs.List.{list_any}
+use Rattle.std.proofs.lemmas.List.{take_more}
 use Rattle.std.proofs.lemmas.List.Elements.{Contains-push_cases}
 use Rattle.indexmap.specs.IndexSet.{insert_key}
 use Rattle.gql_facts.specs.ListMembers.{Contains-nil, Contains-here, Contains-there, Contains-cases, either, some_same}
@@ -35,5 +36,13 @@ module _ {A : Type 0} where
   pub inserted_cases : (eq : A → A → Bool) (xs : List A) (x y : A) → Contains (insert_key eq xs x) y → Contains xs y ⊎ (y ≡ x)
   inserted_cases eq xs x y h = elim (either (list_any (eq x) xs)) [
     | inl q ↦ inl (subst (λ b. Contains (if b then xs else xs ++ x ∷ []) y) q h)
-    | inr q ↦ Contains-push_cases xs x y (subst (λ b. Contains (if b then xs else xs ++ x ∷ []) y) q h)
+    | inr q ↦ elim (Contains-push_cases xs x y (subst (λ b. Contains (if b then xs else xs ++ x ∷ []) y) q h)) [ inl o ↦ inl o | inr e ↦ inr (sym e) ]
   ]
+
+-- what a loop over a list has seen
+module _ {A : Type 0} (xs : List A) (i : ℕ) (x : A) (lt : i < length xs) (is : x ≡ get_or xs i x) where
+  pub one_more : take (i + 1) xs ≡ take i xs ++ x ∷ []
+  one_more = take_more xs i x lt ∙ ap (λ y. take i xs ++ y ∷ []) (sym is)
+
+  pub seen_more : (y : A) → Contains (take (i + 1) xs) y → Contains (take i xs) y ⊎ (x ≡ y)
+  seen_more y h = Contains-push_cases (take i xs) x y (subst (λ zs. Contains zs y) one_more h)

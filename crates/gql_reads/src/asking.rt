@@ -1,5 +1,5 @@
 //! Questions to a world, each asked at most once: its answer is kept.
-ghost use Rattle.std.specs.Prelude.{◌≡◌, ◌∷◌, [], IfOk, OnOk};
+ghost use Rattle.std.specs.Prelude.{◌≡◌, ◌∷◌, [], IfOk, OnOk, None};
 ghost use Rattle.indexmap.specs.IndexMap.{get, keys};
 ghost use Rattle.gql_facts.specs.Keys.{is_key};
 ghost use Rattle.gql_facts.specs.Scans.{add_keys};
@@ -26,6 +26,7 @@ fn ask_first<W: World>(
     key: Key,
     answers: &mut IndexMap<Key, Fact>,
 ) -> Result<Fact, AllocError>
+    requires absent { get is_key answers.old key ≡ None }
     requires right { AreRight (W.facts world.old) answers.old.entries }
     ensures facts { W.facts world.new ≡ W.facts world.old }
     ensures names { W.names world.new ≡ W.names world.old }

@@ -144,7 +144,8 @@ fn visit<W: World>(
         return Ok(());
     };
     let fact = fact.copy()?;
-    follow(alloc, world, &fact, types, answers)
+    follow(alloc, world, &fact, types, answers)?;
+    Ok(())
 }
 
 /// The answers to exactly the own reads of a definition, each asked once.

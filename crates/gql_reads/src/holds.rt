@@ -1,8 +1,7 @@
 //! Whether what was observed still holds.
-ghost use Rattle.std.specs.Prelude.{◌≡◌, ◌↔◌, ◌⊎◌, ◌∷◌, [], ℕ, List, IfOk, IsTrue, MatchBool, OnOk, Contains};
-ghost use Rattle.gql_facts.specs.Reads.{AskedAmong};
-ghost use Rattle.gql_facts.specs.declared.fact.Fact.TheVariants as fact;
-ghost use Rattle.gql_reads.specs.Observations.{Hold, IsBroken, keys_of};
+ghost use Rattle.std.specs.Prelude.{◌≡◌, ◌↔◌, ◌⊎◌, ℕ, List, IfOk, IsTrue, MatchBool, OnOk, Contains};
+ghost use Rattle.gql_facts.specs.declared.fact.Fact.TheVariants as told;
+ghost use Rattle.gql_reads.specs.Observations.{Hold, IsBroken};
 ghost use Rattle.gql_reads.specs.Reaching.{IsNamed};
 ghost use Rattle.gql_reads.specs.Tables.{Holds, IsEntryBroken};
 
@@ -53,7 +52,7 @@ pub fn observations_hold<W: World>(
 
 /// Whether an answer is this fragment.
 fn is_fragment(fact: &Fact, fragment: &FragmentFact) -> bool
-    ensures { IsTrue result ↔ (fact.now ≡ fact.Fragment fragment.now) }
+    ensures { IsTrue result ↔ (fact.now ≡ told.Fragment fragment.now) }
 {
     match fact {
         Fact::Fragment(its) => its.same(fragment),

@@ -10,13 +10,13 @@ mod observation;
 mod part;
 mod reading;
 mod record;
+mod retest;
 mod scan;
-mod sweep;
 mod table;
 
 pub use observation::{Observation, observe};
 pub use part::Part;
 pub use reading::{Reading, reads_of};
 pub use record::Record;
-pub use sweep::{still_holds, sweep, which_hold};
+pub use retest::{still_holds, sweep, which_hold};
 pub use table::ReadTable;

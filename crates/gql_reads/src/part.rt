@@ -1,11 +1,8 @@
 //! A fragment, with what was observed of it alone.
 ghost use Rattle.std.specs.Prelude.{◌≡◌, IfOk};
-ghost use Rattle.gql_facts.specs.declared.fact.Fact.TheVariants as fact;
-ghost use Rattle.gql_facts.specs.declared.key.Key.TheVariants as key;
+ghost use Rattle.gql_reads.specs.Own.{tree_of};
 ghost use Rattle.gql_reads.specs.Readings.{name_of};
 ghost use Rattle.gql_reads.specs.Records.{IsCertified, IsRecord};
-ghost use Rattle.gql_reads.specs.Own.{tree_of};
-ghost use Rattle.gql_reads.specs.Tables.{Holds};
 
 use crate::record::{Record, record_of};
 use gql_ast::{Shared, Text, Tree};
@@ -30,9 +27,20 @@ impl Drop for Part {
 }
 
 impl Model for Part {
+    ghost use Rattle.std.specs.Coded.{codes};
+    ghost use Rattle.gql_facts.specs.contracts.fact.Fact as fact;
+    ghost use Rattle.gql_facts.specs.contracts.fact.FragmentFact as fragment_fact;
+    ghost use Rattle.gql_facts.specs.contracts.key.Key as key;
     ghost use Rattle.gql_reads.specs.Records.{IsCertified, Kept};
 
     ghost Value = { Kept };
+
+    ghost coded = { Prim.hlevel (
+      codes,
+      fragment_fact.the_row.coded,
+      key.the_row.coded,
+      fact.the_row.coded,
+    ) };
 
     ghost view = { λ p. record { fragment = p.fragment; seen = p.seen } };
 

@@ -1,11 +1,9 @@
 //! What a definition reads, as handles of what was observed of it and of each fragment that it
 //! reaches.
-ghost use Rattle.std.specs.Prelude.{◌≡◌, ◌↔◌, ◌∷◌, [], IfOk, IfSome, IsTrue, OnOk, None, Contains, Some, slice_get};
+ghost use Rattle.std.specs.Prelude.{◌≡◌, IfOk, IfSome, OnOk, None, Contains, Some, slice_get};
 ghost use Rattle.gql_facts.specs.Members.{Lists};
 ghost use Rattle.gql_facts.specs.Reads.{Reaches, Reads};
-ghost use Rattle.gql_facts.specs.declared.fact.Fact.TheVariants as fact;
 ghost use Rattle.gql_facts.specs.declared.fact.FragmentFact.{FragmentFact as AFragment};
-ghost use Rattle.gql_facts.specs.declared.key.Key.TheVariants as key;
 ghost use Rattle.gql_reads.specs.Observations.{Hold, keys_of};
 ghost use Rattle.gql_reads.specs.Readings.{AreShared, flat, members_of, name_of};
 ghost use Rattle.gql_reads.specs.Reaching.{AreMet, IsNamed, IsPartOf, Meets};

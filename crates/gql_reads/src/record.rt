@@ -1,6 +1,7 @@
 //! What was observed of one definition or fragment alone.
-ghost use Rattle.std.specs.Prelude.{◌≡◌, IfOk, map};
+ghost use Rattle.std.specs.Prelude.{◌≡◌, ◌++◌, IfOk, OnOk, map};
 ghost use Rattle.gql_facts.specs.Members.{Lists};
+ghost use Rattle.gql_facts.specs.Walks.{member_in};
 ghost use Rattle.gql_reads.specs.Closings.{observation_of};
 ghost use Rattle.gql_reads.specs.Records.{IsRecord, IsTold};
 
@@ -29,12 +30,17 @@ impl Drop for Record {
 }
 
 impl Model for Record {
+    ghost use Rattle.std.specs.Coded.{codes};
     ghost use Rattle.std.specs.Prelude.{List};
     ghost use Rattle.gql_facts.specs.Members.{Lists};
+    ghost use Rattle.gql_facts.specs.contracts.fact.Fact as fact;
+    ghost use Rattle.gql_facts.specs.contracts.key.Key as key;
     ghost use Rattle.gql_reads.specs.Records.{IsTold};
     ghost use Rattle.gql_reads.specs.declared.observation.Observation.{Observation};
 
     ghost Value = { List Observation };
+
+    ghost coded = { Prim.hlevel (codes, key.the_row.coded, fact.the_row.coded) };
 
     ghost view = { λ r. r.observations.items };
 
@@ -57,6 +63,16 @@ impl Record {
     }
 }
 
+/// Adds the fragment of an answer, if it is one of a fragment.
+fn add_spread(fact: &Fact, spreads: &mut Vec<FragmentFact>) -> Result<(), AllocError>
+    ensures { OnOk result (spreads.new.items ≡ spreads.old.items ++ member_in fact.now) }
+{
+    if let Fact::Fragment(found) = fact {
+        spreads.push(found.copy()?)?;
+    }
+    Ok(())
+}
+
 /// These answers as a record.
 fn record_from(alloc: Global, answers: IndexMap<Key, Fact>) -> Result<Record, AllocError>
     ensures { IfOk result (λ r. r ≡ map observation_of answers.entries) }
@@ -64,9 +80,7 @@ fn record_from(alloc: Global, answers: IndexMap<Key, Fact>) -> Result<Record, Al
     let mut observations = Vec::with_capacity(alloc, answers.len())?;
     let mut spreads = Vec::new(alloc);
     for (key, fact) in answers {
-        if let Fact::Fragment(found) = &fact {
-            spreads.push(found.copy()?)?;
-        }
+        add_spread(&fact, &mut spreads)?;
         observations.push(Observation { key, fact })?;
     }
     Ok(Record {

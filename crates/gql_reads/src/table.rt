@@ -26,12 +26,23 @@ impl Drop for ReadTable {
 }
 
 impl Model for ReadTable {
+    ghost use Rattle.std.specs.Coded.{codes};
     ghost use Rattle.std.specs.Prelude.{bytes_eq};
     ghost use Rattle.std.specs.List.{IsDistinct};
     ghost use Rattle.indexmap.specs.IndexMap.{keys};
+    ghost use Rattle.gql_facts.specs.contracts.fact.Fact as fact;
+    ghost use Rattle.gql_facts.specs.contracts.fact.FragmentFact as fragment_fact;
+    ghost use Rattle.gql_facts.specs.contracts.key.Key as key;
     ghost use Rattle.gql_reads.specs.Tables.{Entries};
 
     ghost Value = { Entries };
+
+    ghost coded = { Prim.hlevel (
+      codes,
+      fragment_fact.the_row.coded,
+      key.the_row.coded,
+      fact.the_row.coded,
+    ) };
 
     ghost view = { λ t. t.entries.entries };
 

@@ -1,6 +1,8 @@
 -- Own reads, closed: the types that answers name are entered.
 use Rattle.std.proofs.Common.{◌≡◌, ◌⊎◌, inl, inr, ℕ, zero, suc, ◌+◌, ◌-◌, ◌≤◌, ◌<◌, List, [], ◌∷◌, ◌++◌, Some, length, take, slice_get, flat_map, ap, sym, subst, ◌∙◌, refl, arith, append-nil, length-append, Contains, true, bytes_eq, if◌then◌else◌}
 use Rattle.std.specs.List.{IsDistinct, list_any}
+use Rattle.std.specs.Map.{keys_of}
+use Rattle.std.proofs.lemmas.Map.Entries.{length-keys_of}
 use Rattle.std.specs.Cmp.{decided}
 use Rattle.std.proofs.lemmas.Map.Views.{Contains-from_any, list_any-from_Contains}
 use Rattle.std.proofs.lemmas.Slice.Eq.{bytes_eq-Decides}
@@ -84,7 +86,7 @@ module _ (F : Facts) (t : Tree) where
         own = λ k c. old k (w.own k c);
         followed = λ i k c l. elim (Contains-push_cases (take at keys) j i (subst (λ z. Contains z i) firsts c)) [
           | inl a ↦ old k (w.followed i k a l)
-          | inr e ↦ subst (λ z. Contains z k) (sym is) (added_new keys led k (subst (λ z. Contains (types_led_to (F z)) k) e l))
+          | inr e ↦ subst (λ z. Contains z k) (sym is) (added_new keys led k (subst (λ z. Contains (types_led_to (F z)) k) (sym e) l))
         ];
       }
 
@@ -102,3 +104,14 @@ module _ (F : Facts) (t : Tree) where
       let d : Definition = record { file = file; tree = t } in
       let b = at_most F names world d keys distinct (λ k c. own_read F d (w.read k c)) in
       omega (arith, b, lt)
+
+-- ---- as the clauses of the calls give it
+
+pub none_entered : (types : List (List ℕ)) (keys : List Key) → types ≡ [] → AreEntered types keys
+none_entered types keys none t k c r = absurd (Contains-nil t (subst (λ l. Contains l t) none c))
+
+pub keys_count : (es : List (Key × Fact)) (i : ℕ) → i < length es → i < length (keys_of es)
+keys_count es i lt = rw (length-keys_of es) lt
+
+pub keys_past : (es : List (Key × Fact)) (i : ℕ) → length es ≤ i → length (keys_of es) ≤ i
+keys_past es i le = rw (length-keys_of es) le
