@@ -1,23 +1,25 @@
 -- Parts of fragments: of the table, added to it, and met one after another.
-use Rattle.std.proofs.Common.{◌≡◌, ◌⊎◌, inl, inr, ℕ, suc, ◌+◌, ◌<◌, List, [], ◌∷◌, ◌++◌, Bool, true, false, Some, None, length, take, get_or, map, bytes_eq, ap, sym, subst, ◌∙◌, refl, arith, append-nil, append_assoc, Contains, if◌then◌else◌}
+use Rattle.std.proofs.Common.{◌≡◌, ◌⊎◌, inl, inr, ℕ, ◌+◌, ◌<◌, List, [], ◌∷◌, ◌++◌, true, false, Some, None, Option, Bor, length, slice_get, take, get_or, map, bytes_eq, ap, sym, subst, ◌∙◌, refl, arith, append-nil, append_assoc, Contains, if◌then◌else◌}
 use Rattle.std.specs.List.{list_any}
+use Rattle.std.specs.Option.{option_copied}
 use Rattle.std.proofs.lemmas.List.{take_more}
-use Rattle.std.proofs.lemmas.List.Elements.{Contains-append_left, Contains-append_right, Contains-append_cases, Contains-push, Contains-push_cases}
+use Rattle.std.proofs.lemmas.List.Elements.{Contains-append_left, Contains-append_cases, Contains-push, Contains-push_cases}
 use Rattle.std.proofs.lemmas.Map.Views.{Contains-from_any}
 use Rattle.std.proofs.lemmas.Slice.Eq.{bytes_eq-Decides}
 use Rattle.indexmap.specs.IndexSet.{insert_key}
 use Rattle.gql_facts.specs.declared.fact.Fact.TheVariants as fact
 use Rattle.gql_facts.specs.declared.fact.FragmentFact.{FragmentFact}
 use Rattle.gql_facts.specs.declared.key.Key.TheVariants as key
-use Rattle.gql_facts.specs.ListMembers.{Contains-nil, Contains-here, Contains-cases, Contains-map, either, some_same}
+use Rattle.gql_facts.specs.ListMembers.{Contains-nil, Contains-cases, Contains-map, either, some_same}
 use Rattle.gql_facts.specs.Members.{Lists}
 use Rattle.gql_facts.specs.Worlds.{Facts}
 use Rattle.gql_reads.specs.Own.{Own, tree_of}
-use Rattle.gql_reads.specs.Observations.{Hold, keys_of}
+use Rattle.gql_reads.specs.Observations.{keys_of}
 use Rattle.gql_reads.specs.Reaching.{AreMet, IsNamed, IsPartOf, Meets}
 use Rattle.gql_reads.specs.Readings.{members_of, name_of}
-use Rattle.gql_reads.specs.Records.{IsCertified, IsRecord, Kept}
+use Rattle.gql_reads.specs.Records.{IsCertified, IsRecord, IsTold, Kept}
 use Rattle.gql_reads.specs.Tables.{AllHold, Entries, Holds, Keeps, entry_at}
+use Rattle.gql_reads.specs.declared.observation.Observation.{Observation}
 use Rattle.gql_reads.proofs.Members.{Contains-map_from}
 
 fragment_same : (f g : FragmentFact) → fact.Fragment f ≡ fact.Fragment g → f ≡ g
@@ -30,13 +32,15 @@ name_there names n e = Contains-from_any (λ x y. (bytes_eq-Decides x y).0) n na
 
 module _ (es new : Entries) (n : List ℕ) (p : Kept) (here : entry_at new n ≡ Some p) (others : (m : List ℕ) → bytes_eq n m ≡ false → entry_at new m ≡ entry_at es m) where
   pub added_holds : (F : Facts) → Holds F n p → AllHold F es → AllHold F new
-  added_holds F h all m k c = elim (either (bytes_eq n m)) [
-    | inl t ↦
-        let s : n ≡ m = (bytes_eq-Decides n m).0 t in
-        let e : p ≡ k = some_same p k (sym here ∙ ap (λ j. entry_at new j) s ∙ c) in
-        subst (λ j. Holds F j k) s (subst (λ q. Holds F n q) e h)
-    | inr f ↦ all m k (sym (others m f) ∙ c)
-  ]
+  added_holds F h all = record {
+    each = λ m k c. elim (either (bytes_eq n m)) [
+      | inl t ↦
+          let s : n ≡ m = (bytes_eq-Decides n m).0 t in
+          let e : p ≡ k = some_same p k (sym here ∙ ap (λ j. entry_at new j) s ∙ c) in
+          subst (λ j. Holds F j k) s (subst (λ q. Holds F n q) e h)
+      | inr f ↦ all.each m k (sym (others m f) ∙ c)
+    ];
+  }
 
   pub added_keeps : entry_at es n ≡ None → Keeps es new
   added_keeps none m k c = elim (either (bytes_eq n m)) [
@@ -56,7 +60,7 @@ module _ (F : Facts) (es : Entries) (g : FragmentFact) (p : Kept) where
   -- one that was there
   pub part_found : entry_at es (name_of g) ≡ Some p → AllHold F es → IsNamed F g → IsCertified p.fragment p.seen → IsPartOf F es g p
   part_found there all named certified =
-      let h = all (name_of g) p there in
+      let h = all.each (name_of g) p there in
       let e : p.fragment ≡ g = fragment_same p.fragment g (sym h.0 ∙ named) in
       record {
         is = e;
@@ -71,8 +75,8 @@ module _ (F : Facts) (es : Entries) (g : FragmentFact) (p : Kept) where
   pub part_stays : (fs : Entries) → Keeps es fs → IsPartOf F es g p → IsPartOf F fs g p
   part_stays fs keeps part = record { is = part.is; entry = keeps (name_of g) p part.entry; seen = part.seen }
 
-  pub made_holds : IsNamed F g → p.fragment ≡ g → IsRecord F (tree_of g) p.seen → Holds F (name_of g) p
-  made_holds named is seen = (named ∙ ap (λ f. fact.Fragment f) (sym is), seen.hold)
+  pub made_holds : (n : List ℕ) (q : Kept) → n ≡ name_of g → p ≡ q → IsNamed F g → q.fragment ≡ g → IsRecord F (tree_of g) q.seen → Holds F n p
+  made_holds n q name same named is seen = rw (name, same) (named ∙ ap (λ f. fact.Fragment f) (sym is), seen.hold)
 
 -- ---- parts that are met
 
@@ -117,7 +121,7 @@ module _ (F : Facts) (es : Entries) (names : List (List ℕ)) (parts : List Kept
   pub was_met : (g : FragmentFact) → AllHold F es → IsNamed F g → list_any (bytes_eq (name_of g)) names ≡ true → Contains (members_of parts) g
   was_met g all named found =
       let m = Contains-map_from (λ (p : Kept). name_of p.fragment) parts (name_of g) (subst (λ l. Contains l (name_of g)) met.named (name_there names (name_of g) found)) in
-      let h = all (name_of m.0.fragment) m.0 (met.each m.0 m.1).entry in
+      let h = all.each (name_of m.0.fragment) m.0 (met.each m.0 m.1).entry in
       let e : m.0.fragment ≡ g = fragment_same m.0.fragment g (sym h.0 ∙ ap (λ n. F (key.FragmentOf n)) m.2 ∙ named) in
       subst (λ f. Contains (members_of parts) f) e (Contains-map (λ (p : Kept). p.fragment) parts m.0 m.1)
 
@@ -149,3 +153,18 @@ meets_one g p parts new is push = record {
   all = λ f e. subst (λ l. Contains (members_of l) f) (sym push)
       (subst (λ z. Contains (members_of (parts ++ p ∷ [])) z) (is ∙ sym e) (Contains-map (λ (q : Kept). q.fragment) (parts ++ p ∷ []) p (Contains-push parts p)));
 }
+
+-- each name is of a part
+pub met_count : (F : Facts) (es : Entries) (names : List (List ℕ)) (parts : List Kept) → AreMet F es names parts → length names ≡ length parts
+met_count F es names parts met = ap (λ (x : List (List ℕ)). length x) met.named ∙ counted parts where
+  counted : (ps : List Kept) → length (map (λ (p : Kept). name_of p.fragment) ps) ≡ length ps
+  counted [] = refl
+  counted (p ∷ ps) = let h = counted ps in omega (arith, h)
+
+-- what a record tells is met
+pub meets_told : (gs : List FragmentFact) (os : List Observation) (a b : List Kept) → Lists gs (IsTold os) → Meets (Contains gs) a b → Meets (IsTold os) a b
+meets_told gs os a b l m = meets_as (Contains gs) (IsTold os) a b l.sound l.complete m
+
+-- a part at a place
+pub here_at : (parts slice : List Kept) (i : ℕ) (found : Option (Bor Kept)) (p : Bor Kept) → slice ≡ parts → option_copied found ≡ slice_get slice i → found ≡ Some p → slice_get parts i ≡ Some p.now
+here_at parts slice i found p same is some = sym (ap option_copied (sym some) ∙ is ∙ ap (λ l. slice_get l i) same)

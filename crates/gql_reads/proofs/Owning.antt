@@ -1,6 +1,6 @@
 -- Own reads depend on themselves alone, and what a definition reads is its own reads and those of
 -- the fragments that it reaches.
-use Rattle.std.proofs.Common.{◌≡◌, ◌⊎◌, inl, inr, ℕ, List, sym, subst, Contains}
+use Rattle.std.proofs.Common.{◌≡◌, ◌⊎◌, inl, inr, sym, subst, Contains}
 use Rattle.gql_ast.specs.declared.definition.Definition.{Definition}
 use Rattle.gql_ast.specs.declared.definition.Tree.{Tree}
 use Rattle.gql_facts.specs.declared.fact.FragmentFact.{FragmentFact}

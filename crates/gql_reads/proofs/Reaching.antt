@@ -1,5 +1,5 @@
 -- A walk over the parts that are met: it reaches exactly what the definition reaches.
-use Rattle.std.proofs.Common.{◌≡◌, ◌⊎◌, inl, inr, ℕ, suc, ◌+◌, ◌-◌, ◌≤◌, ◌<◌, List, [], ◌∷◌, ◌++◌, Some, None, length, take, slice_get, map, flat_map, bytes_eq, ap, sym, subst, ◌∙◌, refl, arith, true, length-map, Contains}
+use Rattle.std.proofs.Common.{◌≡◌, inl, inr, ℕ, suc, ◌+◌, ◌-◌, ◌≤◌, ◌<◌, List, [], ◌∷◌, ◌++◌, Some, length, take, slice_get, bytes_eq, ap, sym, subst, ◌∙◌, arith, Contains}
 use Rattle.std.specs.List.{IsDistinct}
 use Rattle.std.specs.Cmp.{decided}
 use Rattle.std.proofs.lemmas.List.Elements.{Contains-append_left, Contains-append_right, Contains-append_cases, Contains-push_cases}
@@ -7,6 +7,7 @@ use Rattle.std.proofs.lemmas.Map.Made.{length-le_from_is_member}
 use Rattle.std.proofs.lemmas.Map.Views.{Contains-from_any, list_any-from_Contains}
 use Rattle.std.proofs.lemmas.Slice.Eq.{bytes_eq-Decides}
 use Rattle.gql_ast.specs.declared.definition.Definition.{Definition}
+use Rattle.gql_facts.specs.declared.fact.Fact.{Fact}
 use Rattle.gql_facts.specs.declared.fact.Fact.TheVariants as fact
 use Rattle.gql_facts.specs.declared.fact.FragmentFact.{FragmentFact}
 use Rattle.gql_facts.specs.declared.key.Key.{Key}
@@ -17,13 +18,13 @@ use Rattle.gql_facts.specs.Reads.{Reads, Reaches, by_definition, by_fragment}
 use Rattle.gql_facts.specs.Worlds.{Facts, IsWorld}
 use Rattle.gql_reads.specs.Observations.{Hold, keys_of}
 use Rattle.gql_reads.specs.Own.{Own, tree_of}
-use Rattle.gql_reads.specs.Reaching.{AreMet, IsNamed, IsPartOf, IsReaching, Meets}
+use Rattle.gql_reads.specs.Reaching.{AreMet, IsReaching, Meets}
 use Rattle.gql_reads.specs.Readings.{members_of, name_of, own_name, seen_in}
 use Rattle.gql_reads.specs.Records.{IsRecord, IsTold, Kept}
 use Rattle.gql_reads.specs.Tables.{AllHold, Entries, entry_at}
 use Rattle.gql_reads.specs.declared.observation.Observation.{Observation}
 use Rattle.gql_reads.proofs.Members.{Contains-map_from}
-use Rattle.gql_reads.proofs.Meeting.{met_stays}
+use Rattle.gql_reads.proofs.Meeting.{met_count, met_stays}
 use Rattle.gql_reads.proofs.Owning.{fragment_read, own_read, split}
 use Rattle.gql_reads.proofs.Recorded.{node_told, own_reached, part_reached, told_key}
 use Rattle.gql_reads.proofs.Takes.{all_taken, at_there, longer, member_at, take_next}
@@ -123,6 +124,9 @@ module _ (F : Facts) (names : List (List ℕ)) (world : IsWorld F names) (d : De
       complete = λ k r. elim (split F d r) [ inl o ↦ from_own k o | inr q ↦ from_part q.0 k q.1 q.2 ];
     }
 
+    abbrev observation_at : Key → Fact → Observation
+    observation_at k f = record { key = k; fact = f }
+
     -- what a part is of was told
     told_by : {g : FragmentFact} → Reaches F d g → IsTold all g
     told_by (by_definition {n} {g} c e) =
@@ -134,7 +138,8 @@ module _ (F : Facts) (names : List (List ℕ)) (world : IsWorld F names) (d : De
         (t.0, Contains-append_right own (seen_in parts) t.0 (Contains-flat_map (λ (q : Kept). q.seen) parts p.0 t.0 p.1 t.1), t.2)
 
     observed_so : (o : Observation) (k : Key) (g : FragmentFact) → o.key ≡ k → o.fact ≡ fact.Fragment g → o ≡ record { key = k; fact = fact.Fragment g }
-    observed_so o k g e f = cc (e, f)
+    observed_so o k g e f =
+        ap (λ (j : Key). observation_at j o.fact) e ∙ ap (λ (x : Fact). observation_at k x) f
 
     pub all_shared : (p : Kept) → Contains parts p → (entry_at es (name_of p.fragment) ≡ Some p) × Contains all (own_name p.fragment)
     all_shared p c =
@@ -148,10 +153,10 @@ module _ (F : Facts) (names : List (List ℕ)) (world : IsWorld F names) (d : De
       → length names - (at + 1) < length names - at
   fewer_left at es ns parts holds met distinct lt =
       let among : (n : List ℕ) → Contains ns n → Contains names n = λ n c.
-          let m = Contains-map_from (λ (p : Kept). name_of p.fragment) parts n (subst (λ l. Contains l n) met.named c) in
-          let h = holds (name_of m.0.fragment) m.0 (met.each m.0 m.1).entry in
-          subst (Contains names) m.2 (world.fragments (name_of m.0.fragment) (λ a. let b : fact.Fragment m.0.fragment ≡ fact.Absent = sym h.0 ∙ a in cc b)) in
+      let m = Contains-map_from (λ (p : Kept). name_of p.fragment) parts n (subst (λ l. Contains l n) met.named c) in
+      let h = holds.each (name_of m.0.fragment) m.0 (met.each m.0 m.1).entry in
+      subst (Contains names) m.2 (world.fragments (name_of m.0.fragment) (λ a. let b : fact.Fragment m.0.fragment ≡ fact.Absent = sym h.0 ∙ a in cc b)) in
       let b = length-le_from_is_member (decided bytes_eq bytes_eq-Decides) ns names distinct
-          (λ n c. list_any-from_Contains (decided bytes_eq bytes_eq-Decides) n names (among n (Contains-from_any (λ x y. (bytes_eq-Decides x y).0) n ns c))) in
-      let l : length ns ≡ length parts = ap (λ (x : List (List ℕ)). length x) met.named ∙ length-map (λ (p : Kept). name_of p.fragment) parts in
+      (λ n c. list_any-from_Contains (decided bytes_eq bytes_eq-Decides) n names (among n (Contains-from_any (λ x y. (bytes_eq-Decides x y).0) n ns c))) in
+      let l = met_count F es ns parts met in
       omega (arith, b, l, lt)

@@ -11,7 +11,7 @@ use Rattle.gql_facts.specs.declared.key.Key.TheVariants as key
 use Rattle.gql_facts.specs.ListMembers.{Contains-nil, Contains-here, Contains-cases, Contains-map}
 use Rattle.gql_facts.specs.Members.{Lists}
 use Rattle.gql_facts.specs.OwnReads.{tree_reads}
-use Rattle.gql_facts.specs.Reads.{Reads, Reaches}
+use Rattle.gql_facts.specs.Reads.{Reaches}
 use Rattle.gql_facts.specs.Walks.{member_in}
 use Rattle.gql_facts.specs.Worlds.{Answers, Facts, IsWorld}
 use Rattle.gql_facts.proofs.Walked.{reached}

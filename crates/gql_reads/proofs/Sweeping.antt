@@ -1,7 +1,7 @@
 -- Entries that do not hold are dropped; what is left tells which readings hold.
-use Rattle.std.proofs.Common.{◌≡◌, ◌⊎◌, inl, inr, ℕ, List, [], ◌∷◌, Bool, true, false, cond, not, bytes_eq, MatchBool, Option, Some, None, ap, sym, subst, ◌∙◌, refl, Contains, true≢false}
+use Rattle.std.proofs.Common.{◌≡◌, ◌⊎◌, inl, inr, ℕ, List, ◌∷◌, Bool, true, false, cond, not, bytes_eq, MatchBool, Some, None, ap, sym, subst, ◌∙◌, refl, Contains, true≢false}
 use Rattle.std.specs.List.{IsDistinct}
-use Rattle.std.specs.Map.{keys_of, lookup}
+use Rattle.std.specs.Map.{keys_of}
 use Rattle.std.specs.Cmp.{decided}
 use Rattle.std.proofs.lemmas.List.Elements.{Contains-append_left, Contains-append_right, Contains-append_cases}
 use Rattle.std.proofs.lemmas.Map.Entries.{lookup-filter-keys}
@@ -15,7 +15,7 @@ use Rattle.gql_reads.specs.Observations.{Hold, IsBroken}
 use Rattle.gql_reads.specs.Readings.{AreShared, flat, name_of, own_name, seen_in}
 use Rattle.gql_reads.specs.Records.{Kept}
 use Rattle.gql_reads.specs.Sweeps.{AreBroken, has_name, without}
-use Rattle.gql_reads.specs.Tables.{AllHold, Entries, Holds, IsEntryBroken, IsSwept, entry_at}
+use Rattle.gql_reads.specs.Tables.{Entries, Holds, IsEntryBroken, IsSwept, entry_at}
 use Rattle.gql_reads.specs.declared.reading.Reading.{Reading}
 use Rattle.gql_reads.proofs.Takes.{inserted_cases}
 
@@ -49,12 +49,14 @@ module _ (names : List (List ℕ)) (es new : Entries) (is : new ≡ without name
 
   pub swept : IsDistinct bytes_eq (keys_of es) → (facts : Facts) → AreBroken facts names es → IsSwept facts es new
   swept distinct facts b = record {
-    holds = λ n k c.
-        let w = was_there n k c in
-        elim (b.complete n k (Contains-from_lookup exact n k es w.0)) [
-          | inl m ↦ absurd (true≢false (sym (list_any-from_Contains (decided bytes_eq bytes_eq-Decides) n names m) ∙ w.1))
-          | inr h ↦ h
-        ];
+    holds = record {
+      each = λ n k c.
+          let w = was_there n k c in
+          elim (b.complete n k (Contains-from_lookup exact n k es w.0)) [
+            | inl m ↦ absurd (true≢false (sym (list_any-from_Contains (decided bytes_eq bytes_eq-Decides) n names m) ∙ w.1))
+            | inr h ↦ h
+          ];
+    };
     kept = λ n k c. elim (either (has_name names n)) [
       | inl t ↦
           let s = b.sound n (Contains-from_any exact n names t) in
@@ -121,7 +123,7 @@ module _ (F : Facts) (before after : Entries) (r : Reading) (shared : AreShared 
         let m = Contains-flat_map_from (λ (q : Kept). q.seen) r.parts.items o b in
         let k = all m.0 m.1 in
         let e : k.0 ≡ m.0 = some_same k.0 m.0 (sym (swept_by.was (name_of m.0.fragment) k.0 k.1) ∙ (shared m.0 m.1).0) in
-        (swept_by.holds (name_of m.0.fragment) k.0 k.1).1 o (subst (λ (x : Kept). Contains x.seen o) (sym e) m.2)
+        (swept_by.holds.each (name_of m.0.fragment) k.0 k.1).1 o (subst (λ (x : Kept). Contains x.seen o) (sym e) m.2)
   ]
 
   own_broken : IsBroken F r.own → IsBroken F (flat r)

@@ -1,10 +1,10 @@
 -- The first members of a list that grows at its end.
-use Rattle.std.proofs.Common.{◌≡◌, ◌⊎◌, inl, inr, ℕ, zero, suc, ◌+◌, ◌≤◌, ◌<◌, List, [], ◌∷◌, ◌++◌, Bool, true, false, Some, None, length, take, get_or, slice_get, ap, sym, subst, ◌∙◌, refl, arith, append-nil, length-append, Contains, if◌then◌else◌}
+use Rattle.std.proofs.Common.{◌≡◌, ◌⊎◌, inl, inr, ℕ, zero, suc, ◌+◌, ◌≤◌, ◌<◌, List, [], ◌∷◌, ◌++◌, Bool, Some, length, take, get_or, slice_get, ap, sym, subst, ◌∙◌, refl, arith, length-append, Contains, if◌then◌else◌}
 use Rattle.std.specs.List.{list_any}
 use Rattle.std.proofs.lemmas.List.{take_more}
 use Rattle.std.proofs.lemmas.List.Elements.{Contains-push_cases}
 use Rattle.indexmap.specs.IndexSet.{insert_key}
-use Rattle.gql_facts.specs.ListMembers.{Contains-nil, Contains-here, Contains-there, Contains-cases, either, some_same}
+use Rattle.gql_facts.specs.ListMembers.{Contains-here, Contains-there, either, some_same}
 
 module _ {A : Type 0} where
   pub take_next : (xs more : List A) (i : ℕ) (x : A) → slice_get xs i ≡ Some x → take (suc i) (xs ++ more) ≡ take i xs ++ x ∷ []

@@ -1,5 +1,5 @@
 -- What a definition reads by its own nodes, without the fragments that it spreads.
-use Rattle.std.specs.Prelude.{◌≡◌, ◌⊎◌, List, Contains, ℕ}
+use Rattle.std.specs.Prelude.{◌≡◌, List, Contains, ℕ}
 use Rattle.gql_ast.specs.declared.definition.Tree.{Tree}
 use Rattle.gql_ast.specs.declared.definition.Tree.TheVariants as tree
 use Rattle.gql_facts.specs.declared.fact.FragmentFact.{FragmentFact}

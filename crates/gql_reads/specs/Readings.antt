@@ -1,9 +1,6 @@
 -- What was observed of a definition: its own record, and one of each fragment that it reaches.
 use Rattle.std.specs.Prelude.{◌≡◌, ◌++◌, ℕ, List, Bool, MatchBool, Contains, Some, flat_map, map}
-use Rattle.gql_ast.specs.declared.definition.Definition.{Definition}
 use Rattle.gql_facts.specs.declared.fact.FragmentFact.{FragmentFact}
-use Rattle.gql_facts.specs.Members.{Lists}
-use Rattle.gql_facts.specs.Reads.{Reaches}
 use Rattle.gql_facts.specs.Worlds.{Facts}
 use Rattle.gql_facts.specs.declared.fact.Fact.TheVariants as fact
 use Rattle.gql_facts.specs.declared.key.Key.TheVariants as key

@@ -1,5 +1,5 @@
 -- A table of what was observed of fragments, each under its name.
-use Rattle.std.specs.Prelude.{◌≡◌, ◌⊎◌, ℕ, List, Option, Some, None, Contains, bytes_eq, false}
+use Rattle.std.specs.Prelude.{◌≡◌, ◌⊎◌, ℕ, List, Option, Some, bytes_eq}
 use Rattle.std.specs.Map.{lookup}
 use Rattle.gql_facts.specs.declared.fact.Fact.TheVariants as fact
 use Rattle.gql_facts.specs.declared.key.Key.TheVariants as key
@@ -25,8 +25,8 @@ IsEntryBroken facts n k =
     (facts (key.FragmentOf n) ≡ fact.Fragment k.fragment → ⊥) ⊎ IsBroken facts k.seen
 
 -- all entries hold
-abbrev pub AllHold : Facts → Entries → Type 0
-AllHold facts entries = (n : List ℕ) (k : Kept) → entry_at entries n ≡ Some k → Holds facts n k
+pub record AllHold (facts : Facts) (entries : Entries) : Type 0 where
+  pub each : (n : List ℕ) (k : Kept) → entry_at entries n ≡ Some k → Holds facts n k
 
 -- each entry is still there, as it was
 abbrev pub Keeps : Entries → Entries → Type 0

@@ -1,6 +1,7 @@
 //! What a definition reads, as handles of what was observed of it and of each fragment that it
 //! reaches.
 ghost use Rattle.std.specs.Prelude.{◌≡◌, IfOk, IfSome, OnOk, None, Contains, Some, slice_get};
+ghost use Rattle.std.specs.Option.{option_copied};
 ghost use Rattle.gql_facts.specs.Members.{Lists};
 ghost use Rattle.gql_facts.specs.Reads.{Reaches, Reads};
 ghost use Rattle.gql_facts.specs.declared.fact.FragmentFact.{FragmentFact as AFragment};
@@ -143,6 +144,13 @@ fn meet_all<W: World>(
     Ok(())
 }
 
+/// The part at an index.
+fn part_at(parts: &[Part], at: usize) -> Option<&Part>
+    ensures { option_copied result ≡ slice_get parts.now at }
+{
+    parts.get(at)
+}
+
 /// Adds the parts of the fragments that the part at an index spreads.
 fn visit<W: World>(
     alloc: Global,
@@ -163,11 +171,12 @@ fn visit<W: World>(
     ensures meets { OnOk result ((p : Kept) → slice_get met.old.parts.items at ≡ Some p
         → Meets (IsTold p.seen) met.old.parts.items met.new.parts.items) }
 {
-    let Some(part) = met.parts.get(at) else {
+    let Some(part) = part_at(met.parts.as_slice(), at) else {
         return Ok(());
     };
     let seen = part.seen().clone()?;
-    meet_all(alloc, world, table, seen.get().spreads(), met)
+    meet_all(alloc, world, table, seen.get().spreads(), met)?;
+    Ok(())
 }
 
 /// The record of a definition that is the fragment of its name: the one in the table.
@@ -256,7 +265,7 @@ pub fn reads_of<W: World>(
     };
     meet_all(alloc, world, table, own.get().spreads(), &mut met)?;
     let mut at = 0;
-    'walk: while at < met.parts.len() {
+    'walk: while at < met.names.len() {
         visit(alloc, world, table, at, &mut met)?;
         at += 1;
     }

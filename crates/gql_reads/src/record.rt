@@ -90,11 +90,7 @@ fn record_from(alloc: Global, answers: IndexMap<Key, Fact>) -> Result<Record, Al
 }
 
 /// What a world answers to exactly the own reads of a definition or fragment. Each is asked once.
-pub fn record_of<W: World>(
-    alloc: Global,
-    world: &mut W,
-    tree: &Tree,
-) -> Result<Record, AllocError>
+pub fn record_of<W: World>(alloc: Global, world: &mut W, tree: &Tree) -> Result<Record, AllocError>
     ensures facts { W.facts world.new ≡ W.facts world.old }
     ensures names { W.names world.new ≡ W.names world.old }
     ensures lent { W.lent world.new ≡ W.lent world.old }

@@ -31,7 +31,12 @@ fn note_directives<W: World>(
         ≡ add_keys (keys answers.old) (spec.directive_reads directives.now)) }
 {
     for directive in directives {
-        note(alloc, world, Key::DirectiveOf(directive.name.text.copy()?), answers)?;
+        note(
+            alloc,
+            world,
+            Key::DirectiveOf(directive.name.text.copy()?),
+            answers,
+        )?;
     }
     Ok(())
 }
@@ -252,7 +257,12 @@ fn note_spread<W: World>(
     ensures asked { OnOk result (keys answers.new
         ≡ add_keys (keys answers.old) (spec.spread_scan spread.now)) }
 {
-    note(alloc, world, Key::FragmentOf(spread.name.text.copy()?), answers)?;
+    note(
+        alloc,
+        world,
+        Key::FragmentOf(spread.name.text.copy()?),
+        answers,
+    )?;
     note_directives(alloc, world, spread.directives.as_slice(), answers)
 }
 
@@ -331,7 +341,13 @@ fn scan_operation<W: World>(
     let parent = enter(alloc, world, root, answers)?;
     note_directives(alloc, world, operation.directives.as_slice(), answers)?;
     note_variables(alloc, world, operation.variables.as_slice(), answers)?;
-    scan_set(alloc, world, &parent, operation.selections.as_slice(), answers)?;
+    scan_set(
+        alloc,
+        world,
+        &parent,
+        operation.selections.as_slice(),
+        answers,
+    )?;
     Ok(())
 }
 
@@ -352,7 +368,13 @@ fn scan_fragment<W: World>(
     let condition = Some(fragment.condition.text.copy()?);
     let parent = enter(alloc, world, condition, answers)?;
     note_directives(alloc, world, fragment.directives.as_slice(), answers)?;
-    scan_set(alloc, world, &parent, fragment.selections.as_slice(), answers)?;
+    scan_set(
+        alloc,
+        world,
+        &parent,
+        fragment.selections.as_slice(),
+        answers,
+    )?;
     Ok(())
 }
 

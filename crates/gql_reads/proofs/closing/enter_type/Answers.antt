@@ -1,4 +1,4 @@
-use Rattle.std.proofs.Common.{◌≡◌, ◌∙◌, sym, ap, rules, bytes_eq, true}
+use Rattle.std.proofs.Common.{◌≡◌, ◌∙◌, ap, rules, bytes_eq, true}
 use Rattle.std.specs.List.{list_any}
 use Rattle.indexmap.specs.IndexMap.{keys}
 use Rattle.indexmap.specs.IndexSet.{insert_key}

@@ -1,7 +1,6 @@
-use Rattle.std.proofs.Common.{◌≡◌, ◌∙◌, ◌≤◌, ◌<◌, [], arith, ap, subst, sym, length, slice_get, Some}
+use Rattle.std.proofs.Common.{◌≡◌, ◌∙◌, ◌<◌, [], arith, ap, subst, length, slice_get, Some}
 use Rattle.std.specs.Map.{keys_of}
 use Rattle.indexmap.specs.IndexMap.{keys}
-use Rattle.gql_facts.specs.ListMembers.{Contains-nil}
 use Rattle.gql_facts.specs.Scans.{add_keys}
 use Rattle.gql_facts.specs.Walks.{types_led_to}
 use Rattle.gql_facts.specs.Worlds.{Facts}

@@ -1,6 +1,5 @@
-use Rattle.std.proofs.Common.{◌≡◌, ◌⊎◌, ◌∙◌, inl, inr, ap, bytes_eq, subst, sym}
+use Rattle.std.proofs.Common.{◌∙◌, inl, ap, bytes_eq}
 use Rattle.indexmap.specs.IndexSet.{insert_key}
-use Rattle.gql_reads.specs.Tables.{IsEntryBroken}
 use Rattle.gql_reads.proofs.Sweeping.{broken_here, broken_name, if_false}
 use Rattle.gql_reads.proofs.holds.add_broken.Goals as goal
 

@@ -1,4 +1,4 @@
-use Rattle.std.proofs.Common.{◌≡◌, ◌∙◌, ap, sym, subst, rules}
+use Rattle.std.proofs.Common.{rules}
 use Rattle.gql_reads.specs.Own.{tree_of}
 use Rattle.gql_reads.specs.Records.{IsRecord}
 use Rattle.gql_reads.proofs.Recorded.{certified, same_certified}
