@@ -1,2 +1,11 @@
+pub mod Answered
+pub mod Entered
+pub mod Many
+pub mod Meeting
 pub mod Members
 pub mod Observed
+pub mod Owning
+pub mod Reaching
+pub mod Recorded
+pub mod Sweeping
+pub mod Takes

@@ -1,1 +1,8 @@
 pub mod Observations
+pub mod Own
+pub mod Records
+pub mod Tables
+pub mod Readings
+pub mod Closings
+pub mod Sweeps
+pub mod Reaching

@@ -1,6 +1,22 @@
-//! What was observed of a world: the keys that a definition reads, with the answers to them.
+//! What was observed of a world: the keys that a definition reads, with the answers to them. What
+//! was observed of a fragment alone is kept once, and shared by all that reach the fragment.
 #![tactic(auto)]
 
+mod asking;
+mod closing;
+mod holds;
+pub mod laws;
 mod observation;
+mod part;
+mod reading;
+mod record;
+mod retest;
+mod scan;
+mod table;
 
 pub use observation::{Observation, observe};
+pub use part::Part;
+pub use reading::{Reading, reads_of};
+pub use record::Record;
+pub use retest::{still_holds, sweep, which_hold};
+pub use table::ReadTable;

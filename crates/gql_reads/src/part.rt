@@ -1,0 +1,102 @@
+//! A fragment, with what was observed of it alone.
+ghost use Rattle.std.specs.Prelude.{◌≡◌, IfOk};
+ghost use Rattle.gql_reads.specs.Own.{tree_of};
+ghost use Rattle.gql_reads.specs.Readings.{name_of};
+ghost use Rattle.gql_reads.specs.Records.{IsCertified, IsRecord};
+
+use crate::record::{Record, record_of};
+use gql_ast::{Shared, Text, Tree};
+use gql_facts::{FragmentFact, World};
+use std::alloc::{AllocError, Global};
+use std::marker::Model;
+
+/// A fragment, and the answers to its own reads. Wherever a world gives these answers, they are
+/// those to exactly its own reads there. Copies share both.
+pub struct Part {
+    fragment: FragmentFact,
+    seen: Shared<Record>,
+}
+
+impl Drop for Part {
+    fn drop(self) {
+        let Part {
+            fragment: _,
+            seen: _,
+        } = self;
+    }
+}
+
+impl Model for Part {
+    ghost use Rattle.std.specs.Coded.{codes};
+    ghost use Rattle.gql_facts.specs.contracts.fact.Fact as fact;
+    ghost use Rattle.gql_facts.specs.contracts.fact.FragmentFact as fragment_fact;
+    ghost use Rattle.gql_facts.specs.contracts.key.Key as key;
+    ghost use Rattle.gql_reads.specs.Records.{IsCertified, Kept};
+
+    ghost Value = { Kept };
+
+    ghost coded = { Prim.hlevel (
+      codes,
+      fragment_fact.the_row.coded,
+      key.the_row.coded,
+      fact.the_row.coded,
+    ) };
+
+    ghost view = { λ p. record { fragment = p.fragment; seen = p.seen } };
+
+    ghost invariant = { λ p. IsCertified p.fragment p.seen };
+}
+
+impl Part {
+    /// The fragment.
+    pub fn fragment(&self) -> &FragmentFact
+        ensures { result.now ≡ self.now.fragment }
+    {
+        &self.fragment
+    }
+
+    /// The name of the fragment.
+    pub fn name(&self) -> &Text
+        ensures { result.now ≡ name_of self.now.fragment }
+    {
+        &self.fragment.fragment.get().name.text
+    }
+
+    /// What was observed of the fragment alone.
+    pub fn seen(&self) -> &Shared<Record>
+        ensures value { result.now ≡ self.now.seen }
+        ensures certificate { IsCertified self.now.fragment result.now }
+    {
+        &self.seen
+    }
+
+    /// An equal part, which shares what this one has.
+    pub fn copy(&self) -> Result<Part, AllocError>
+        ensures { IfOk result (λ part. part ≡ self.now) }
+    {
+        Ok(Part {
+            fragment: self.fragment.copy()?,
+            seen: self.seen.clone()?,
+        })
+    }
+}
+
+/// Walks a fragment alone.
+pub fn walk_fragment<W: World>(
+    alloc: Global,
+    world: &mut W,
+    fragment: &FragmentFact,
+) -> Result<Part, AllocError>
+    ensures facts { W.facts world.new ≡ W.facts world.old }
+    ensures names { W.names world.new ≡ W.names world.old }
+    ensures lent { W.lent world.new ≡ W.lent world.old }
+    ensures fragment { IfOk result (λ part. part.fragment ≡ fragment.now) }
+    ensures seen { IfOk result (λ part.
+        IsRecord (W.facts world.old) (tree_of fragment.now) part.seen) }
+{
+    let tree = Tree::Fragment(fragment.fragment.clone()?);
+    let seen = record_of(alloc, world, &tree)?;
+    let seen = Shared::new(alloc, seen)?;
+    let fragment = fragment.copy()?;
+    Ok(Part { fragment, seen })
+}
