@@ -74,7 +74,7 @@ behaves_above bound s _ a _ _ _ does_nothing below d above = refl
 behaves_above bound s t a b (e ∷ events) (out ∷ outs) (does_first {t = u} {between} first rest) below d above =
     behaves_above bound u t between b events outs rest below.1 d above
     ∙ does_others s u a between e out d first
-        (let h = below.0 in let apart : d ≢ connection_of e = λ same. omega (arith, same, h, above) in apart)
+    (let h = below.0 in let apart : d ≢ connection_of e = λ same. omega (arith, same, h, above) in apart)
 
 pub goes_above : (bound : ℕ) (x y : Hub) → Goes bound x y → (d : ℕ) → bound ≤ d
     → rests_of y d ≡ rests_of x d

@@ -95,7 +95,9 @@ fn part_length(bytes: &[u8]) -> usize
     requires { 0 < length bytes.now }
     ensures { (0 < result) × (result ≤ length bytes.now) }
 {
-    let end = bytes.windows(4).position(|window| *window == *b"\r\n\r\n".as_slice());
+    let end = bytes
+        .windows(4)
+        .position(|window| *window == *b"\r\n\r\n".as_slice());
     match end {
         Some(at) => at + 4,
         None => bytes.len(),

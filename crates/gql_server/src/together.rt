@@ -61,7 +61,13 @@ impl Queue {
 
 /// The seat of a stream that was accepted, which is watched from now on. None if the system refuses
 /// that, or an allocation fails.
-fn seat_of(alloc: Global, poll: &Poll, number: u8, stream: TcpStream, now: Instant) -> Option<Seat> {
+fn seat_of(
+    alloc: Global,
+    poll: &Poll,
+    number: u8,
+    stream: TcpStream,
+    now: Instant,
+) -> Option<Seat> {
     let mut stream = stream;
     let both = Interest::READABLE | Interest::WRITABLE;
     let token = Token(usize::from(number));
@@ -244,7 +250,9 @@ fn serve_all<R: Clock>(
         let Ok(now) = Instant::now(rt) else {
             return Err(ServeFault::WaitFailed);
         };
-        round(alloc, poll, listener, hub, at_once, &mut seats, &mut queue, now)?;
+        round(
+            alloc, poll, listener, hub, at_once, &mut seats, &mut queue, now,
+        )?;
         if queue.left == 0 && seats.iter().all(|seat| seat.is_none()) {
             return Ok(());
         }
@@ -316,10 +324,22 @@ fn serve_with<R: Net + Clock>(
     let Ok(mut events) = Events::with_capacity(alloc, EVENTS) else {
         return Err(ServeFault::Memory);
     };
-    let Ok(()) = poll.registry().register(listener, LISTENER, Interest::READABLE) else {
+    let Ok(()) = poll
+        .registry()
+        .register(listener, LISTENER, Interest::READABLE)
+    else {
         return Err(ServeFault::WaitFailed);
     };
-    let served = serve_all(rt, alloc, &mut poll, &mut events, listener, hub, connections, at_once);
+    let served = serve_all(
+        rt,
+        alloc,
+        &mut poll,
+        &mut events,
+        listener,
+        hub,
+        connections,
+        at_once,
+    );
     let _ = poll.registry().deregister(listener);
     served
 }

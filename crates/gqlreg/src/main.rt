@@ -1,6 +1,7 @@
 //! `gqlreg pipe` answers the requests of standard input on standard output, `gqlreg serve` those of
 //! connections.
 #![tactic(auto)]
+
 ghost use Rattle.std.specs.Prelude.{◌≡◌, ◌≤◌, None};
 ghost use Rattle.gql_http.specs.Hubs.{rests_of};
 ghost use Rattle.gql_server.specs.Together.{AreClosed};
@@ -130,11 +131,13 @@ fn main(rt: HostRuntime) -> ExitCode {
     };
     ExitCode::from(match read_command(rt.alloc(), words.as_slice()) {
         Ok(Command::Pipe) => run_pipe(&rt),
-        Ok(Command::Serve {
-            port,
-            connections,
-            at_once,
-        }) => run_serve(&rt, port, connections, at_once),
+        Ok(
+            Command::Serve {
+                port,
+                connections,
+                at_once,
+            },
+        ) => run_serve(&rt, port, connections, at_once),
         Err(fault) => report_fault(&rt, fault),
     })
 }

@@ -16,11 +16,13 @@ pub fn command_answer(alloc: Global, line: &str) -> Option<String> {
     let words = words_in(alloc, line).ok()?;
     let answer = match read_command(alloc, words.as_slice()) {
         Ok(Command::Pipe) => "pipe",
-        Ok(Command::Serve {
-            port,
-            connections,
-            at_once,
-        }) => {
+        Ok(
+            Command::Serve {
+                port,
+                connections,
+                at_once,
+            },
+        ) => {
             return format!(in alloc; "serve {port} {connections} {at_once}").ok();
         }
         Err(CommandFault::Help(_)) => "help",

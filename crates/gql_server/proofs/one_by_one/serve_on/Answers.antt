@@ -5,10 +5,10 @@ use Rattle.gql_server.proofs.one_by_one.serve_on.Goals as goal
 
 pub loop-connection-init : goal.loop-connection-init
 loop-connection-init g c = (
-      refl,
-      c.requires.none_out,
-      ([], [], adds_none _ _ refl, adds_none _ _ refl, no_peers, refl),
-    )
+  refl,
+  c.requires.none_out,
+  ([], [], adds_none _ _ refl, adds_none _ _ refl, no_peers, refl),
+)
 
 pub serve_one-requires : goal.serve_one-requires
 serve_one-requires g c = record {
