@@ -1,0 +1,5 @@
+pub mod Editing
+pub mod Merging
+pub mod Noting
+pub mod Reading
+pub mod Splitting
