@@ -1,15 +1,18 @@
 -- The index after an edit.
-use Rattle.std.proofs.Common.{◌≡◌, ◌≢◌, ◌⊎◌, inl, inr, List, [], ◌∷◌, Bool, true, false, cond, Option, Some, None, refl, ap, sym, subst, ◌∙◌, Contains}
+use Rattle.std.proofs.Common.{◌≡◌, ◌≢◌, ◌⊎◌, inl, inr, List, [], ◌∷◌, Bool, true, false, cond, Option, Some, None, refl, ap, sym, subst, ◌∙◌, Contains, get_or, arith}
 use Rattle.std.specs.BTreeMap.{is_at}
 use Rattle.std.specs.List.{AllPairs}
-use Rattle.std.specs.Map.{lookup}
+use Rattle.std.specs.List.Sorted.{IsStrictlySortedBy}
+use Rattle.std.specs.Map.{keys_of, lookup}
 use Rattle.std.specs.Option.{option_map_or}
 use Rattle.std.specs.Ordering.{is_eq, ordering_reverse}
 use Rattle.std.specs.declared.cmp.Ordering.{Ordering}
 use Rattle.std.specs.declared.cmp.Ordering.TheVariants.{Less, Equal, Greater}
 use Rattle.std.proofs.lemmas.Cmp.{tied_itself}
+use Rattle.std.proofs.lemmas.List.Elements.{All-contains, All-from_recursion, Contains-get_or}
+use Rattle.std.proofs.lemmas.List.Kept.{AllPairs-cons}
 use Rattle.gql_ast.specs.declared.definition.DefinitionId.{DefinitionId}
-use Rattle.gql_facts.specs.ListMembers.{Contains-nil, Contains-here, Contains-there, Contains-cases}
+use Rattle.gql_facts.specs.ListMembers.{Contains-nil, Contains-here, Contains-there, Contains-cases, Contains-map}
 use Rattle.gql_facts.specs.Worlds.{Facts}
 use Rattle.gql_facts.specs.declared.fact.Fact.{Fact}
 use Rattle.gql_facts.specs.declared.key.Key.{Key}
@@ -17,11 +20,11 @@ use Rattle.gql_reads.specs.declared.observation.Observation.{Observation}
 use Rattle.gql_readers.specs.Changes.{AreNotes, IsEdit, Noted, Notes, comes_in, goes_in}
 use Rattle.gql_readers.specs.Indexes.{IsIndexOf, Reading}
 use Rattle.gql_readers.specs.Merged.{changed_key, edited, entry_if, fact_after, fact_by, here, index_after, key_of, made, readers_after, readers_found}
-use Rattle.gql_readers.specs.Orders.{key_order}
+use Rattle.gql_readers.specs.Orders.{AreInOrder, key_order}
 use Rattle.gql_readers.specs.Readers.{Reader, observes, readers_of}
 use Rattle.gql_readers.proofs.Merging.{about, here_from, here_has, merged_from, merged_keeps, merged_makes, merged_rises, not_less, pairs_head, pairs_none, pairs_one, pairs_tail}
 use Rattle.gql_readers.specs.OrderLaws.{key_exact, key_total}
-use Rattle.gql_readers.proofs.Reading.{edited_readers, none_reads, observes_from, observes_has, reads_has, same_readers}
+use Rattle.gql_readers.proofs.Reading.{edited_readers, none_reads, observes_from, observes_has, reads_has, reads_in_order, same_readers}
 
 -- ---- what is noted of a key
 
@@ -191,3 +194,19 @@ module _ (F : Facts) (es : List Reading) (notes : Notes) (old going coming new :
           (f.0, merged_keeps key_order key_total key_exact key_of changed_key made es notes f.0 f.1 (λ c h q. lacks c h (sym q ∙ f.2)), f.2, f.3)
     ];
   }
+
+  -- what goes from a key, and who read it, are in order
+  pub goes_in_order : (c : Key × Noted) → Contains notes c → AreInOrder c.1.goes
+  goes_in_order c m = subst (λ ids. AreInOrder ids) (sym (goes_are c m)) (reads_in_order c.0 going edit.going_order)
+
+  pub found_in_order : (found : List Reading) → ((e : Reading) → Contains found e → Contains es e) → AreInOrder (readers_found found)
+  found_in_order [] from = λ i j d lt within. absurd (omega (arith, lt, within))
+  found_in_order (e ∷ rest) from = subst (λ ids. AreInOrder ids) (sym (index.exact e (from e (Contains-here e rest)))) (reads_in_order e.key old edit.old_order)
+
+-- keys that rise in a map are noted in order
+pub sorted_notes : (notes : Notes) → IsStrictlySortedBy key_order (keys_of notes) → AreSorted notes
+unfolding IsStrictlySortedBy
+sorted_notes [] up = pairs_none (λ (c d : Key × Noted). key_order c.0 d.0 ≡ Less)
+sorted_notes (c ∷ cs) up = AllPairs-cons (λ (a b : Key × Noted). key_order a.0 b.0 ≡ Less) c cs
+    (λ i d l. All-contains (λ k. key_order c.0 k ≡ Less) (keys_of cs) (get_or cs i d).0 (All-from_recursion (λ k. key_order c.0 k ≡ Less) (keys_of cs) up.0) (Contains-map (λ (x : Key × Noted). x.0) cs (get_or cs i d) (Contains-get_or cs i d l)))
+    (sorted_notes cs up.1)

@@ -1,4 +1,5 @@
 pub mod Editing
+pub mod Found
 pub mod Merging
 pub mod Noting
 pub mod Reading

@@ -14,20 +14,11 @@ use std::collections::BTreeMap;
 use std::marker::Model;
 
 /// Of one key: the answer, the readers that come, and those that go, in file order.
-pub(crate) struct Noted {
+#[derive(Drop)]
+pub struct Noted {
     pub(crate) fact: Fact,
     pub(crate) comes: Vec<DefinitionId>,
     pub(crate) goes: Vec<DefinitionId>,
-}
-
-impl Drop for Noted {
-    fn drop(self) {
-        let Noted {
-            fact: _,
-            comes: _,
-            goes: _,
-        } = self;
-    }
 }
 
 impl Model for Noted {
@@ -94,14 +85,9 @@ impl Noted {
 }
 
 /// Which readers of each key come, and which go.
+#[derive(Drop)]
 pub struct Changes {
     pub(crate) notes: BTreeMap<OrderedKey, Noted>,
-}
-
-impl Drop for Changes {
-    fn drop(self) {
-        let Changes { notes: _ } = self;
-    }
 }
 
 impl Model for Changes {

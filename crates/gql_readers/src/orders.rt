@@ -76,14 +76,9 @@ pub fn id_order(id: &DefinitionId, other: &DefinitionId) -> Ordering
 }
 
 /// A key, ordered. Contracts see the key.
+#[derive(Drop)]
 pub struct OrderedKey {
     pub key: Key,
-}
-
-impl Drop for OrderedKey {
-    fn drop(self) {
-        let OrderedKey { key: _ } = self;
-    }
 }
 
 impl Model for OrderedKey {
