@@ -77,12 +77,12 @@ none_reads k rs lacks = none (readers_of k rs) (λ id c. let r = reads_from k rs
 
 -- ---- order
 
-pairs_map_from : {A B : Type 0} (R : B → B → Type 0) (f : A → B) (xs : List A) → AllPairs R (map f xs) → AllPairs (λ x y. R (f x) (f y)) xs
+pub pairs_map_from : {A B : Type 0} (R : B → B → Type 0) (f : A → B) (xs : List A) → AllPairs R (map f xs) → AllPairs (λ x y. R (f x) (f y)) xs
 pairs_map_from R f [] all = pairs_none (λ x y. R (f x) (f y))
 pairs_map_from R f (x ∷ xs) all = AllPairs-cons (λ y z. R (f y) (f z)) x xs (λ i d l. pairs_head R (f x) (map f xs) all (f (get_or xs i d)) (Contains-map f xs (get_or xs i d) (Contains-get_or xs i d l)))
     (pairs_map_from R f xs (pairs_tail R (f x) (map f xs) all))
 
-pairs_map_to : {A B : Type 0} (R : B → B → Type 0) (f : A → B) (xs : List A) → AllPairs (λ x y. R (f x) (f y)) xs → AllPairs R (map f xs)
+pub pairs_map_to : {A B : Type 0} (R : B → B → Type 0) (f : A → B) (xs : List A) → AllPairs (λ x y. R (f x) (f y)) xs → AllPairs R (map f xs)
 pairs_map_to R f [] all = pairs_none R
 pairs_map_to R f (x ∷ xs) all = AllPairs-cons R (f x) (map f xs)
     (λ i d l. let m = Contains-map_from f xs (get_or (map f xs) i d) (Contains-get_or (map f xs) i d l) in subst (λ z. R (f x) z) m.2 (pairs_head (λ y z. R (f y) (f z)) x xs all m.0 m.1))
