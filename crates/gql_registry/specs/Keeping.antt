@@ -17,12 +17,11 @@ use Rattle.gql_registry.specs.declared.report.SchemaSide.{SchemaSide}
 use Rattle.gql_types.specs.Schemas.{schema_of}
 use Rattle.gql_verdict.specs.Definitions.{all_definitions}
 use Rattle.gql_verdict.specs.FileOrder.{AreFilesPlaced}
-use Rattle.gql_verdict.specs.Plans.{IsPlanned}
+use Rattle.gql_verdict.specs.Plans.{IsPlanned, Preparation}
 use Rattle.gql_verdict.specs.Shelves.{IsCurrent, IsWork, IsFaultOfAny}
 use Rattle.gql_verdict.specs.TouchedFacts.{IsKnown}
 use Rattle.gql_verdict.specs.Verdicts.{Judgement}
 use Rattle.gql_verdict.specs.declared.touched.Touched.{Touched}
-use Rattle.gql_verdict.specs.declared.slot.Slot.{Slot}
 
 -- files, and the verdicts that are kept
 pub record Keeping : Type 0 where
@@ -50,7 +49,7 @@ abbrev pub IsDefinitionFault : Files → Fault → Type 0
 IsDefinitionFault files = IsFaultOfAny (fact_of files) (all_definitions files.documents)
 
 -- steps that make the shelf one of these files
-abbrev pub IsPlanFor : Files → List Judgement → List Slot → Type 0
+abbrev pub IsPlanFor : Files → List Judgement → Preparation → Type 0
 IsPlanFor files = IsPlanned (fact_of files) (all_definitions files.documents)
 
 -- these are the facts of the schema of the files

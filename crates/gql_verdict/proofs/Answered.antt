@@ -11,8 +11,8 @@ use Rattle.gql_facts.specs.Worlds.{Facts}
 use Rattle.gql_verdict.specs.Faults.{IsFaultIn}
 use Rattle.gql_verdict.specs.FileOrder.{InFileOrder}
 use Rattle.gql_verdict.specs.Shelves.{IsCurrent, Answers, IsFaultOfAny, IsVerdictAt, defs}
-use Rattle.gql_verdict.specs.Plans.{IsAt, IsPlanned}
-use Rattle.gql_verdict.specs.Slots.{verdicts, IsInOrder, resolve, slot_faults, IsSlotCertified}
+use Rattle.gql_verdict.specs.Plans.{IsPlanned, Preparation}
+use Rattle.gql_verdict.specs.Slots.{IsAt, verdicts, IsInOrder, resolve, slot_faults, IsSlotCertified}
 use Rattle.gql_verdict.specs.Verdicts.{Judgement, IsCertificate}
 use Rattle.gql_verdict.specs.declared.slot.Slot.{Slot}
 use Rattle.gql_verdict.specs.declared.slot.Slot.TheVariants.{Here, At}
@@ -78,10 +78,10 @@ all_faults vs found e certified facts definitions current = rw e (record {
 })
 
 -- so are those of a shelf that is prepared
-pub planned_faults : (facts : Facts) (definitions : List Definition) (shelf : List Judgement) (prepared : List Slot) → IsPlanned facts definitions shelf prepared
-    → (kept : List Slot) → kept ≡ map Here shelf → (found : List Fault) → found ≡ flat_map slot_faults (map (resolve kept) prepared)
-    → ((s : Slot) → Contains (map (resolve kept) prepared) s → IsSlotCertified s) → Lists found (IsFaultOfAny facts definitions)
+pub planned_faults : (facts : Facts) (definitions : List Definition) (shelf : List Judgement) (prepared : Preparation) → IsPlanned facts definitions shelf prepared
+    → (kept : List Slot) → kept ≡ map Here shelf → (found : List Fault) → found ≡ flat_map slot_faults (map (resolve kept) prepared.steps)
+    → ((s : Slot) → Contains (map (resolve kept) prepared.steps) s → IsSlotCertified s) → Lists found (IsFaultOfAny facts definitions)
 planned_faults facts definitions shelf prepared planned kept is found e certified =
-    let slots = map (resolve kept) prepared in
+    let slots = map (resolve kept) prepared.steps in
     all_faults (verdicts slots) found (e ∙ slots_faults slots) (slots_certified slots certified) facts definitions
     (served_current facts definitions slots (planned_served facts definitions shelf prepared planned kept is))

@@ -4,6 +4,8 @@ pub mod Certified
 pub mod Edited
 pub mod FileLists
 pub mod Filled
+pub mod LedTo
+pub mod Marking
 pub mod Ordered
 pub mod Picked
 pub mod Refreshed

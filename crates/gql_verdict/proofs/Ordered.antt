@@ -17,8 +17,7 @@ use Rattle.gql_ast.specs.declared.definition.Definition.{Definition}
 use Rattle.gql_ast.specs.declared.definition.DefinitionId.{DefinitionId}
 use Rattle.gql_verdict.specs.FileOrder.{InFileOrder, IsBefore, id_order}
 use Rattle.gql_verdict.specs.Shelves.{defs}
-use Rattle.gql_verdict.specs.Plans.{IsAt}
-use Rattle.gql_verdict.specs.Slots.{verdicts, HasId, IsInOrder, IsFound, slot_order}
+use Rattle.gql_verdict.specs.Slots.{IsAt, verdicts, HasId, IsInOrder, IsFound, slot_order}
 use Rattle.gql_verdict.specs.Verdicts.{Judgement}
 use Rattle.gql_verdict.specs.declared.slot.Slot.{Slot}
 use Rattle.gql_verdict.specs.declared.slot.Slot.TheVariants.{Here, At}
@@ -67,7 +66,7 @@ same_definition ds up i j d e li lj di ej p = elim (order_of i j) [
 ]
 
 -- a verdict is where its definition is
-def_at : (vs : List Judgement) (k : ℕ) (v : Judgement) → k < length vs → get_or vs k v ≡ v → get_or (defs vs) k v.def ≡ v.def
+pub def_at : (vs : List Judgement) (k : ℕ) (v : Judgement) → k < length vs → get_or vs k v ≡ v → get_or (defs vs) k v.def ≡ v.def
 def_at vs k v l e = get_or-map (λ (v : Judgement). v.def) vs k v v.def l ∙ ap (λ (v : Judgement). v.def) e
 
 -- two verdicts on one definition are one

@@ -9,7 +9,7 @@ use Rattle.gql_reads.specs.Observations.{Hold}
 use Rattle.gql_verdict.specs.Verdicts.{Judgement}
 use Rattle.gql_verdict.specs.Shelves.{IsCurrent, Serves, defs}
 use Rattle.gql_verdict.specs.FileOrder.{InFileOrder}
-use Rattle.gql_verdict.specs.Plans.{IsPlanned, IsStep}
+use Rattle.gql_verdict.specs.Plans.{IsPlanned, IsStep, Preparation}
 use Rattle.gql_verdict.specs.Slots.{verdicts, resolve, IsInOrder, IsApart}
 use Rattle.gql_verdict.specs.declared.slot.Slot.{Slot}
 use Rattle.gql_verdict.specs.declared.slot.Slot.TheVariants.{Here, At}
@@ -48,7 +48,7 @@ served_more F d v ds slots s all = record {
   holds = λ w c. elim (Contains-cases w v (verdicts slots) c) [ inl e ↦ subst (λ (z : Judgement). Hold F z.observations) (sym e) s.holds | inr t ↦ all.holds w t ];
 }
 
-resolved : (F : Facts) (kept : List Slot) (d : Definition) (s : Slot) → IsStep F kept d s → (v : Judgement) × (resolve kept s ≡ Here v) × Serves F d v
+pub resolved : (F : Facts) (kept : List Slot) (d : Definition) (s : Slot) → IsStep F kept d s → (v : Judgement) × (resolve kept s ≡ Here v) × Serves F d v
 resolved F kept d (Here v) h = (v, refl, h)
 resolved F kept d (At j) h = (h.0, h.1.is (At j), h.2)
 
@@ -68,9 +68,9 @@ served_current F ds slots s = record { each = s.each; holds = s.holds }
 
 -- what is prepared for a shelf fetches no verdict twice, and serves the definitions once all are
 -- fetched
-module _ (F : Facts) (ds : List Definition) (shelf : List Judgement) (prepared : List Slot) (planned : IsPlanned F ds shelf prepared) where
-  pub planned_apart : IsApart prepared
-  planned_apart = steps_apart F (map Here shelf) ds prepared planned.order planned.steps
+module _ (F : Facts) (ds : List Definition) (shelf : List Judgement) (prepared : Preparation) (planned : IsPlanned F ds shelf prepared) where
+  pub planned_apart : IsApart prepared.steps
+  planned_apart = steps_apart F (map Here shelf) ds prepared.steps planned.order planned.steps
 
-  pub planned_served : (kept : List Slot) → kept ≡ map Here shelf → IsServed F ds (map (resolve kept) prepared)
-  planned_served kept is = rw is (served F (map Here shelf) ds prepared planned.steps)
+  pub planned_served : (kept : List Slot) → kept ≡ map Here shelf → IsServed F ds (map (resolve kept) prepared.steps)
+  planned_served kept is = rw is (served F (map Here shelf) ds prepared.steps planned.steps)

@@ -13,11 +13,11 @@ use Rattle.gql_facts.specs.ListMembers.{Contains-nil, Contains-here, Contains-ca
 use Rattle.gql_reads.specs.Observations.{Hold, IsBroken}
 use Rattle.gql_verdict.specs.Verdicts.{Judgement}
 use Rattle.gql_verdict.specs.Shelves.{IsDue, Picks, pick_none, skip, pick, IsDueWork, IsStepWork}
-use Rattle.gql_verdict.specs.TouchedFacts.{touches, touches_definition, HoldWhere, IsKnown}
+use Rattle.gql_verdict.specs.TouchedFacts.{touches, touches_definition, HoldWhere, IsKnown, IsOtherKept}
 use Rattle.gql_verdict.specs.declared.touched.Touched.{Touched}
 use Rattle.gql_verdict.specs.declared.touched.Touched.TheVariants.{All, File}
-use Rattle.gql_verdict.specs.Plans.{IsAt, IsStep}
-use Rattle.gql_verdict.specs.Slots.{verdicts, IsInOrder, IsFound}
+use Rattle.gql_verdict.specs.Plans.{IsStep}
+use Rattle.gql_verdict.specs.Slots.{IsAt, verdicts, IsInOrder, IsFound}
 use Rattle.gql_verdict.specs.declared.slot.Slot.{Slot}
 use Rattle.gql_verdict.specs.declared.slot.Slot.TheVariants.{Here, At}
 use Rattle.gql_reads.proofs.Members.{Contains-map_from}
@@ -56,16 +56,8 @@ zip_push R (a ∷ us) (b ∷ bs) x y h r = (h.0, zip_push R us bs x y h.1 r)
 pub zip_more : {A B : Type 0} (R : A → B → Type 0) (xs : List A) (ys zs : List B) (i : ℕ) (x : A) (y : B) → i < length xs → x ≡ get_or xs i x → AllZip R (take i xs) ys → R x y → zs ≡ ys ++ y ∷ [] → AllZip R (take (i + 1) xs) zs
 zip_more R xs ys zs i x y lt is h r e = subst (λ ws. AllZip R ws zs) (sym (take_next xs i x lt is)) (subst (λ ws. AllZip R (take i xs ++ x ∷ []) ws) (sym e) (zip_push R (take i xs) ys x y h r))
 
--- an observation that was read differently
-pub broken_at : (F : Facts) (os : List Observation) (i : ℕ) (o : Observation) → i < length os → o ≡ get_or os i o → (F o.key ≡ o.fact → ⊥) → IsBroken F os
-broken_at F os i o lt is bad = (o, (i, lt, sym is), bad)
-
 pub differs : (b : Bool) → b ≡ true → b ≡ false → ⊥
 differs b t f = cc
-
--- what was read is not what was observed
-pub not_same : (F : Facts) (G : Facts) (o : Observation) (f : Fact) (b : Bool) → G ≡ F → f ≡ G o.key → (IsTrue b ↔ (f ≡ o.fact)) → b ≡ false → F o.key ≡ o.fact → ⊥
-not_same F G o f b e told same n h = differs b (same.1 (told ∙ (ap (λ (H : Facts). H o.key) e ∙ h))) n
 
 -- all that was observed holds, where it holds in what the edit may have changed
 pub holds_all : (F : Facts) (ds : List Definition) (kept : List Judgement) (t : Touched) → IsKnown F ds kept t → (v : Judgement) → Contains kept v → HoldWhere F t v.observations → Hold F v.observations
@@ -85,13 +77,17 @@ known_of_one F ds d kept (File edit) c known = (
 )
 
 -- the verdict on a definition of its name is on a definition that is not touched
-pub same_if_untouched : (F : Facts) (slots : List Slot) → IsInOrder slots → (t : Touched) (d : Definition) → IsKnown F (d ∷ []) (verdicts slots) t
+pub same_if_untouched : (slots : List Slot) → IsInOrder slots → (t : Touched) (d : Definition) → IsOtherKept d (verdicts slots) t
     → (j : ℕ) (v w : Judgement) → IsAt slots j v → v ≡ w → id_of v.def ≡ id_of d → touches_definition t d ≡ false → w.def ≡ d
-same_if_untouched F slots o All d known j v w at e p u = absurd (differs true refl u)
-same_if_untouched F slots o (File edit) d known j v w at e p u =
-    let m = Contains-map_from (λ (x : Judgement). x.def) (verdicts slots) d (known.0 d (Contains-here d []) u) in
+same_if_untouched slots o t d others j v w at e p u =
+    let m = Contains-map_from (λ (x : Judgement). x.def) (verdicts slots) d (others u) in
     let q : m.0 ≡ v = same_verdict (verdicts slots) o.order m.0 v m.1 (kept_at slots o j v at) (ap id_of m.2 ∙ sym p) in
     ap (λ (x : Judgement). x.def) (sym (q ∙ e)) ∙ m.2
+
+-- what is known of an edit that touches this definition alone
+pub other_kept : (F : Facts) (d : Definition) (kept : List Judgement) (t : Touched) → IsKnown F (d ∷ []) kept t → IsOtherKept d kept t
+other_kept F d kept All known u = absurd (differs true refl u)
+other_kept F d kept (File edit) known u = known.0 d (Contains-here d []) u
 
 -- nothing was found for d
 pub none_kept : (F : Facts) (slots : List Slot) (d : Definition) → IsFound slots (id_of d) None → IsDue F (verdicts slots) d

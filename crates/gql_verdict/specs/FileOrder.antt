@@ -1,18 +1,11 @@
 -- The order of definitions: by the bytes of the names of their files, then by their places.
 use Rattle.std.specs.Prelude.{◌≡◌, ◌<◌, ℕ, List, Contains}
 use Rattle.std.specs.List.{AllPairs}
-use Rattle.std.specs.Ordering.{nat_cmp, ordering_then}
-use Rattle.std.specs.declared.cmp.Ordering.{Ordering}
 use Rattle.std.specs.declared.cmp.Ordering.TheVariants.{Less}
-use Rattle.gql_ast.specs.FileMaps.{name_order}
 use Rattle.gql_ast.specs.Trees.{id_of}
 use Rattle.gql_ast.specs.declared.definition.Definition.{Definition}
-use Rattle.gql_ast.specs.declared.definition.DefinitionId.{DefinitionId}
 use Rattle.gql_ast.specs.declared.definition.Document.{Document}
-
--- the order of what identifies a definition: by the name of the file, then by the offset
-abbrev pub id_order : DefinitionId → DefinitionId → Ordering
-id_order a b = ordering_then (name_order a.file b.file) (nat_cmp a.offset b.offset)
+pub use Rattle.gql_readers.specs.Orders.{id_order}
 
 -- a definition is before another
 abbrev pub IsBefore : Definition → Definition → Type 0

@@ -5,7 +5,9 @@ pub mod Faults
 pub mod FileOrder
 pub mod NameFaults
 pub mod Naming
+pub mod Marks
 pub mod Plans
+pub mod Readings
 pub mod Shelves
 pub mod Slots
 pub mod Spreads

@@ -1,14 +1,17 @@
 -- What a shelf of verdicts answers, and what an edit examines.
-use Rattle.std.specs.Prelude.{◌≡◌, ◌≢◌, ◌⊎◌, List, [], ◌∷◌, ◌++◌, map, Contains, Option, Some, None, MatchOption}
-use Rattle.std.specs.List.{AllPairs}
+use Rattle.std.specs.Prelude.{◌≡◌, ◌≢◌, ◌⊎◌, List, [], ◌∷◌, ◌++◌, map, filter, Bool, Contains, Option, Some, None, MatchOption}
+use Rattle.std.specs.List.{AllPairs, list_any}
 use Rattle.gql_ast.specs.Trees.{id_of}
 use Rattle.gql_ast.specs.declared.definition.Definition.{Definition}
 use Rattle.gql_ast.specs.declared.definition.DefinitionId.{DefinitionId}
 use Rattle.gql_ast.specs.declared.fault.Fault.{Fault}
+use Rattle.gql_facts.specs.Keys.{is_key}
 use Rattle.gql_facts.specs.Worlds.{Facts}
+use Rattle.gql_facts.specs.declared.key.Key.{Key}
 use Rattle.gql_verdict.specs.Faults.{IsFaultIn}
 use Rattle.gql_verdict.specs.Verdicts.{Judgement}
 use Rattle.gql_reads.specs.Observations.{Hold, IsBroken}
+use Rattle.gql_reads.specs.declared.observation.Observation.{Observation}
 
 -- ---- what a shelf answers
 
@@ -45,6 +48,16 @@ pub record Answers (facts : Facts) (definitions : List Definition) (id : Definit
 abbrev pub IsFaultOfAny : Facts → List Definition → Fault → Type 0
 IsFaultOfAny facts definitions f =
     (d : Definition) × Contains definitions d × IsFaultIn facts d f
+
+-- ---- who reads a key
+
+-- whether a verdict observes a key
+abbrev pub observes : Key → Judgement → Bool
+observes k v = list_any (λ (o : Observation). is_key o.key k) v.observations
+
+-- the definitions whose verdicts observe a key, in the order of the verdicts
+abbrev pub readers_of : Key → List Judgement → List DefinitionId
+readers_of k shelf = map (λ (v : Judgement). id_of v.def) (filter (observes k) shelf)
 
 -- ---- what an edit examines
 

@@ -1,5 +1,4 @@
--- Helper definitions for private contracts: slots, which have a verdict or the index of one that is
--- kept.
+-- Slots, which have a verdict or the index of one that is kept.
 use Rattle.std.specs.Prelude.{◌≡◌, ℕ, ◌<◌, List, [], ◌∷◌, map, length, slice_index_or, Option, MatchOption, Contains}
 use Rattle.std.specs.declared.cmp.Ordering.{Ordering}
 use Rattle.std.specs.declared.cmp.Ordering.TheVariants.{Less}
@@ -7,11 +6,15 @@ use Rattle.gql_ast.specs.Trees.{id_of}
 use Rattle.gql_ast.specs.declared.definition.DefinitionId.{DefinitionId}
 use Rattle.gql_ast.specs.declared.fault.Fault.{Fault}
 use Rattle.gql_verdict.specs.FileOrder.{InFileOrder, id_order}
-use Rattle.gql_verdict.specs.Plans.{IsAt}
 use Rattle.gql_verdict.specs.Shelves.{defs}
 use Rattle.gql_verdict.specs.Verdicts.{IsCertificate, Judgement}
 use Rattle.gql_verdict.specs.declared.slot.Slot.{Slot}
 use Rattle.gql_verdict.specs.declared.slot.Slot.TheVariants.{Here, At}
+
+-- the verdict v is in the slot j
+pub record IsAt (slots : List Slot) (j : ℕ) (v : Judgement) : Type 0 where
+  pub within : j < length slots
+  pub is : (s : Slot) → slice_index_or slots j s ≡ Here v
 
 -- the order of the definition in a slot and a name
 abbrev pub slot_order : Slot → DefinitionId → Ordering

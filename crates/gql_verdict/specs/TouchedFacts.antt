@@ -34,10 +34,14 @@ pub record IsEarlier (facts : Facts) (kept : List Judgement) (t : Touched) (befo
   pub held : (v : Judgement) → Contains kept v → Hold before v.observations
   pub unchanged : (k : Key) → touches t k ≡ false → facts k ≡ before k
 
+-- this definition, if it is not touched, has a verdict that is kept, place included
+abbrev pub IsOtherKept : Definition → List Judgement → Touched → Type 0
+IsOtherKept d kept t = touches_definition t d ≡ false → Contains (defs kept) d
+
 -- every definition that is not touched has a verdict that is kept, place included
 abbrev pub AreOthersKept : List Definition → List Judgement → Touched → Type 0
 AreOthersKept definitions kept t = (d : Definition) → Contains definitions d
-    → touches_definition t d ≡ false → Contains (defs kept) d
+    → IsOtherKept d kept t
 
 -- What is known of an edit that leaves these facts and these definitions: there were such facts
 -- before it, and each definition of another file has a verdict. Nothing is known of an edit that may

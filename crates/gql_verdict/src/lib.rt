@@ -6,6 +6,8 @@
 
 mod definitions;
 pub mod laws;
+mod indexing;
+mod marks;
 mod meter;
 mod names;
 mod naming;

@@ -6,18 +6,21 @@ ghost use Rattle.gql_facts.specs.Members.{Lists};
 ghost use Rattle.gql_facts.specs.Worlds.{Facts};
 ghost use Rattle.gql_verdict.specs.Definitions.{all_definitions as definitions_of};
 ghost use Rattle.gql_verdict.specs.FileOrder.{AreFilesPlaced};
-ghost use Rattle.gql_verdict.specs.Shelves.{Answers, IsCurrent, IsFaultOfAny, IsVerdictAt, IsWork};
+ghost use Rattle.gql_verdict.specs.Shelves.{Answers, IsCurrent, IsFaultOfAny, IsVerdictAt, IsWork, readers_of};
 ghost use Rattle.gql_verdict.specs.Plans.{IsPlanned, IsPrepared};
 ghost use Rattle.gql_verdict.specs.Slots.{IsSlotCertified, slot_faults};
 ghost use Rattle.gql_verdict.specs.TouchedFacts.{IsKnown};
 
+use crate::indexing::index_after;
+use crate::marks::broken_marks;
 use crate::meter::Meter;
 use crate::plan::plan;
 use crate::slot::{Slot, fill, find, resolved};
 use crate::touched::Touched;
 use crate::verdict::Verdict;
 use gql_ast::{DefinitionId, Fault, Files};
-use gql_facts::World;
+use gql_facts::{Key, World};
+use gql_readers::Index;
 use std::alloc::{AllocError, Global};
 use std::marker::Model;
 
@@ -46,11 +49,12 @@ fn add_slot(alloc: Global, slot: &Slot, found: &mut Vec<Fault>) -> Result<(), Al
 /// the verdicts.
 pub struct Shelf {
     slots: Vec<Slot>,
+    index: Index,
 }
 
 impl Drop for Shelf {
     fn drop(self) {
-        let Shelf { slots: _ } = self;
+        let Shelf { slots: _, index: _ } = self;
     }
 }
 
@@ -62,7 +66,8 @@ impl Model for Shelf {
     ghost use Rattle.gql_facts.specs.contracts.fact.Fact as fact;
     ghost use Rattle.std.specs.Prelude.{List};
     ghost use Rattle.gql_verdict.specs.Verdicts.{Judgement};
-    ghost use Rattle.gql_verdict.specs.Slots.{verdicts, IsInOrder};
+    ghost use Rattle.gql_verdict.specs.Marks.{IsShelved};
+    ghost use Rattle.gql_verdict.specs.Slots.{verdicts};
 
     ghost Value = { List Judgement };
 
@@ -76,26 +81,36 @@ impl Model for Shelf {
 
     ghost view = { λ s. verdicts s.slots.items };
 
-    ghost invariant = { λ s. IsInOrder s.slots.items };
+    ghost invariant = { λ s. IsShelved s.slots.items s.index };
 }
 
-/// What makes a shelf current: for each definition a new verdict, or the index of one on the shelf.
+/// What makes a shelf current: for each definition a new verdict, or the index of one on the shelf;
+/// and who reads each key afterwards.
 #[derive(Drop)]
 pub struct Prepared {
     steps: Vec<Slot>,
+    index: Index,
 }
 
 impl Model for Prepared {
-    ghost use Rattle.std.specs.Prelude.{List};
-    ghost use Rattle.gql_verdict.specs.declared.slot.Slot.{Slot};
     ghost use Rattle.std.specs.Coded.{codes};
+    ghost use Rattle.gql_ast.specs.contracts.definition.DefinitionId as of_id;
+    ghost use Rattle.gql_facts.specs.contracts.key.Key as of_key;
+    ghost use Rattle.gql_facts.specs.contracts.fact.Fact as of_fact;
+    ghost use Rattle.gql_verdict.specs.Plans.{Preparation};
     ghost use Rattle.gql_verdict.specs.contracts.slot.Slot as slot;
 
-    ghost Value = { List Slot };
+    ghost Value = { Preparation };
 
-    ghost coded = { Prim.hlevel (codes, slot.the_row.coded) };
+    ghost coded = { Prim.hlevel (
+      codes,
+      slot.the_row.coded,
+      of_id.the_row.coded,
+      of_key.the_row.coded,
+      of_fact.the_row.coded,
+    ) };
 
-    ghost view = { λ p. p.steps.items };
+    ghost view = { λ p. record { steps = p.steps.items; index = p.index } };
 }
 
 impl Shelf {
@@ -105,11 +120,13 @@ impl Shelf {
     {
         Shelf {
             slots: Vec::new(alloc),
+            index: Index::new(alloc),
         }
     }
 
     /// Prepares to make the shelf current after an edit: examines each definition that has no
-    /// verdict, or whose verdict no longer holds. The shelf stays as it is.
+    /// verdict, or whose verdict no longer holds. The answer to each key that is read and that the
+    /// edit touches is asked once for all its readers. The shelf stays as it is.
     pub fn prepare<W: World>(
         &self,
         alloc: Global,
@@ -130,8 +147,10 @@ impl Shelf {
             (definitions_of files.now.documents) meter.old meter.new }
     {
         let kept = self.slots.as_slice();
-        let steps = plan(alloc, world, kept, files, touched, meter)?;
-        Ok(Prepared { steps })
+        let marks = broken_marks(alloc, world, kept, &self.index, touched)?;
+        let steps = plan(alloc, world, kept, marks.as_slice(), files, touched, meter)?;
+        let index = index_after(alloc, &self.index, kept, steps.as_slice())?;
+        Ok(Prepared { steps, index })
     }
 
     /// The faults of the verdicts that will be on the shelf once it is current.
@@ -163,10 +182,11 @@ impl Shelf {
         let mut steps = prepared.steps;
         fill(&mut steps, &mut self.slots);
         self.slots = steps;
+        self.index = prepared.index;
     }
 
-    /// Makes the shelf current, whatever changed since: every verdict is tested. If an allocation
-    /// fails, the shelf is as before. Where it is known what an edit touched, `prepare` and `commit`
+    /// Makes the shelf current, whatever changed since: the answer to each key that is read is asked
+    /// again. If an allocation fails, the shelf is as before. Where it is known what an edit touched, `prepare` and `commit`
     /// do it with fewer tests.
     pub fn refresh<W: World>(
         &mut self,
@@ -204,6 +224,13 @@ impl Shelf {
             Slot::Here(verdict) => Some(verdict),
             Slot::At(_) => None,
         }
+    }
+
+    /// The definitions whose verdicts observe a key, by file and offset. It takes no memory.
+    pub fn readers(&self, key: &Key) -> &[DefinitionId]
+        ensures { result.now ≡ readers_of key.now self.now }
+    {
+        self.index.readers(key)
     }
 
     /// The faults of all verdicts.

@@ -2,7 +2,8 @@
 //! examines.
 use crate::faults::written_faults;
 use crate::running::run_step;
-use gql_ast::{DefinitionId, FileName};
+use gql_ast::{DefinitionId, FileName, Text};
+use gql_facts::Key;
 use gql_registry::{Edited, Refusal, Registry};
 use gql_verdict::Meter;
 use std::alloc::Global;
@@ -15,19 +16,41 @@ pub struct Editing {
     registry: Registry,
 }
 
-/// The definitions that a meter has, each as `FILE OFFSET`, or `nothing`.
-fn written_meter(alloc: Global, meter: &Meter) -> Option<String> {
+/// Definitions, each as `FILE OFFSET`; or if there are none, this text.
+fn written_ids(alloc: Global, ids: &[DefinitionId], none: &str) -> Option<String> {
     let mut written = String::new(alloc);
-    for entry in meter.entries() {
-        let file = entry.file.as_str();
-        let offset = entry.offset;
-        let entry = format!(in alloc; "{file} {offset}").ok()?;
-        join(&mut written, ", ", entry.as_str()).ok()?;
+    for id in ids {
+        let file = id.file.as_str();
+        let offset = id.offset;
+        let id = format!(in alloc; "{file} {offset}").ok()?;
+        join(&mut written, ", ", id.as_str()).ok()?;
     }
     if written.is_empty() {
-        written.push_str("nothing").ok()?;
+        written.push_str(none).ok()?;
     }
     Some(written)
+}
+
+/// The definitions that a meter has, each as `FILE OFFSET`, or `nothing`.
+fn written_meter(alloc: Global, meter: &Meter) -> Option<String> {
+    written_ids(alloc, meter.entries(), "nothing")
+}
+
+/// The key that is written as `FieldOf TYPE FIELD`, `KindOf TYPE` or `FragmentOf NAME`.
+fn read_key(alloc: Global, written: &str) -> Option<Key> {
+    let (question, names) = written.split_once(" ")?;
+    match question {
+        "FieldOf" => {
+            let (of_type, field) = names.split_once(" ")?;
+            Some(Key::FieldOf {
+                of_type: Text::from_str(alloc, of_type).ok()?,
+                field: Text::from_str(alloc, field).ok()?,
+            })
+        }
+        "KindOf" => Some(Key::KindOf(Text::from_str(alloc, names).ok()?)),
+        "FragmentOf" => Some(Key::FragmentOf(Text::from_str(alloc, names).ok()?)),
+        _ => None,
+    }
 }
 
 /// What an edit answers: `revision N, faults K, examined ..`, or `refused, examined ..`.
@@ -94,8 +117,14 @@ impl Editing {
         }
     }
 
-    /// What a step gives: `begin`, `put SIDE NAME TEXT`, `remove SIDE NAME`, `verdict FILE OFFSET`
-    /// or `report`.
+    /// The definitions whose verdicts observe a key, each as `FILE OFFSET`, or `nobody`.
+    fn readers(&self, rest: &str) -> Option<String> {
+        let key = read_key(self.alloc, rest)?;
+        written_ids(self.alloc, self.registry.shelf().readers(&key), "nobody")
+    }
+
+    /// What a step gives: `begin`, `put SIDE NAME TEXT`, `remove SIDE NAME`, `verdict FILE OFFSET`,
+    /// `readers KEY` or `report`.
     pub fn step(&mut self, step: &str) -> Option<String> {
         let (word, rest) = step.split_once(" ").unwrap_or((step, ""));
         match word {
@@ -106,6 +135,7 @@ impl Editing {
             "put" => self.put(rest),
             "remove" => self.remove(rest),
             "verdict" => self.verdict(rest),
+            "readers" => self.readers(rest),
             "report" => {
                 let faults = self.registry.report().ok()?;
                 written_faults(self.alloc, faults.as_slice()).ok()

@@ -1,34 +1,32 @@
-use Rattle.std.proofs.Common.{◌≡◌, sym, subst, ◌⊎◌}
+use Rattle.std.proofs.Common.{◌≡◌, ◌∙◌, inl, inr, ap, sym, subst}
+use Rattle.gql_verdict.specs.TouchedFacts.{HoldWhere}
 use Rattle.gql_verdict.specs.Verdicts.{Judgement}
-use Rattle.gql_reads.specs.Observations.{IsBroken}
-use Rattle.gql_verdict.proofs.Steps.{none_kept, found_bad, found_good, read_at, same_if_untouched, at_false, at_true}
+use Rattle.gql_verdict.proofs.Steps.{differs, found_bad, found_good, read_at, same_if_untouched}
 use Rattle.gql_verdict.proofs.plan.kept_verdict.Goals as goal
 
-pub returns-in_default-clause-answer : goal.returns-in_default-clause-answer
-returns-in_default-clause-answer g c = none_kept (g.W.World.facts c.args.world.now) c.args.kept.now c.args.definition.now c.in_default.ensures
+pub is_on-requires : goal.is_on-requires
+is_on-requires c =
+    let f = c.in-Some.ensures in
+    let v : f.0 ≡ c.in-Here.verdict = read_at c.args.kept.now c.in-Some.j f.0 c.in-Here.verdict _ f.1 c.index-kept-j.is c.in-Here.is in
+    same_if_untouched c.args.kept.now c.requires.order c.args.touched.now c.args.definition.now c.requires.others c.in-Some.j f.0 c.in-Here.verdict f.1 v f.2
 
-pub is_good-requires : goal.is_good-requires
-is_good-requires g c =
-    let found = c.in-Some.ensures in
-    let v : found.0 ≡ c.in-Here.verdict = read_at c.args.kept.now c.in-Some.j found.0 c.in-Here.verdict _ found.1 c.index-kept-j.is c.in-Here.is in
-    record {
-      same = same_if_untouched (g.W.World.facts c.args.world.now) c.args.kept.now c.requires.order c.args.touched.now c.args.definition.now c.requires.known
-          c.in-Some.j found.0 c.in-Here.verdict found.1 v found.2;
-    }
+pub returns-then-not-is_on : goal.returns-then-not-is_on
+returns-then-not-is_on c = λ F known marks.
+    let f = c.in-Some.ensures in
+    let v : f.0 ≡ c.in-Here.verdict = read_at c.args.kept.now c.in-Some.j f.0 c.in-Here.verdict _ f.1 c.index-kept-j.is c.in-Here.is in
+    found_bad F c.args.kept.now c.requires.order c.args.definition.now c.in-Some.j f.0 f.1 f.2
+    (inl (λ h. differs c.is_on.result (c.is_on.ensures.1 (ap (λ (x : Judgement). x.def) (sym v) ∙ h)) c.if-not-is_on.true))
 
-pub returns-else-good-clause-answer : goal.returns-else-good-clause-answer
-returns-else-good-clause-answer g c =
-    let F = g.W.World.facts c.args.world.now in
-    let d = c.args.definition.now in
-    let found = c.in-Some.ensures in
-    let v : found.0 ≡ c.in-Here.verdict = read_at c.args.kept.now c.in-Some.j found.0 c.in-Here.verdict _ found.1 c.index-kept-j.is c.in-Here.is in
-    found_bad F c.args.kept.now c.requires.order d c.in-Some.j found.0 found.1 found.2
-    (subst (λ (w : Judgement). (w.def ≡ d → ⊥) ⊎ ((w.def ≡ d) × IsBroken F w.observations)) (sym v) (at_false c.in_ok-good-in-Here.good _ _ c.in_ok-good-in-Here.ensures.answer c.if-good.false))
+pub returns-then-marks-j : goal.returns-then-marks-j
+returns-then-marks-j c = λ F known marks.
+    let f = c.in-Some.ensures in
+    let v : f.0 ≡ c.in-Here.verdict = read_at c.args.kept.now c.in-Some.j f.0 c.in-Here.verdict _ f.1 c.index-kept-j.is c.in-Here.is in
+    found_bad F c.args.kept.now c.requires.order c.args.definition.now c.in-Some.j f.0 f.1 f.2
+    (inr (ap (λ (x : Judgement). x.def) v ∙ c.is_on.ensures.0 c.if-not-is_on.false, marks.broken.broken c.in-Some.j f.0 f.1 c.if-marks-j.true))
 
-pub returns-then-good-clause-answer : goal.returns-then-good-clause-answer
-returns-then-good-clause-answer g c =
-    let F = g.W.World.facts c.args.world.now in
-    let found = c.in-Some.ensures in
-    let v : found.0 ≡ c.in-Here.verdict = read_at c.args.kept.now c.in-Some.j found.0 c.in-Here.verdict _ found.1 c.index-kept-j.is c.in-Here.is in
-    found_good F c.args.kept.now c.requires.order c.args.touched.now c.args.definition.now c.requires.known c.in-Some.j found.0 c.in-Here.verdict found.1 v
-    (at_true c.in_ok-good-in-Here.good _ _ c.in_ok-good-in-Here.ensures.answer c.if-good.true)
+pub returns-else-marks-j : goal.returns-else-marks-j
+returns-else-marks-j c = λ F known marks.
+    let f = c.in-Some.ensures in
+    let v : f.0 ≡ c.in-Here.verdict = read_at c.args.kept.now c.in-Some.j f.0 c.in-Here.verdict _ f.1 c.index-kept-j.is c.in-Here.is in
+    found_good F c.args.kept.now c.requires.order c.args.touched.now c.args.definition.now known c.in-Some.j f.0 c.in-Here.verdict f.1 v
+    (c.is_on.ensures.0 c.if-not-is_on.false, subst (λ (x : Judgement). HoldWhere F c.args.touched.now x.observations) v (marks.hold c.in-Some.j f.0 f.1 (λ m. differs _ m c.if-marks-j.false)))

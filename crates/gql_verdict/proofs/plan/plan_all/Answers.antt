@@ -2,6 +2,7 @@ use Rattle.std.proofs.Common.{refl, sym, ◌∙◌, subst, List, [], ◌∷◌, 
 use Rattle.std.specs.List.{AllZip}
 use Rattle.gql_facts.specs.Worlds.{Facts}
 use Rattle.gql_verdict.specs.Shelves.{IsStepWork}
+use Rattle.gql_verdict.specs.Marks.{AreMarks}
 use Rattle.gql_verdict.specs.Plans.{IsStep}
 use Rattle.gql_verdict.specs.Slots.{verdicts}
 use Rattle.gql_verdict.specs.declared.slot.Slot.{Slot}
@@ -33,6 +34,9 @@ step-requires-clause-known g c =
     let item = made_item (λ (b : Bor Definition). b.now) c.args.definitions.now i c.definition-item.result c.loop-definition-test.true c.definition-item.is in
     subst (λ (G : Facts). IsKnown G (d ∷ []) vs c.args.touched.now) (sym c.loop-definition.invariant.same_facts)
     (known_of_one F ds d vs c.args.touched.now (i, lt, sym item) c.requires.known)
+
+pub step-requires-clause-marks : goal.step-requires-clause-marks
+step-requires-clause-marks g c = subst (λ (G : Facts). AreMarks G c.args.touched.now c.args.kept.now c.args.marks.now) (sym c.loop-definition.invariant.same_facts) c.requires.marks
 
 pub returns-in_err-next-clause-work : goal.returns-in_err-next-clause-work
 returns-in_err-next-clause-work g c =

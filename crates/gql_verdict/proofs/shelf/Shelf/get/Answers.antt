@@ -2,8 +2,7 @@ use Rattle.std.proofs.Common.{◌≡◌, Some, None, subst, List, Contains}
 use Rattle.gql_ast.specs.Trees.{id_of}
 use Rattle.gql_verdict.specs.Shelves.{IsVerdictAt}
 use Rattle.gql_verdict.specs.Verdicts.{Judgement}
-use Rattle.gql_verdict.specs.Plans.{IsAt}
-use Rattle.gql_verdict.specs.Slots.{verdicts}
+use Rattle.gql_verdict.specs.Slots.{IsAt, verdicts}
 use Rattle.gql_verdict.specs.declared.slot.Slot.{Slot}
 use Rattle.gql_verdict.proofs.Steps.{read_at}
 use Rattle.gql_verdict.proofs.Answered.{found_one, found_none, answers}
@@ -15,7 +14,7 @@ returns-in_default-clause-value c =
     (subst (λ (ss : List Slot). (v : Judgement) → Contains (verdicts ss) v → id_of v.def ≡ c.args.id.now → ⊥) c.as_slice.ensures.value c.in_default.ensures)
 
 pub returns-in_default-clause-current : goal.returns-in_default-clause-current
-returns-in_default-clause-current c = answers c.self.inside.slots.items c.args.self.now c.args.id.now None c.self.invariant c.self.view_is (returns-in_default-clause-value c)
+returns-in_default-clause-current c = answers c.self.inside.slots.items c.args.self.now c.args.id.now None c.self.invariant.order c.self.view_is (returns-in_default-clause-value c)
 
 pub returns-in-Here-clause-value : goal.returns-in-Here-clause-value
 returns-in-Here-clause-value c =
@@ -23,7 +22,7 @@ returns-in-Here-clause-value c =
     let slots = c.self.inside.slots.items in
     let at : IsAt slots c.in-Some.j found.0 = subst (λ (ss : List Slot). IsAt ss c.in-Some.j found.0) c.as_slice.ensures.value found.1 in
     let e : found.0 ≡ c.in-Here.verdict = read_at slots c.in-Some.j found.0 c.in-Here.verdict _ at c.index.ensures c.in-Here.is in
-    subst (λ (v : Judgement). IsVerdictAt c.args.self.now c.args.id.now (Some v)) e (found_one slots c.args.self.now c.args.id.now c.in-Some.j found.0 c.self.invariant c.self.view_is at found.2)
+    subst (λ (v : Judgement). IsVerdictAt c.args.self.now c.args.id.now (Some v)) e (found_one slots c.args.self.now c.args.id.now c.in-Some.j found.0 c.self.invariant.order c.self.view_is at found.2)
 
 pub returns-in-Here-clause-current : goal.returns-in-Here-clause-current
-returns-in-Here-clause-current c = answers c.self.inside.slots.items c.args.self.now c.args.id.now (Some c.in-Here.verdict) c.self.invariant c.self.view_is (returns-in-Here-clause-value c)
+returns-in-Here-clause-current c = answers c.self.inside.slots.items c.args.self.now c.args.id.now (Some c.in-Here.verdict) c.self.invariant.order c.self.view_is (returns-in-Here-clause-value c)

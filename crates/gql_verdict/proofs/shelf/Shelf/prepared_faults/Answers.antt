@@ -1,6 +1,7 @@
 use Rattle.std.proofs.Common.{◌≡◌, ◌++◌, [], ap, sym, ◌∙◌, subst, flat_map, map, take, List, Contains, inl, inr}
 use Rattle.std.proofs.lemmas.List.{take_all}
 use Rattle.std.proofs.lemmas.List.Elements.{Contains-push_cases}
+use Rattle.gql_verdict.specs.Plans.{Preparation}
 use Rattle.gql_verdict.specs.Slots.{resolve, slot_faults, IsSlotCertified}
 use Rattle.gql_verdict.specs.declared.slot.Slot.{Slot}
 use Rattle.gql_verdict.specs.declared.slot.Slot.TheVariants.{Here}
@@ -24,14 +25,14 @@ loop-step-preserved c =
       ];
     }
 
-all_seen : (c : After-loop-step) → take c.loop-step.step-index c.as_slice-step-items.result.now ≡ c.args.prepared.now
-all_seen c = take_all _ _ c.loop-step-test.false ∙ (c.as_slice-step-items.ensures.value ∙ c.prepared.view_is)
+all_seen : (c : After-loop-step) → take c.loop-step.step-index c.as_slice-step-items.result.now ≡ c.args.prepared.now.steps
+all_seen c = take_all _ _ c.loop-step-test.false ∙ (c.as_slice-step-items.ensures.value ∙ ap (λ (p : Preparation). p.steps) c.prepared.view_is)
 
 pub returns : goal.returns
 returns c = λ F ds planned.
     let K = c.as_slice-kept.result.now in
     planned_faults F ds c.args.self.now c.args.prepared.now planned K
-    (c.as_slice-kept.ensures.value ∙ (c.self.invariant.all_here ∙ ap (map Here) c.self.view_is))
+    (c.as_slice-kept.ensures.value ∙ (c.self.invariant.order.all_here ∙ ap (map Here) c.self.view_is))
     c.loop-step.found.items
     (c.loop-step.invariant.so_far ∙ ap (λ (ss : List Slot). flat_map slot_faults (map (resolve K) ss)) (all_seen c))
     (subst (λ (ss : List Slot). (s : Slot) → Contains (map (resolve K) ss) s → IsSlotCertified s) (all_seen c) c.loop-step.invariant.certified)

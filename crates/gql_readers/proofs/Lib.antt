@@ -1,0 +1,6 @@
+pub mod Editing
+pub mod Found
+pub mod Merging
+pub mod Noting
+pub mod Reading
+pub mod Splitting

@@ -1,0 +1,81 @@
+-- Changes of an index: readers that come, and readers that go.
+use Rattle.std.specs.Prelude.{◌≡◌, ◌≢◌, ◌⊎◌, List, [], Contains, Option, Some}
+use Rattle.std.specs.BTreeMap.{is_at}
+use Rattle.std.specs.Map.{lookup}
+use Rattle.std.specs.Option.{option_map_or}
+use Rattle.gql_ast.specs.declared.definition.DefinitionId.{DefinitionId}
+use Rattle.gql_facts.specs.Worlds.{Facts}
+use Rattle.gql_facts.specs.declared.fact.Fact.{Fact}
+use Rattle.gql_facts.specs.declared.key.Key.{Key}
+use Rattle.gql_reads.specs.Observations.{Hold}
+use Rattle.gql_reads.specs.declared.observation.Observation.{Observation}
+use Rattle.gql_readers.specs.Indexes.{IsIndexOf, Reading}
+use Rattle.gql_readers.specs.Orders.{key_order}
+use Rattle.gql_readers.specs.Readers.{InReadingOrder, Reader, readers_of}
+
+-- of one key: the answer, the readers that come, and those that go
+pub record Noted : Type 0 where
+  pub fact : Fact
+  pub comes : List DefinitionId
+  pub goes : List DefinitionId
+
+-- what is noted of each key
+abbrev pub Notes : Type 0
+Notes = List (Key × Noted)
+
+-- what is noted of a key, if anything is
+abbrev pub noted_of : Notes → Key → Option Noted
+noted_of notes k = lookup (is_at (key_order k)) notes
+
+-- the readers that come to a key
+abbrev pub comes_in : Notes → Key → List DefinitionId
+comes_in notes k = option_map_or (λ (n : Noted). n.comes) (noted_of notes k) []
+
+-- the readers that go from a key
+abbrev pub goes_in : Notes → Key → List DefinitionId
+goes_in notes k = option_map_or (λ (n : Noted). n.goes) (noted_of notes k) []
+
+-- some reader had this answer to the key
+abbrev pub WasTold : List Reader → Key → Fact → Type 0
+WasTold readers k f = (r : Reader) × (o : Observation) × Contains readers r
+    × Contains r.observations o × (o.key ≡ k) × (o.fact ≡ f)
+
+-- The notes say of each key exactly which of these readers come to it, and which of those go from
+-- it. Where one comes, the answer is one that such a reader had.
+pub record AreNotes (notes : Notes) (coming going : List Reader) : Type 0 where
+  pub comes : (k : Key) → comes_in notes k ≡ readers_of k coming
+  pub goes : (k : Key) → goes_in notes k ≡ readers_of k going
+  pub facts : (k : Key) (n : Noted) → noted_of notes k ≡ Some n → n.comes ≢ []
+      → WasTold coming k n.fact
+
+-- Some of the old readers go, others come, and those are the new readers: all in file order, each
+-- definition once. What the new readers observed holds.
+pub record IsEdit (facts : Facts) (old going coming new : List Reader) : Type 0 where
+  pub old_order : InReadingOrder old
+  pub going_order : InReadingOrder going
+  pub coming_order : InReadingOrder coming
+  pub new_order : InReadingOrder new
+  pub goes : (r : Reader) → Contains going r → Contains old r
+  pub comes : (r : Reader) → Contains coming r → Contains new r
+  pub stays : (r : Reader) → Contains old r → ((g : Reader) → Contains going g → g.id ≡ r.id → ⊥)
+      → Contains new r
+  pub from : (r : Reader) → Contains new r → Contains coming r
+      ⊎ (Contains old r × ((g : Reader) → Contains going g → g.id ≡ r.id → ⊥))
+  pub holds : (r : Reader) → Contains new r → Hold facts r.observations
+
+-- the readers on which a definition is not
+abbrev pub IsNew : DefinitionId → List Reader → Type 0
+IsNew id readers = (r : Reader) → Contains readers r → r.id ≡ id → ⊥
+
+-- the index is that of the old readers, and the notes are those of the edit
+pub record IsChange (facts : Facts) (index : List Reading) (notes : Notes)
+    (old going coming new : List Reader) : Type 0 where
+  pub index_of : IsIndexOf index old
+  pub notes_of : AreNotes notes coming going
+  pub edit : IsEdit facts old going coming new
+
+-- the notes are those of some edit of the readers of the index
+abbrev pub IsSomeChange : List Reading → Notes → Type 0
+IsSomeChange index notes = (facts : Facts) × (old : List Reader) × (going : List Reader)
+    × (coming : List Reader) × (new : List Reader)
+    × IsChange facts index notes old going coming new

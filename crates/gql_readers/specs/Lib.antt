@@ -1,0 +1,6 @@
+pub mod Changes
+pub mod Indexes
+pub mod Merged
+pub mod OrderLaws
+pub mod Orders
+pub mod Readers

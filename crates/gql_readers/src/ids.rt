@@ -1,0 +1,84 @@
+//! Lists of definitions in file order.
+ghost use Rattle.std.specs.Prelude.{◌≡◌, ◌++◌, [], IfOk, OnOk};
+ghost use Rattle.gql_readers.specs.Merged.{above, below, edited, itself, one_if};
+ghost use Rattle.gql_readers.specs.Orders as orders;
+ghost use Rattle.gql_readers.specs.Orders.{AreInOrder};
+
+use crate::orders::id_order;
+use gql_ast::DefinitionId;
+use std::alloc::{AllocError, Global};
+
+/// An equal name of a definition.
+pub fn copy(id: &DefinitionId) -> DefinitionId
+    ensures { result ≡ id.now }
+{
+    DefinitionId {
+        file: id.file.copy(),
+        offset: id.offset,
+    }
+}
+
+/// Whether two names are of one definition.
+pub fn is_same(id: &DefinitionId, other: &DefinitionId) -> bool
+    ensures { result ≡ orders.is_id id.now other.now }
+{
+    id.offset == other.offset && id.file == other.file
+}
+
+/// Adds copies of names.
+fn add_copies(ids: &[DefinitionId], all: &mut Vec<DefinitionId>) -> Result<(), AllocError>
+    ensures { OnOk result (all.new.items ≡ all.old.items ++ ids.now) }
+{
+    for id in ids {
+        all.push(copy(id))?;
+    }
+    Ok(())
+}
+
+/// The definitions before one, and those after it.
+fn split<'i>(
+    ids: &'i [DefinitionId],
+    id: &DefinitionId,
+) -> (&'i [DefinitionId], &'i [DefinitionId])
+    requires { AreInOrder ids.now }
+    ensures before { result.0.now ≡ below orders.id_order itself id.now ids.now }
+    ensures after { result.1.now ≡ above orders.id_order itself id.now ids.now }
+{
+    let found = ids.binary_search_by(|other| id_order(other, id));
+    match found {
+        Ok(place) => (&ids[..place], &ids[place + 1..]),
+        Err(place) => (&ids[..place], &ids[place..]),
+    }
+}
+
+/// Adds a definition, if it comes.
+fn add_if(comes: bool, id: &DefinitionId, all: &mut Vec<DefinitionId>) -> Result<(), AllocError>
+    ensures { OnOk result (all.new.items ≡ all.old.items ++ one_if comes [] id.now) }
+{
+    if comes {
+        all.push(copy(id))?;
+    }
+    Ok(())
+}
+
+/// The definitions, with those that change: all of these come, or all of them go.
+pub fn edit(
+    alloc: Global,
+    ids: &[DefinitionId],
+    changed: &[DefinitionId],
+    comes: bool,
+) -> Result<Vec<DefinitionId>, AllocError>
+    requires { AreInOrder ids.now }
+    ensures { IfOk result (λ all. all.items ≡ edited comes ids.now changed.now) }
+{
+    let mut all = Vec::new(alloc);
+    let mut rest = ids;
+    for id in changed {
+        let (before, after) = split(rest, id);
+        add_copies(before, &mut all)?;
+        add_if(comes, id, &mut all)?;
+        rest = after;
+    }
+    add_copies(rest, &mut all)?;
+    Ok(all)
+}

@@ -1,0 +1,219 @@
+//! The index.
+ghost use Rattle.std.specs.Prelude.{◌≡◌, ◌++◌, [], List, Contains, IfOk, OnOk};
+ghost use Rattle.std.specs.Option.{option_copied};
+ghost use Rattle.gql_facts.specs.Worlds.{Facts};
+ghost use Rattle.gql_readers.specs.Changes.{IsChange, IsSomeChange};
+ghost use Rattle.gql_readers.specs.Indexes.{AreEntriesInOrder, IsEntryOf, IsIndexOf, Reading};
+ghost use Rattle.gql_readers.specs.Merged as merged;
+ghost use Rattle.gql_readers.specs.Merged.{above, below, here, key_of, made};
+ghost use Rattle.gql_readers.specs.Orders as orders;
+ghost use Rattle.gql_readers.specs.Orders.{AreInOrder};
+ghost use Rattle.gql_readers.specs.Readers.{Reader, readers_of};
+
+use crate::changes::{Changes, Noted};
+use crate::entries::Entry;
+use crate::ids::edit;
+use crate::orders::key_order;
+use gql_ast::{DefinitionId, Shared};
+use gql_facts::{Fact, Key};
+use std::alloc::{AllocError, Global};
+use std::marker::Model;
+
+/// The entries before a key, that of the key, and those after it.
+#[derive(Drop)]
+struct Parts<'e> {
+    before: &'e [Shared<Entry>],
+    here: &'e [Shared<Entry>],
+    after: &'e [Shared<Entry>],
+}
+
+/// Where a key stands among entries.
+fn split<'e>(entries: &'e [Shared<Entry>], key: &Key) -> Parts<'e>
+    requires { AreEntriesInOrder entries.now }
+    ensures before { result.before.now ≡ below orders.key_order key_of key.now entries.now }
+    ensures here { result.here.now ≡ here orders.key_order key_of key.now entries.now }
+    ensures after { result.after.now ≡ above orders.key_order key_of key.now entries.now }
+{
+    let found = entries.binary_search_by(|entry| key_order(entry.get().key(), key));
+    match found {
+        Ok(place) => Parts {
+            before: &entries[..place],
+            here: &entries[place..place + 1],
+            after: &entries[place + 1..],
+        },
+        Err(place) => Parts {
+            before: &entries[..place],
+            here: &entries[place..place],
+            after: &entries[place..],
+        },
+    }
+}
+
+/// Adds handles on entries.
+fn add_handles(
+    entries: &[Shared<Entry>],
+    all: &mut Vec<Shared<Entry>>,
+) -> Result<(), AllocError>
+    ensures { OnOk result (all.new.items ≡ all.old.items ++ entries.now) }
+{
+    for entry in entries {
+        all.push(entry.clone()?)?;
+    }
+    Ok(())
+}
+
+/// The readers that were found for a key.
+fn readers_found(here: &[Shared<Entry>]) -> &[DefinitionId]
+    ensures { result.now ≡ merged.readers_found here.now }
+{
+    match here.first() {
+        Some(entry) => entry.get().readers(),
+        None => &[],
+    }
+}
+
+/// The readers of a key after a change.
+fn readers_after(
+    alloc: Global,
+    ids: &[DefinitionId],
+    noted: &Noted,
+) -> Result<Vec<DefinitionId>, AllocError>
+    requires ids { AreInOrder ids.now }
+    requires goes { AreInOrder noted.now.goes }
+    ensures { IfOk result (λ after. after.items ≡ merged.readers_after ids.now noted.now) }
+{
+    if noted.goes.is_empty() {
+        let all = edit(alloc, ids, noted.comes.as_slice(), true)?;
+        return Ok(all);
+    }
+    let left = edit(alloc, ids, noted.goes.as_slice(), false)?;
+    if noted.comes.is_empty() {
+        return Ok(left);
+    }
+    let all = edit(alloc, left.as_slice(), noted.comes.as_slice(), true)?;
+    Ok(all)
+}
+
+/// The answer after a change.
+fn fact_after(here: &[Shared<Entry>], noted: &Noted) -> Result<Fact, AllocError>
+    ensures { IfOk result (λ fact. fact ≡ merged.fact_after here.now noted.now) }
+{
+    if noted.comes.is_empty() {
+        if let Some(entry) = here.first() {
+            return Ok(entry.get().fact().copy()?);
+        }
+    }
+    Ok(noted.fact.copy()?)
+}
+
+/// Adds the entry of a key after a change, if the key has readers then.
+fn add_made(
+    alloc: Global,
+    here: &[Shared<Entry>],
+    key: Key,
+    noted: &Noted,
+    all: &mut Vec<Shared<Entry>>,
+) -> Result<(), AllocError>
+    requires readers { AreInOrder (merged.readers_found here.now) }
+    requires goes { AreInOrder noted.now.goes }
+    ensures { OnOk result (all.new.items ≡ all.old.items ++ made here.now (key, noted.now)) }
+{
+    let readers = readers_after(alloc, readers_found(here), noted)?;
+    if readers.is_empty() {
+        return Ok(());
+    }
+    let fact = fact_after(here, noted)?;
+    all.push(Shared::new(alloc, Entry { key, fact, readers })?)?;
+    Ok(())
+}
+
+/// The entries of the keys that are read, in the order of the keys. Contracts see their list.
+pub struct Index {
+    entries: Vec<Shared<Entry>>,
+}
+
+impl Drop for Index {
+    fn drop(self) {
+        let Index { entries: _ } = self;
+    }
+}
+
+impl Model for Index {
+    ghost use Rattle.std.specs.Coded.{codes};
+    ghost use Rattle.std.specs.Prelude.{List};
+    ghost use Rattle.gql_ast.specs.contracts.definition.DefinitionId as of_id;
+    ghost use Rattle.gql_facts.specs.contracts.key.Key as of_key;
+    ghost use Rattle.gql_facts.specs.contracts.fact.Fact as of_fact;
+    ghost use Rattle.gql_readers.specs.Indexes.{AreEntriesInOrder, Reading};
+
+    ghost Value = { List Reading };
+
+    ghost coded = { Prim.hlevel (
+      codes,
+      of_id.the_row.coded,
+      of_key.the_row.coded,
+      of_fact.the_row.coded,
+    ) };
+
+    ghost view = { λ i. i.entries.items };
+
+    ghost invariant = { λ i. AreEntriesInOrder i.entries.items };
+}
+
+impl Index {
+    /// An index with no entries.
+    pub fn new(alloc: Global) -> Index
+        ensures { result ≡ [] }
+    {
+        Index {
+            entries: Vec::new(alloc),
+        }
+    }
+
+    /// The entries of the keys that are read.
+    pub fn entries(&self) -> &[Shared<Entry>]
+        ensures { result.now ≡ self.now }
+    {
+        self.entries.as_slice()
+    }
+
+    /// The entry of a key.
+    pub fn find(&self, key: &Key) -> Option<&Entry>
+        ensures { IsEntryOf self.now key.now (option_copied result) }
+    {
+        let parts = split(self.entries.as_slice(), key);
+        match parts.here.first() {
+            Some(entry) => Some(entry.get()),
+            None => None,
+        }
+    }
+
+    /// The definitions that read a key, in file order. It takes no memory.
+    pub fn readers(&self, key: &Key) -> &[DefinitionId]
+        ensures { (readers : List Reader) → IsIndexOf self.now readers
+            → result.now ≡ readers_of key.now readers }
+    {
+        match self.find(key) {
+            Some(entry) => entry.readers(),
+            None => &[],
+        }
+    }
+
+    /// The index after changes. It shares the entries of all other keys with this one.
+    pub fn changed(&self, alloc: Global, changes: Changes) -> Result<Index, AllocError>
+        requires { IsSomeChange self.now changes }
+        ensures { IfOk result (λ index. (facts : Facts) (old going coming new : List Reader)
+            → IsChange facts self.now changes old going coming new → IsIndexOf index new) }
+    {
+        let mut all = Vec::new(alloc);
+        let mut rest = self.entries.as_slice();
+        for (key, noted) in changes.notes {
+            let parts = split(rest, &key.key);
+            add_handles(parts.before, &mut all)?;
+            add_made(alloc, parts.here, key.key, &noted, &mut all)?;
+            rest = parts.after;
+        }
+        add_handles(rest, &mut all)?;
+        Ok(Index { entries: all })
+    }
+}

@@ -1,0 +1,12 @@
+//! An index from keys to the definitions that read them.
+#![tactic(auto)]
+
+mod changes;
+mod entries;
+mod ids;
+mod index;
+mod orders;
+
+pub use changes::Changes;
+pub use entries::Entry;
+pub use index::Index;

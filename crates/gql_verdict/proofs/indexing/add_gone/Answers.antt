@@ -1,0 +1,18 @@
+use Rattle.std.proofs.Common.{◌≡◌, ◌++◌, ◌∷◌, [], ◌∙◌, ap, subst, sym, List}
+use Rattle.gql_ast.specs.Trees.{id_of}
+use Rattle.gql_ast.specs.declared.definition.DefinitionId.{DefinitionId}
+use Rattle.gql_readers.specs.Changes.{AreNotes, IsNew}
+use Rattle.gql_readers.specs.Readers.{Reader}
+use Rattle.gql_reads.specs.declared.observation.Observation.{Observation}
+use Rattle.gql_verdict.proofs.LedTo.{went_one}
+use Rattle.gql_verdict.proofs.indexing.add_gone.Goals as goal
+
+pub returns-in_ok-go : goal.returns-in_ok-go
+returns-in_ok-go c = λ coming going are.
+    let v = c.in-Here.verdict in
+    let after = c.go.new.self in
+    let named : c.id.result ≡ id_of v.def = c.id.ensures ∙ ap id_of c.def.ensures in
+    went_one c.args.slot.now c.args.stays v c.in-Here.is c.if-stays.false coming going after
+    (λ new. subst (λ (i : DefinitionId). AreNotes after coming (going ++ record { id = i; observations = v.observations } ∷ [])) named
+    (subst (λ (os : List Observation). AreNotes after coming (going ++ record { id = c.id.result; observations = os } ∷ [])) c.observations.ensures
+    (c.in_ok-go.ensures coming going are (subst (λ (i : DefinitionId). IsNew i going) (sym named) new))))

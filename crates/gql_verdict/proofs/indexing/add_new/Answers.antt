@@ -1,0 +1,18 @@
+use Rattle.std.proofs.Common.{◌≡◌, ◌++◌, ◌∷◌, [], ◌∙◌, ap, subst, sym, List}
+use Rattle.gql_ast.specs.Trees.{id_of}
+use Rattle.gql_ast.specs.declared.definition.DefinitionId.{DefinitionId}
+use Rattle.gql_readers.specs.Changes.{AreNotes, IsNew}
+use Rattle.gql_readers.specs.Readers.{Reader}
+use Rattle.gql_reads.specs.declared.observation.Observation.{Observation}
+use Rattle.gql_verdict.proofs.LedTo.{came_one}
+use Rattle.gql_verdict.proofs.indexing.add_new.Goals as goal
+
+pub returns-in_ok-come : goal.returns-in_ok-come
+returns-in_ok-come c = λ coming going are.
+    let v = c.in-Here.verdict in
+    let after = c.come.new.self in
+    let named : c.id.result ≡ id_of v.def = c.id.ensures ∙ ap id_of c.def.ensures in
+    came_one c.args.step.now v c.in-Here.is coming going after
+    (λ new. subst (λ (i : DefinitionId). AreNotes after (coming ++ record { id = i; observations = v.observations } ∷ []) going) named
+    (subst (λ (os : List Observation). AreNotes after (coming ++ record { id = c.id.result; observations = os } ∷ []) going) c.observations.ensures
+    (c.in_ok-come.ensures coming going are (subst (λ (i : DefinitionId). IsNew i coming) (sym named) new))))

@@ -1,0 +1,13 @@
+-- Verdicts as readers of keys.
+use Rattle.std.specs.Prelude.{List, map}
+use Rattle.gql_ast.specs.Trees.{id_of}
+use Rattle.gql_readers.specs.Readers.{Reader}
+use Rattle.gql_verdict.specs.Verdicts.{Judgement}
+
+-- a verdict, by its definition and what it observed
+abbrev pub reader_of : Judgement → Reader
+reader_of v = record { id = id_of v.def; observations = v.observations }
+
+-- the readers that verdicts are
+abbrev pub readers : List Judgement → List Reader
+readers vs = map reader_of vs

@@ -1,0 +1,208 @@
+//! Which kept verdicts an edit has broken: the readers of each key whose answer has changed.
+ghost use Rattle.std.specs.Prelude.{◌≡◌, ◌∷◌, [], ℕ, IfOk, OnOk, IsTrue, ◌↔◌, Contains, length};
+ghost use Rattle.gql_readers.specs.Indexes.{IsIndexOf};
+ghost use Rattle.gql_verdict.specs.Marks.{AreBroken, AreMarked, AreMarks, IsCompared, IsFragmentCompared, IsMarked, IsShelved, KeepMarks, OnlyMarks};
+ghost use Rattle.gql_verdict.specs.Slots.{IsInOrder};
+ghost use Rattle.gql_verdict.specs.declared.touched.Touched.TheVariants.{All, File};
+ghost use Rattle.gql_verdict.specs.Readings.{readers};
+
+use crate::slot::{Slot, find};
+use crate::touched::{FileEdit, Touched};
+use gql_ast::{DefinitionId, Same, Text};
+use gql_facts::{Key, World};
+use gql_readers::{Entry, Index};
+use std::alloc::{AllocError, Global};
+
+/// Marks, none of which is set.
+pub fn no_marks(alloc: Global, count: usize) -> Result<Vec<bool>, AllocError>
+    ensures long { IfOk result (λ marks. length marks.items ≡ count) }
+    ensures unset { IfOk result (λ marks. (j : ℕ) → IsMarked marks.items j → ⊥) }
+{
+    let mut marks = Vec::new(alloc);
+    marks.resize(count, false)?;
+    Ok(marks)
+}
+
+/// Marks the verdict on a definition.
+fn mark(slots: &[Slot], id: &DefinitionId, marks: &mut [bool])
+    requires order { IsInOrder slots.now }
+    requires long { length marks.old ≡ length slots.now }
+    ensures long { length marks.new ≡ length slots.now }
+    ensures kept { KeepMarks marks.old marks.new }
+    ensures marked { AreMarked slots.now marks.new (id.now ∷ []) }
+    ensures only { OnlyMarks slots.now marks.old marks.new (id.now ∷ []) }
+{
+    if let Some(j) = find(slots, id) {
+        marks[j] = true;
+    }
+}
+
+/// Marks the verdicts on some definitions.
+fn mark_all(slots: &[Slot], ids: &[DefinitionId], marks: &mut [bool])
+    requires order { IsInOrder slots.now }
+    requires long { length marks.old ≡ length slots.now }
+    ensures long { length marks.new ≡ length slots.now }
+    ensures kept { KeepMarks marks.old marks.new }
+    ensures marked { AreMarked slots.now marks.new ids.now }
+    ensures only { OnlyMarks slots.now marks.old marks.new ids.now }
+{
+    for id in ids {
+        mark(slots, id, marks);
+    }
+}
+
+/// Whether a world still gives the answer that a key had.
+fn is_as_observed<W: World>(
+    alloc: Global,
+    world: &mut W,
+    entry: &Entry,
+) -> Result<bool, AllocError>
+    ensures facts { W.facts world.new ≡ W.facts world.old }
+    ensures names { W.names world.new ≡ W.names world.old }
+    ensures lent { W.lent world.new ≡ W.lent world.old }
+    ensures answer { IfOk result (λ is_same.
+        IsTrue is_same ↔ (W.facts world.old entry.now.key ≡ entry.now.fact)) }
+{
+    let fact = world.fact(alloc, entry.key())?;
+    Ok(fact.same(entry.fact()))
+}
+
+/// Compares the answer to a key, once for all its readers: if it has changed, they are marked.
+fn compare<W: World>(
+    alloc: Global,
+    world: &mut W,
+    slots: &[Slot],
+    index: &Index,
+    entry: &Entry,
+    marks: &mut [bool],
+) -> Result<(), AllocError>
+    requires shelved { IsShelved slots.now index.now }
+    requires entry { Contains index.now entry.now }
+    requires broken { AreBroken (W.facts world.old) slots.now marks.old }
+    ensures facts { W.facts world.new ≡ W.facts world.old }
+    ensures names { W.names world.new ≡ W.names world.old }
+    ensures lent { W.lent world.new ≡ W.lent world.old }
+    ensures broken { AreBroken (W.facts world.old) slots.now marks.new }
+    ensures kept { KeepMarks marks.old marks.new }
+    ensures compared { OnOk result (IsCompared (W.facts world.old) slots.now marks.new entry.now) }
+{
+    let is_same = is_as_observed(alloc, world, entry)?;
+    if !is_same {
+        mark_all(slots, entry.readers(), marks);
+    }
+    Ok(())
+}
+
+/// Compares the answers to all keys that are read.
+fn compare_all<W: World>(
+    alloc: Global,
+    world: &mut W,
+    slots: &[Slot],
+    index: &Index,
+    marks: &mut [bool],
+) -> Result<(), AllocError>
+    requires shelved { IsShelved slots.now index.now }
+    requires broken { AreBroken (W.facts world.old) slots.now marks.old }
+    ensures facts { W.facts world.new ≡ W.facts world.old }
+    ensures names { W.names world.new ≡ W.names world.old }
+    ensures lent { W.lent world.new ≡ W.lent world.old }
+    ensures marks { OnOk result (AreMarks (W.facts world.old) All slots.now marks.new) }
+{
+    for entry in index.entries() {
+        compare(alloc, world, slots, index, entry.get(), marks)?;
+    }
+    Ok(())
+}
+
+/// Compares the answer to the key of a fragment, if it is read.
+fn compare_fragment<W: World>(
+    alloc: Global,
+    world: &mut W,
+    slots: &[Slot],
+    index: &Index,
+    name: &Text,
+    marks: &mut [bool],
+) -> Result<(), AllocError>
+    requires shelved { IsShelved slots.now index.now }
+    requires broken { AreBroken (W.facts world.old) slots.now marks.old }
+    ensures facts { W.facts world.new ≡ W.facts world.old }
+    ensures names { W.names world.new ≡ W.names world.old }
+    ensures lent { W.lent world.new ≡ W.lent world.old }
+    ensures broken { AreBroken (W.facts world.old) slots.now marks.new }
+    ensures kept { KeepMarks marks.old marks.new }
+    ensures compared { OnOk result (IsFragmentCompared (W.facts world.old) slots.now index.now
+        marks.new name.now) }
+{
+    let key = Key::FragmentOf(name.copy()?);
+    if let Some(entry) = index.find(&key) {
+        compare(alloc, world, slots, index, entry, marks)?;
+    }
+    Ok(())
+}
+
+/// Compares the answers to the keys that the edit of a file touches.
+fn compare_touched<W: World>(
+    alloc: Global,
+    world: &mut W,
+    slots: &[Slot],
+    index: &Index,
+    edit: &FileEdit,
+    marks: &mut [bool],
+) -> Result<(), AllocError>
+    requires shelved { IsShelved slots.now index.now }
+    requires broken { AreBroken (W.facts world.old) slots.now marks.old }
+    ensures facts { W.facts world.new ≡ W.facts world.old }
+    ensures names { W.names world.new ≡ W.names world.old }
+    ensures lent { W.lent world.new ≡ W.lent world.old }
+    ensures marks { OnOk result (AreMarks (W.facts world.old) (File edit.now) slots.now
+        marks.new) }
+{
+    for name in edit.fragments.as_slice() {
+        compare_fragment(alloc, world, slots, index, name, marks)?;
+    }
+    Ok(())
+}
+
+/// Marks the kept verdicts of which some observation that an edit touches does not hold.
+fn mark_broken<W: World>(
+    alloc: Global,
+    world: &mut W,
+    slots: &[Slot],
+    index: &Index,
+    touched: &Touched,
+    marks: &mut [bool],
+) -> Result<(), AllocError>
+    requires shelved { IsShelved slots.now index.now }
+    requires broken { AreBroken (W.facts world.old) slots.now marks.old }
+    ensures facts { W.facts world.new ≡ W.facts world.old }
+    ensures names { W.names world.new ≡ W.names world.old }
+    ensures lent { W.lent world.new ≡ W.lent world.old }
+    ensures marks { OnOk result
+        (AreMarks (W.facts world.old) touched.now slots.now marks.new) }
+{
+    match touched {
+        Touched::All => compare_all(alloc, world, slots, index, marks),
+        Touched::File(edit) => compare_touched(alloc, world, slots, index, edit, marks),
+    }
+}
+
+/// Marks of the kept verdicts of which some observation that an edit touches does not hold. The
+/// answer to each key is asked once.
+pub fn broken_marks<W: World>(
+    alloc: Global,
+    world: &mut W,
+    slots: &[Slot],
+    index: &Index,
+    touched: &Touched,
+) -> Result<Vec<bool>, AllocError>
+    requires { IsShelved slots.now index.now }
+    ensures facts { W.facts world.new ≡ W.facts world.old }
+    ensures names { W.names world.new ≡ W.names world.old }
+    ensures lent { W.lent world.new ≡ W.lent world.old }
+    ensures marks { IfOk result (λ marks.
+        AreMarks (W.facts world.old) touched.now slots.now marks.items) }
+{
+    let mut marks = no_marks(alloc, slots.len())?;
+    mark_broken(alloc, world, slots, index, touched, &mut marks)?;
+    Ok(marks)
+}
