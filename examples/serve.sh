@@ -1,6 +1,6 @@
 #!/bin/sh
 # Starts the server: examples/serve.sh [PORT [CONNECTIONS]], by default port 8080 and 1,000,000
-# connections. It prints `listening` once it is ready, answers one connection after the other, and
+# connections. It prints `listening` once it is ready, answers up to 16 connections at one time, and
 # ends after that number of connections. Where no program is built that is as new as its sources,
 # one is built without proof first, in two to three minutes (tools/program.sh).
 set -eu
