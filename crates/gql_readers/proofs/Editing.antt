@@ -169,9 +169,9 @@ module _ (F : Facts) (es : List Reading) (notes : Notes) (old going coming new :
   index_then = record {
     order = merged_rises key_order key_total key_exact key_of changed_key made es notes sorted index.order
         (λ ys c. record {
-        place = λ y m. (entry_from c.0 (fact_after ys c.1) (readers_after (readers_found ys) c.1) y m).0;
-        once = entry_once c.0 (fact_after ys c.1) (readers_after (readers_found ys) c.1);
-      });
+          place = λ y m. (entry_from c.0 (fact_after ys c.1) (readers_after (readers_found ys) c.1) y m).0;
+          once = entry_once c.0 (fact_after ys c.1) (readers_after (readers_found ys) c.1);
+        });
     exact = λ e m. elim (merged_from key_order key_total key_exact key_of changed_key made es notes sorted e m) [
       | inl o ↦ index.exact e o.0 ∙ same_readers F old going coming new edit e.key (nobody_comes e.key (λ c h q. o.1 c h (sym q))) (nobody_goes e.key (λ c h q. o.1 c h (sym q)))
       | inr o ↦
@@ -183,11 +183,12 @@ module _ (F : Facts) (es : List Reading) (notes : Notes) (old going coming new :
           let found = here key_order key_of c.0.0 es in
           let ids = readers_after (readers_found found) c.0.1 in
           let there : Contains ids r.id = subst (λ zs. Contains zs r.id) (sym (readers_then c.0 c.1)) (reads_has c.0.0 new r m (observes_has c.0.0 r o n (sym c.2))) in
-          let y = entry_has c.0.0 (fact_after found c.0.1) ids r.id there in
-          (y.0,
+          let y = entry_has c.0.0 (fact_after found c.0.1) ids r.id there in (
+            y.0,
             merged_makes key_order key_total key_exact key_of changed_key made es notes sorted c.0 y.0 c.1 y.1,
             y.2 ∙ c.2,
-            y.3 ∙ fact_found c.0 c.1 r o m n (sym c.2) found (here_from key_order key_total key_exact key_of c.0.0 es) (here_has key_order key_total key_exact key_of c.0.0 es))
+            y.3 ∙ fact_found c.0 c.1 r o m n (sym c.2) found (here_from key_order key_total key_exact key_of c.0.0 es) (here_has key_order key_total key_exact key_of c.0.0 es),
+          )
       | inr lacks ↦
           let kept = was_old o.key (nobody_comes o.key lacks) r o m n refl in
           let f = index.facts r o kept n in

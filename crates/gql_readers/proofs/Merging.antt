@@ -159,21 +159,30 @@ module _ {K : Type 0} (order : K → K → Ordering) (total : IsTotalOrder order
       merged_from xs (c ∷ cs) up y h = elim (Contains-append_cases (below order at (of c) xs) (make (here order at (of c) xs) c ++ merged order at of make (above order at (of c) xs) cs) y h) [
         | inl b ↦
             let r = below_from (of c) xs y b in
-            inl (r.0, λ d m e. elim (Contains-cases d c cs m) [
-              | inl q ↦ not_less (at y) (of c) r.1 (e ∙ ap of q)
-              | inr t ↦ not_less (at y) (of d) (total.trans (at y) (of c) (of d) r.1 (pairs_head (λ a b. order (of a) (of b) ≡ Less) c cs up d t)) e
-            ])
+            inl (
+              r.0,
+              λ d m e. elim (Contains-cases d c cs m) [
+                | inl q ↦ not_less (at y) (of c) r.1 (e ∙ ap of q)
+                | inr t ↦ not_less (at y) (of d) (total.trans (at y) (of c) (of d) r.1 (pairs_head (λ a b. order (of a) (of b) ≡ Less) c cs up d t)) e
+              ],
+            )
         | inr rest ↦ elim (Contains-append_cases (make (here order at (of c) xs) c) (merged order at of make (above order at (of c) xs) cs) y rest) [
           | inl m ↦ inr (c, Contains-here c cs, m)
           | inr a ↦ elim (merged_from (above order at (of c) xs) cs (pairs_tail (λ a b. order (of a) (of b) ≡ Less) c cs up) y a) [
             | inl o ↦
                 let r = above_from (of c) xs y o.0 in
-                inl (r.0, λ d m e. elim (Contains-cases d c cs m) [
-                  | inl q ↦ not_less (of c) (at y) r.1 (sym (e ∙ ap of q))
-                  | inr t ↦ o.1 d t e
-                ])
-            | inr o ↦ inr (o.0, Contains-there o.0 c cs o.1,
-                subst (λ (zs : List A). Contains (make zs o.0) y) (here_above (of c) (of o.0) xs (pairs_head (λ a b. order (of a) (of b) ≡ Less) c cs up o.0 o.1)) o.2)
+                inl (
+                  r.0,
+                  λ d m e. elim (Contains-cases d c cs m) [
+                    | inl q ↦ not_less (of c) (at y) r.1 (sym (e ∙ ap of q))
+                    | inr t ↦ o.1 d t e
+                  ],
+                )
+            | inr o ↦ inr (
+              o.0,
+              Contains-there o.0 c cs o.1,
+              subst (λ (zs : List A). Contains (make zs o.0) y) (here_above (of c) (of o.0) xs (pairs_head (λ a b. order (of a) (of b) ≡ Less) c cs up o.0 o.1)) o.2,
+            )
           ]
         ]
       ]

@@ -161,8 +161,10 @@ module _ (F : Facts) (old going coming new : List Reader) (edit : IsEdit F old g
       let r = reads_from k new id c in
       elim (edit.from r.0 r.1) [
         | inl j ↦ inl (subst (λ z. Contains (readers_of k coming) z) r.2 (reads_has k coming r.0 j r.3))
-        | inr o ↦ inr (subst (λ z. Contains (readers_of k old) z) r.2 (reads_has k old r.0 o.0 r.3),
-            λ m. let g = reads_from k going id m in o.1 g.0 g.1 (g.2 ∙ sym r.2))
+        | inr o ↦ inr (
+          subst (λ z. Contains (readers_of k old) z) r.2 (reads_has k old r.0 o.0 r.3),
+          λ m. let g = reads_from k going id m in o.1 g.0 g.1 (g.2 ∙ sym r.2),
+        )
       ]
 
   pub came : (id : DefinitionId) → Contains (readers_of k coming) id → Contains (readers_of k new) id

@@ -76,23 +76,23 @@ module _ {A K : Type 0} (order : K → K → Ordering) (total : IsTotalOrder ord
   index_rises : (o p : Ordering) (x y k : K) → order x k ≡ o → order y k ≡ p → order x y ≡ Less → ordering_index o ≤ ordering_index p
   index_rises Less p x y k e f lt = omega arith
   index_rises Equal Less x y k e f lt = absurd (
-    let s : x ≡ k = exact x k e in
-    let t : order y x ≡ Less = subst (λ z. order y z ≡ Less) (sym s) f in
-    let u : Greater ≡ Less = sym (total.antisymm y x ∙ ap ordering_reverse lt) ∙ t in
-    cc u
-  )
+      let s : x ≡ k = exact x k e in
+      let t : order y x ≡ Less = subst (λ z. order y z ≡ Less) (sym s) f in
+      let u : Greater ≡ Less = sym (total.antisymm y x ∙ ap ordering_reverse lt) ∙ t in
+      cc u
+      )
   index_rises Equal Equal x y k e f lt = omega arith
   index_rises Equal Greater x y k e f lt = omega arith
   index_rises Greater Less x y k e f lt = absurd (
-    let t : order x k ≡ Less = total.trans x y k lt f in
-    let u : Greater ≡ Less = sym e ∙ t in
-    cc u
-  )
+      let t : order x k ≡ Less = total.trans x y k lt f in
+      let u : Greater ≡ Less = sym e ∙ t in
+      cc u
+      )
   index_rises Greater Equal x y k e f lt = absurd (
-    let t : order x k ≡ Less = subst (λ z. order x z ≡ Less) (exact y k f) lt in
-    let u : Greater ≡ Less = sym e ∙ t in
-    cc u
-  )
+      let t : order x k ≡ Less = subst (λ z. order x z ≡ Less) (exact y k f) lt in
+      let u : Greater ≡ Less = sym e ∙ t in
+      cc u
+      )
   index_rises Greater Greater x y k e f lt = omega arith
 
   same_or_less : (i j : ℕ) → i ≤ j → (i ≡ j) ⊎ (i < j)

@@ -121,12 +121,7 @@ impl Changes {
     }
 
     /// Takes out what is noted of a key.
-    fn take(
-        &mut self,
-        alloc: Global,
-        key: &OrderedKey,
-        fact: &Fact,
-    ) -> Result<Noted, AllocError>
+    fn take(&mut self, alloc: Global, key: &OrderedKey, fact: &Fact) -> Result<Noted, AllocError>
         ensures noted { IfOk result (λ n. n ≡ noted_or fact.now (noted_of self.old key.now)) }
         ensures others { OnOk result (IsTakenOut self.old self.new key.now) }
     {

@@ -36,10 +36,7 @@ fn add_copies(ids: &[DefinitionId], all: &mut Vec<DefinitionId>) -> Result<(), A
 }
 
 /// The definitions before one, and those after it.
-fn split<'i>(
-    ids: &'i [DefinitionId],
-    id: &DefinitionId,
-) -> (&'i [DefinitionId], &'i [DefinitionId])
+fn split<'i>(ids: &'i [DefinitionId], id: &DefinitionId) -> (&'i [DefinitionId], &'i [DefinitionId])
     requires { AreInOrder ids.now }
     ensures before { result.0.now ≡ below orders.id_order itself id.now ids.now }
     ensures after { result.1.now ≡ above orders.id_order itself id.now ids.now }

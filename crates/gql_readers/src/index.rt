@@ -50,10 +50,7 @@ fn split<'e>(entries: &'e [Shared<Entry>], key: &Key) -> Parts<'e>
 }
 
 /// Adds handles on entries.
-fn add_handles(
-    entries: &[Shared<Entry>],
-    all: &mut Vec<Shared<Entry>>,
-) -> Result<(), AllocError>
+fn add_handles(entries: &[Shared<Entry>], all: &mut Vec<Shared<Entry>>) -> Result<(), AllocError>
     ensures { OnOk result (all.new.items ≡ all.old.items ++ entries.now) }
 {
     for entry in entries {

@@ -175,7 +175,6 @@ module _ (F : Facts) (kept : List Slot) (ds : List Definition) (steps : List Slo
   serve : IsServed F ds (map (resolve kept) steps)
   serve = served F kept ds steps zip
 
-
   after_order : AllPairs Before (verdicts (map (resolve kept) steps))
   after_order = before_from (verdicts (map (resolve kept) steps)) (subst (λ (es : List Definition). InFileOrder es) (sym serve.each) up)
 
@@ -201,9 +200,12 @@ module _ (F : Facts) (kept : List Slot) (ds : List Definition) (steps : List Slo
           let q : Here t.1.0 ≡ Here w = sym (t.1.1.is (At j)) ∙ e in
           let same : t.1.0 ≡ w = cc q in
           let at : IsAt kept j w = subst (λ (x : Judgement). IsAt kept j x) same t.1.1 in
-          inr (kept_at kept shelved j w at, λ g h p.
-            let i = gone_from kept marks g h in
-            i.2 (subst (λ n. IsMarked marks n) (same_index kept shelved j i.0 w g at i.1 (sym p)) (are.to j at.within m)))
+          inr (
+            kept_at kept shelved j w at,
+            λ g h p.
+                let i = gone_from kept marks g h in
+                i.2 (subst (λ n. IsMarked marks n) (same_index kept shelved j i.0 w g at i.1 (sym p)) (are.to j at.within m)),
+          )
 
   pub edit_of : IsEdit F (readers (verdicts kept)) (readers (gone kept marks)) (readers (verdicts steps)) (readers (verdicts (map (resolve kept) steps)))
   edit_of = record {
@@ -221,9 +223,12 @@ module _ (F : Facts) (kept : List Slot) (ds : List Definition) (steps : List Slo
         let m = Contains-map_from reader_of (verdicts (map (resolve kept) steps)) r c in
         elim (came_from m.0 m.1) [
           | inl n ↦ inl (subst (λ (x : Reader). Contains (readers (verdicts steps)) x) m.2 (Contains-map reader_of (verdicts steps) m.0 n))
-          | inr o ↦ inr (subst (λ (x : Reader). Contains (readers (verdicts kept)) x) m.2 (Contains-map reader_of (verdicts kept) m.0 o.0), λ g h e.
-              let k = Contains-map_from reader_of (gone kept marks) g h in
-              o.1 k.0 k.1 (ap (λ (x : Reader). x.id) k.2 ∙ e ∙ sym (ap (λ (x : Reader). x.id) m.2)))
+          | inr o ↦ inr (
+            subst (λ (x : Reader). Contains (readers (verdicts kept)) x) m.2 (Contains-map reader_of (verdicts kept) m.0 o.0),
+            λ g h e.
+                let k = Contains-map_from reader_of (gone kept marks) g h in
+                o.1 k.0 k.1 (ap (λ (x : Reader). x.id) k.2 ∙ e ∙ sym (ap (λ (x : Reader). x.id) m.2)),
+          )
         ];
     holds = λ r c. let m = Contains-map_from reader_of (verdicts (map (resolve kept) steps)) r c in subst (λ (x : Reader). Hold F x.observations) m.2 (serve.holds m.0 m.1);
   }

@@ -5,8 +5,8 @@
 #![tactic(auto)]
 
 mod definitions;
-pub mod laws;
 mod indexing;
+pub mod laws;
 mod marks;
 mod meter;
 mod names;

@@ -52,11 +52,7 @@ fn mark_all(slots: &[Slot], ids: &[DefinitionId], marks: &mut [bool])
 }
 
 /// Whether a world still gives the answer that a key had.
-fn is_as_observed<W: World>(
-    alloc: Global,
-    world: &mut W,
-    entry: &Entry,
-) -> Result<bool, AllocError>
+fn is_as_observed<W: World>(alloc: Global, world: &mut W, entry: &Entry) -> Result<bool, AllocError>
     ensures facts { W.facts world.new ≡ W.facts world.old }
     ensures names { W.names world.new ≡ W.names world.old }
     ensures lent { W.lent world.new ≡ W.lent world.old }

@@ -161,6 +161,14 @@ pub fn plan<W: World>(
         (definitions_of files.now.documents) meter.old meter.new }
 {
     let definitions = all_definitions(alloc, &files.documents)?;
-    let steps = plan_all(alloc, world, kept, marks, definitions.as_slice(), touched, meter)?;
+    let steps = plan_all(
+        alloc,
+        world,
+        kept,
+        marks,
+        definitions.as_slice(),
+        touched,
+        meter,
+    )?;
     Ok(steps)
 }

@@ -1,6 +1,5 @@
 use Rattle.std.proofs.Common.{◌≡◌, ◌++◌, ◌∷◌, [], ◌∙◌, ◌+◌, List, append-nil, ap, refl, sym, subst, take, Contains}
 use Rattle.std.proofs.lemmas.List.{take_all}
-
 use Rattle.std.specs.List.{list_any}
 use Rattle.gql_facts.specs.Keys.{is_key}
 use Rattle.gql_facts.specs.declared.key.Key.{Key}

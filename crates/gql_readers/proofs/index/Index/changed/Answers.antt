@@ -68,7 +68,6 @@ loop-key-preserved c =
           ∙ c.loop-key.invariant.so_far;
     }
 
-
 pub returns : goal.returns
 returns c = λ facts old going coming new change.
     let sorted : AreSorted c.args.changes = subst (λ (zs : Notes). AreSorted zs) c.changes.view_is (sorted_notes c.changes.inside.notes.entries c.into_iter-key-iterator.ensures.into_iter_gives.5) in
