@@ -1,4 +1,5 @@
 mod Adding
+pub mod Closing
 mod Going
 mod Parts
 mod Turning
