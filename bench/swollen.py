@@ -1,0 +1,88 @@
+"""Swollen input for `gqlreg pipe`: swollen.py NAME COUNT writes the requests; bench/swollen.sh runs them."""
+
+import sys
+
+SCHEMA = "type Query { q: Query x: Int y: Int s: String }"
+
+
+def request(method, target, body):
+    body = body.encode()
+    return b"%s %s HTTP/1.1\r\nContent-Length: %d\r\n\r\n%s" % (
+        method.encode(), target.encode(), len(body), body)
+
+
+def document(name, text):
+    return request("PUT", "/documents/" + name, text)
+
+
+def chain(count):
+    """Fragments, each of which spreads the next one."""
+    links = "".join("fragment F%d on Query { x ...F%d }\n" % (n, n + 1) for n in range(1, count))
+    return [document("d", "query Q { ...F1 }\n%sfragment F%d on Query { x }\n" % (links, count))]
+
+
+def aliases(count):
+    """Operations that spread a fragment of 4,000 response names."""
+    fields = " ".join("a%d:x" % n for n in range(4000))
+    operations = "".join("query O%d { ...F }\n" % n for n in range(count))
+    return [document("d", "fragment F on Query { %s }\n%s" % (fields, operations))]
+
+
+def names(count):
+    """One set of fields, each with a response name of its own."""
+    return [document("d", "{ %s }" % " ".join("a%d:x" % n for n in range(count)))]
+
+
+def spreads(count):
+    """One set that spreads so many fragments."""
+    fragments = "".join("fragment F%d on Query { x }\n" % n for n in range(count))
+    return [document("d", "{ %s }\n%s" % (" ".join("...F%d" % n for n in range(count)), fragments))]
+
+
+def lower(count):
+    """Fragments, each of which spreads all before it."""
+    fragments = "".join("fragment F%d on Query { x %s }\n" % (
+        n, " ".join("...F%d" % m for m in range(n))) for n in range(count))
+    return [document("d", "query Q { ...F%d }\n%s" % (count - 1, fragments))]
+
+
+def equal(count):
+    """Operations that spread a fragment of 30,000 equal fields."""
+    operations = "".join("query O%d { ...F }\n" % n for n in range(count))
+    return [document("f", "fragment F on Query { %s}\n" % ("x " * 30000)), document("d", operations)]
+
+
+def operations():
+    return [document("o%d" % n, "query O%d { q { x y s } k%d: x }" % (n, n)) for n in range(250)]
+
+
+def schema_edits(count):
+    """Edits of a schema file that no operation depends on, among 250 operations in files of their own."""
+    return operations() + [
+        request("PUT", "/schema/t", "type Other%d { z: Int }" % n) for n in range(count)]
+
+
+def document_edits(count):
+    """Edits of one operation among 250 in files of their own."""
+    return operations() + [
+        document("o7", "query O7 { q { x y s } k%d: x }" % n) for n in range(count)]
+
+
+def moved(count):
+    """Edits that move a fragment which 210 operations spread, with 39 others."""
+    fragment = "fragment F%d on Query { a%d: x b%d: y q { s } }"
+    spread = " ".join("...F%d" % n for n in range(40))
+    return (
+        [document("f%d" % n, fragment % (n, n, n)) for n in range(40)]
+        + [document("o%d" % n, "query O%d { %s }" % (n, spread)) for n in range(210)]
+        + [document("f0", "# moved %d\n" % n + fragment % (0, 0, 0)) for n in range(count)])
+
+
+KINDS = {
+    "chain": chain, "aliases": aliases, "names": names, "spreads": spreads, "lower": lower,
+    "equal": equal, "schema_edits": schema_edits, "document_edits": document_edits, "moved": moved,
+}
+
+if __name__ == "__main__":
+    requests = KINDS[sys.argv[1]](int(sys.argv[2]))
+    sys.stdout.buffer.write(request("PUT", "/schema/s", SCHEMA) + b"".join(requests))
