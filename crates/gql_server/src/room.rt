@@ -11,12 +11,17 @@ use std::time::{Duration, Instant};
 /// A connection that sends no byte and takes none for this many seconds is given up.
 const QUIET_SECONDS: u64 = 60;
 
+/// A connection that has not sent a byte yet is left its place for this many milliseconds.
+const FIRST_MILLISECONDS: u64 = 1000;
+
 /// A connection that is served.
 #[derive(Drop)]
 pub struct Seat {
     pub place: Place<TcpSocket>,
     /// Whether it has a turn before the next wait.
     pub is_ready: bool,
+    /// Whether no byte has come yet.
+    pub is_new: bool,
     /// When bytes came or went last.
     pub since: Instant,
 }
@@ -30,6 +35,7 @@ impl Seat {
         let next = self.place.turn(hub, number);
         if self.place.take_moved() {
             self.since = now;
+            self.is_new = false;
         }
         self.is_ready = next == Next::Ready;
         matches!(next, Next::Over(_))
@@ -55,9 +61,11 @@ impl Seat {
     }
 
     /// Whether nothing is left to read, to answer or to write, as far as is known, and no byte came
-    /// or went for so long.
+    /// or went for so long. The first byte may take longer.
     fn is_idle(&self, now: Instant, least: Duration) -> bool {
-        !self.is_ready && self.place.is_quiet() && now.duration_since(self.since) >= least
+        let quiet = now.duration_since(self.since);
+        let is_late = !self.is_new || quiet >= Duration::from_millis(FIRST_MILLISECONDS);
+        !self.is_ready && self.place.is_quiet() && quiet >= least && is_late
     }
 
     /// How long the connection may still be quiet.

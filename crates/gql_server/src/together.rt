@@ -83,6 +83,7 @@ fn seat_of(
     Some(Seat {
         place,
         is_ready: true,
+        is_new: true,
         since: now,
     })
 }
@@ -282,8 +283,8 @@ fn close_all(hub: &mut Hub, at_once: u8)
 /// A connection is over once its peer has closed it, or a request, and its answers are written; if a
 /// read or a write fails; if an allocation fails; after 1,048,576 reads; after 60 seconds in which no
 /// byte came or went; and once another waits, no number is free, and it is the one that has been
-/// quiet longest, for 50 milliseconds at least, with no unfinished request and nothing to write. After
-/// a second of waiting, any that is idle will do.
+/// quiet longest, for 50 milliseconds at least, or for a second if it has not sent a byte yet, with no
+/// unfinished request and nothing to write. After a second of waiting, any that is idle will do.
 ///
 /// What the connections did to the hub are events one after the other. In the end all these
 /// connections of the hub are closed again, and all others are as they were.
