@@ -12,7 +12,8 @@ use Rattle.gql_ast.specs.declared.rule.Rule.TheVariants as rule
 use Rattle.gql_clashes.proofs.Carrying as carrying
 use Rattle.gql_clashes.proofs.Cover.{bad_turns, two_turn}
 use Rattle.gql_clashes.proofs.Reading.{number_tests}
-use Rattle.gql_clashes.proofs.Searching.{clash_of, pair_less, pair_more}
+use Rattle.gql_clashes.proofs.Searching.{clash_of}
+use Rattle.gql_clashes.proofs.Turning.{pair_less, pair_more}
 use Rattle.gql_clashes.specs.Clashes.{AreTwo, IsClash, Nodes, Reached, SeedsOf, seed, step, turn}
 use Rattle.gql_clashes.specs.Compared.{pair_of}
 use Rattle.gql_clashes.specs.Numbered as numbered
