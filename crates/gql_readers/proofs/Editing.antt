@@ -19,12 +19,12 @@ use Rattle.gql_facts.specs.declared.key.Key.{Key}
 use Rattle.gql_reads.specs.declared.observation.Observation.{Observation}
 use Rattle.gql_readers.specs.Changes.{AreNotes, IsEdit, Noted, Notes, comes_in, goes_in}
 use Rattle.gql_readers.specs.Indexes.{IsIndexOf, Reading}
-use Rattle.gql_readers.specs.Merged.{changed_key, edited, entry_if, fact_after, fact_by, here, index_after, key_of, made, readers_after, readers_found}
+use Rattle.gql_readers.specs.Merged.{IsUnchanged, changed_key, edited, entry_if, fact_after, fact_by, here, index_after, key_of, made, readers_after, readers_found}
 use Rattle.gql_readers.specs.Orders.{AreInOrder, key_order}
 use Rattle.gql_readers.specs.Readers.{Reader, observes, readers_of}
 use Rattle.gql_readers.proofs.Merging.{about, here_from, here_has, merged_from, merged_keeps, merged_makes, merged_rises, not_less, pairs_head, pairs_none, pairs_one, pairs_tail}
 use Rattle.gql_readers.specs.OrderLaws.{key_exact, key_total}
-use Rattle.gql_readers.proofs.Reading.{edited_readers, none_reads, observes_from, observes_has, reads_has, reads_in_order, same_readers}
+use Rattle.gql_readers.proofs.Reading.{about_id, edited_in_order, edited_readers, none_reads, observes_from, observes_has, reads_from, reads_has, reads_in_order, same_ids, same_readers, with_from, with_new, with_old, without_from, without_has}
 
 -- ---- what is noted of a key
 
@@ -203,6 +203,50 @@ module _ (F : Facts) (es : List Reading) (notes : Notes) (old going coming new :
   pub found_in_order : (found : List Reading) → ((e : Reading) → Contains found e → Contains es e) → AreInOrder (readers_found found)
   found_in_order [] from = λ i j d lt within. absurd (omega (arith, lt, within))
   found_in_order (e ∷ rest) from = subst (λ ids. AreInOrder ids) (sym (index.exact e (from e (Contains-here e rest)))) (reads_in_order e.key old edit.old_order)
+
+  -- who goes from a key has read it
+  pub goes_among : (c : Key × Noted) → Contains notes c → (id : DefinitionId) → Contains c.1.goes id → Contains (readers_found (here key_order key_of c.0 es)) id
+  goes_among c m id h =
+      let g = reads_from c.0 going id (subst (λ ids. Contains ids id) (goes_are c m) h) in
+      subst (λ ids. Contains ids id) (sym (here_readers c.0)) (subst (λ x. Contains (readers_of c.0 old) x) g.2 (reads_has c.0 old g.0 (edit.goes g.0 g.1) g.3))
+
+-- ---- an entry that a change leaves as it is
+
+edited_same : (ids cs : List DefinitionId) → AreInOrder ids → AreInOrder cs → ((id : DefinitionId) → Contains cs id → Contains ids id) → edited true (edited false ids cs) cs ≡ ids
+edited_same ids cs up vp among =
+    let rest = edited false ids cs in
+    same_ids (edited true rest cs) ids (edited_in_order rest cs vp true (edited_in_order ids cs vp false up)) up
+    (λ z c. elim (with_from rest cs vp z c) [ inl o ↦ (without_from ids cs vp z o).0 | inr n ↦ among z n ])
+    (λ z c. elim (about_id cs z) [
+      | inl n ↦ with_new rest cs vp z n
+      | inr n ↦ with_old rest cs vp z (without_has ids cs vp z c n) n
+    ])
+
+abbrev entry_of : Key → Fact → List DefinitionId → Reading
+entry_of k f ids = record { key = k; fact = f; readers = ids }
+
+entry_is : (e : Reading) (k : Key) (f : Fact) (ids : List DefinitionId) → e.key ≡ k → e.fact ≡ f → e.readers ≡ ids → ids ≢ [] → e ∷ [] ≡ entry_if k f ids
+entry_is e k f [] a b c n = absurd (n refl)
+entry_is e k f (x ∷ ids) a b c n = ap (λ j. entry_of j e.fact e.readers ∷ []) a ∙ ap (λ g. entry_of k g e.readers ∷ []) b ∙ ap (λ zs. entry_of k f zs ∷ []) c
+
+fact_stays : (comes : List DefinitionId) (come kept : Fact) → kept ≡ come → kept ≡ fact_by comes come kept
+fact_stays [] come kept e = refl
+fact_stays (id ∷ ids) come kept e = e
+
+pub unchanged_made : (found : List Reading) (c : Key × Noted) → IsUnchanged found c.1 → AreInOrder (readers_found found) → AreInOrder c.1.goes → ((id : DefinitionId) → Contains c.1.goes id → Contains (readers_found found) id)
+    → ((e : Reading) → Contains found e → e.key ≡ c.0) → found ≡ made found c
+unchanged_made found c u up vp among named =
+    let e = u.entry in
+    let readers : readers_found found ≡ e.readers = ap readers_found u.one in
+    let after : readers_after (readers_found found) c.1 ≡ readers_found found = ap (λ cs. edited true (edited false (readers_found found) c.1.goes) cs) u.same ∙ edited_same (readers_found found) c.1.goes up vp among in
+    let key : e.key ≡ c.0 = named e (subst (λ (zs : List Reading). Contains zs e) (sym u.one) (Contains-here e [])) in
+    let fact : e.fact ≡ fact_after found c.1 = fact_stays c.1.comes c.1.fact e.fact u.fact ∙ sym (ap (λ (zs : List Reading). fact_after zs c.1) u.one) in
+    let some : readers_after (readers_found found) c.1 ≢ [] = λ none. not_none c.1.comes u.some (λ id h. Contains-nil id (subst (λ ids. Contains ids id) (sym after ∙ none) (among id (subst (λ ids. Contains ids id) u.same h)))) in
+    u.one ∙ entry_is e c.0 (fact_after found c.1) (readers_after (readers_found found) c.1) key fact (sym readers ∙ sym after) some
+  where
+    not_none : (ids : List DefinitionId) → ids ≢ [] → ((id : DefinitionId) → Contains ids id → ⊥) → ⊥
+    not_none [] n lacks = n refl
+    not_none (id ∷ ids) n lacks = lacks id (Contains-here id ids)
 
 -- keys that rise in a map are noted in order
 pub sorted_notes : (notes : Notes) → IsStrictlySortedBy key_order (keys_of notes) → AreSorted notes

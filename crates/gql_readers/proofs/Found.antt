@@ -1,5 +1,5 @@
 -- The entry of a key, and the readers of a key.
-use Rattle.std.proofs.Common.{◌≡◌, ℕ, zero, List, [], ◌∷◌, Some, None, Option, refl, ap, sym, subst, ◌∙◌, Contains}
+use Rattle.std.proofs.Common.{◌≡◌, ℕ, zero, List, [], ◌∷◌, Some, None, Option, refl, ap, sym, subst, ◌∙◌, Contains, length, get_or, arith}
 use Rattle.std.specs.Prelude.{slice_get}
 use Rattle.gql_facts.specs.ListMembers.{Contains-nil, Contains-here}
 use Rattle.gql_facts.specs.declared.key.Key.{Key}
@@ -36,3 +36,8 @@ readers_none es k lacks rs index = none_reads k rs (λ r c o.
     let x = observes_from k r o in
     let e = index.facts r x.0 c x.1 in
     lacks e.0 e.1 (e.2 ∙ x.2))
+
+pub one_is : {A : Type 0} (xs : List A) (x : A) → length xs ≡ 1 → x ≡ get_or xs 0 x → xs ≡ x ∷ []
+one_is [] x l e = absurd (omega (arith, l))
+one_is (y ∷ []) x l e = ap (λ z. z ∷ []) (sym e)
+one_is (y ∷ z ∷ xs) x l e = absurd (omega (arith, l))

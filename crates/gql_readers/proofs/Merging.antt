@@ -141,7 +141,7 @@ module _ {K : Type 0} (order : K → K → Ordering) (total : IsTotalOrder order
     here_has k xs x c e = filter_has (λ y. is_eq (order (at y) k)) xs x (ap is_eq (ap (λ j. order j k) e ∙ tied_itself total k)) c
 
     -- what is at a place above another is found above that one as well
-    here_above : (j k : K) (xs : List A) → order j k ≡ Less → here order at k (above order at j xs) ≡ here order at k xs
+    pub here_above : (j k : K) (xs : List A) → order j k ≡ Less → here order at k (above order at j xs) ≡ here order at k xs
     here_above j k xs lt = filter_both (λ y. is_gt (order (at y) j)) (λ y. is_eq (order (at y) k)) xs
         (λ x e. ap is_gt (ap (λ i. order i j) (exact (at x) k (is_equal (order (at x) k) e)) ∙ turned_less j k lt))
 

@@ -39,7 +39,7 @@ joined x y e f = rw (e, f) refl
 id_parts : (a b : DefinitionId) → a.offset ≡ b.offset → a.file ≡ b.file → a ≡ b
 id_parts a b e f = ap (λ n. record { file = n; offset = a.offset }) f ∙ ap (λ o. record { file = b.file; offset = o }) e
 
-same_id : (a b : DefinitionId) → is_id a b ≡ true → a ≡ b
+pub same_id : (a b : DefinitionId) → is_id a b ≡ true → a ≡ b
 same_id a b e = let p = both _ _ e in id_parts a b ((unsigned_Decides a.offset b.offset).0 p.0) ((bytes_eq-Decides a.file b.file).0 p.1)
 
 itself_id : (a : DefinitionId) → is_id a a ≡ true

@@ -146,6 +146,9 @@ module _ (xs cs : List DefinitionId) (up : AreInOrder cs) where
   pub with_new : (y : DefinitionId) → Contains cs y → Contains (edited true xs cs) y
   with_new y m = merged_makes id_order id_total id_exact itself itself (one_if true) xs cs up y y m (Contains-here y [])
 
+  pub with_old : (y : DefinitionId) → Contains xs y → (Contains cs y → ⊥) → Contains (edited true xs cs) y
+  with_old y h n = merged_keeps id_order id_total id_exact itself itself (one_if true) xs cs y h (λ c m e. n (subst (λ z. Contains cs z) (sym e) m))
+
   pub edited_in_order : (b : Bool) → AreInOrder xs → AreInOrder (edited b xs cs)
   edited_in_order true all = merged_rises id_order id_total id_exact itself itself (one_if true) xs cs up all
       (λ ys c. record { place = λ y m. elim (Contains-cases y c [] m) [ inl e ↦ e | inr t ↦ absurd (Contains-nil y t) ]; once = pairs_one (λ (x y : DefinitionId). Before x y) c })
@@ -186,6 +189,12 @@ module _ (F : Facts) (old going coming new : List Reader) (edit : IsEdit F old g
   coming_in : AreInOrder (readers_of k coming)
   coming_in = reads_in_order k coming edit.coming_order
 
+  with_kept : (xs : List DefinitionId) (y : DefinitionId) → Contains xs y → Contains (edited true xs (readers_of k coming)) y
+  with_kept xs y h = elim (about_id (readers_of k coming) y) [
+    | inl c ↦ with_new xs (readers_of k coming) coming_in y c
+    | inr n ↦ with_old xs (readers_of k coming) coming_in y h n
+  ]
+
   pub edited_readers : edited true (edited false (readers_of k old) (readers_of k going)) (readers_of k coming) ≡ readers_of k new
   edited_readers =
       let rest = edited false (readers_of k old) (readers_of k going) in
@@ -198,15 +207,8 @@ module _ (F : Facts) (old going coming new : List Reader) (edit : IsEdit F old g
       ])
       (λ z c. elim (read_after z c) [
         | inl j ↦ with_new rest (readers_of k coming) coming_in z j
-        | inr o ↦ with_old rest z (without_has (readers_of k old) (readers_of k going) going_in z o.0 o.1)
+        | inr o ↦ with_kept rest z (without_has (readers_of k old) (readers_of k going) going_in z o.0 o.1)
       ])
-    where
-      with_old : (xs : List DefinitionId) (y : DefinitionId) → Contains xs y → Contains (edited true xs (readers_of k coming)) y
-      with_old xs y h = elim (about_id (readers_of k coming) y) [
-        | inl c ↦ with_new xs (readers_of k coming) coming_in y c
-        | inr n ↦ merged_keeps id_order id_total id_exact itself itself (one_if true) xs (readers_of k coming) y h (λ c m e. n (subst (λ z. Contains (readers_of k coming) z) (sym e) m))
-      ]
-
   -- a key that nobody comes to or goes from has the readers that it had
   pub same_readers : readers_of k coming ≡ [] → readers_of k going ≡ [] → readers_of k old ≡ readers_of k new
   same_readers nc ng = sym (ap (λ zs. edited true (edited false (readers_of k old) zs) (readers_of k coming)) ng ∙ ap (λ zs. edited true (readers_of k old) zs) nc) ∙ edited_readers

@@ -1,5 +1,5 @@
 -- Helper definitions for private contracts: a list in order, with changes of elements in order.
-use Rattle.std.specs.Prelude.{◌≡◌, List, [], ◌∷◌, ◌++◌, cond, filter, Bool, true, false, Option, Some, None, ℕ, take, drop, ◌≤◌, length}
+use Rattle.std.specs.Prelude.{◌≡◌, ◌≢◌, List, [], ◌∷◌, ◌++◌, cond, filter, Bool, true, false, Option, Some, None, ℕ, take, drop, ◌≤◌, length}
 use Rattle.std.specs.BTreeMap.{is_at}
 use Rattle.std.specs.Ordering.{is_eq, is_gt, is_lt}
 use Rattle.std.specs.declared.cmp.Ordering.{Ordering}
@@ -73,6 +73,14 @@ entry_if k f (id ∷ ids) = record { key = k; fact = f; readers = id ∷ ids } �
 -- what stands for a key after the change, where this was found for it
 abbrev pub made : List Reading → Key × Noted → List Reading
 made found c = entry_if c.0 (fact_after found c.1) (readers_after (readers_found found) c.1)
+
+-- those who come to a key are those who go from it, and its answer is as it was
+pub record IsUnchanged (found : List Reading) (noted : Noted) : Type 0 where
+  pub entry : Reading
+  pub one : found ≡ entry ∷ []
+  pub some : noted.comes ≢ []
+  pub same : noted.comes ≡ noted.goes
+  pub fact : entry.fact ≡ noted.fact
 
 -- the key of an entry, and that of a change
 abbrev pub key_of : Reading → Key

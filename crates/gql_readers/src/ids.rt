@@ -1,5 +1,5 @@
 //! Lists of definitions in file order.
-ghost use Rattle.std.specs.Prelude.{◌≡◌, ◌++◌, [], IfOk, OnOk};
+ghost use Rattle.std.specs.Prelude.{◌≡◌, ◌++◌, [], IfOk, IsTrue, OnOk};
 ghost use Rattle.gql_readers.specs.Merged.{above, below, edited, itself, one_if};
 ghost use Rattle.gql_readers.specs.Orders as orders;
 ghost use Rattle.gql_readers.specs.Orders.{AreInOrder};
@@ -23,6 +23,21 @@ pub fn is_same(id: &DefinitionId, other: &DefinitionId) -> bool
     ensures { result ≡ orders.is_id id.now other.now }
 {
     id.offset == other.offset && id.file == other.file
+}
+
+/// Whether two lists are of the same definitions.
+pub fn are_same(ids: &[DefinitionId], others: &[DefinitionId]) -> bool
+    ensures { IsTrue result → ids.now ≡ others.now }
+{
+    if ids.len() != others.len() {
+        return false;
+    }
+    for i in 0..ids.len() {
+        if !is_same(&ids[i], &others[i]) {
+            return false;
+        }
+    }
+    true
 }
 
 /// Adds copies of names.

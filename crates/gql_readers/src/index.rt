@@ -1,20 +1,21 @@
 //! The index.
-ghost use Rattle.std.specs.Prelude.{◌≡◌, ◌++◌, [], List, Contains, IfOk, OnOk};
+ghost use Rattle.std.specs.Prelude.{◌≡◌, ◌++◌, [], List, Contains, IfOk, IsTrue, OnOk};
 ghost use Rattle.std.specs.Option.{option_copied};
+ghost use Rattle.gql_ast.specs.declared.definition.DefinitionId.{DefinitionId as Id};
 ghost use Rattle.gql_facts.specs.Worlds.{Facts};
 ghost use Rattle.gql_readers.specs.Changes.{IsChange, IsSomeChange};
 ghost use Rattle.gql_readers.specs.Indexes.{AreEntriesInOrder, IsEntryOf, IsIndexOf, Reading};
 ghost use Rattle.gql_readers.specs.Merged as merged;
-ghost use Rattle.gql_readers.specs.Merged.{above, below, here, key_of, made};
+ghost use Rattle.gql_readers.specs.Merged.{IsUnchanged, above, below, here, key_of, made};
 ghost use Rattle.gql_readers.specs.Orders as orders;
 ghost use Rattle.gql_readers.specs.Orders.{AreInOrder};
 ghost use Rattle.gql_readers.specs.Readers.{Reader, readers_of};
 
 use crate::changes::{Changes, Noted};
 use crate::entries::Entry;
-use crate::ids::edit;
+use crate::ids::{are_same, edit};
 use crate::orders::key_order;
-use gql_ast::{DefinitionId, Shared};
+use gql_ast::{DefinitionId, Same, Shared};
 use gql_facts::{Fact, Key};
 use std::alloc::{AllocError, Global};
 use std::marker::Model;
@@ -103,7 +104,21 @@ fn fact_after(here: &[Shared<Entry>], noted: &Noted) -> Result<Fact, AllocError>
     Ok(noted.fact.copy()?)
 }
 
-/// Adds the entry of a key after a change, if the key has readers then.
+/// Whether a change leaves the entry of a key as it is.
+fn is_unchanged(here: &[Shared<Entry>], noted: &Noted) -> bool
+    ensures { IsTrue result → IsUnchanged here.now noted.now }
+{
+    if here.len() != 1 || noted.comes.is_empty() {
+        return false;
+    }
+    if !are_same(noted.comes.as_slice(), noted.goes.as_slice()) {
+        return false;
+    }
+    here[0].get().fact().same(&noted.fact)
+}
+
+/// Adds the entry of a key after a change, if the key has readers then. An entry that the change
+/// leaves as it is, as where an operation is examined again, is shared.
 fn add_made(
     alloc: Global,
     here: &[Shared<Entry>],
@@ -113,8 +128,15 @@ fn add_made(
 ) -> Result<(), AllocError>
     requires readers { AreInOrder (merged.readers_found here.now) }
     requires goes { AreInOrder noted.now.goes }
+    requires among { (id : Id) → Contains noted.now.goes id
+        → Contains (merged.readers_found here.now) id }
+    requires named { (e : Reading) → Contains here.now e → e.key ≡ key }
     ensures { OnOk result (all.new.items ≡ all.old.items ++ made here.now (key, noted.now)) }
 {
+    if is_unchanged(here, noted) {
+        add_handles(here, all)?;
+        return Ok(());
+    }
     let readers = readers_after(alloc, readers_found(here), noted)?;
     if readers.is_empty() {
         return Ok(());

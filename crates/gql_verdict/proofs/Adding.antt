@@ -42,11 +42,6 @@ pub count_map : {A B : Type 0} (p : B → Bool) (h : A → B) (xs : List A)
     → count_by p (map h xs) ≡ count_by (λ x. p (h x)) xs
 count_map p h xs = count_from p h xs 0
 
--- something borrowed is there just where its value is
-pub there_is : {A : Type 0} (o : Option (Bor A)) → is_some o ≡ is_some (option_copied o)
-there_is None = refl
-there_is (Some x) = refl
-
 or_false : (b : Bool) → b || false ≡ b
 or_false true = refl
 or_false false = refl

@@ -112,11 +112,3 @@ read_at slots j v w s at is e = let q : Here v ≡ Here w = sym (at.is s) ∙ (s
 
 pub read_other : (slots : List Slot) (j k : ℕ) (v : Judgement) (s : Slot) → IsAt slots j v → s ≡ get_or slots j s → s ≡ At k → ⊥
 read_other slots j k v s at is e = let q : Here v ≡ At k = sym (at.is s) ∙ (sym is ∙ e) in cc
-
-pub at_true : (b : Bool) (P Q : Type 0) → MatchBool b P Q → b ≡ true → P
-at_true true P Q h e = h
-at_true false P Q h e = cc
-
-pub at_false : (b : Bool) (P Q : Type 0) → MatchBool b P Q → b ≡ false → Q
-at_false true P Q h e = cc
-at_false false P Q h e = h

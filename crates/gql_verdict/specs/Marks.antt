@@ -87,3 +87,8 @@ IsFragmentCompared facts slots index marks n = (e : Reading) → Contains index 
 -- none of these verdicts is on a definition on which a reader is
 abbrev pub AreNew : List Judgement → List Reader → Type 0
 AreNew vs readers = (v : Judgement) → Contains vs v → IsNew (id_of v.def) readers
+
+-- the answer was compared for each fragment of a name that passes this test, if it was read
+abbrev pub AreDone : Facts → List Slot → List Reading → List Bool → (List ℕ → Bool) → Type 0
+AreDone facts slots index marks done = (n : List ℕ) → done n ≡ true
+    → IsFragmentCompared facts slots index marks n

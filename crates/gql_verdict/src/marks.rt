@@ -1,17 +1,18 @@
 //! Which kept verdicts an edit has broken: the readers of each key whose answer has changed.
-ghost use Rattle.std.specs.Prelude.{◌≡◌, ◌∷◌, [], ℕ, IfOk, OnOk, IsTrue, ◌↔◌, Contains, length};
-ghost use Rattle.gql_readers.specs.Indexes.{IsIndexOf};
-ghost use Rattle.gql_verdict.specs.Marks.{AreBroken, AreMarked, AreMarks, IsCompared, IsFragmentCompared, IsMarked, IsShelved, KeepMarks, OnlyMarks};
+ghost use Rattle.std.specs.Prelude.{◌≡◌, ◌∷◌, [], ℕ, IfOk, OnOk, IsTrue, ◌↔◌, Contains, bytes_eq, is_some, length};
+ghost use Rattle.std.specs.HashMap as hash;
+ghost use Rattle.gql_verdict.specs.Marks.{AreBroken, AreDone, AreMarked, AreMarks, IsCompared, IsFragmentCompared, IsMarked, IsShelved, KeepMarks, OnlyMarks};
 ghost use Rattle.gql_verdict.specs.Slots.{IsInOrder};
 ghost use Rattle.gql_verdict.specs.declared.touched.Touched.TheVariants.{All, File};
-ghost use Rattle.gql_verdict.specs.Readings.{readers};
 
 use crate::slot::{Slot, find};
+use crate::spreads::add_name;
 use crate::touched::{FileEdit, Touched};
 use gql_ast::{DefinitionId, Same, Text};
 use gql_facts::{Key, World};
 use gql_readers::{Entry, Index};
 use std::alloc::{AllocError, Global};
+use std::collections::HashMap;
 
 /// Marks, none of which is set.
 pub fn no_marks(alloc: Global, count: usize) -> Result<Vec<bool>, AllocError>
@@ -136,7 +137,39 @@ fn compare_fragment<W: World>(
     Ok(())
 }
 
-/// Compares the answers to the keys that the edit of a file touches.
+/// Compares the answer to the key of a fragment, unless that was done.
+fn compare_once<'t, W: World>(
+    alloc: Global,
+    world: &mut W,
+    slots: &[Slot],
+    index: &Index,
+    name: &'t Text,
+    done: &mut HashMap<&'t str, ()>,
+    marks: &mut [bool],
+) -> Result<(), AllocError>
+    requires shelved { IsShelved slots.now index.now }
+    requires broken { AreBroken (W.facts world.old) slots.now marks.old }
+    requires done { AreDone (W.facts world.old) slots.now index.now marks.old
+        (λ n. is_some (hash.get_by (λ k. bytes_eq n k.now) done.old)) }
+    ensures facts { W.facts world.new ≡ W.facts world.old }
+    ensures names { W.names world.new ≡ W.names world.old }
+    ensures lent { W.lent world.new ≡ W.lent world.old }
+    ensures broken { AreBroken (W.facts world.old) slots.now marks.new }
+    ensures kept { KeepMarks marks.old marks.new }
+    ensures compared { OnOk result (IsFragmentCompared (W.facts world.old) slots.now index.now
+        marks.new name.now) }
+    ensures done { OnOk result (AreDone (W.facts world.old) slots.now index.now marks.new
+        (λ n. is_some (hash.get_by (λ k. bytes_eq n k.now) done.new))) }
+{
+    if done.contains_key(name.as_str()) {
+        return Ok(());
+    }
+    compare_fragment(alloc, world, slots, index, name, marks)?;
+    add_name(done, name.as_str())?;
+    Ok(())
+}
+
+/// Compares the answers to the keys that the edit of a file touches, each once.
 fn compare_touched<W: World>(
     alloc: Global,
     world: &mut W,
@@ -153,8 +186,9 @@ fn compare_touched<W: World>(
     ensures marks { OnOk result (AreMarks (W.facts world.old) (File edit.now) slots.now
         marks.new) }
 {
+    let mut done = HashMap::new(alloc);
     for name in edit.fragments.as_slice() {
-        compare_fragment(alloc, world, slots, index, name, marks)?;
+        compare_once(alloc, world, slots, index, name, &mut done, marks)?;
     }
     Ok(())
 }

@@ -68,7 +68,7 @@ fn all_spreads<'t>(
 }
 
 /// Adds a name to a set.
-fn add_name<'t>(set: &mut HashMap<&'t str, ()>, name: &'t str) -> Result<(), AllocError>
+pub fn add_name<'t>(set: &mut HashMap<&'t str, ()>, name: &'t str) -> Result<(), AllocError>
     ensures { OnOk result ((q : List ℕ) →
         is_some (hash.get_by (λ k. bytes_eq q k.now) set.new)
         ≡ (is_some (hash.get_by (λ k. bytes_eq q k.now) set.old) || bytes_eq q name.now)) }

@@ -5,7 +5,6 @@ ghost use Rattle.gql_verdict.specs.DocumentEdits as edits;
 ghost use Rattle.gql_verdict.specs.TouchedFacts as spec;
 
 use gql_ast::{Definition, Document, FileName, Text, Tree};
-use gql_facts::Key;
 use gql_types::Named;
 use std::alloc::{AllocError, Global};
 
@@ -91,19 +90,6 @@ impl Touched {
             file: name.copy(),
             fragments: Named::new(alloc, names)?,
         }))
-    }
-
-    /// Whether the answer to a key may have changed.
-    pub fn touches(&self, key: &Key) -> bool
-        ensures { result ≡ spec.touches self.now key.now }
-    {
-        match self {
-            Touched::All => true,
-            Touched::File(edit) => match key {
-                Key::FragmentOf(name) => edit.fragments.get(name.as_str()).is_some(),
-                _ => false,
-            },
-        }
     }
 
     /// Whether a definition may have changed. One of another file than the edited one has not.

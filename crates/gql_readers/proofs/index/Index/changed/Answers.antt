@@ -10,8 +10,8 @@ use Rattle.gql_readers.specs.Indexes.{AreEntriesInOrder, IsIndexOf, Reading}
 use Rattle.gql_readers.specs.Merged.{above, below, changed_key, here, index_after, key_of, made, readers_found}
 use Rattle.gql_readers.specs.OrderLaws.{key_exact, key_total}
 use Rattle.gql_readers.specs.Orders.{AreInOrder, key_order}
-use Rattle.gql_readers.proofs.Editing.{AreSorted, found_in_order, goes_in_order, index_then, sorted_notes}
-use Rattle.gql_readers.proofs.Merging.{filter_from, here_from, pairs_tail}
+use Rattle.gql_readers.proofs.Editing.{AreSorted, found_in_order, goes_among, goes_in_order, index_then, sorted_notes}
+use Rattle.gql_readers.proofs.Merging.{filter_from, here_above, here_from, pairs_head, pairs_tail}
 use Rattle.gql_readers.proofs.Splitting.{merged_more}
 use Rattle.gql_readers.proofs.index.Index.changed.Goals as goal
 
@@ -27,6 +27,7 @@ loop-key-init c =
       kept = λ e m. subst (λ (zs : List Reading). Contains zs e) es m;
       noted = λ n m. subst (λ (zs : Notes). Contains zs n) ns m;
       sorted = subst (λ (zs : Notes). AreSorted zs) (sym x.0) (sorted_notes c.changes.inside.notes.entries x.5);
+      same = λ n m. ap (here key_order key_of n.0) es;
       so_far = ap (λ (zs : List Reading). zs ++ index_after c.as_slice-rest.result.now c.into_iter-key-iterator.result) c.new-all.ensures.items ∙ ap (λ (zs : List Reading). index_after zs c.into_iter-key-iterator.result) es ∙ ap (λ (zs : Notes). index_after c.args.self.now zs) ns;
     }
 
@@ -46,6 +47,20 @@ add_made-requires-clause-goes c =
     goes_in_order r.0 c.args.self.now c.args.changes r.1 r.2 r.3 r.4 r.5.index_of sorted r.5.notes_of r.5.edit n
     (c.loop-key.invariant.noted n (subst (λ (zs : Notes). Contains zs n) (sym steps) (Contains-here n c.next.new.self)))
 
+pub add_made-requires-clause-among : goal.add_made-requires-clause-among
+add_made-requires-clause-among c =
+    let r = c.requires in
+    let n : Key × Noted = (c.in-Some.key, c.in-Some.noted) in
+    let steps : c.loop-key.key-iterator ≡ n ∷ c.next.new.self = c.in-Some.ensures.steps in
+    let m : Contains c.loop-key.key-iterator n = subst (λ (zs : Notes). Contains zs n) (sym steps) (Contains-here n c.next.new.self) in
+    let sorted : AreSorted c.args.changes = subst (λ (zs : Notes). AreSorted zs) c.changes.view_is (sorted_notes c.changes.inside.notes.entries c.into_iter-key-iterator.ensures.into_iter_gives.5) in
+    let same : c.split-parts.result.here.now ≡ here key_order key_of c.in-Some.key c.args.self.now = c.split-parts.ensures.here ∙ ap (λ j. here key_order key_of j c.loop-key.rest.now) c.key.view_is ∙ c.loop-key.invariant.same n m in
+    subst (λ (zs : List Reading). (id : DefinitionId) → Contains c.in-Some.noted.goes id → Contains (readers_found zs) id) (sym same)
+    (goes_among r.0 c.args.self.now c.args.changes r.1 r.2 r.3 r.4 r.5.index_of sorted r.5.notes_of r.5.edit n (c.loop-key.invariant.noted n m))
+
+pub add_made-requires-clause-named : goal.add_made-requires-clause-named
+add_made-requires-clause-named c = λ e m. (here_from key_order key_total key_exact key_of c.key.inside.key c.loop-key.rest.now e (subst (λ (zs : List Reading). Contains zs e) c.split-parts.ensures.here m)).1
+
 pub loop-key-preserved : goal.loop-key-preserved
 loop-key-preserved c =
     let k = c.key.inside.key in
@@ -60,6 +75,11 @@ loop-key-preserved c =
       kept = λ e m. c.loop-key.invariant.kept e (filter_from (λ d. is_gt (key_order d.key k)) rest e (subst (λ (zs : List Reading). Contains zs e) c.split-parts.ensures.after m)).0;
       noted = λ m h. c.loop-key.invariant.noted m (subst (λ (zs : Notes). Contains zs m) (sym steps) (Contains-there m n c.next.new.self h));
       sorted = pairs_tail (λ (a b : Key × Noted). key_order a.0 b.0 ≡ Less) n c.next.new.self (subst (λ (zs : Notes). AreSorted zs) steps c.loop-key.invariant.sorted);
+      same = λ m h.
+          let up : key_order c.in-Some.key m.0 ≡ Less = pairs_head (λ (a b : Key × Noted). key_order a.0 b.0 ≡ Less) n c.next.new.self (subst (λ (zs : Notes). AreSorted zs) steps c.loop-key.invariant.sorted) m h in
+          ap (here key_order key_of m.0) (c.split-parts.ensures.after ∙ ap (λ j. above key_order key_of j rest) c.key.view_is)
+          ∙ here_above key_order key_total key_exact key_of c.in-Some.key m.0 rest up
+          ∙ c.loop-key.invariant.same m (subst (λ (zs : Notes). Contains zs m) (sym steps) (Contains-there m n c.next.new.self h));
       so_far = ap (λ (zs : List Reading). zs ++ index_after c.split-parts.result.after.now c.next.new.self)
           (c.in_ok-add_made.ensures ∙ ap (λ (zs : List Reading). zs ++ made c.split-parts.result.here.now (k, c.in-Some.noted)) c.in_ok-add_handles.ensures)
           ∙ merged_more key_order key_of changed_key made c.loop-key.all.items rest c.split-parts.result.before.now c.split-parts.result.after.now (made c.split-parts.result.here.now (k, c.in-Some.noted)) n c.next.new.self c.loop-key.key-iterator
