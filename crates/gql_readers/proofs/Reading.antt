@@ -209,6 +209,7 @@ module _ (F : Facts) (old going coming new : List Reader) (edit : IsEdit F old g
         | inl j ↦ with_new rest (readers_of k coming) coming_in z j
         | inr o ↦ with_kept rest z (without_has (readers_of k old) (readers_of k going) going_in z o.0 o.1)
       ])
+
   -- a key that nobody comes to or goes from has the readers that it had
   pub same_readers : readers_of k coming ≡ [] → readers_of k going ≡ [] → readers_of k old ≡ readers_of k new
   same_readers nc ng = sym (ap (λ zs. edited true (edited false (readers_of k old) zs) (readers_of k coming)) ng ∙ ap (λ zs. edited true (readers_of k old) zs) nc) ∙ edited_readers
