@@ -1,5 +1,4 @@
 mod Adding
-pub mod Closing
 mod Going
 mod Parts
 mod Turning
