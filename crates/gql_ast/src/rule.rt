@@ -87,6 +87,10 @@ pub enum Rule {
     S33,
     /// Duplicate Schemas: there are two schema definitions, or an operation type is given twice.
     S34,
+    /// Deprecated Required Inputs: a required argument or input field is deprecated.
+    S35,
+    /// Misplaced Appends: `@append` is on a field that is not one of the mutation root type.
+    S36,
     /// Executable Definitions: a document file has a definition of the type system.
     V01,
     /// Operation Name Uniqueness: two operations have the same name.
@@ -192,6 +196,8 @@ impl Rule {
             Rule::S32 => "S32",
             Rule::S33 => "S33",
             Rule::S34 => "S34",
+            Rule::S35 => "S35",
+            Rule::S36 => "S36",
             Rule::V01 => "V01",
             Rule::V02 => "V02",
             Rule::V03 => "V03",

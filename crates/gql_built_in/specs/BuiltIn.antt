@@ -54,7 +54,8 @@ fields_of_type = field (codes "kind") (required (named (codes "__TypeKind")))
     ∷ field (codes "interfaces") (list_of type)
     ∷ field (codes "possibleTypes") (list_of type)
     ∷ field_with (codes "enumValues") include_deprecated (list_of (named (codes "__EnumValue")))
-    ∷ field (codes "inputFields") (list_of (named (codes "__InputValue")))
+    ∷ field_with (codes "inputFields") include_deprecated
+      (list_of (named (codes "__InputValue")))
     ∷ field (codes "ofType") type
     ∷ field (codes "specifiedByURL") string
     ∷ []
@@ -63,7 +64,8 @@ fields_of_type = field (codes "kind") (required (named (codes "__TypeKind")))
 unfoldable pub fields_of_field : List FieldDefinition
 fields_of_field = field (codes "name") (required string)
     ∷ field (codes "description") string
-    ∷ field (codes "args") (required_list_of (named (codes "__InputValue")))
+    ∷ field_with (codes "args") include_deprecated
+      (required_list_of (named (codes "__InputValue")))
     ∷ field (codes "type") (required type)
     ∷ field (codes "isDeprecated") (required boolean)
     ∷ field (codes "deprecationReason") string
@@ -75,6 +77,8 @@ fields_of_input_value = field (codes "name") (required string)
     ∷ field (codes "description") string
     ∷ field (codes "type") (required type)
     ∷ field (codes "defaultValue") string
+    ∷ field (codes "isDeprecated") (required boolean)
+    ∷ field (codes "deprecationReason") string
     ∷ []
 
 -- the fields of __EnumValue (4.2.5)
@@ -90,7 +94,8 @@ unfoldable pub fields_of_directive : List FieldDefinition
 fields_of_directive = field (codes "name") (required string)
     ∷ field (codes "description") string
     ∷ field (codes "locations") (required_list_of (named (codes "__DirectiveLocation")))
-    ∷ field (codes "args") (required_list_of (named (codes "__InputValue")))
+    ∷ field_with (codes "args") include_deprecated
+      (required_list_of (named (codes "__InputValue")))
     ∷ field (codes "isRepeatable") (required boolean)
     ∷ []
 
@@ -164,9 +169,11 @@ unfoldable pub reason : List InputValueDefinition
 reason = argument (codes "reason") string (Some (string_value (codes "No longer supported"))) ∷ []
 
 -- directive @deprecated(reason: String = "No longer supported") on FIELD_DEFINITION | ENUM_VALUE
--- (3.13.3)
+-- (3.13.3), and on ARGUMENT_DEFINITION | INPUT_FIELD_DEFINITION, as editions after October 2021
+-- have it
 unfoldable pub deprecated : DirectiveDefinition
-deprecated = directive (codes "deprecated") reason (l.FieldDefinition ∷ l.EnumValue ∷ [])
+deprecated = directive (codes "deprecated") reason
+    (l.FieldDefinition ∷ l.EnumValue ∷ l.ArgumentDefinition ∷ l.InputFieldDefinition ∷ [])
 
 -- the arguments (url: String!)
 unfoldable pub url : List InputValueDefinition
@@ -176,9 +183,18 @@ url = argument (codes "url") (required string) None ∷ []
 unfoldable pub specified_by : DirectiveDefinition
 specified_by = directive (codes "specifiedBy") url (l.Scalar ∷ [])
 
--- the directives of every schema (3.13)
+-- the arguments (to: String!)
+unfoldable pub to : List InputValueDefinition
+to = argument (codes "to") (required string) None ∷ []
+
+-- directive @append(to: String!) on FIELD_DEFINITION, which is this registry's own: a mutation's
+-- field with it adds its arguments, as an object, to the list of this name
+unfoldable pub append : DirectiveDefinition
+append = directive (codes "append") to (l.FieldDefinition ∷ [])
+
+-- the directives of every schema (3.13), and `@append`
 unfoldable pub directives : List DirectiveDefinition
-directives = skip ∷ include ∷ deprecated ∷ specified_by ∷ []
+directives = skip ∷ include ∷ deprecated ∷ specified_by ∷ append ∷ []
 
 -- the definitions that every schema has
 unfoldable pub built_in : List (Sited Tree)

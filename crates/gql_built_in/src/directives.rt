@@ -1,4 +1,5 @@
-//! The directives of every schema (GraphQL specification, 3.13).
+//! The directives of every schema (GraphQL specification, 3.13), and `@append`, which is this
+//! registry's own.
 ghost use Rattle.std.specs.Prelude.{◌≡◌, map, IfOk};
 ghost use Rattle.gql_built_in.specs.BuiltIn as spec;
 ghost use Rattle.gql_built_in.specs.BuiltInWords.{a_directive as a_directive_of};
@@ -40,6 +41,14 @@ fn url(alloc: Global) -> Result<Items<Shared<InputValueDefinition>>, AllocError>
     one_argument(alloc, "url", required_named(alloc, "String")?, None)
 }
 
+// (to: String!)
+#[tactic(auto, unfolding(crate::specs::BuiltIn::to))]
+fn to(alloc: Global) -> Result<Items<Shared<InputValueDefinition>>, AllocError>
+    ensures { IfOk result (λ xs. xs ≡ spec.to) }
+{
+    one_argument(alloc, "to", required_named(alloc, "String")?, None)
+}
+
 // `@skip` (GraphQL specification, 3.13.1)
 #[tactic(auto, unfolding(crate::specs::BuiltIn::skip))]
 fn skip(alloc: Global) -> Result<DirectiveDefinition, AllocError>
@@ -56,7 +65,8 @@ fn include(alloc: Global) -> Result<DirectiveDefinition, AllocError>
     directive(alloc, "include", condition(alloc)?, &SELECTIONS)
 }
 
-// `@deprecated` (GraphQL specification, 3.13.3)
+// `@deprecated` (GraphQL specification, 3.13.3), on arguments and input fields too, as editions
+// after October 2021 have it.
 #[tactic(auto, unfolding(crate::specs::BuiltIn::deprecated))]
 fn deprecated(alloc: Global) -> Result<DirectiveDefinition, AllocError>
     ensures { IfOk result (λ x. x ≡ spec.deprecated) }
@@ -64,6 +74,8 @@ fn deprecated(alloc: Global) -> Result<DirectiveDefinition, AllocError>
     let locations = [
         DirectiveLocation::FieldDefinition,
         DirectiveLocation::EnumValue,
+        DirectiveLocation::ArgumentDefinition,
+        DirectiveLocation::InputFieldDefinition,
     ];
     directive(alloc, "deprecated", reason(alloc)?, &locations)
 }
@@ -77,7 +89,17 @@ fn specified_by(alloc: Global) -> Result<DirectiveDefinition, AllocError>
     directive(alloc, "specifiedBy", url(alloc)?, &locations)
 }
 
-/// The directives of every schema (GraphQL specification, 3.13).
+// `@append`, which is this registry's own: a mutation's field with it adds its arguments, as an
+// object, to the list of this name.
+#[tactic(auto, unfolding(crate::specs::BuiltIn::append))]
+fn append(alloc: Global) -> Result<DirectiveDefinition, AllocError>
+    ensures { IfOk result (λ x. x ≡ spec.append) }
+{
+    let locations = [DirectiveLocation::FieldDefinition];
+    directive(alloc, "append", to(alloc)?, &locations)
+}
+
+/// The directives of every schema (GraphQL specification, 3.13), and `@append`.
 #[tactic(auto, unfolding(crate::specs::BuiltIn::directives))]
 pub fn directives(alloc: Global) -> Result<Items<Sited<Tree>>, AllocError>
     ensures { IfOk result (λ ds. ds ≡ map a_directive_of spec.directives) }
@@ -87,5 +109,6 @@ pub fn directives(alloc: Global) -> Result<Items<Sited<Tree>>, AllocError>
     a_directive(alloc, &mut found, include(alloc)?)?;
     a_directive(alloc, &mut found, deprecated(alloc)?)?;
     a_directive(alloc, &mut found, specified_by(alloc)?)?;
+    a_directive(alloc, &mut found, append(alloc)?)?;
     Ok(found)
 }

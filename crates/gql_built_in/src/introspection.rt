@@ -38,7 +38,7 @@ fn fields_of_type(alloc: Global) -> Result<Items<Shared<FieldDefinition>>, Alloc
         Plain("interfaces", List("__Type")),
         Plain("possibleTypes", List("__Type")),
         ShowsDeprecated("enumValues", List("__EnumValue")),
-        Plain("inputFields", List("__InputValue")),
+        ShowsDeprecated("inputFields", List("__InputValue")),
         Plain("ofType", Named("__Type")),
         Plain("specifiedByURL", Named("String")),
     ];
@@ -52,7 +52,7 @@ fn fields_of_field(alloc: Global) -> Result<Items<Shared<FieldDefinition>>, Allo
     let rows = [
         Plain("name", Required("String")),
         Plain("description", Named("String")),
-        Plain("args", RequiredList("__InputValue")),
+        ShowsDeprecated("args", RequiredList("__InputValue")),
         Plain("type", Required("__Type")),
         Plain("isDeprecated", Required("Boolean")),
         Plain("deprecationReason", Named("String")),
@@ -69,6 +69,8 @@ fn fields_of_input_value(alloc: Global) -> Result<Items<Shared<FieldDefinition>>
         Plain("description", Named("String")),
         Plain("type", Required("__Type")),
         Plain("defaultValue", Named("String")),
+        Plain("isDeprecated", Required("Boolean")),
+        Plain("deprecationReason", Named("String")),
     ];
     fields_of(alloc, &rows)
 }
@@ -94,7 +96,7 @@ fn fields_of_directive(alloc: Global) -> Result<Items<Shared<FieldDefinition>>, 
         Plain("name", Required("String")),
         Plain("description", Named("String")),
         Plain("locations", RequiredList("__DirectiveLocation")),
-        Plain("args", RequiredList("__InputValue")),
+        ShowsDeprecated("args", RequiredList("__InputValue")),
         Plain("isRepeatable", Required("Boolean")),
     ];
     fields_of(alloc, &rows)

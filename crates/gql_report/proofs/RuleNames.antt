@@ -5,7 +5,7 @@ use Rattle.gql_ast.specs.declared.rule.Rule.{Rule}
 use Rattle.gql_ast.specs.declared.rule.Rule.TheVariants as rule
 
 rules : List Rule
-rules = rule.P01 ∷ rule.P02 ∷ rule.P03 ∷ rule.P04 ∷ rule.P05 ∷ rule.S01 ∷ rule.S02 ∷ rule.S03 ∷ rule.S04 ∷ rule.S05 ∷ rule.S06 ∷ rule.S07 ∷ rule.S08 ∷ rule.S09 ∷ rule.S10 ∷ rule.S11 ∷ rule.S12 ∷ rule.S13 ∷ rule.S14 ∷ rule.S15 ∷ rule.S16 ∷ rule.S17 ∷ rule.S18 ∷ rule.S19 ∷ rule.S20 ∷ rule.S21 ∷ rule.S22 ∷ rule.S23 ∷ rule.S24 ∷ rule.S25 ∷ rule.S26 ∷ rule.S27 ∷ rule.S28 ∷ rule.S29 ∷ rule.S30 ∷ rule.S31 ∷ rule.S32 ∷ rule.S33 ∷ rule.S34 ∷ rule.V01 ∷ rule.V02 ∷ rule.V03 ∷ rule.V04 ∷ rule.V05 ∷ rule.V06 ∷ rule.V07 ∷ rule.V08 ∷ rule.V09 ∷ rule.V10 ∷ rule.V11 ∷ rule.V12 ∷ rule.V13 ∷ rule.V14 ∷ rule.V15 ∷ rule.V16 ∷ rule.V17 ∷ rule.V18 ∷ rule.V19 ∷ rule.V20 ∷ rule.V21 ∷ rule.V22 ∷ rule.V23 ∷ rule.V24 ∷ rule.V25 ∷ rule.V26 ∷ rule.V27 ∷ rule.V28 ∷ rule.V29 ∷ []
+rules = rule.P01 ∷ rule.P02 ∷ rule.P03 ∷ rule.P04 ∷ rule.P05 ∷ rule.S01 ∷ rule.S02 ∷ rule.S03 ∷ rule.S04 ∷ rule.S05 ∷ rule.S06 ∷ rule.S07 ∷ rule.S08 ∷ rule.S09 ∷ rule.S10 ∷ rule.S11 ∷ rule.S12 ∷ rule.S13 ∷ rule.S14 ∷ rule.S15 ∷ rule.S16 ∷ rule.S17 ∷ rule.S18 ∷ rule.S19 ∷ rule.S20 ∷ rule.S21 ∷ rule.S22 ∷ rule.S23 ∷ rule.S24 ∷ rule.S25 ∷ rule.S26 ∷ rule.S27 ∷ rule.S28 ∷ rule.S29 ∷ rule.S30 ∷ rule.S31 ∷ rule.S32 ∷ rule.S33 ∷ rule.S34 ∷ rule.S35 ∷ rule.S36 ∷ rule.V01 ∷ rule.V02 ∷ rule.V03 ∷ rule.V04 ∷ rule.V05 ∷ rule.V06 ∷ rule.V07 ∷ rule.V08 ∷ rule.V09 ∷ rule.V10 ∷ rule.V11 ∷ rule.V12 ∷ rule.V13 ∷ rule.V14 ∷ rule.V15 ∷ rule.V16 ∷ rule.V17 ∷ rule.V18 ∷ rule.V19 ∷ rule.V20 ∷ rule.V21 ∷ rule.V22 ∷ rule.V23 ∷ rule.V24 ∷ rule.V25 ∷ rule.V26 ∷ rule.V27 ∷ rule.V28 ∷ rule.V29 ∷ []
 
 by_name : List ℕ → Option Rule
 by_name name = find (λ (r : Rule). bytes_eq name (name_of r)) rules
@@ -51,6 +51,8 @@ found rule.S31 = refl
 found rule.S32 = refl
 found rule.S33 = refl
 found rule.S34 = refl
+found rule.S35 = refl
+found rule.S36 = refl
 found rule.V01 = refl
 found rule.V02 = refl
 found rule.V03 = refl
