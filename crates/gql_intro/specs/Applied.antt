@@ -1,44 +1,13 @@
 -- Directives that introspection reports: `@deprecated` with its reason (GraphQL 3.13.3), and
 -- `@specifiedBy` with its URL (3.13.4).
-use Rattle.std.specs.Prelude.{◌≡◌, ℕ, List, ◌++◌, flat_map, find, bytes_eq, codes, Bool, is_some, Option, Some, None, option_and_then}
-use Rattle.std.proofs.Common.{ap, sym, ◌∙◌}
+use Rattle.std.specs.Prelude.{ℕ, List, ◌++◌, flat_map, codes, Bool, is_some, Option, Some, option_and_then}
 use Rattle.std.specs.Option.{option_map_or}
-use Rattle.gql_text.specs.declared.place.Place.{Place}
 use Rattle.gql_ast.specs.declared.literal.Argument.{Argument}
 use Rattle.gql_ast.specs.declared.literal.Directive.{Directive}
-use Rattle.gql_ast.specs.declared.literal.Literal.{Literal, fold-Literal}
-use Rattle.gql_ast.specs.declared.literal.Literal.TheOpen.{Literal-F, ObjectField-F}
-use Rattle.gql_ast.specs.declared.literal.Literal.TheFolds.{fold-roll-Literal}
-use Rattle.gql_ast.specs.declared.literal.Literal.TheVariants as l
-use Rattle.gql_ast.specs.declared.literal.ObjectField.{ObjectField}
 use Rattle.gql_ast.specs.declared.type_system.TypeExtension.{TypeExtension}
 use Rattle.gql_built_in.specs.declared.sited.Sited.{Sited}
+use Rattle.gql_types.specs.Applied.{argument_of, directive_of, string_of}
 use Rattle.gql_types.specs.declared.schema_type.SchemaType.{SchemaType}
-
--- ---- strings
-
--- the value of a literal of this form, if it is a string
-abbrev pub string_at : Literal-F (Option (List ℕ)) (Option (List ℕ)) → Option (List ℕ)
-string_at (Literal-F.String place value) = Some value
-string_at _ = None
-
--- the string of an object field, from that of its value
-abbrev pub string_in : ObjectField-F (Option (List ℕ)) (Option (List ℕ)) → Option (List ℕ)
-string_in f = f.value
-
--- the value of a literal, if it is a string or a block string
-unfoldable pub string_of : Literal → Option (List ℕ)
-string_of = fold-Literal (Option (List ℕ)) (Option (List ℕ)) string_at string_in
-
--- ---- directives
-
--- the first directive of this name
-abbrev pub directive_of : List ℕ → List Directive → Option Directive
-directive_of name directives = find (λ (d : Directive). bytes_eq name d.name.text) directives
-
--- the first argument of this name
-abbrev pub argument_of : List ℕ → Directive → Option Argument
-argument_of name directive = find (λ (a : Argument). bytes_eq name a.name.text) directive.arguments
 
 -- ---- `@deprecated(reason: String = "No longer supported")`
 
@@ -79,58 +48,3 @@ url_of directive =
 abbrev pub specified_by_url : SchemaType → Option (List ℕ)
 specified_by_url t =
     option_and_then url_of (directive_of (codes "specifiedBy") (type_directives t))
-
--- ---- the string of each form of a literal
-
-module _ (place : Place) where
-  pub string_is : (value : List ℕ) → string_of (l.String place value) ≡ Some value
-  unfolding string_of
-  string_is value = ap string_of (sym (l.rolls-String place value))
-      ∙ fold-roll-Literal (Option (List ℕ)) (Option (List ℕ)) string_at string_in
-      (Literal-F.String place value)
-
-  pub null_is_none : string_of (l.Null place) ≡ None
-  unfolding string_of
-  null_is_none = ap string_of (sym (l.rolls-Null place))
-      ∙ fold-roll-Literal (Option (List ℕ)) (Option (List ℕ)) string_at string_in
-      (Literal-F.Null place)
-
-  pub variable_is_none : (name : List ℕ) → string_of (l.Variable place name) ≡ None
-  unfolding string_of
-  variable_is_none name = ap string_of (sym (l.rolls-Variable place name))
-      ∙ fold-roll-Literal (Option (List ℕ)) (Option (List ℕ)) string_at string_in
-      (Literal-F.Variable place name)
-
-  pub int_is_none : (text : List ℕ) → string_of (l.Int place text) ≡ None
-  unfolding string_of
-  int_is_none text = ap string_of (sym (l.rolls-Int place text))
-      ∙ fold-roll-Literal (Option (List ℕ)) (Option (List ℕ)) string_at string_in
-      (Literal-F.Int place text)
-
-  pub float_is_none : (text : List ℕ) → string_of (l.Float place text) ≡ None
-  unfolding string_of
-  float_is_none text = ap string_of (sym (l.rolls-Float place text))
-      ∙ fold-roll-Literal (Option (List ℕ)) (Option (List ℕ)) string_at string_in
-      (Literal-F.Float place text)
-
-  pub boolean_is_none : (value : Bool) → string_of (l.Boolean place value) ≡ None
-  unfolding string_of
-  boolean_is_none value = ap string_of (sym (l.rolls-Boolean place value))
-      ∙ fold-roll-Literal (Option (List ℕ)) (Option (List ℕ)) string_at string_in
-      (Literal-F.Boolean place value)
-
-  pub enum_is_none : (name : List ℕ) → string_of (l.Enum place name) ≡ None
-  unfolding string_of
-  enum_is_none name = ap string_of (sym (l.rolls-Enum place name))
-      ∙ fold-roll-Literal (Option (List ℕ)) (Option (List ℕ)) string_at string_in
-      (Literal-F.Enum place name)
-
-  pub list_is_none : (items : List Literal) → string_of (l.List place items) ≡ None
-  unfolding string_of
-  list_is_none items = ap string_of (sym (l.rolls-List place items))
-      ∙ fold-roll-Literal (Option (List ℕ)) (Option (List ℕ)) string_at string_in _
-
-  pub object_is_none : (fields : List ObjectField) → string_of (l.Object place fields) ≡ None
-  unfolding string_of
-  object_is_none fields = ap string_of (sym (l.rolls-Object place fields))
-      ∙ fold-roll-Literal (Option (List ℕ)) (Option (List ℕ)) string_at string_in _

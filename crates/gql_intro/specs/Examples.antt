@@ -15,7 +15,8 @@ use Rattle.gql_types.specs.declared.kind.TypeKind.{TypeKind}
 use Rattle.gql_types.specs.declared.kind.TypeKind.TheVariants as kind
 use Rattle.gql_types.specs.declared.schema.Schema.{Schema}
 use Rattle.gql_types.specs.declared.schema_type.SchemaType.{SchemaType}
-use Rattle.gql_intro.specs.Applied.{deprecation_reason, null_is_none}
+use Rattle.gql_types.specs.Applied.{null_is_none}
+use Rattle.gql_intro.specs.Applied.{deprecation_reason}
 use Rattle.gql_intro.specs.declared.made.IntroSchema.{IntroSchema}
 use Rattle.gql_intro.specs.Introspection.{Given, resolve}
 use Rattle.gql_intro.specs.Made.{shown_types}

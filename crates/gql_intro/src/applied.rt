@@ -3,51 +3,10 @@
 ghost use Rattle.std.specs.Prelude.{◌≡◌, flat_map};
 ghost use Rattle.std.specs.Option.{option_copied};
 ghost use Rattle.gql_intro.specs.Applied as spec;
+ghost use Rattle.gql_types.specs.Applied.{directive_of as directive_named};
 
-use gql_ast::{Argument, Directive, Literal, Shared, TypeExtension};
-use gql_types::{SchemaType, Sited};
-
-/// The value of a literal, if it is a string.
-#[tactic(auto, using(crate::specs::Applied::string_is, crate::specs::Applied::null_is_none, crate::specs::Applied::variable_is_none, crate::specs::Applied::int_is_none, crate::specs::Applied::float_is_none, crate::specs::Applied::boolean_is_none, crate::specs::Applied::enum_is_none, crate::specs::Applied::list_is_none, crate::specs::Applied::object_is_none))]
-fn string_of(literal: &Literal) -> Option<&str>
-    ensures { option_copied result ≡ spec.string_of literal.now }
-{
-    match literal {
-        Literal::String { value, .. } => Some(value.as_str()),
-        Literal::Null { .. }
-        | Literal::Variable { .. }
-        | Literal::Int { .. }
-        | Literal::Float { .. }
-        | Literal::Boolean { .. }
-        | Literal::Enum { .. }
-        | Literal::List { .. }
-        | Literal::Object { .. } => None,
-    }
-}
-
-/// The first directive of that name.
-fn directive_of<'d>(name: &str, directives: &'d [Directive]) -> Option<&'d Directive>
-    ensures { option_copied result ≡ spec.directive_of name.now directives.now }
-{
-    for directive in directives {
-        if name == directive.name.as_str() {
-            return Some(directive);
-        }
-    }
-    None
-}
-
-/// The first argument of that name.
-fn argument_of<'d>(name: &str, directive: &'d Directive) -> Option<&'d Argument>
-    ensures { option_copied result ≡ spec.argument_of name.now directive.now }
-{
-    for argument in directive.arguments.as_slice() {
-        if name == argument.name.as_str() {
-            return Some(argument);
-        }
-    }
-    None
-}
+use gql_ast::{Directive, Shared, TypeExtension};
+use gql_types::{SchemaType, Sited, argument_of, directive_of, string_of};
 
 /// Whether a field or an enum value with these directives is deprecated.
 pub fn is_deprecated(directives: &[Directive]) -> bool
@@ -93,7 +52,7 @@ fn directive_in<'t>(
     extensions: &'t [Sited<Shared<TypeExtension>>],
 ) -> Option<&'t Directive>
     ensures { option_copied result
-        ≡ spec.directive_of name.now (flat_map spec.extension_directives extensions.now) }
+        ≡ directive_named name.now (flat_map spec.extension_directives extensions.now) }
 {
     for extension in extensions {
         if let Some(directive) = directive_of(name, extension.node.get().directives.as_slice()) {
@@ -106,7 +65,7 @@ fn directive_in<'t>(
 /// The first directive of that name that a type has, by its definition or by an extension.
 #[tactic(auto, using(crate::proofs::Finding::found_before, crate::proofs::Finding::found_after))]
 fn type_directive<'t>(name: &str, of_type: &'t SchemaType) -> Option<&'t Directive>
-    ensures { option_copied result ≡ spec.directive_of name.now (spec.type_directives of_type.now) }
+    ensures { option_copied result ≡ directive_named name.now (spec.type_directives of_type.now) }
 {
     let definition = of_type.definition.node.get();
     match directive_of(name, definition.directives.as_slice()) {

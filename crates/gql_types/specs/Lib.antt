@@ -1,3 +1,4 @@
+pub mod Applied
 pub mod Covariance
 pub mod Declarations
 pub mod Definitions

@@ -7,6 +7,7 @@ use Rattle.gql_ast.specs.declared.type_system.DirectiveDefinition.{DirectiveDefi
 use Rattle.gql_ast.specs.declared.type_system.FieldDefinition.{FieldDefinition}
 use Rattle.gql_ast.specs.declared.type_system.EnumValueDefinition.{EnumValueDefinition}
 use Rattle.gql_ast.specs.declared.type_system.InputValueDefinition.{InputValueDefinition}
+use Rattle.gql_types.specs.Applied.{append_in}
 use Rattle.gql_types.specs.Definitions.{definitions, type_definitions, type_extensions, directive_definitions, schema_definitions, schema_extensions}
 use Rattle.gql_types.specs.Kinds.{same_operation}
 use Rattle.gql_types.specs.Types.{types_of}
@@ -55,6 +56,11 @@ field_named s of_type name = option_and_then
     (λ (t : SchemaType).
     find (λ (f : Sited FieldDefinition). bytes_eq name f.node.name.text) t.fields)
     (type_named s of_type)
+
+-- the name of the list to which the field of this name of a type appends, if `@append` is on it
+abbrev pub append_of : Schema → List ℕ → List ℕ → Option (List ℕ)
+append_of s of_type name = option_and_then
+    (λ (f : Sited FieldDefinition). append_in f.node.directives) (field_named s of_type name)
 
 -- the possible types of the composite type of this name
 abbrev pub possible_named : Schema → List ℕ → Option (List (List ℕ))

@@ -1,6 +1,7 @@
 //! All schema files and the built-in definitions as one schema, with look-ups by name.
 #![tactic(auto)]
 
+mod applied;
 mod by_name;
 mod covariance;
 mod defined_inputs;
@@ -16,6 +17,7 @@ mod schema;
 mod schema_type;
 mod written_type;
 
+pub use applied::{append_in, argument_of, directive_of, string_of};
 pub use defined_inputs::{DefinedInput, DefinedInputs};
 pub use gql_built_in::Sited;
 pub use kind::TypeKind;

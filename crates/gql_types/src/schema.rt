@@ -3,6 +3,7 @@ ghost use Rattle.std.specs.Prelude.{◌≡◌, IfOk};
 ghost use Rattle.std.specs.Option.{option_copied};
 ghost use Rattle.gql_types.specs.Schemas as spec;
 
+use crate::applied::append_in;
 use crate::defined_inputs::DefinedInputs;
 use crate::definitions::{
     definitions, directive_definitions, schema_definitions, schema_extensions, type_definitions,
@@ -134,6 +135,16 @@ impl Schema {
     {
         match self.get(of_type) {
             Some(of_type) => of_type.fields.get(name),
+            None => None,
+        }
+    }
+
+    /// The name of the list to which a field of an object appends, if `@append` is on it.
+    pub fn append_of(&self, of_type: &str, field: &str) -> Option<&str>
+        ensures { option_copied result ≡ spec.append_of self.now of_type.now field.now }
+    {
+        match self.field(of_type, field) {
+            Some(found) => append_in(found.node.get().directives.as_slice()),
             None => None,
         }
     }
