@@ -1,5 +1,6 @@
 pub mod Direct
 pub mod DirectParts
+pub mod Effects
 pub mod Ended
 pub mod Examples
 pub mod Execution
@@ -15,6 +16,7 @@ pub mod Plans
 pub mod Replies
 pub mod Requests
 pub mod Resolution
+pub mod RootParts
 pub mod Runs
 pub mod States
 pub mod Tables

@@ -97,7 +97,7 @@ fn execute_fields<'d>(
 
 /// Executes a field, with its comma and its name.
 #[cycle(execute)]
-fn execute_field<'d>(
+pub fn execute_field<'d>(
     alloc: Global,
     setting: &Setting<'d, '_>,
     table: &mut Table<'d>,
@@ -287,7 +287,7 @@ fn complete_resolved<'d>(
 
 /// Completes a value (CompleteValue).
 #[cycle(execute)]
-fn complete<'d>(
+pub fn complete<'d>(
     alloc: Global,
     setting: &Setting<'d, '_>,
     table: &mut Table<'d>,
