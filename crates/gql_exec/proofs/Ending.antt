@@ -20,7 +20,7 @@ use Rattle.gql_types.specs.Schemas.{schema_of}
 use Rattle.gql_types.specs.declared.schema.Schema.{Schema}
 use Rattle.serde_json.specs.Data.{Data}
 use Rattle.serde_json.specs.Written.{compact_text}
-use Rattle.gql_exec.specs.Effects.{Effect}
+use Rattle.gql_stored.specs.Effects.{Effect}
 use Rattle.gql_exec.specs.Execution.{answered}
 use Rattle.gql_exec.specs.Plans.{IsPlan}
 use Rattle.gql_exec.specs.Outcomes.{AnError, AnOutcome, error_of}

@@ -8,7 +8,7 @@ use Rattle.json.specs.Print.{quoted}
 use Rattle.serde_json.specs.Data as json
 use Rattle.serde_json.specs.Data.{Data}
 use Rattle.serde_json.specs.View.{view}
-use Rattle.gql_exec.specs.Effects.{Effect, list_named}
+use Rattle.gql_stored.specs.Effects.{Effect, list_named}
 use Rattle.gql_exec.specs.Execution.{Appending, Arguments, given, refused, Fields, no_fields, field, Object, Plan, plan, PlannedField, Site, Types, added, added_by, complete, each_root, effect_of, effects_of, execute_root, members_of, mutation_answer, placed, root_value, value_of}
 use Rattle.gql_exec.specs.Outcomes.{segment_of}
 use Rattle.gql_exec.specs.Parts.{Part, after_comma, all, counted, followed_by, numbered, plain, raise, settled, within}

@@ -15,7 +15,7 @@ use Rattle.serde_json.specs.Find.{get}
 use Rattle.serde_json.specs.View.{items_of}
 use Rattle.gql_exec.specs.declared.planning.Source.{Source}
 use Rattle.gql_exec.specs.declared.planning.Source.TheVariants as source
-use Rattle.gql_exec.specs.Effects.{Effect, list_named}
+use Rattle.gql_stored.specs.Effects.{Effect, list_named}
 use Rattle.gql_exec.specs.Leaves.{as_enum, scalar_value}
 use Rattle.gql_exec.specs.Replies.{Path, key, index, Error, Reply, returns, raise, all, mapped, counted, caught, settled, kept, or_null}
 use Rattle.gql_exec.specs.Resolution.{list_of, resolved}

@@ -1,6 +1,5 @@
 pub mod Direct
 pub mod DirectParts
-pub mod Effects
 pub mod Ended
 pub mod Examples
 pub mod Execution

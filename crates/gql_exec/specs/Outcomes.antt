@@ -3,9 +3,9 @@
 use Rattle.std.specs.Prelude.{ℕ, List, map, string_bytes, Option, option_map}
 use Rattle.gql_text.specs.declared.place.Place.{Place}
 use Rattle.serde_json.specs.View.{view}
-use Rattle.gql_exec.specs.Effects.{Effect}
+use Rattle.gql_stored.specs.Effects.{Effect}
 use Rattle.gql_exec.specs.Replies.{Segment, key, index, Path}
-use Rattle.gql_exec.specs.declared.outcome.Effect.{Effect as TheEffect}
+use Rattle.gql_stored.specs.declared.effect.Effect.{Effect as TheEffect}
 use Rattle.gql_exec.specs.declared.outcome.Outcome.{Outcome}
 use Rattle.gql_exec.specs.declared.outcome.ResponseError.{ResponseError}
 use Rattle.gql_exec.specs.declared.outcome.Step.{Step}

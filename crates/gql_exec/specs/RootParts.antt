@@ -5,7 +5,7 @@ use Rattle.json.specs.Print.{quoted}
 use Rattle.gql_types.specs.Schemas.{append_of}
 use Rattle.serde_json.specs.Data.{Data}
 use Rattle.serde_json.specs.View.{view}
-use Rattle.gql_exec.specs.Effects.{Effect}
+use Rattle.gql_stored.specs.Effects.{Effect}
 use Rattle.gql_exec.specs.Execution.{Appending, Object, PlannedField, Plan, Types, added, effect_of, given, refused, root_value}
 use Rattle.gql_exec.specs.Objects.{object_of}
 use Rattle.gql_exec.specs.Outcomes as outcomes
@@ -17,7 +17,7 @@ use Rattle.gql_exec.specs.Texts.{value_part}
 use Rattle.gql_exec.specs.ValueParts.{placed_part, site_of}
 use Rattle.gql_exec.specs.declared.mutation.Addition.{Addition}
 use Rattle.gql_exec.specs.declared.mutation.Root.{Root as TheRoot}
-use Rattle.gql_exec.specs.declared.outcome.Effect.{Effect as TheEffect}
+use Rattle.gql_stored.specs.declared.effect.Effect.{Effect as TheEffect}
 use Rattle.gql_exec.specs.declared.planning.FieldPlan.{FieldPlan}
 
 -- what root fields of a mutation are executed on: the lists to which they append, by name, the

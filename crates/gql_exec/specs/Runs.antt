@@ -12,7 +12,7 @@ use Rattle.gql_types.specs.declared.kind.TypeKind.TheVariants as kind
 use Rattle.gql_types.specs.declared.roots.Root.{Root}
 use Rattle.gql_types.specs.declared.schema.Schema.{Schema}
 use Rattle.serde_json.specs.Data.{Data}
-use Rattle.gql_exec.specs.Effects.{Effect}
+use Rattle.gql_stored.specs.Effects.{Effect}
 use Rattle.gql_exec.specs.Execution.{Answer, Plan, answered}
 use Rattle.gql_exec.specs.Outcomes.{AnOutcome}
 use Rattle.gql_exec.specs.Plans.{Basis, IsPlan}

@@ -37,7 +37,8 @@ mod table;
 mod values;
 mod whole;
 
-pub use outcome::{Effect, Outcome, ResponseError, Step};
+pub use gql_stored::Effect;
+pub use outcome::{Outcome, ResponseError, Step};
 pub use refusal::ExecRefusal;
 pub use strings::write_string;
 pub use values::{write_integer, write_unsigned, write_value};

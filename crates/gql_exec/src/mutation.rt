@@ -1,8 +1,7 @@
 //! The execution of the root fields of a mutation, one after the other (GraphQL specification,
 //! 6.2.2). A field with `@append` adds its arguments, as an object, to a list of the data.
-ghost use Rattle.std.specs.Prelude.{◌≡◌, ◌<◌, ◌++◌, List, length, is_some, Some, OnOk, IfOk};
+ghost use Rattle.std.specs.Prelude.{◌≡◌, ◌<◌, ◌++◌, List, length, Some, OnOk, IfOk};
 ghost use Rattle.serde_json.specs.View.{view};
-ghost use Rattle.gql_exec.specs.Effects.{list_named};
 ghost use Rattle.gql_exec.specs.Execution as spec;
 ghost use Rattle.gql_exec.specs.Execution.{given};
 ghost use Rattle.gql_exec.specs.Objects.{basis};
@@ -18,7 +17,7 @@ ghost use Rattle.gql_exec.specs.ValueParts as values;
 
 use crate::ended::Ended;
 use crate::executor::{complete, execute_field};
-use crate::outcome::{Effect, Step};
+use crate::outcome::Step;
 use crate::planning::{Called, FieldPlan};
 use crate::refusal::ExecRefusal;
 use crate::run::{Reason, Run};
@@ -28,6 +27,7 @@ use crate::steps::{count, cut_to_null, raise, write, write_byte, write_comma};
 use crate::table::{Slot, Table};
 use gql_coerce::CoercedValue;
 use gql_inputs::is_non_null;
+use gql_stored::{Effect, has_list};
 use serde_json::Value;
 use std::alloc::{AllocError, Global};
 
@@ -45,19 +45,6 @@ pub struct Root<'v> {
 struct Addition<'d, 'v> {
     to: &'d str,
     arguments: &'v CoercedValue,
-}
-
-/// Whether the data have a list of this name.
-fn has_list(stored: &Value, to: &str) -> bool
-    ensures { result ≡ is_some (list_named to.now (view stored.now)) }
-{
-    let Some(query) = stored.get("query") else {
-        return false;
-    };
-    match query.get(to) {
-        Some(list) => list.is_array(),
-        None => false,
-    }
 }
 
 /// The effect of an addition.

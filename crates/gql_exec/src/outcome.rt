@@ -1,6 +1,6 @@
 //! What the execution of an operation comes to.
 
-use gql_coerce::CoercedValue;
+use gql_stored::Effect;
 use gql_text::Place;
 
 /// A step of the path to a value of an answer: a response name, or the index of an item.
@@ -25,19 +25,6 @@ impl Drop for ResponseError<'_> {
             place: _,
             path: _,
         } = self;
-    }
-}
-
-/// An effect of a mutation: a value that is to be added at the end of a list of the data, which
-/// their member `query` has under this name.
-pub struct Effect {
-    pub to: String,
-    pub value: CoercedValue,
-}
-
-impl Drop for Effect {
-    fn drop(self) {
-        let Effect { to: _, value: _ } = self;
     }
 }
 

@@ -18,13 +18,14 @@ use crate::ended::Ended;
 use crate::equal_sets::key_of;
 use crate::executor::execute_object;
 use crate::mutation::{Root, execute_root};
-use crate::outcome::{Effect, Outcome, ResponseError};
+use crate::outcome::{Outcome, ResponseError};
 use crate::refusal::ExecRefusal;
 use crate::run::{FieldError, Run};
 use crate::setting::Setting;
 use crate::steps::cut_to_null;
 use crate::table::Table;
 use gql_collect::SelectionSet;
+use gql_stored::Effect;
 use serde_json::Value;
 use std::alloc::{AllocError, Global};
 
