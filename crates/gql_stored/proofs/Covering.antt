@@ -1,5 +1,5 @@
 -- Rooms and effects, one after the other.
-use Rattle.std.proofs.Common.{◌≡◌, ◌+◌, ◌≤◌, inl, inr, ℕ, List, [], ◌∷◌, Bool, cond, map, Option, Some, None, Vec, Global, IfSome, codes, string_bytes, bytes_eq, refl, ap, sym, subst, ◌∙◌, arith}
+use Rattle.std.proofs.Common.{◌≡◌, ◌+◌, ◌≤◌, inl, inr, ℕ, List, [], ◌∷◌, Bool, cond, map, Option, Some, None, String, Vec, Global, IfSome, codes, string_bytes, bytes_eq, refl, ap, sym, subst, ◌∙◌, arith}
 use Rattle.std.proofs.lemmas.List.Sums.{sum_by-cons}
 use Rattle.std.proofs.lemmas.Slice.Eq.{bytes_eq-Decides}
 use Rattle.serde_json.specs.Data.{Data}
@@ -84,3 +84,7 @@ pub value_turn : (es rest : List Effect) (e : Effect) (now : List ℕ) (old new 
 value_turn es rest e now old new is name h = ap (after (map effect_of rest)) (effect_as_data e old new
     (subst (λ (k : List ℕ). IsChangedAt (codes "query") (IsChangedAt k (IsChanged (change.Add e.value))) old new) name h))
     ∙ ap (λ (xs : List Effect). after (map effect_of xs) (view old)) (sym is)
+
+-- an effect that has been taken apart
+pub first_by_parts : (es rest : List Effect) (e : Effect) (p : String Global × Value) → es ≡ e ∷ rest → p ≡ (e.to, e.value) → es ≡ record { to = p.0; value = p.1 } ∷ rest
+first_by_parts es rest e p is parts = is ∙ ap (λ (q : String Global × Value). let f : Effect = record { to = q.0; value = q.1 } in f ∷ rest) (sym parts)

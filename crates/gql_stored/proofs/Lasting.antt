@@ -7,7 +7,7 @@ use Rattle.std.specs.Ordering.{nat_cmp, match_ordering}
 use Rattle.serde_json.specs.Data.{Data, null, boolean, number, string, array, object, Members, no_members, member}
 use Rattle.serde_json.specs.Find.{as_array, get, get_member}
 use Rattle.gql_stored.specs.Effects.{Effect, list_named, with_end, with_last, changed, with_changed, appended}
-use Rattle.gql_stored.specs.Laws.{OneList, SameLists, OtherMembers, InSequence}
+use Rattle.gql_stored.specs.Laws.{OneList, ListsStay, OtherMembers, InSequence}
 
 -- ---- the member that is changed
 
@@ -108,9 +108,9 @@ still_there true f None = refl
 still_there true f (Some x) = refl
 still_there false f o = refl
 
-pub same_lists : SameLists
-same_lists [] d to = refl
-same_lists (e ∷ es) d to = same_lists es (appended e d) to ∙ ap is_some (one_list e d to) ∙ still_there (bytes_eq to e.to) (with_end e.value) (list_named to d)
+pub lists_stay : ListsStay
+lists_stay [] d to = refl
+lists_stay (e ∷ es) d to = lists_stay es (appended e d) to ∙ ap is_some (one_list e d to) ∙ still_there (bytes_eq to e.to) (with_end e.value) (list_named to d)
 
 pub members_last : OtherMembers
 members_last [] d k differ = refl

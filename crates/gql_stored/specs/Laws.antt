@@ -11,8 +11,8 @@ OneList = (e : Effect) (d : Data) (to : List ℕ) → list_named to (appended e 
     else list_named to d)
 
 -- after any effects, a list is there exactly if it was there before
-abbrev pub SameLists : Type 0
-SameLists = (es : List Effect) (d : Data) (to : List ℕ)
+abbrev pub ListsStay : Type 0
+ListsStay = (es : List Effect) (d : Data) (to : List ℕ)
     → is_some (list_named to (after es d)) ≡ is_some (list_named to d)
 
 -- after any effects, each member other than `query` is as it was

@@ -14,8 +14,8 @@ pub fn one_list()
 {}
 
 /// After any effects, the data have the lists that they had.
-pub fn same_lists()
-    ensures { laws.SameLists }
+pub fn lists_stay()
+    ensures { laws.ListsStay }
 {}
 
 /// After any effects, each member of the data other than `query` is as it was.

@@ -63,7 +63,7 @@ fn with_effects(stored: Value, effects: Vec<Effect>) -> Value
 {
     let mut stored = stored;
     for effect in effects {
-        let Effect { to, value } = effect;
+        let (to, value) = effect.into_parts();
         stored = data_with(stored, to.as_str(), Change::Add(value));
     }
     stored
@@ -98,7 +98,7 @@ impl StoredData {
         requires { IsPreparedFor self.old additions }
         ensures { view self.new ≡ after (effects_of additions) (view self.old) }
     {
-        let Additions { rooms, effects } = additions;
+        let (rooms, effects) = additions.into_parts();
         let stored = mem::replace(&mut self.value, Value::Null);
         self.value = with_effects(with_rooms(stored, rooms), effects);
     }
