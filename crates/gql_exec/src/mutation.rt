@@ -5,7 +5,7 @@ ghost use Rattle.serde_json.specs.View.{view};
 ghost use Rattle.gql_exec.specs.Execution as spec;
 ghost use Rattle.gql_exec.specs.Execution.{given};
 ghost use Rattle.gql_exec.specs.Objects.{basis};
-ghost use Rattle.gql_exec.specs.Outcomes.{effect_of as effect_seen};
+ghost use Rattle.gql_stored.specs.Rooms.{effect_of as effect_seen};
 ghost use Rattle.gql_exec.specs.Plans.{types_of};
 ghost use Rattle.gql_exec.specs.RootParts as part;
 ghost use Rattle.gql_exec.specs.RootParts.{seen, effect_in, effects_in, root_of};
