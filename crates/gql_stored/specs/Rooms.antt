@@ -45,9 +45,9 @@ IsCovered v rs to n = IfList to (HasRoom n) v ⊎ HasRoomAmong (view v) to n rs
 abbrev pub count_to : List ℕ → List Effect → ℕ
 count_to to es = count_by (λ (e : Effect). bytes_eq to (string_bytes e.to)) es
 
--- ---- memory for effects
+-- ---- what `commit` requires
 
--- the data with these additions take no memory
+-- to add these effects to the data takes no memory
 abbrev pub IsPreparedFor : Value → Additions → Type 0
 IsPreparedFor v a = AllByRecursion IsEmptyRoom a.rooms.items
     × ((to : List ℕ) → IsCovered v a.rooms.items to (count_to to a.effects.items))

@@ -12,7 +12,7 @@ use std::mem;
 /// A change to a list.
 #[derive(Drop)]
 pub enum Change {
-    /// Its items move into this buffer.
+    /// Its items move into this buffer, if it is larger than theirs.
     Move(Vec<Value>),
     /// This value is added at the end.
     Add(CoercedValue),

@@ -1,5 +1,5 @@
 //! The data that operations are executed on, and what is added to them.
-ghost use Rattle.std.specs.Prelude.{◌≡◌, ℕ, List, IfOk, map, codes, is_some};
+ghost use Rattle.std.specs.Prelude.{◌≡◌, ℕ, List, IfOk, map};
 ghost use Rattle.std.specs.List.{AllByRecursion};
 ghost use Rattle.serde_json.specs.View.{view};
 ghost use Rattle.gql_stored.specs.Changes.{IfList, HasRoom};
