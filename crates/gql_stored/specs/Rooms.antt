@@ -1,6 +1,6 @@
--- What `StoredData::prepare` makes: effects, and memory for the lists that they go to. What a caller
--- needs of it is `effects_of`, and `IsPreparedFor` as a condition on `StoredData::commit`. The other
--- definitions are helper definitions for these and for private contracts.
+-- What `StoredData::prepare` makes: effects, and memory for the lists that they go to. Callers need
+-- `effect_of`, `effects_of`, and `IsPreparedFor` as the condition of `StoredData::commit`. The others
+-- are helper definitions for these and for private contracts.
 use Rattle.std.specs.Prelude.{◌≡◌, ◌+◌, ◌≤◌, ◌⊎◌, ℕ, List, [], ◌∷◌, vec_capacity, string_bytes, IfSome, map, count_by, bytes_eq}
 use Rattle.std.specs.List.{AllByRecursion}
 use Rattle.serde_json.specs.Data.{Data}
