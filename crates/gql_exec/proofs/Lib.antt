@@ -23,3 +23,4 @@ pub mod SomePlan
 pub mod SomeResponse
 pub mod Starting
 pub mod Texting
+pub mod Writing

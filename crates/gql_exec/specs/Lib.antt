@@ -10,6 +10,7 @@ pub mod Leaves
 pub mod NodeFrames
 pub mod Objects
 pub mod Outcomes
+pub mod PairFrames
 pub mod Parts
 pub mod Plans
 pub mod Replies
@@ -20,3 +21,4 @@ pub mod States
 pub mod Tables
 pub mod Texts
 pub mod ValueParts
+pub mod WriteFrames
