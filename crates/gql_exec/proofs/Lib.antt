@@ -17,6 +17,7 @@ pub mod Listing
 pub mod Midway
 pub mod Parts
 pub mod Picked
+pub mod Reaching
 pub mod Resolving
 pub mod Running
 pub mod SomePlan

@@ -7,7 +7,7 @@ pub mod Kinds
 pub mod Laws
 pub mod LeafParts
 pub mod Leaves
-pub mod NodeFrames
+pub mod Frames
 pub mod Objects
 pub mod Outcomes
 pub mod PairFrames
