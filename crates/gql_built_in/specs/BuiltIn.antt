@@ -55,7 +55,7 @@ fields_of_type = field (codes "kind") (required (named (codes "__TypeKind")))
     ∷ field (codes "possibleTypes") (list_of type)
     ∷ field_with (codes "enumValues") include_deprecated (list_of (named (codes "__EnumValue")))
     ∷ field_with (codes "inputFields") include_deprecated
-      (list_of (named (codes "__InputValue")))
+    (list_of (named (codes "__InputValue")))
     ∷ field (codes "ofType") type
     ∷ field (codes "specifiedByURL") string
     ∷ []
@@ -65,7 +65,7 @@ unfoldable pub fields_of_field : List FieldDefinition
 fields_of_field = field (codes "name") (required string)
     ∷ field (codes "description") string
     ∷ field_with (codes "args") include_deprecated
-      (required_list_of (named (codes "__InputValue")))
+    (required_list_of (named (codes "__InputValue")))
     ∷ field (codes "type") (required type)
     ∷ field (codes "isDeprecated") (required boolean)
     ∷ field (codes "deprecationReason") string
@@ -95,7 +95,7 @@ fields_of_directive = field (codes "name") (required string)
     ∷ field (codes "description") string
     ∷ field (codes "locations") (required_list_of (named (codes "__DirectiveLocation")))
     ∷ field_with (codes "args") include_deprecated
-      (required_list_of (named (codes "__InputValue")))
+    (required_list_of (named (codes "__InputValue")))
     ∷ field (codes "isRepeatable") (required boolean)
     ∷ []
 

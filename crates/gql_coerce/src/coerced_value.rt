@@ -1,10 +1,12 @@
 //! The value that an input comes to.
-ghost use Rattle.std.specs.Prelude.{◌≡◌};
+ghost use Rattle.std.specs.Prelude.{◌≡◌, IfOk};
 ghost use Rattle.serde_json.specs.View.{view};
 ghost use Rattle.gql_coerce.specs.Nesting.{NestsWithin};
 
+use crate::copies::copy_of;
 use crate::take_apart::{drop_of_levels, levels_of};
 use serde_json::Value;
+use std::alloc::{AllocError, Global};
 use std::marker::Model;
 
 /// The value that an input comes to. It nests as deep as memory allows: one of many levels is
@@ -69,8 +71,15 @@ impl CoercedValue {
         self.levels
     }
 
-    /// The value itself. As such it is dropped with recursion.
-    pub(crate) fn into_value(self) -> Value
+    /// A copy of the value, which is made without recursion.
+    pub fn copied(&self, alloc: Global) -> Result<CoercedValue, AllocError>
+        ensures { IfOk result (λ copy. view copy ≡ view self.now) }
+    {
+        copy_of(alloc, &self.value)
+    }
+
+    /// The value itself. As such it is dropped with recursion, unless `take_apart` takes it.
+    pub fn into_value(self) -> Value
         ensures { result ≡ self }
     {
         let CoercedValue { value, levels: _ } = self;

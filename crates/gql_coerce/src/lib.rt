@@ -36,3 +36,4 @@ pub use gql_inputs::fits;
 pub use path::path_text;
 pub use refusal::{Reason, Refusal, Segment};
 pub use requests::{coerce_arguments, coerce_variables};
+pub use take_apart::take_apart;

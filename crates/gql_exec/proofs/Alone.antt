@@ -1,5 +1,5 @@
 -- A request has one response.
-use Rattle.std.proofs.Common.{◌≡◌, ℕ, ◌+◌, List, [], ◌∷◌, ◌++◌, true, codes, Option, Some, None, refl, sym, ap, ◌∙◌, subst, if◌then◌else◌, inl, inr}
+use Rattle.std.proofs.Common.{◌≡◌, ℕ, ◌+◌, List, [], ◌∷◌, ◌++◌, true, codes, Option, Some, None, is_some, refl, sym, ap, ◌∙◌, subst, if◌then◌else◌, inl, inr}
 use Rattle.gql_coerce.specs.Comes as comes
 use Rattle.gql_coerce.specs.Comes.{Outcome}
 use Rattle.gql_coerce.specs.Laws.{OneOfArguments, OneOfVariables}
@@ -12,6 +12,9 @@ use Rattle.gql_inputs.specs.InputTypes.{name_in}
 use Rattle.gql_intro.specs.Nodes as intro
 use Rattle.gql_intro.specs.Nodes.{query_root}
 use Rattle.gql_text.specs.declared.place.Place.{Place}
+use Rattle.gql_ast.specs.declared.executable.OperationKind.{OperationKind}
+use Rattle.gql_ast.specs.declared.executable.OperationKind.TheVariants as operation
+use Rattle.gql_types.specs.Schemas.{append_of}
 use Rattle.gql_types.specs.Written.{Written, named, listed, required}
 use Rattle.gql_types.specs.declared.kind.TypeKind.{TypeKind}
 use Rattle.gql_types.specs.declared.kind.TypeKind.TheVariants as kind
@@ -20,13 +23,14 @@ use Rattle.serde_json.specs.Data as json
 use Rattle.serde_json.specs.Data.{Data}
 use Rattle.serde_json.specs.Find.{get}
 use Rattle.serde_json.specs.View.{items_of}
-use Rattle.gql_exec.specs.Execution.{Arguments, given, refused, Object, stored, described, answering, by_source, list_reply, on_answer, on_node, Below, Fields, no_fields, field, Plan, plan, PlannedField, Site, Types, among, answer, answered, complete, each, execute, executed, fault, items_from, is_null, leaf, members_of, of_kind, on_abstract, on_list, on_object, placed, value_of}
+use Rattle.gql_exec.specs.Execution.{Appending, each_root, effect_of, effects_of, execute_root, mutation_answer, root_value, under_name, Arguments, given, refused, Object, stored, described, answering, by_source, list_reply, on_answer, on_node, Below, Fields, no_fields, field, Plan, plan, PlannedField, Site, Types, among, answer, answered, complete, each, execute, executed, fault, items_from, is_null, leaf, members_of, of_kind, on_abstract, on_list, on_object, placed, value_of}
+use Rattle.gql_stored.specs.Effects.{list_named}
 use Rattle.gql_exec.specs.declared.planning.Source.{Source}
 use Rattle.gql_exec.specs.declared.planning.Source.TheVariants as source
 use Rattle.gql_exec.specs.Leaves.{as_enum, scalar_value}
 use Rattle.gql_exec.specs.Plans.{Basis, FieldOf, field_of, ArePlanned, IsPlan, IsPlanned, defined, is_met, is_met_by, planned, types_of}
 use Rattle.gql_exec.specs.Replies.{Path, index, key, Reply, all, counted, mapped, returns, settled}
-use Rattle.gql_exec.specs.Requests.{Executes, Request, basis_of, Response, initial_value, request_error, response_of, variable_at}
+use Rattle.gql_exec.specs.Requests.{Executes, Request, answer_for, basis_of, Response, initial_value, request_error, response_of, variable_at}
 use Rattle.gql_exec.specs.Requests as requests
 use Rattle.gql_exec.specs.Resolution.{list_of, resolved}
 use Rattle.gql_exec.proofs.Executing.{among_is, met_itself, met_possible, met_self}
@@ -120,6 +124,12 @@ module _ (types : Types) (f : PlannedField) (a b : Below) (h : Alike types (name
   value_alike (given x) p (described n) = named_alike p (types.introspect (answering f.source n) f.name x)
   value_alike (refused m) p o = refl
 
+  root_alike : (d : Data) (l : Option (List ℕ)) (arguments : Arguments) (p : Path) (o : Object) → root_value (site types f.place a) d f l arguments p o ≡ root_value (site types f.place b) d f l arguments p o
+  root_alike d (Some to) (given x) p o = ap (λ r. if is_some (list_named to d) then r else fault (site types f.place a) p (codes "no list named " ++ to))
+      (complete_alike types f.place a b f.of_type h p x)
+  root_alike d (Some to) (refused m) p o = refl
+  root_alike d None x p o = value_alike x p o
+
 executed_alike : (types : Types) (f : PlannedField) (a b : Below) → Alike types (name_in f.of_type) (types.kind (name_in f.of_type)) a b → (p : Path) (d : Object)
     → executed types f a p d ≡ executed types f b p d
 executed_alike types f a b h p d = ap (λ r. mapped (λ v. (f.response_name, v)) (counted (settled (placed f.of_type r))))
@@ -165,6 +175,42 @@ module _ (collection : OneCollection) (of_arguments : OneOfArguments) (g : Basis
         ∙ ap (λ r. r ∷ each types rest p d) (executed_alike types e (execute types below) (execute types under) alike p d)
         ∙ ap (λ rs. executed types e (execute types under) p d ∷ rs) (fields_alike t groups rest more h.2 k.2 p d)
 
+  roots_alike : (appending : Appending) (s : Data) (t : List ℕ) (groups : List Group) (fs es : Fields) → ArePlanned g t groups fs → ArePlanned g t groups es → (p : Path) (o : Object)
+      → (each_root (types_of g) appending s fs p o ≡ each_root (types_of g) appending s es p o) × (effects_of appending s fs ≡ effects_of appending s es)
+  roots_alike appending s t [] no_fields no_fields h k p o = (refl, refl)
+  roots_alike appending s t [] no_fields (field e under more) h k p o = absurd k
+  roots_alike appending s t [] (field f below rest) es h k p o = absurd h
+  roots_alike appending s t (group ∷ groups) no_fields es h k p o = absurd h
+  roots_alike appending s t (group ∷ groups) (field f below rest) no_fields h k p o = absurd k
+  roots_alike appending s t (group ∷ groups) (field f below rest) (field e under more) h k p o =
+      let types = types_of g in
+      let same : f ≡ e = planned_one t group f e h.0 k.0 in
+      let alike : Alike types (name_in e.of_type) (types.kind (name_in e.of_type)) (execute types below) (execute types under) =
+      plans_alike (name_in e.of_type) (selections_below group.nodes) below under (subst (λ (q : PlannedField). IsPlan g (name_in q.of_type) (selections_below group.nodes) below) same h.1) k.1 in
+      let others = roots_alike appending s t groups rest more h.2 k.2 p o in
+      let one : PlannedField → Below → Reply (List ℕ × Data) = λ q x. under_name q (root_value (site types q.place x) s q (appending q.name) q.arguments (p ++ key q.response_name ∷ []) o) in (
+        ap (λ (q : PlannedField). one q (execute types below) ∷ each_root types appending s rest p o) same
+            ∙ ap (λ r. under_name e r ∷ each_root types appending s rest p o) (root_alike types e (execute types below) (execute types under) alike s (appending e.name) e.arguments (p ++ key e.response_name ∷ []) o)
+            ∙ ap (λ rs. one e (execute types under) ∷ rs) others.0,
+        ap (λ (q : PlannedField). effect_of s (appending q.name) q.arguments ++ effects_of appending s rest) same
+            ∙ ap (λ xs. effect_of s (appending e.name) e.arguments ++ xs) others.1,
+      )
+
+  mutations_alike : (xs : List FileSelection) (x y : Plan) (t : List ℕ) → IsPlan g t xs x → IsPlan g t xs y → (appending : Appending) (s d : Data)
+      → mutation_answer (types_of g) appending x t s d ≡ mutation_answer (types_of g) appending y t s d
+  mutations_alike xs (plan a) (plan b) t h k appending s d =
+      let u = h t (met_itself g t) in
+      let v = k t (met_itself g t) in
+      let same : u.0 ≡ v.0 = collection g.given t xs u.0 v.0 u.1 v.1 in
+      let both = roots_alike appending s t (defined g t v.0) (a t) (b t) (subst (λ gs. ArePlanned g t (defined g t gs) (a t)) same u.2) v.2 [] (stored d) in
+      ap (λ es. answered es (execute_root (types_of g) appending (plan a) t s [] (stored d))) both.1
+      ∙ ap (λ rs. answered (effects_of appending s (b t)) (mapped (λ ms. json.object (members_of ms)) (all rs))) both.0
+
+  answers_alike : (k : OperationKind) (xs : List FileSelection) (x y : Plan) (t : List ℕ) → IsPlan g t xs x → IsPlan g t xs y → (s : Data) → answer_for k g x t s ≡ answer_for k g y t s
+  answers_alike operation.Query xs x y t h i s = ap (answered []) (plans_alike t xs x y h i t (met_itself g t) [] (stored (initial_value operation.Query s)))
+  answers_alike operation.Mutation xs x y t h i s = mutations_alike xs x y t h i (append_of g.given.schema t) s (initial_value operation.Mutation s)
+  answers_alike operation.Subscription xs x y t h i s = ap (answered []) (plans_alike t xs x y h i t (met_itself g t) [] (stored (initial_value operation.Subscription s)))
+
 -- ---- requests
 
 pub alone : OneCollection → OneOfArguments → OneOfVariables → (r : Request) (p q : Response) → Executes r p → Executes r q → p ≡ q
@@ -183,7 +229,6 @@ alone collection of_arguments of_variables r p q (requests.executed {values} {ro
     let here : IsPlan g other.name.node.text (in_file r.file r.operation.selections) x =
     subst (λ (m : Root). IsPlan g m.name.node.text (in_file r.file r.operation.selections) x) same
     (subst (λ d. IsPlan (basis_of r d) root.name.node.text (in_file r.file r.operation.selections) x) (value_same e) plans) in
-    let start = initial_value r.operation.kind r.stored in
-    ap (λ (m : Root). response_of (answer (types_of (basis_of r values)) x m.name.node.text start)) same
-    ∙ ap (λ y. response_of (answered y)) (plans_alike collection of_arguments g other.name.node.text (in_file r.file r.operation.selections) x y here planned
-    other.name.node.text (met_itself g other.name.node.text) [] (stored start))
+    ap (λ d. response_of (answer_for r.operation.kind (basis_of r d) x root.name.node.text r.stored)) (value_same e)
+    ∙ ap (λ (m : Root). response_of (answer_for r.operation.kind g x m.name.node.text r.stored)) same
+    ∙ ap response_of (answers_alike collection of_arguments g r.operation.kind (in_file r.file r.operation.selections) x y other.name.node.text here planned r.stored)

@@ -218,7 +218,7 @@ module _ {A : Type 0} where
   numbered-same f g e n [] = refl
   numbered-same f g e n (x ∷ xs) = ap (λ r. r ∷ numbered f (n + 1) xs) (e n x) ∙ ap (λ rs. g n x ∷ rs) (numbered-same f g e (n + 1) xs)
 
-  numbered-map : {B : Type 0} (f : ℕ → B → Part) (h : A → B) (n : ℕ) (xs : List A) → numbered f n (map h xs) ≡ numbered (λ i x. f i (h x)) n xs
+  pub numbered-map : {B : Type 0} (f : ℕ → B → Part) (h : A → B) (n : ℕ) (xs : List A) → numbered f n (map h xs) ≡ numbered (λ i x. f i (h x)) n xs
   numbered-map f h n [] = refl
   numbered-map f h n (x ∷ xs) = ap (λ rs. f n (h x) ∷ rs) (numbered-map f h (n + 1) xs)
 

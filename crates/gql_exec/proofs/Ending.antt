@@ -20,6 +20,7 @@ use Rattle.gql_types.specs.Schemas.{schema_of}
 use Rattle.gql_types.specs.declared.schema.Schema.{Schema}
 use Rattle.serde_json.specs.Data.{Data}
 use Rattle.serde_json.specs.Written.{compact_text}
+use Rattle.gql_stored.specs.Effects.{Effect}
 use Rattle.gql_exec.specs.Execution.{answered}
 use Rattle.gql_exec.specs.Plans.{IsPlan}
 use Rattle.gql_exec.specs.Outcomes.{AnError, AnOutcome, error_of}
@@ -50,29 +51,31 @@ errors_are : (es : List FieldError) → map requests.error_of (map states.error_
 errors_are [] = refl
 errors_are (e ∷ es) = ap (λ rs. requests.error_of (states.error_of e) ∷ rs) (errors_are es)
 
-same_outcome : (a b : AnOutcome) → a.text ≡ b.text → a.errors ≡ b.errors → a ≡ b
-same_outcome a b t e = ap (λ x. let o : AnOutcome = record { text = x; errors = a.errors } in o) t
-    ∙ ap (λ x. let o : AnOutcome = record { text = b.text; errors = x } in o) e
+same_outcome : (a b : AnOutcome) → a.text ≡ b.text → a.errors ≡ b.errors → a.effects ≡ b.effects → a ≡ b
+same_outcome a b t e f = ap (λ x. let o : AnOutcome = record { text = x; errors = a.errors; effects = a.effects } in o) t
+    ∙ ap (λ x. let o : AnOutcome = record { text = b.text; errors = x; effects = a.effects } in o) e
+    ∙ ap (λ x. let o : AnOutcome = record { text = b.text; errors = b.errors; effects = x } in o) f
 
 -- the outcome of a reply that was executed from the beginning
-outcome_is : (r : Reply Data) (e : Ended) (s u : Run) (o : AnOutcome) → IsFresh s → Done (value_part r) e s u
-    → o.text ≡ Some (compact_text (or_null r.value)) → o.errors ≡ map (λ (x : FieldError). requests.error_of (states.error_of x)) u.errors.items → IsOutcomeOf o (answered r)
-outcome_is r e s u o fresh done out errors = (
+outcome_is : (r : Reply Data) (e : Ended) (s u : Run) (fx : List Effect) (o : AnOutcome) → IsFresh s → Done (value_part r) e s u
+    → o.text ≡ Some (compact_text (or_null r.value)) → o.errors ≡ map (λ (x : FieldError). requests.error_of (states.error_of x)) u.errors.items → o.effects ≡ fx → IsOutcomeOf o (answered fx r)
+outcome_is r e s u fx o fresh done out errors effects = (
   omega (arith, done.follows.left, fresh.left),
-  same_outcome o (response_of (answered r)).outcome out
+  same_outcome o (response_of (answered fx r)).outcome out
       (errors ∙ sym (errors_are u.errors.items) ∙ ap (map requests.error_of) (done.follows.errors
-      ∙ ap (λ es. map states.error_of es ++ kept s.raised r.notes) fresh.errors ∙ ap (λ b. kept b r.notes) fresh.raised)),
+      ∙ ap (λ es. map states.error_of es ++ kept s.raised r.notes) fresh.errors ∙ ap (λ b. kept b r.notes) fresh.raised)) effects,
 )
 
-pub finished_written : (u : Run) (o : AnOutcome) → o ≡ came_to u → Finishes Written u o
-finished_written u o is = λ r s fresh done. outcome_is r Written s u o fresh done
+pub finished_written : (u : Run) (fx : List Effect) (o : AnOutcome) → o ≡ came_to u fx → Finishes Written u fx o
+finished_written u fx o is = λ r s fresh done. outcome_is r Written s u fx o fresh done
     (ap (λ (x : AnOutcome). x.text) is ∙ ap Some (written_data r.value u.out.items (subst (λ l. Leaves (outcome_text compact_text r.value) l u.out.items) fresh.out done.follows.out) done.ends))
-    (ap (λ (x : AnOutcome). x.errors) is)
+    (ap (λ (x : AnOutcome). x.errors) is) (ap (λ (x : AnOutcome). x.effects) is)
 
-pub finished_cut : (u v : Run) (o : AnOutcome) → v.out.items ≡ take 0 u.out.items ++ codes "null" → v ≡ record u { out = v.out } → o ≡ came_to v → Finishes Bubbled u o
-finished_cut u v o cut rest is = λ r s fresh done. outcome_is r Bubbled s u o fresh done
+pub finished_cut : (u v : Run) (fx : List Effect) (o : AnOutcome) → v.out.items ≡ take 0 u.out.items ++ codes "null" → v ≡ record u { out = v.out } → o ≡ came_to v fx → Finishes Bubbled u fx o
+finished_cut u v fx o cut rest is = λ r s fresh done. outcome_is r Bubbled s u fx o fresh done
     (ap (λ (x : AnOutcome). x.text) is ∙ ap Some (cut_data r.value u.out.items v.out.items cut done.ends))
     (ap (λ (x : AnOutcome). x.errors) is ∙ ap (λ (x : Run). map (λ (e : FieldError). requests.error_of (states.error_of e)) x.errors.items) rest)
+    (ap (λ (x : AnOutcome). x.effects) is)
 
 -- ---- requests
 

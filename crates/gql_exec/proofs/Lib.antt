@@ -15,6 +15,7 @@ pub mod Introspecting
 pub mod Leaving
 pub mod Listing
 pub mod Midway
+pub mod Mutating
 pub mod Parts
 pub mod Picked
 pub mod Reaching

@@ -1,6 +1,6 @@
--- The execution of a plan on the data and on the nodes of introspection (GraphQL 4, 6.3, 6.4.3 and
--- 6.4.4). A plan is what the documents ask of an object, for each type that the object may have.
-use Rattle.std.specs.Prelude.{ℕ, ◌+◌, List, [], ◌∷◌, ◌++◌, Bool, true, false, bytes_eq, codes, Option, Some, None, if◌then◌else◌}
+-- The execution of a plan on the data and on the nodes of introspection (GraphQL 4, 6.2, 6.3, 6.4.3
+-- and 6.4.4). A plan is what the documents ask of an object, for each type that the object may have.
+use Rattle.std.specs.Prelude.{ℕ, ◌+◌, List, [], ◌∷◌, ◌++◌, Bool, true, false, bytes_eq, codes, Option, Some, None, is_some, if◌then◌else◌}
 use Rattle.std.specs.List.{list_any}
 use Rattle.gql_inputs.specs.InputTypes.{is_non_null, name_in}
 use Rattle.gql_intro.specs.Nodes as intro
@@ -15,6 +15,7 @@ use Rattle.serde_json.specs.Find.{get}
 use Rattle.serde_json.specs.View.{items_of}
 use Rattle.gql_exec.specs.declared.planning.Source.{Source}
 use Rattle.gql_exec.specs.declared.planning.Source.TheVariants as source
+use Rattle.gql_stored.specs.Effects.{Effect, list_named}
 use Rattle.gql_exec.specs.Leaves.{as_enum, scalar_value}
 use Rattle.gql_exec.specs.Replies.{Path, key, index, Error, Reply, returns, raise, all, mapped, counted, caught, settled, kept, or_null}
 use Rattle.gql_exec.specs.Resolution.{list_of, resolved}
@@ -197,12 +198,15 @@ value_of s f (given arguments) p (described n) =
     on_answer s f.of_type p (s.types.introspect (answering f.source n) f.name arguments)
 value_of s f (refused message) p o = fault s p message
 
+-- the value of a field at its place, under its response name
+abbrev pub under_name : PlannedField → Reply Data → Reply (List ℕ × Data)
+under_name f r = mapped (λ v. (f.response_name, v)) (counted (settled (placed f.of_type r)))
+
 -- a field under its response name
 abbrev pub executed : Types → PlannedField → Below → Path → Object → Reply (List ℕ × Data)
 executed types f below p o =
     let s : Site = record { types = types; place = f.place; below = below } in
-    mapped (λ v. (f.response_name, v)) (counted (settled
-    (placed f.of_type (value_of s f f.arguments (p ++ key f.response_name ∷ []) o))))
+    under_name f (value_of s f f.arguments (p ++ key f.response_name ∷ []) o)
 
 -- these members of an object, in their order
 abbrev pub members_of : List (List ℕ × Data) → Members
@@ -222,18 +226,83 @@ abbrev mutual
   each types (field f below rest) p o =
       executed types f (execute types below) p o ∷ each types rest p o
 
+-- ---- the root fields of a mutation
+
+-- the list to which a field of the root type appends, by the field's name
+abbrev pub Appending : Type 0
+Appending = List ℕ → Option (List ℕ)
+
+-- The value of a root field that appends to this list and is called with these arguments: they are
+-- the value, as an object, if the data d have the list.
+abbrev pub added : Site → Data → PlannedField → List ℕ → Data → Path → Reply Data
+added s d f to arguments p = if is_some (list_named to d) then complete s f.of_type p arguments
+    else fault s p (codes "no list named " ++ to)
+
+-- the value of a root field of a mutation, on the data d, by the list to which it appends
+abbrev pub root_value : Site → Data → PlannedField → Option (List ℕ) → Arguments → Path → Object
+    → Reply Data
+root_value s d f (Some to) (given arguments) p o = added s d f to arguments p
+root_value s d f (Some to) (refused message) p o = value_of s f (refused message) p o
+root_value s d f None arguments p o = value_of s f arguments p o
+
+-- what a root field of a mutation adds to the data d: nothing, if they do not have the list, or if
+-- its arguments are refused
+abbrev pub effect_of : Data → Option (List ℕ) → Arguments → List Effect
+effect_of d (Some to) (given arguments) =
+    if is_some (list_named to d) then record { to = to; value = arguments } ∷ [] else []
+effect_of d (Some to) (refused message) = []
+effect_of d None arguments = []
+
+-- each root field of a mutation, under its response name
+abbrev pub each_root : Types → Appending → Data → Fields → Path → Object
+    → List (Reply (List ℕ × Data))
+each_root types appending d no_fields p o = []
+each_root types appending d (field f below rest) p o =
+    let s : Site = record { types = types; place = f.place; below = execute types below } in
+    under_name f (root_value s d f (appending f.name) f.arguments
+    (p ++ key f.response_name ∷ []) o) ∷ each_root types appending d rest p o
+
+-- what the root fields of a mutation add to the data d, in their order
+abbrev pub effects_of : Appending → Data → Fields → List Effect
+effects_of appending d no_fields = []
+effects_of appending d (field f below rest) =
+    effect_of d (appending f.name) f.arguments ++ effects_of appending d rest
+
+-- the plan of a mutation for the root type, executed on the data d and on the initial value
+abbrev pub execute_root : Types → Appending → Plan → List ℕ → Data → Path → Object → Reply Data
+execute_root types appending (plan fields) t d p o = mapped (λ ms. json.object (members_of ms))
+    (all (each_root types appending d (fields t) p o))
+
+-- what a mutation of this plan adds to the data d, in order
+abbrev pub added_by : Appending → Plan → List ℕ → Data → List Effect
+added_by appending (plan fields) t d = effects_of appending d (fields t)
+
 -- ---- answers (ExecuteQuery, ExecuteMutation)
 
--- the data of an answer, its errors in their order, and how many values were completed
+-- the data of an answer, its errors in their order, how many values were completed, and what is
+-- added to the stored data
 pub record Answer : Type 0 where
   pub value : Data
   pub errors : List Error
   pub weight : ℕ
+  pub effects : List Effect
 
--- the answer of a reply; a null that bubbles to the top stays there
-abbrev pub answered : Reply Data → Answer
-answered r = record { value = or_null r.value; errors = kept false r.notes; weight = r.weight }
+-- the answer of a reply, with these effects; a null that bubbles to the top stays there
+abbrev pub answered : List Effect → Reply Data → Answer
+answered effects r = record {
+  value = or_null r.value;
+  errors = kept false r.notes;
+  weight = r.weight;
+  effects = effects;
+}
 
 -- the answer of a plan for an object of the root type, executed on the initial value
 abbrev pub answer : Types → Plan → List ℕ → Data → Answer
-answer types x root initial = answered (execute types x root [] (stored initial))
+answer types x root initial = answered [] (execute types x root [] (stored initial))
+
+-- The answer of a plan of a mutation, executed on the data d and the initial value. What the fields
+-- add does not change their values: no root field reads a list, and `@append` leaves every list a
+-- list. So all of them are executed on the data before the mutation.
+abbrev pub mutation_answer : Types → Appending → Plan → List ℕ → Data → Data → Answer
+mutation_answer types appending x root d initial = answered (added_by appending x root d)
+    (execute_root types appending x root d [] (stored initial))

@@ -16,6 +16,7 @@ pub mod Plans
 pub mod Replies
 pub mod Requests
 pub mod Resolution
+pub mod RootParts
 pub mod Runs
 pub mod States
 pub mod Tables

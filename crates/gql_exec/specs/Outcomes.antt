@@ -1,8 +1,11 @@
--- What the execution of an operation comes to, for the crates above: the text of its data, and its
--- errors.
+-- What the execution of an operation comes to, for the crates above: the text of its data, its
+-- errors, and what it adds to the stored data.
 use Rattle.std.specs.Prelude.{ℕ, List, map, string_bytes, Option, option_map}
 use Rattle.gql_text.specs.declared.place.Place.{Place}
+use Rattle.serde_json.specs.View.{view}
+use Rattle.gql_stored.specs.Effects.{Effect}
 use Rattle.gql_exec.specs.Replies.{Segment, key, index, Path}
+use Rattle.gql_stored.specs.declared.effect.Effect.{Effect as TheEffect}
 use Rattle.gql_exec.specs.declared.outcome.Outcome.{Outcome}
 use Rattle.gql_exec.specs.declared.outcome.ResponseError.{ResponseError}
 use Rattle.gql_exec.specs.declared.outcome.Step.{Step}
@@ -14,10 +17,12 @@ pub record AnError : Type 0 where
   pub place : Place
   pub path : Option Path
 
--- the text of the data, which a request error does not have, and the errors in their order
+-- the text of the data, which a request error does not have, the errors in their order, and what
+-- is added to the stored data
 pub record AnOutcome : Type 0 where
   pub text : Option (List ℕ)
   pub errors : List AnError
+  pub effects : List Effect
 
 -- a step of a path, as specifications see it
 abbrev pub segment_of : Step → Segment
@@ -36,9 +41,14 @@ error_of e = record {
   path = option_map (λ p. path_of p.items) e.path;
 }
 
+-- an effect, as specifications see it
+abbrev pub effect_of : TheEffect → Effect
+effect_of e = record { to = string_bytes e.to; value = view e.value }
+
 -- an outcome, as specifications see it
 abbrev pub outcome_of : Outcome → AnOutcome
 outcome_of o = record {
   text = option_map (λ t. t.items) o.«data»;
   errors = map error_of o.errors.items;
+  effects = map effect_of o.effects.items;
 }

@@ -17,7 +17,7 @@ use Rattle.gql_facts.specs.Facts.{fragments as fragments_of}
 use Rattle.gql_facts.specs.declared.fact.FragmentFact.{FragmentFact}
 use Rattle.gql_intro.specs.Made.{made_of}
 use Rattle.gql_intro.specs.declared.made.IntroSchema.{IntroSchema}
-use Rattle.gql_types.specs.Schemas.{kind_named, root_of, schema_of}
+use Rattle.gql_types.specs.Schemas.{append_of, kind_named, root_of, schema_of}
 use Rattle.gql_types.specs.declared.kind.TypeKind.TheVariants as kind
 use Rattle.gql_types.specs.declared.roots.Root.{Root}
 use Rattle.gql_types.specs.declared.schema.Schema.{Schema}
@@ -25,7 +25,7 @@ use Rattle.serde_json.specs.Data as json
 use Rattle.serde_json.specs.Data.{Data}
 use Rattle.serde_json.specs.Find.{get}
 use Rattle.serde_json.specs.Written.{compact_text}
-use Rattle.gql_exec.specs.Execution.{Answer, Plan, answer}
+use Rattle.gql_exec.specs.Execution.{Answer, Plan, answer, mutation_answer}
 use Rattle.gql_exec.specs.Outcomes.{AnError, AnOutcome}
 use Rattle.gql_exec.specs.Plans.{Basis, IsPlan, refusal_text, types_of}
 use Rattle.gql_exec.specs.Replies.{Error}
@@ -68,6 +68,7 @@ request_error v why path = record {
       place = v.place;
       path = None;
     } ∷ [];
+    effects = [];
   };
   weight = 0;
 }
@@ -87,7 +88,11 @@ initial_value kind stored = unwrap_or (get (root_member kind) stored) (json.obje
 -- an answer, with its text
 abbrev pub response_of : Answer → Response
 response_of a = record {
-  outcome = record { text = Some (compact_text a.value); errors = map error_of a.errors };
+  outcome = record {
+    text = Some (compact_text a.value);
+    errors = map error_of a.errors;
+    effects = a.effects;
+  };
   weight = a.weight;
 }
 
@@ -99,6 +104,16 @@ basis_of r values = record {
   given = record { schema = r.schema; fragments = r.fragments; values = values };
   made = r.made;
 }
+
+-- the answer of a plan of an operation of this kind, for the root type of this name, on the stored
+-- data: a mutation may add to them
+abbrev pub answer_for : OperationKind → Basis → Plan → List ℕ → Data → Answer
+answer_for operation.Query g x root stored =
+    answer (types_of g) x root (initial_value operation.Query stored)
+answer_for operation.Mutation g x root stored = mutation_answer (types_of g)
+    (append_of g.given.schema root) x root stored (initial_value operation.Mutation stored)
+answer_for operation.Subscription g x root stored =
+    answer (types_of g) x root (initial_value operation.Subscription stored)
 
 -- The variables are coerced first (CoerceVariableValues); the first refusal is a request error. If
 -- there is none, the selections are executed on the initial value, for the root type, which is an
@@ -112,8 +127,8 @@ pub data Executes (r : Request) : Response → Type 0 where
       → root_of r.schema r.operation.kind ≡ Some root
       → kind_named r.schema root.name.node.text ≡ Some kind.Object
       → IsPlan (basis_of r values) root.name.node.text (in_file r.file r.operation.selections) x
-      → Executes r (response_of (answer (types_of (basis_of r values)) x root.name.node.text
-      (initial_value r.operation.kind r.stored)))
+      → Executes r (response_of
+      (answer_for r.operation.kind (basis_of r values) x root.name.node.text r.stored))
 
 -- ---- calls
 
@@ -148,7 +163,7 @@ IsNoOperation d = (operation : Operation) → d.tree ≢ tree.Operation operatio
 
 -- the outcome of a definition that is not an operation: there is nothing to execute
 abbrev pub no_outcome : AnOutcome
-no_outcome = record { text = None; errors = [] }
+no_outcome = record { text = None; errors = []; effects = [] }
 
 -- the outcome of a request, of which at most `most_values` values are completed
 abbrev pub IsOutcome : Request → AnOutcome → Type 0

@@ -12,12 +12,13 @@ use Rattle.gql_types.specs.declared.kind.TypeKind.TheVariants as kind
 use Rattle.gql_types.specs.declared.roots.Root.{Root}
 use Rattle.gql_types.specs.declared.schema.Schema.{Schema}
 use Rattle.serde_json.specs.Data.{Data}
-use Rattle.gql_exec.specs.Execution.{Answer, Plan, answer, answered}
+use Rattle.gql_stored.specs.Effects.{Effect}
+use Rattle.gql_exec.specs.Execution.{Answer, Plan, answered}
 use Rattle.gql_exec.specs.Outcomes.{AnOutcome}
-use Rattle.gql_exec.specs.Plans.{Basis, IsPlan, types_of}
+use Rattle.gql_exec.specs.Plans.{Basis, IsPlan}
 use Rattle.gql_exec.specs.Replies.{Reply}
 use Rattle.gql_exec.specs.Requests as requests
-use Rattle.gql_exec.specs.Requests.{Request, initial_value, most_values, request_error, response_of, variable_at}
+use Rattle.gql_exec.specs.Requests.{Request, answer_for, most_values, request_error, response_of, variable_at}
 use Rattle.gql_exec.specs.States as states
 use Rattle.gql_exec.specs.States.{Done}
 use Rattle.gql_exec.specs.Texts.{value_part}
@@ -44,8 +45,7 @@ Answering g file operation stored Holds = (root : Root) → (x : Plan)
     → root_of g.given.schema operation.kind ≡ Some root
     → kind_named g.given.schema root.name.node.text ≡ Some kind.Object
     → IsPlan g root.name.node.text (in_file file operation.selections) x
-    → Holds (answer (types_of g) x root.name.node.text
-    (initial_value operation.kind stored))
+    → Holds (answer_for operation.kind g x root.name.node.text stored)
 
 -- the outcome of an answer, of which at most `most_values` values are completed
 abbrev pub IsOutcomeOf : AnOutcome → Answer → Type 0
@@ -66,14 +66,15 @@ pub record IsFresh (s : Run) : Type 0 where
   pub raised : s.raised ≡ false
   pub left : s.left ≡ most_values
 
--- the text and the errors that a run has written
-abbrev pub came_to : Run → AnOutcome
-came_to u = record {
+-- the text and the errors that a run has written, with these effects
+abbrev pub came_to : Run → List Effect → AnOutcome
+came_to u effects = record {
   text = Some u.out.items;
   errors = map (λ (e : FieldError). requests.error_of (states.error_of e)) u.errors.items;
+  effects = effects;
 }
 
--- a run that began fresh and has ended in this way comes to this outcome
-abbrev pub Finishes : Ended → Run → AnOutcome → Type 0
-Finishes ended u o = (r : Reply Data) → (s : Run) → IsFresh s → Done (value_part r) ended s u
-    → IsOutcomeOf o (answered r)
+-- a run that began fresh and has ended in this way comes to this outcome, with these effects
+abbrev pub Finishes : Ended → Run → List Effect → AnOutcome → Type 0
+Finishes ended u effects o = (r : Reply Data) → (s : Run) → IsFresh s
+    → Done (value_part r) ended s u → IsOutcomeOf o (answered effects r)

@@ -20,6 +20,7 @@ message_of reason.NotAList = codes "value is not a list"
 message_of reason.NotAnObject = codes "value is not an object"
 message_of (reason.NotOfType name) = codes "value is not of type " ++ name.now
 message_of (reason.NoPossibleType name) = codes "value names no possible type of " ++ name.now
+message_of (reason.NoList name) = codes "no list named " ++ name.now
 message_of (reason.Refused message) = message.now
 
 -- an error of a run, as specifications see it

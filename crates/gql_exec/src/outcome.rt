@@ -1,5 +1,6 @@
 //! What the execution of an operation comes to.
 
+use gql_stored::Effect;
 use gql_text::Place;
 
 /// A step of the path to a value of an answer: a response name, or the index of an item.
@@ -28,14 +29,20 @@ impl Drop for ResponseError<'_> {
 }
 
 /// What the execution of an operation comes to: the text of its data, which a request error does
-/// not have, and the errors in their order.
+/// not have, the errors in their order, and what is to be added to the stored data, in order. Only
+/// a mutation adds something.
 pub struct Outcome<'d> {
     pub data: Option<Vec<u8>>,
     pub errors: Vec<ResponseError<'d>>,
+    pub effects: Vec<Effect>,
 }
 
 impl Drop for Outcome<'_> {
     fn drop(self) {
-        let Outcome { data: _, errors: _ } = self;
+        let Outcome {
+            data: _,
+            errors: _,
+            effects: _,
+        } = self;
     }
 }

@@ -13,6 +13,8 @@ pub enum Reason<'d> {
     NotOfType(&'d str),
     /// The value names no possible type of this abstract type.
     NoPossibleType(&'d str),
+    /// The data have no list of this name.
+    NoList(&'d str),
     /// The arguments are refused, with this message.
     Refused(&'d str),
 }

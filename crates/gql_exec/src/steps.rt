@@ -117,6 +117,7 @@ fn message(alloc: Global, reason: Reason<'_>) -> Result<String, AllocError>
         Reason::NotAnObject => String::from_str(alloc, "value is not an object"),
         Reason::NotOfType(name) => named(alloc, "value is not of type ", name),
         Reason::NoPossibleType(name) => named(alloc, "value names no possible type of ", name),
+        Reason::NoList(name) => named(alloc, "no list named ", name),
         Reason::Refused(message) => String::from_str(alloc, message),
     }
 }

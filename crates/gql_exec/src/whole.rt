@@ -1,30 +1,26 @@
 //! The execution of an operation as a whole (GraphQL specification, 6.1 and 6.2).
-ghost use Rattle.std.specs.Prelude.{◌≡◌, ◌<◌, map, find, bytes_eq, true, option_map, IfOk, IfErr, IsOkAnd};
+ghost use Rattle.std.specs.Prelude.{◌≡◌, ◌<◌, find, bytes_eq, true, option_map, IfOk, IfErr, IsOkAnd};
 ghost use Rattle.gql_ast.specs.declared.definition.Tree.TheVariants as tree;
 ghost use Rattle.gql_ast.specs.declared.executable.Operation.{Operation as AnOperation};
+ghost use Rattle.gql_ast.specs.declared.executable.OperationKind.TheVariants as operation;
 ghost use Rattle.gql_ast.specs.declared.executable.VariableDefinition.{VariableDefinition as AVariable};
 ghost use Rattle.gql_ast.specs.declared.files.Files.{Files as TheFiles};
 ghost use Rattle.gql_collect.specs.Borrowed.{all_selections};
 ghost use Rattle.serde_json.specs.View.{view};
 ghost use Rattle.gql_exec.specs.Execution.{Plan, answer};
 ghost use Rattle.gql_exec.specs.Objects.{basis};
-ghost use Rattle.gql_exec.specs.Outcomes.{error_of, outcome_of};
+ghost use Rattle.gql_exec.specs.Outcomes.{outcome_of};
 ghost use Rattle.gql_exec.specs.Plans.{IsPlan, is_met, types_of};
 ghost use Rattle.gql_exec.specs.Requests as spec;
 ghost use Rattle.gql_exec.specs.Requests.{IsKeptOf, IsNoOperation, IsOutcome, IsTooHeavy, most_values, request_of};
-ghost use Rattle.gql_exec.specs.Runs.{Answering, Finishes, IsOutcomeOf, IsRefused, came_to, request};
-ghost use Rattle.gql_exec.specs.States as states;
+ghost use Rattle.gql_exec.specs.Runs.{Answering, IsOutcomeOf, IsRefused, request};
 
-use crate::ended::Ended;
-use crate::equal_sets::key_of;
-use crate::executor::execute_object;
+use crate::mutation::Root;
 use crate::outcome::{Outcome, ResponseError};
 use crate::planning::refusal_text;
 use crate::refusal::ExecRefusal;
-use crate::run::{FieldError, Run};
+use crate::sets::{execute_sets, mutate_sets};
 use crate::setting::Setting;
-use crate::steps::cut_to_null;
-use crate::table::Table;
 use gql_ast::{Definition, FileName, Operation, OperationKind, Tree, VariableDefinition};
 use gql_coerce::{CoerceFault, Refusal, Segment, coerce_variables, laws};
 use gql_collect::{Context, SelectionSet};
@@ -34,101 +30,6 @@ use gql_text::Place;
 use gql_types::Schema;
 use serde_json::{Map, Value};
 use std::alloc::{AllocError, Global};
-
-/// The greatest number of values that an execution completes.
-const MOST_VALUES: usize = 100_000;
-
-/// The room for the text of a short answer.
-const ROOM: usize = 256;
-
-/// The errors of fields, as errors of an answer.
-fn response_errors<'d>(
-    alloc: Global,
-    errors: Vec<FieldError<'d>>,
-) -> Result<Vec<ResponseError<'d>>, AllocError>
-    ensures { IfOk result (λ all. map error_of all.items
-        ≡ map (λ e. spec.error_of (states.error_of e)) errors.entry.items) }
-{
-    let mut all = Vec::new(alloc);
-    for error in errors {
-        let FieldError {
-            message,
-            place,
-            path,
-        } = error;
-        all.push(ResponseError {
-            message,
-            place,
-            path: Some(path),
-        })?;
-    }
-    Ok(all)
-}
-
-/// What a run came to.
-fn outcome<'d>(alloc: Global, run: Run<'d>) -> Result<Outcome<'d>, ExecRefusal>
-    ensures came { IfOk result (λ o. outcome_of o ≡ came_to run.entry) }
-    ensures err { IfErr result (λ e. e ≡ ExecRefusal.Memory) }
-{
-    let Run {
-        out,
-        errors,
-        path: _,
-        left: _,
-        raised: _,
-    } = run;
-    Ok(Outcome {
-        data: Some(out),
-        errors: response_errors(alloc, errors)?,
-    })
-}
-
-/// What a run came to that ended in this way: a null that bubbles up to the data stays there.
-#[tactic(auto, using(crate::proofs::Ending::finished_written, crate::proofs::Ending::finished_cut))]
-fn finish<'d>(alloc: Global, ended: Ended, run: Run<'d>) -> Result<Outcome<'d>, ExecRefusal>
-    ensures outcome { IfOk result (λ o. Finishes ended run.entry (outcome_of o)) }
-    ensures err { IfErr result (λ e. e ≡ ExecRefusal.Memory) }
-{
-    match ended {
-        Ended::Written => outcome(alloc, run),
-        Ended::Bubbled => {
-            let mut run = run;
-            cut_to_null(&mut run, 0)?;
-            outcome(alloc, run)
-        }
-    }
-}
-
-/// Executes selection sets, taken as one, on the initial value.
-fn execute_sets<'d>(
-    alloc: Global,
-    setting: &Setting<'d, '_>,
-    root: &str,
-    sets: &[SelectionSet<'d>],
-    initial: &Value,
-) -> Result<Outcome<'d>, ExecRefusal>
-    ensures outcome { IfOk result (λ o. is_met (basis setting.now) root.now root.now ≡ true
-        → (x : Plan) → IsPlan (basis setting.now) root.now (all_selections sets.now) x
-        → IsOutcomeOf (outcome_of o)
-        (answer (types_of (basis setting.now)) x root.now (view initial.now))) }
-    ensures heavy { IfErr result (λ e. e ≡ ExecRefusal.TooHeavy
-        → is_met (basis setting.now) root.now root.now ≡ true
-        → (x : Plan) → IsPlan (basis setting.now) root.now (all_selections sets.now) x
-        → most_values
-        < (answer (types_of (basis setting.now)) x root.now (view initial.now)).weight) }
-{
-    let mut table = Table::new(alloc);
-    let entry = table.add_sets(alloc, setting, key_of(root, sets), root, sets)?;
-    let mut run = Run {
-        out: Vec::with_capacity(alloc, ROOM)?,
-        errors: Vec::new(alloc),
-        path: Vec::new(alloc),
-        left: MOST_VALUES,
-        raised: false,
-    };
-    let ended = execute_object(alloc, setting, &mut table, entry, initial, &mut run)?;
-    finish(alloc, ended, run)
-}
 
 /// The member of the data that an operation begins with.
 fn root_member(kind: OperationKind) -> &'static str
@@ -148,7 +49,63 @@ fn nothing<'d>(alloc: Global) -> Outcome<'d>
     Outcome {
         data: None,
         errors: Vec::new(alloc),
+        effects: Vec::new(alloc),
     }
+}
+
+/// Executes the selection sets of an operation that changes nothing.
+fn execute_query<'d>(
+    alloc: Global,
+    setting: &Setting<'d, '_>,
+    kind: OperationKind,
+    root: &str,
+    sets: &[SelectionSet<'d>],
+    stored: &Value,
+) -> Result<Outcome<'d>, ExecRefusal>
+    ensures outcome { IfOk result (λ o. is_met (basis setting.now) root.now root.now ≡ true
+        → (x : Plan) → IsPlan (basis setting.now) root.now (all_selections sets.now) x
+        → IsOutcomeOf (outcome_of o) (answer (types_of (basis setting.now)) x root.now
+        (spec.initial_value kind (view stored.now)))) }
+    ensures heavy { IfErr result (λ e. e ≡ ExecRefusal.TooHeavy
+        → is_met (basis setting.now) root.now root.now ≡ true
+        → (x : Plan) → IsPlan (basis setting.now) root.now (all_selections sets.now) x
+        → most_values < (answer (types_of (basis setting.now)) x root.now
+        (spec.initial_value kind (view stored.now))).weight) }
+{
+    match stored.get(root_member(kind)) {
+        Some(initial) => execute_sets(alloc, setting, root, sets, initial),
+        None => {
+            let initial = Value::from(Map::new(alloc));
+            execute_sets(alloc, setting, root, sets, &initial)
+        }
+    }
+}
+
+/// Executes the selection sets of a mutation.
+fn execute_mutation<'d>(
+    alloc: Global,
+    setting: &Setting<'d, '_>,
+    root: &str,
+    sets: &[SelectionSet<'d>],
+    stored: &Value,
+) -> Result<Outcome<'d>, ExecRefusal>
+    ensures outcome { IfOk result (λ o. is_met (basis setting.now) root.now root.now ≡ true
+        → (x : Plan) → IsPlan (basis setting.now) root.now (all_selections sets.now) x
+        → IsOutcomeOf (outcome_of o) (spec.answer_for operation.Mutation (basis setting.now) x
+        root.now (view stored.now))) }
+    ensures heavy { IfErr result (λ e. e ≡ ExecRefusal.TooHeavy
+        → is_met (basis setting.now) root.now root.now ≡ true
+        → (x : Plan) → IsPlan (basis setting.now) root.now (all_selections sets.now) x
+        → most_values < (spec.answer_for operation.Mutation (basis setting.now) x
+        root.now (view stored.now)).weight) }
+{
+    let empty = Value::from(Map::new(alloc));
+    let root = Root {
+        of_type: root,
+        stored,
+        initial: stored.get("mutation").unwrap_or(&empty),
+    };
+    mutate_sets(alloc, setting, root, sets)
 }
 
 /// Executes an operation with the values of its variables.
@@ -173,11 +130,10 @@ fn execute_operation<'d>(
         file,
         selections: operation.selections.as_slice(),
     }];
-    match stored.get(root_member(operation.kind)) {
-        Some(initial) => execute_sets(alloc, setting, root, &sets, initial),
-        None => {
-            let initial = Value::from(Map::new(alloc));
-            execute_sets(alloc, setting, root, &sets, &initial)
+    match operation.kind {
+        OperationKind::Mutation => execute_mutation(alloc, setting, root, &sets, stored),
+        OperationKind::Query | OperationKind::Subscription => {
+            execute_query(alloc, setting, operation.kind, root, &sets, stored)
         }
     }
 }
@@ -225,7 +181,11 @@ fn request_error<'d>(
         place,
         path: None,
     })?;
-    Ok(Outcome { data: None, errors })
+    Ok(Outcome {
+        data: None,
+        errors,
+        effects: Vec::new(alloc),
+    })
 }
 
 /// Coerces the variables, and executes the operation.
@@ -265,7 +225,8 @@ fn execute_request<'d>(
 /// the values that a request gives its variables, and `stored` is the data.
 ///
 /// First the variables are coerced; the first refusal is a request error, and nothing is executed.
-/// Then the selections are executed on the data. If more than 100,000 values are to be completed,
+/// Then the selections are executed on the data. The data are not changed: the outcome has what a
+/// mutation is to add to them. If more than 100,000 values are to be completed,
 /// the execution is refused: each field of an answer counts as one, and so does each item of a
 /// list.
 ///

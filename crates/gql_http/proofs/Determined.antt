@@ -2,10 +2,11 @@
 use Rattle.std.proofs.Common.{◌≡◌, ℕ, List, ◌∷◌, ◌++◌, take, Option, Some, None, IsSome, Result, Err, refl, sym, ap, ap₂, ◌∙◌, subst}
 use Rattle.gql_bodies.specs.CallBodies as ask
 use Rattle.gql_bodies.specs.CallBodies.{Asked, Asks, asked_by, reads, not_json, not_text}
-use Rattle.gql_registry.specs.Calls.{Answers}
+use Rattle.gql_registry.specs.Calls.{Answers, CallOutcome, effects_in, text_of}
 use Rattle.gql_registry.specs.Edits as edit
 use Rattle.gql_registry.specs.Laws.{OneAnswer as OneCall, OneEdit, OneReport, WasMade}
-use Rattle.gql_registry.specs.State.{State}
+use Rattle.gql_registry.specs.State.{State, with_effects}
+use Rattle.gql_stored.specs.Effects.{Effect}
 use Rattle.gql_registry.specs.declared.refusal.Refusal.{Refusal}
 use Rattle.gql_registry.specs.declared.refusal.Refusal.TheVariants.{Memory}
 use Rattle.gql_registry.specs.declared.registry.Edited.{Edited}
@@ -47,32 +48,33 @@ one_asked body _ _ (not_text bad) (not_json other also) = absurd (bad other)
 one_asked body _ _ (not_text bad) (not_text also) = refl
 
 -- a call of an operation that is answered did not fail for memory
-run_made : (r : Result (List ℕ) Refusal) (a : Said) → run_said r ≡ Some a → r ≡ Err Memory → ⊥
-run_made r a said is = let none : ◌≡◌ {A = Option Said} None (Some a) = subst (λ q. run_said q ≡ Some a) is said in cc
+run_made : (r : Result CallOutcome Refusal) (a : Said) → run_said (text_of r) ≡ Some a → r ≡ Err Memory → ⊥
+run_made r a said is = let none : ◌≡◌ {A = Option Said} None (Some a) = subst (λ q. run_said (text_of q) ≡ Some a) is said in cc
 
-one_run_said : (r q : Result (List ℕ) Refusal) (a b : Said) → run_said r ≡ Some a → run_said q ≡ Some b → r ≡ q → a ≡ b
-one_run_said r q a b x y same = let some : ◌≡◌ {A = Option Said} (Some a) (Some b) = sym x ∙ ap run_said same ∙ y in cc
+one_run_said : (r q : Result CallOutcome Refusal) (a b : Said) → run_said (text_of r) ≡ Some a → run_said (text_of q) ≡ Some b → r ≡ q → a ≡ b
+one_run_said r q a b x y same = let some : ◌≡◌ {A = Option Said} (Some a) (Some b) = sym x ∙ ap (λ z. run_said (text_of z)) same ∙ y in cc
 
 module _ (edits : OneEdit) (calls_one : OneCall) (reports : OneReport) where
-  one_called : (s : State) (name other : Option (List ℕ)) (variables values : Data) (r q : Result (List ℕ) Refusal) (a b : Said) → ask.call name variables ≡ ask.call other values
-      → Answers s.files s.stored name variables r → Answers s.files s.stored other values q → run_said r ≡ Some a → run_said q ≡ Some b → a ≡ b
+  one_called : (s : State) (name other : Option (List ℕ)) (variables values : Data) (r q : Result CallOutcome Refusal) (a b : Said) → ask.call name variables ≡ ask.call other values
+      → Answers s.files s.stored name variables r → Answers s.files s.stored other values q → run_said (text_of r) ≡ Some a → run_said (text_of q) ≡ Some b → (a ≡ b) × (effects_in r ≡ effects_in q)
   one_called s name other variables values r q a b asked h k x y =
       let names : name ≡ other = cc asked in
       let vars : variables ≡ values = cc asked in
       let moved = subst (λ n. Answers s.files s.stored n values r) names (subst (λ v. Answers s.files s.stored name v r) vars h) in
-      one_run_said r q a b x y (calls_one s.files s.stored other values r q moved k (run_made r a x) (run_made q b y))
+      let same = calls_one s.files s.stored other values r q moved k (run_made r a x) (run_made q b y) in
+      (one_run_said r q a b x y same, ap effects_in same)
 
-  one_run_answer : (s : State) (body : List ℕ) (a b : Said) → Runs s body a → Runs s body b → a ≡ b
-  one_run_answer s body a b (calls {name = n} {variables = v} {r = r} asks h x) (calls {name = m} {variables = w} {r = q} also k y) =
+  one_run_answer : (s : State) (body : List ℕ) (a b : Said) (fs gs : List Effect) → Runs s body a fs → Runs s body b gs → (a ≡ b) × (fs ≡ gs)
+  one_run_answer s body a b _ _ (calls {name = n} {variables = v} {r = r} asks h x) (calls {name = m} {variables = w} {r = q} also k y) =
       one_called s n m v w r q a b (one_asked body (ask.call n v) (ask.call m w) asks also) h k x y
-  one_run_answer s body a _ (calls {name = n} {variables = v} asks h x) (gives_text also) = let clash : ask.call n v ≡ ask.stored_only = one_asked body _ _ asks also in absurd (cc clash)
-  one_run_answer s body a _ (calls {name = n} {variables = v} asks h x) (bad_body also) = let clash : ask.call n v ≡ ask.bad_call = one_asked body _ _ asks also in absurd (cc clash)
-  one_run_answer s body _ b (gives_text asks) (calls {name = m} {variables = w} also k y) = let clash : ask.stored_only ≡ ask.call m w = one_asked body _ _ asks also in absurd (cc clash)
-  one_run_answer s body _ _ (gives_text asks) (gives_text also) = refl
-  one_run_answer s body _ _ (gives_text asks) (bad_body also) = let clash : ask.stored_only ≡ ask.bad_call = one_asked body _ _ asks also in absurd (cc clash)
-  one_run_answer s body _ b (bad_body asks) (calls {name = m} {variables = w} also k y) = let clash : ask.bad_call ≡ ask.call m w = one_asked body _ _ asks also in absurd (cc clash)
-  one_run_answer s body _ _ (bad_body asks) (gives_text also) = let clash : ask.bad_call ≡ ask.stored_only = one_asked body _ _ asks also in absurd (cc clash)
-  one_run_answer s body _ _ (bad_body asks) (bad_body also) = refl
+  one_run_answer s body a _ _ _ (calls {name = n} {variables = v} asks h x) (gives_text also) = let clash : ask.call n v ≡ ask.stored_only = one_asked body _ _ asks also in absurd (cc clash)
+  one_run_answer s body a _ _ _ (calls {name = n} {variables = v} asks h x) (bad_body also) = let clash : ask.call n v ≡ ask.bad_call = one_asked body _ _ asks also in absurd (cc clash)
+  one_run_answer s body _ b _ _ (gives_text asks) (calls {name = m} {variables = w} also k y) = let clash : ask.stored_only ≡ ask.call m w = one_asked body _ _ asks also in absurd (cc clash)
+  one_run_answer s body _ _ _ _ (gives_text asks) (gives_text also) = (refl, refl)
+  one_run_answer s body _ _ _ _ (gives_text asks) (bad_body also) = let clash : ask.stored_only ≡ ask.bad_call = one_asked body _ _ asks also in absurd (cc clash)
+  one_run_answer s body _ b _ _ (bad_body asks) (calls {name = m} {variables = w} also k y) = let clash : ask.bad_call ≡ ask.call m w = one_asked body _ _ asks also in absurd (cc clash)
+  one_run_answer s body _ _ _ _ (bad_body asks) (gives_text also) = let clash : ask.bad_call ≡ ask.stored_only = one_asked body _ _ asks also in absurd (cc clash)
+  one_run_answer s body _ _ _ _ (bad_body asks) (bad_body also) = (refl, refl)
 
   one_answer : (s t u : State) (expected : Option ℕ) (e : edit.Edit) (a b : Said) → Edits s expected e a t → Edits s expected e b u → (a ≡ b) × (t ≡ u)
   one_answer s t u expected e a b h k =
@@ -84,7 +86,7 @@ module _ (edits : OneEdit) (calls_one : OneCall) (reports : OneReport) where
   one_call s t u (put side name expected) body a b h k = one_answer s t u expected (edit.put side name body) a b h k
   one_call s t u (remove side name expected) body a b h k = one_answer s t u expected (edit.remove side name) a b h k
   one_call s t u (put_data expected) body a b h k = one_answer s t u expected (edit.put_data body) a b h k
-  one_call s t u run body a b h k = (one_run_answer s body a b h.0 k.0, h.1 ∙ sym k.1)
+  one_call s t u run body a b h k = let same = one_run_answer s body a b h.0 k.0 h.1 k.1 in (same.0, h.2 ∙ ap (with_effects s) same.1 ∙ sym k.2)
   one_call s t u (refused said) body a b h k = (h.0 ∙ sym k.0, h.1 ∙ sym k.1)
 
   pub one_step_lem : OneStep

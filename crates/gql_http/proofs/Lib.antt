@@ -12,5 +12,6 @@ pub mod PipeConnections
 pub mod Presence
 pub mod Queries
 pub mod Refused
+pub mod Revisions
 pub mod Serving
 pub mod TwoParts

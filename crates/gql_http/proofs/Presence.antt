@@ -5,6 +5,10 @@ use Rattle.gql_ast.specs.declared.fault.FileSide.{FileSide}
 use Rattle.gql_ast.specs.declared.fault.FileSide.TheVariants.{Schema, Documents}
 use Rattle.gql_registry.specs.Edits as edit
 use Rattle.gql_registry.specs.Edits.{Edit, Fails, Makes}
+use Rattle.gql_ast.specs.FileMaps.{file_named, name_order}
+use Rattle.std.specs.List.Sorted.{IsStrictlySortedBy}
+use Rattle.std.specs.Map.{keys_of}
+use Rattle.gql_registry.specs.Sides.{files_on}
 use Rattle.gql_registry.specs.Laws.{HoldsAfter, IsOrderedOn, LeavesUnder, under}
 use Rattle.gql_registry.specs.Report.{IsReport}
 use Rattle.gql_registry.specs.State.{State, empty}
@@ -25,7 +29,7 @@ use Rattle.gql_http.proofs.Determined.{said_made}
 data Deed (s t : State) (r : Req) : Type 0 where
   edits : (e : Edit) → IsAcceptedEdit s r e → ((side : FileSide) → IsOrderedOn side t)
       → ((side : FileSide) (name : List ℕ) → LeavesUnder side name (under side name s) e (under side name t)) → Deed s t r
-  keeps : ((e : Edit) → IsAcceptedEdit s r e → ⊥) → t ≡ s → Deed s t r
+  keeps : ((e : Edit) → IsAcceptedEdit s r e → ⊥) → t.files ≡ s.files → Deed s t r
 
 put_same : (side on : FileSide) (name other : List ℕ) (expected wanted : Option ℕ) → put side name expected ≡ put on other wanted → (side ≡ on) × (name ≡ other) × (expected ≡ wanted)
 put_same side on name other expected wanted e = (let h : side ≡ on = cc in h, let h : name ≡ other = cc in h, let h : expected ≡ wanted = cc in h)
@@ -37,7 +41,7 @@ data_same : (expected wanted : Option ℕ) → put_data expected ≡ put_data wa
 data_same expected wanted e = cc
 
 -- a request that is no edit
-no_edit : (s : State) (method target body : List ℕ) (closing : Bool) (call : Call) → call_of method target ≡ call
+pub no_edit : (s : State) (method target body : List ℕ) (closing : Bool) (call : Call) → call_of method target ≡ call
     → ((side : FileSide) (name : List ℕ) (expected : Option ℕ) → call ≡ put side name expected → ⊥) → ((side : FileSide) (name : List ℕ) (expected : Option ℕ) → call ≡ remove side name expected → ⊥)
     → ((expected : Option ℕ) → call ≡ put_data expected → ⊥) → (e : Edit) → IsAcceptedEdit s (request method target body closing) e → ⊥
 no_edit s method target body closing call is no_put no_removal no_data e h = by e h.expected h.asks
@@ -48,7 +52,7 @@ no_edit s method target body closing call is no_put no_removal no_data e h = by 
     by _ expected (asks_to_put_data asks) = no_data expected (sym is ∙ asks)
 
 -- a refused edit
-put_refused : (s : State) (side : FileSide) (method target body name : List ℕ) (closing : Bool) (expected : Option ℕ) (r : Refusal) → call_of method target ≡ put side name expected → Fails s expected (edit.put side name body) r
+pub put_refused : (s : State) (side : FileSide) (method target body name : List ℕ) (closing : Bool) (expected : Option ℕ) (r : Refusal) → call_of method target ≡ put side name expected → Fails s expected (edit.put side name body) r
     → (e : Edit) → IsAcceptedEdit s (request method target body closing) e → ⊥
 put_refused s side method target body name closing expected r is fails e h = by e h.expected h.asks h.accepted
   where
@@ -61,7 +65,7 @@ put_refused s side method target body name closing expected r is fails e h = by 
     by _ wanted (asks_to_put_data asks) accepted =
         let clash : put side name expected ≡ put_data wanted = sym is ∙ asks in cc
 
-removal_refused : (s : State) (side : FileSide) (method target body name : List ℕ) (closing : Bool) (expected : Option ℕ) (r : Refusal) → call_of method target ≡ remove side name expected
+pub removal_refused : (s : State) (side : FileSide) (method target body name : List ℕ) (closing : Bool) (expected : Option ℕ) (r : Refusal) → call_of method target ≡ remove side name expected
     → Fails s expected (edit.remove side name) r → (e : Edit) → IsAcceptedEdit s (request method target body closing) e → ⊥
 removal_refused s side method target body name closing expected r is fails e h = by e h.expected h.asks h.accepted
   where
@@ -93,7 +97,7 @@ module _ (holds : HoldsAfter) where
       edits (edit.put side name body) (record { expected = expected; asks = asks_to_put is; accepted = h.0 }) (λ on. (holds s t (edit.put side name body) on (ordered on) h.1).0) (λ on. (holds s t (edit.put side name body) on (ordered on) h.1).1)
   put_deed s t side method target body name closing expected a (Err q) ordered is said h =
       let refusal = first_refusal s t expected (edit.put side name body) q (said_made (Err q) a said) h in
-      keeps (put_refused s side method target body name closing expected q is refusal.0.fails) refusal.1
+      keeps (put_refused s side method target body name closing expected q is refusal.0.fails) (ap (λ (x : State). x.files) refusal.1)
 
   removal_deed : (s t : State) (side : FileSide) (method target body name : List ℕ) (closing : Bool) (expected : Option ℕ) (a : Said) (r : Result Edited Refusal) → ((on : FileSide) → IsOrderedOn on s)
       → call_of method target ≡ remove side name expected → edit_said r ≡ Some a → Makes s expected (edit.remove side name) r t → Deed s t (request method target body closing)
@@ -101,7 +105,7 @@ module _ (holds : HoldsAfter) where
       edits (edit.remove side name) (record { expected = expected; asks = asks_to_remove is; accepted = h.0 }) (λ on. (holds s t (edit.remove side name) on (ordered on) h.1).0) (λ on. (holds s t (edit.remove side name) on (ordered on) h.1).1)
   removal_deed s t side method target body name closing expected a (Err q) ordered is said h =
       let refusal = first_refusal s t expected (edit.remove side name) q (said_made (Err q) a said) h in
-      keeps (removal_refused s side method target body name closing expected q is refusal.0.fails) refusal.1
+      keeps (removal_refused s side method target body name closing expected q is refusal.0.fails) (ap (λ (x : State). x.files) refusal.1)
 
   data_deed : (s t : State) (method target body : List ℕ) (closing : Bool) (expected : Option ℕ) (a : Said) (r : Result Edited Refusal) → ((on : FileSide) → IsOrderedOn on s)
       → call_of method target ≡ put_data expected → edit_said r ≡ Some a → Makes s expected (edit.put_data body) r t → Deed s t (request method target body closing)
@@ -109,23 +113,23 @@ module _ (holds : HoldsAfter) where
       edits (edit.put_data body) (record { expected = expected; asks = asks_to_put_data is; accepted = h.0 }) (λ on. (holds s t (edit.put_data body) on (ordered on) h.1).0) (λ on. (holds s t (edit.put_data body) on (ordered on) h.1).1)
   data_deed s t method target body closing expected a (Err q) ordered is said h =
       let refusal = first_refusal s t expected (edit.put_data body) q (said_made (Err q) a said) h in
-      keeps (data_refused s method target body closing expected q is refusal.0.fails) refusal.1
+      keeps (data_refused s method target body closing expected q is refusal.0.fails) (ap (λ (x : State). x.files) refusal.1)
 
   call_deed : (s t : State) (method target body : List ℕ) (closing : Bool) (call : Call) (a : Said) → ((on : FileSide) → IsOrderedOn on s) → call_of method target ≡ call → Calls s call body a t
       → Deed s t (request method target body closing)
   call_deed s t method target body closing report a ordered is h =
-      keeps (no_edit s method target body closing report is (λ side name expected clash. cc) (λ side name expected clash. cc) (λ expected clash. cc)) h.1
+      keeps (no_edit s method target body closing report is (λ side name expected clash. cc) (λ side name expected clash. cc) (λ expected clash. cc)) (ap (λ (x : State). x.files) h.1)
   call_deed s t method target body closing (put side name expected) a ordered is h = put_deed s t side method target body name closing expected a h.0 ordered is h.1 h.2
   call_deed s t method target body closing (remove side name expected) a ordered is h = removal_deed s t side method target body name closing expected a h.0 ordered is h.1 h.2
   call_deed s t method target body closing (put_data expected) a ordered is h = data_deed s t method target body closing expected a h.0 ordered is h.1 h.2
   call_deed s t method target body closing routes.run a ordered is h =
-      keeps (no_edit s method target body closing routes.run is (λ side name expected clash. cc) (λ side name expected clash. cc) (λ expected clash. cc)) h.1
+      keeps (no_edit s method target body closing routes.run is (λ side name expected clash. cc) (λ side name expected clash. cc) (λ expected clash. cc)) (ap (λ (x : State). x.files) h.2)
   call_deed s t method target body closing (refused said) a ordered is h =
-      keeps (no_edit s method target body closing (refused said) is (λ side name expected clash. cc) (λ side name expected clash. cc) (λ expected clash. cc)) h.1
+      keeps (no_edit s method target body closing (refused said) is (λ side name expected clash. cc) (λ side name expected clash. cc) (λ expected clash. cc)) (ap (λ (x : State). x.files) h.1)
 
   deed : (s t : State) (r : Req) (bytes : List ℕ) → ((on : FileSide) → IsOrderedOn on s) → Step s r bytes t → Deed s t r
   deed s t (request method target body closing) bytes ordered h = call_deed s t method target body closing (call_of method target) h.0 ordered refl h.1
-  deed s t (refused_head refusal bodiless) bytes ordered h = keeps (λ e k. by k.asks) h.1
+  deed s t (refused_head refusal bodiless) bytes ordered h = keeps (λ e k. by k.asks) (ap (λ (x : State). x.files) h.1)
     where
       by : {expected : Option ℕ} {e : Edit} → AsksFor (refused_head refusal bodiless) expected e → ⊥
       by asks = elim asks [ ]
@@ -138,7 +142,7 @@ module _ (holds : HoldsAfter) where
       by : Deed s u r → (((on : FileSide) → IsOrderedOn on u) → Holds side name u (under side name u) rs (under side name t)) → Holds side name s (under side name s) (r ∷ rs) (under side name t)
       by (edits e accepted still leaves) rest = by_edit bytes accepted (leaves side name) step (rest still)
       by (keeps none same) rest =
-          by_other bytes none step (subst (λ o. Holds side name u o rs (under side name t)) (ap (under side name) same) (rest (λ on. subst (IsOrderedOn on) (sym same) (ordered on))))
+          by_other bytes none step (subst (λ o. Holds side name u o rs (under side name t)) (ap (λ fs. file_named (files_on side fs) name) same) (rest (λ on. subst (λ fs. IsStrictlySortedBy name_order (keys_of (files_on on fs))) (sym same) (ordered on))))
 
   pub files_present_lem : FilesPresent
   unfolding Rattle.std.specs.List.Sorted.IsStrictlySortedBy

@@ -1,5 +1,5 @@
 -- The answers to runs whose bodies are refused.
-use Rattle.std.proofs.Common.{◌≡◌, ℕ, List, Option, Some, None, subst}
+use Rattle.std.proofs.Common.{◌≡◌, ℕ, List, [], Option, Some, None, subst}
 use Rattle.gql_bodies.specs.Calls.{IsRefused}
 use Rattle.gql_bodies.specs.declared.call.CallFault.{CallFault}
 use Rattle.gql_bodies.specs.declared.call.CallFault.TheVariants as fault
@@ -14,7 +14,7 @@ said_same a b e = cc e
 none_said : (a : Said) → ◌≡◌ {A = Option Said} None (Some a) → ⊥
 none_said a e = cc e
 
-pub refused_body : (s : State) (body : List ℕ) (why : CallFault) (a : Said) → IsRefused body why → body_said why ≡ Some a → Runs s body a
-refused_body s body fault.BadCall a asks said = subst (Runs s body) (said_same bad_run_body a said) (bad_body asks)
-refused_body s body fault.StoredOnly a asks said = subst (Runs s body) (said_same stored_operations_only a said) (gives_text asks)
+pub refused_body : (s : State) (body : List ℕ) (why : CallFault) (a : Said) → IsRefused body why → body_said why ≡ Some a → Runs s body a []
+refused_body s body fault.BadCall a asks said = subst (λ x. Runs s body x []) (said_same bad_run_body a said) (bad_body asks)
+refused_body s body fault.StoredOnly a asks said = subst (λ x. Runs s body x []) (said_same stored_operations_only a said) (gives_text asks)
 refused_body s body fault.Memory a asks said = absurd (none_said a said)

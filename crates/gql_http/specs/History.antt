@@ -1,5 +1,5 @@
--- The document that a name of a side was given last, and the data that was put last.
-use Rattle.std.specs.Prelude.{ℕ, ◌≡◌, List, [], ◌∷◌, Bool, Option}
+-- The document that a name of a side was given last, and the data that edits and mutations have left.
+use Rattle.std.specs.Prelude.{ℕ, suc, ◌≡◌, List, [], ◌∷◌, Bool, Option}
 use Rattle.gql_ast.specs.declared.definition.Document.{Document}
 use Rattle.gql_ast.specs.declared.fault.FileSide.{FileSide}
 use Rattle.gql_bodies.specs.DataBodies.{IsDataText}
@@ -7,9 +7,11 @@ use Rattle.gql_registry.specs.Edits.{Edit, IsAccepted}
 use Rattle.gql_registry.specs.Edits as edit
 use Rattle.gql_registry.specs.Laws.{LeavesUnder}
 use Rattle.gql_registry.specs.State.{State}
+use Rattle.gql_stored.specs.Effects.{Effect, after}
 use Rattle.gql_wire.specs.Stream.{Req, request}
-use Rattle.gql_http.specs.Routes.{put, remove, put_data, call_of}
-use Rattle.gql_http.specs.Service.{Step}
+use Rattle.gql_http.specs.Answers.{Said}
+use Rattle.gql_http.specs.Routes.{put, remove, put_data, run, call_of}
+use Rattle.gql_http.specs.Service.{Runs, Step}
 use Rattle.serde_json.specs.Data.{Data}
 
 -- the request asks for this edit, and expects this revision or any
@@ -46,13 +48,39 @@ pub data Holds (side : FileSide) (name : List ℕ) : State
       (bytes : List ℕ) → ((e : Edit) → IsAcceptedEdit s r e → ⊥)
       → Step s r bytes t → Holds side name t before rs last → Holds side name s before (r ∷ rs) last
 
--- The data after requests, by the accepted edits among them alone: that of the last edit that put
--- data, and what it was before if there was no such edit.
-pub data HoldsData : State → Data → List Req → Data → Type 0 where
-  no_more_requests : {s : State} {d : Data} → HoldsData s d [] d
-  by_data : {s t : State} {before after last : Data} {body : List ℕ} {r : Req} {rs : List Req}
-      (bytes : List ℕ) → IsAcceptedEdit s r (edit.put_data body) → IsDataText body after
-      → Step s r bytes t → HoldsData t after rs last → HoldsData s before (r ∷ rs) last
-  by_no_data : {s t : State} {before last : Data} {r : Req} {rs : List Req} (bytes : List ℕ)
-      → ((body : List ℕ) → IsAcceptedEdit s r (edit.put_data body) → ⊥)
-      → Step s r bytes t → HoldsData t before rs last → HoldsData s before (r ∷ rs) last
+-- the request is a run, which adds these effects to the data of this state; none if it is refused
+pub data RunsWith (s : State) : Req → List Effect → Type 0 where
+  runs_with : {method target body : List ℕ} {closing : Bool} {a : Said} {effects : List Effect}
+      → call_of method target ≡ run → Runs s body a effects
+      → RunsWith s (request method target body closing) effects
+
+-- the request changes the data of this state: it puts data and is accepted, or it is a run
+pub data ChangesData (s : State) (r : Req) : Type 0 where
+  puts_data : {body : List ℕ} → IsAcceptedEdit s r (edit.put_data body) → ChangesData s r
+  is_run : {effects : List Effect} → RunsWith s r effects → ChangesData s r
+
+-- The data after requests, by those alone that change data, one after the other: an accepted edit
+-- puts data in place of those before, and a run adds what it adds, a served mutation its effects in
+-- their order.
+pub data DataAfter : State → Data → List Req → Data → Type 0 where
+  no_more_requests : {s : State} {d : Data} → DataAfter s d [] d
+  by_data : {s t : State} {before put last : Data} {body : List ℕ} {r : Req} {rs : List Req}
+      (bytes : List ℕ) → IsAcceptedEdit s r (edit.put_data body) → IsDataText body put
+      → Step s r bytes t → DataAfter t put rs last → DataAfter s before (r ∷ rs) last
+  by_run : {s t : State} {before last : Data} {effects : List Effect} {r : Req} {rs : List Req}
+      (bytes : List ℕ) → RunsWith s r effects
+      → Step s r bytes t → DataAfter t (after effects before) rs last
+      → DataAfter s before (r ∷ rs) last
+  by_none : {s t : State} {before last : Data} {r : Req} {rs : List Req} (bytes : List ℕ)
+      → (ChangesData s r → ⊥)
+      → Step s r bytes t → DataAfter t before rs last → DataAfter s before (r ∷ rs) last
+
+-- how many of these requests are accepted edits
+pub data AcceptedEdits : State → List Req → ℕ → Type 0 where
+  no_edits : {s : State} → AcceptedEdits s [] 0
+  one_edit : {s t : State} {e : Edit} {r : Req} {rs : List Req} {n : ℕ} (bytes : List ℕ)
+      → IsAcceptedEdit s r e → Step s r bytes t → AcceptedEdits t rs n
+      → AcceptedEdits s (r ∷ rs) (suc n)
+  no_edit : {s t : State} {r : Req} {rs : List Req} {n : ℕ} (bytes : List ℕ)
+      → ((e : Edit) → IsAcceptedEdit s r e → ⊥) → Step s r bytes t → AcceptedEdits t rs n
+      → AcceptedEdits s (r ∷ rs) n

@@ -1,16 +1,17 @@
 -- The laws of the service and its hub. `src/laws.rt` has a function for each.
-use Rattle.std.specs.Prelude.{ℕ, ◌≡◌, List, [], ◌∷◌, ◌++◌, Bool, Some, None}
+use Rattle.std.specs.Prelude.{ℕ, ◌+◌, ◌≡◌, List, [], ◌∷◌, ◌++◌, Bool, Some, None}
 use Rattle.gql_ast.specs.declared.fault.Fault.{Fault}
 use Rattle.gql_ast.specs.declared.fault.FileSide.{FileSide}
 use Rattle.gql_registry.specs.Laws.{under}
 use Rattle.gql_registry.specs.Report.{IsReport}
-use Rattle.gql_registry.specs.State.{State, empty}
+use Rattle.gql_registry.specs.State.{State, empty, with_effects}
+use Rattle.gql_stored.specs.Effects.{Effect}
 use Rattle.gql_wire.specs.Head.{is_head}
 use Rattle.gql_wire.specs.Stream.{Req, request, Placed, Requests}
 use Rattle.gql_http.specs.Answers.{Said, answer_bytes, report_said}
 use Rattle.gql_http.specs.Connections.{requests_of, joined}
 use Rattle.gql_http.specs.Events.{Event, opens, feeds, breaks, closes, Connections, all_closed, Does, Behaves}
-use Rattle.gql_http.specs.History.{Holds, HoldsData}
+use Rattle.gql_http.specs.History.{AcceptedEdits, DataAfter, Holds}
 use Rattle.gql_http.specs.Order.{Order, Answers, on}
 use Rattle.gql_http.specs.Routes.{report, run, call_of}
 use Rattle.gql_http.specs.Service.{Step, Run, Runs}
@@ -111,20 +112,36 @@ ReportThen = (s u : State) (front rest : List Req) (method target body : List �
     × (answers ≡ before ++ (answer_bytes closing (is_head method) (report_said t.revision faults)
     ∷ after)) × Run t rest after u
 
--- After requests, the data is that of the last accepted edit that put data, and what it was before
--- if there was no such edit. A new registry has an object without members.
+-- After requests, the data is what accepted edits of the data and served mutations have made of it,
+-- one after the other. A new registry has an object without members.
 abbrev pub DataPresent : Type 0
 DataPresent = (s t : State) (rs : List Req) (answers : List (List ℕ)) → Run s rs answers t
-    → HoldsData s s.stored rs t.stored
+    → DataAfter s s.stored rs t.stored
+
+-- Whatever the events on connections that are all closed at first: the data is what accepted edits
+-- of the data and served mutations have made of it, one after the other, in the order in which the
+-- requests are complete.
+abbrev pub DataInOrder : Type 0
+DataInOrder = (s t : State) (events : List Event) (outs : List (List ℕ)) (rests : Connections)
+    → Behaves s all_closed events outs t rests
+    → (groups : List (List Req)) × (fed : Connections) × Order all_closed events groups fed
+    × DataAfter s s.stored (joined groups) t.stored
+
+-- after requests, the revision has grown by the number of accepted edits among them: a mutation is
+-- none
+abbrev pub RevisionCounts : Type 0
+RevisionCounts = (s t : State) (rs : List Req) (answers : List (List ℕ)) → Run s rs answers t
+    → (n : ℕ) × AcceptedEdits s rs n × (t.revision ≡ s.revision + n)
 
 -- A request to run an operation, among others, is answered as the registry answers it on the files
--- and the data that are present after the requests before it, and changes nothing.
+-- and the data that are present after the requests before it, and the requests after it find the
+-- data with what it adds.
 abbrev pub CallThen : Type 0
 CallThen = (s u : State) (front rest : List Req) (method target body : List ℕ) (closing : Bool)
     (answers : List (List ℕ))
     → call_of method target ≡ run
     → Run s (front ++ (request method target body closing ∷ rest)) answers u
-    → (before after : List (List ℕ)) × (t : State) × (said : Said) × Run s front before t
-    × Runs t body said
+    → (before after : List (List ℕ)) × (t : State) × (said : Said) × (effects : List Effect)
+    × Run s front before t × Runs t body said effects
     × (answers ≡ before ++ (answer_bytes closing (is_head method) said ∷ after))
-    × Run t rest after u
+    × Run (with_effects t effects) rest after u

@@ -2,13 +2,14 @@
 use Rattle.std.specs.Prelude.{ℕ, ◌≡◌, List, [], ◌∷◌, true, Option, Some, Result}
 use Rattle.gql_ast.specs.declared.fault.Fault.{Fault}
 use Rattle.gql_bodies.specs.CallBodies.{Asks, call, stored_only, bad_call}
-use Rattle.gql_registry.specs.Calls.{Answers}
+use Rattle.gql_registry.specs.Calls.{Answers, CallOutcome, effects_in, text_of}
 use Rattle.gql_registry.specs.Edits.{Edit, Makes}
 use Rattle.gql_registry.specs.Edits as edit
 use Rattle.gql_registry.specs.Report.{IsReport}
-use Rattle.gql_registry.specs.State.{State}
+use Rattle.gql_registry.specs.State.{State, with_effects}
 use Rattle.gql_registry.specs.declared.refusal.Refusal.{Refusal}
 use Rattle.gql_registry.specs.declared.registry.Edited.{Edited}
+use Rattle.gql_stored.specs.Effects.{Effect}
 use Rattle.serde_json.specs.Data.{Data}
 use Rattle.gql_wire.specs.Head.{is_head}
 use Rattle.gql_wire.specs.Stream.{Req, request, refused as refused_head}
@@ -20,14 +21,15 @@ abbrev pub Edits : State → Option ℕ → Edit → Said → State → Type 0
 Edits s expected e a t = (r : Result Edited Refusal) × (edit_said r ≡ Some a)
     × Makes s expected e r t
 
--- the answer to a run with this body in the state s, unless an allocation fails: that of the
--- registry to the call that the body asks for
-pub data Runs (s : State) (body : List ℕ) : Said → Type 0 where
-  calls : {name : Option (List ℕ)} {variables : Data} {r : Result (List ℕ) Refusal} {a : Said}
+-- The answer to a run with this body in the state s, and what it adds to the data, unless an
+-- allocation fails: as the registry answers the call that the body asks for. A run that is refused
+-- adds nothing.
+pub data Runs (s : State) (body : List ℕ) : Said → List Effect → Type 0 where
+  calls : {name : Option (List ℕ)} {variables : Data} {r : Result CallOutcome Refusal} {a : Said}
       → Asks body (call name variables) → Answers s.files s.stored name variables r
-      → run_said r ≡ Some a → Runs s body a
-  gives_text : Asks body stored_only → Runs s body stored_operations_only
-  bad_body : Asks body bad_call → Runs s body bad_run_body
+      → run_said (text_of r) ≡ Some a → Runs s body a (effects_in r)
+  gives_text : Asks body stored_only → Runs s body stored_operations_only []
+  bad_body : Asks body bad_call → Runs s body bad_run_body []
 
 -- the answer to a call with this body in the state s, and the state t that it leaves
 abbrev pub Calls : State → Call → List ℕ → Said → State → Type 0
@@ -36,7 +38,7 @@ Calls s report body a t = ((faults : List Fault) × IsReport s.files faults
 Calls s (put side name expected) body a t = Edits s expected (edit.put side name body) a t
 Calls s (remove side name expected) body a t = Edits s expected (edit.remove side name) a t
 Calls s (put_data expected) body a t = Edits s expected (edit.put_data body) a t
-Calls s run body a t = Runs s body a × (t ≡ s)
+Calls s run body a t = (effects : List Effect) × Runs s body a effects × (t ≡ with_effects s effects)
 Calls s (refused said) body a t = (a ≡ said) × (t ≡ s)
 
 -- a request in the state s is answered with these bytes, and leaves the state t

@@ -1,5 +1,5 @@
 //! Laws of the service and its hub. The functions do nothing: what they ensure is the law.
-ghost use Rattle.gql_http.specs.Laws.{AnyPieces, CallThen, DataPresent, FilesPresent, InOrder, OneDeed, OneOrder, OneRun, OneStep, ReportThen, SomeOrder, TwoParts};
+ghost use Rattle.gql_http.specs.Laws.{AnyPieces, CallThen, DataInOrder, DataPresent, FilesPresent, InOrder, OneDeed, OneOrder, OneRun, OneStep, ReportThen, RevisionCounts, SomeOrder, TwoParts};
 
 /// A request has at most one answer, and leaves at most one state.
 pub fn one_step()
@@ -78,14 +78,30 @@ pub fn report_then()
     ensures { ReportThen }
 {}
 
-/// After requests, the data is that of the last accepted edit that put data, and what it was before
-/// if there was no such edit.
+/// After requests, the data is what accepted edits of the data and served mutations have made of
+/// it, one after the other.
 pub fn data_present()
     ensures { DataPresent }
 {}
 
+/// Whatever the events, the data is what accepted edits of the data and served mutations have made
+/// of it, one after the other, in the order in which the requests are complete.
+pub fn data_in_order()
+    ensures { DataInOrder }
+{
+    in_order();
+    data_present();
+}
+
+/// After requests, the revision has grown by the number of accepted edits among them. A mutation is
+/// none.
+pub fn revision_counts()
+    ensures { RevisionCounts }
+{}
+
 /// A request to run an operation is answered as the registry answers it on the files and the data
-/// that are present after the requests before it, and changes nothing.
+/// that are present after the requests before it, and those after it find the data with what it
+/// adds.
 pub fn call_then()
     ensures { CallThen }
 {}

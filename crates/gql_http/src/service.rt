@@ -1,30 +1,33 @@
 //! One request after the other, made on the registry.
 ghost use Rattle.std.specs.Prelude.{◌≡◌, ◌++◌, ◌+◌, ◌≤◌, OnOk, OnErr, IfOk, IsErr, List, [], ℕ, Some, vec_len, vec_capacity};
 ghost use Rattle.gql_ast.specs.declared.fault.Fault.{Fault};
-ghost use Rattle.gql_registry.specs.Calls.{answer_of};
+ghost use Rattle.gql_registry.specs.Calls.{Answers, CallOutcome, effects_in, text_of};
 ghost use Rattle.gql_registry.specs.Edits as edit;
 ghost use Rattle.gql_registry.specs.Edits.{Makes};
 ghost use Rattle.gql_registry.specs.Report.{IsReport};
-ghost use Rattle.gql_registry.specs.State.{state_of};
+ghost use Rattle.gql_registry.specs.State.{state_of, with_effects};
+ghost use Rattle.serde_json.specs.View.{view};
+ghost use Rattle.std.specs.Option.{option_copied};
 ghost use Rattle.gql_wire.specs.Stream.{req};
 ghost use Rattle.gql_http.specs.Answers.{Said, edit_said, report_said, run_said};
 ghost use Rattle.gql_http.specs.Called.{call_said};
 ghost use Rattle.gql_http.specs.Said.{answer_said, ended_bytes};
 ghost use Rattle.gql_http.specs.Routes as routes;
 ghost use Rattle.gql_wire.specs.Head.{is_head};
-ghost use Rattle.gql_http.specs.Service.{Step, Calls, Runs};
+ghost use Rattle.gql_http.specs.Service.{Step, Calls};
 
 use crate::answer::{Answer, Ending};
 use crate::refusal_answer::{body_answer, head_answer, refusal_answer, route_answer};
 use crate::report_body::report_body;
 use crate::route::{Call, call_of};
-use crate::write_answer::{EDIT_ROOM, write_answer, write_edited};
+use crate::write_answer::{EDIT_ROOM, write_answer, write_edited, write_reply};
 use gql_ast::{FileName, FileSide};
 use gql_bodies::call_in;
-use gql_registry::{Edited, Refusal, Registry, Reply};
+use gql_registry::{Edited, Refusal, Registry};
 use gql_verdict::Meter;
 use gql_wire::Framed;
 use http::StatusCode;
+use serde_json::Value;
 use std::alloc::{AllocError, Global};
 
 fn report_answer(alloc: Global, registry: &Registry) -> Result<Answer, AllocError>
@@ -162,28 +165,32 @@ fn answer_data(
     write_edit(alloc, out, edited, ending)
 }
 
-/// The answer to a call of an operation that was run.
-fn reply_answer(alloc: Global, ran: Result<Reply, Refusal>) -> Result<Answer, AllocError>
-    ensures { IfOk result (λ a. run_said (answer_of ran) ≡ Some (answer_said a)) }
+/// Makes a call of a stored operation and writes its reply. The reply is written before the call
+/// takes effect: where there is no room for it, nothing has changed.
+fn answer_call(
+    alloc: Global,
+    registry: &mut Registry,
+    out: &mut Vec<u8>,
+    name: Option<&str>,
+    variables: &Value,
+    ending: Ending,
+) -> Result<(), AllocError>
+    ensures ok { OnOk result ((r : Result CallOutcome Refusal) × (a : Said)
+        × Answers (state_of registry.old).files (state_of registry.old).stored
+        (option_copied name.entry) (view variables.now) r
+        × (run_said (text_of r) ≡ Some a)
+        × (state_of registry.new ≡ with_effects (state_of registry.old) (effects_in r))
+        × (out.new.items ≡ out.old.items ++ ended_bytes ending a)) }
+    ensures err { OnErr result ((state_of registry.new ≡ state_of registry.old)
+        × (out.new.items ≡ out.old.items)) }
 {
-    match ran {
-        Ok(reply) => Ok(Answer {
-            status: StatusCode::OK,
-            allow: None,
-            body: reply.body,
-        }),
-        Err(refusal) => refusal_answer(alloc, &refusal),
-    }
-}
-
-/// The answer to a run with this body.
-fn run_answer(alloc: Global, registry: &mut Registry, body: &[u8]) -> Result<Answer, AllocError>
-    ensures answer { IfOk result (λ a. Runs (state_of registry.old) body.now (answer_said a)) }
-    ensures state { state_of registry.new ≡ state_of registry.old }
-{
-    match call_in(alloc, body) {
-        Ok(call) => reply_answer(alloc, registry.run(call.name(), call.variables())),
-        Err(fault) => body_answer(alloc, fault),
+    match registry.prepare(name, variables) {
+        Ok(prepared) => {
+            write_reply(out, prepared.body(), ending)?;
+            registry.commit(prepared);
+            Ok(())
+        }
+        Err(refusal) => write_answer(out, &refusal_answer(alloc, &refusal)?, ending),
     }
 }
 
@@ -200,8 +207,13 @@ fn answer_run(
     ensures err { OnErr result ((state_of registry.new ≡ state_of registry.old)
         × (out.new.items ≡ out.old.items)) }
 {
-    let answer = run_answer(alloc, registry, body)?;
-    write_answer(out, &answer, ending)
+    match call_in(alloc, body) {
+        Ok(call) => {
+            let (name, variables) = (call.name(), call.variables());
+            answer_call(alloc, registry, out, name, variables, ending)
+        }
+        Err(fault) => write_answer(out, &body_answer(alloc, fault)?, ending),
+    }
 }
 
 fn make_call(

@@ -1,5 +1,5 @@
 //! Answers, written.
-ghost use Rattle.std.specs.Prelude.{◌≡◌, ◌++◌, ◌+◌, ◌≤◌, OnOk, OnErr, vec_len, vec_capacity, length};
+ghost use Rattle.std.specs.Prelude.{◌≡◌, ◌++◌, ◌+◌, ◌≤◌, ◌<◌, ◌^◌, OnOk, OnErr, vec_len, vec_capacity, length};
 ghost use Rattle.gql_http.specs.Said.{answer_said, ended_bytes};
 ghost use Rattle.gql_http.specs.Answers.{said};
 ghost use Rattle.gql_http.specs.Json.{edited_text};
@@ -27,6 +27,16 @@ pub fn write_answer(out: &mut Vec<u8>, answer: &Answer, ending: Ending) -> Resul
         answer.body.as_slice(),
         ending,
     )
+}
+
+/// Writes the answer to a served call, with this reply, or nothing if an allocation fails.
+pub fn write_reply(out: &mut Vec<u8>, reply: &[u8], ending: Ending) -> Result<(), AllocError>
+    requires short { length reply.now < 2 ^ 63 }
+    ensures ok { OnOk result (out.new.items ≡ out.old.items
+        ++ ended_bytes ending (said 200 reply.now)) }
+    ensures err { OnErr result (out.new.items ≡ out.old.items) }
+{
+    write_parts(out, StatusCode::OK, None, reply, ending)
 }
 
 /// The body of the answer to an accepted edit.

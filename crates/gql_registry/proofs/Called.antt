@@ -14,13 +14,14 @@ use Rattle.gql_facts.specs.ListMembers.{Contains-nil, Contains-here, Contains-ca
 use Rattle.gql_operations.specs.Chosen.{chosen, operations, named_operations, operation_in, operation_by, named_in, named_of, named_by, only}
 use Rattle.gql_operations.specs.declared.operations.NamedOperation.{NamedOperation}
 use Rattle.gql_serving.specs.Laws.{SomeAnswer, HasNoFault}
-use Rattle.gql_registry.specs.Calling.{IsOver, IsReplyOf}
-use Rattle.gql_registry.specs.Calls.{AreAgainst, Answers, IsResponse, StandsAgainst, of_schema, of_documents, too_large, served, memory, answer_of}
+use Rattle.gql_registry.specs.Calling.{IsOver, IsOutcomeOf}
+use Rattle.gql_registry.specs.Calls.{AreAgainst, Answers, IsResponse, StandsAgainst, of_schema, of_documents, too_large, served, memory}
+use Rattle.gql_registry.specs.Prepared.{outcome_of, ran_of}
 use Rattle.gql_registry.specs.Report.{IsSound}
 use Rattle.gql_registry.specs.Report as report
 use Rattle.gql_registry.specs.declared.refusal.Refusal.{Refusal}
 use Rattle.gql_registry.specs.declared.refusal.Refusal.TheVariants as refusal
-use Rattle.gql_registry.specs.declared.registry.Reply.{Reply}
+use Rattle.gql_registry.specs.declared.calling.Ran.{Ran}
 use Rattle.gql_verdict.specs.Definitions.{all_definitions}
 use Rattle.serde_json.specs.Data.{Data}
 
@@ -148,11 +149,11 @@ some_response law files stored name variables d called none =
     }
 
 pub replied : SomeAnswer → (files : Files) (stored : Data) (name : Option (List ℕ)) (variables : Data) (d : Definition) → chosen files.documents name ≡ Some d
-    → ((f : Fault) → StandsAgainst files d f → ⊥) → (reply : Reply) → IsReplyOf files d variables stored reply → Answers files stored name variables (Ok reply.body.items)
-replied law files stored name variables d called none reply is =
+    → ((f : Fault) → StandsAgainst files d f → ⊥) → (ran : Ran) → IsOutcomeOf files d variables stored ran → Answers files stored name variables (Ok (outcome_of ran))
+replied law files stored name variables d called none ran is =
     let r = some_response law files stored name variables d called none in
     let h = is r.operation r.is r.response r.executes in
-    subst (λ text. Answers files stored name variables (Ok text)) (sym h.1) (served {p = r.response} r.answers h.0)
+    subst (λ c. Answers files stored name variables (Ok c)) (sym h.1) (served {p = r.response} r.answers h.0)
 
 pub over : SomeAnswer → (files : Files) (stored : Data) (name : Option (List ℕ)) (variables : Data) (d : Definition) → chosen files.documents name ≡ Some d
     → ((f : Fault) → StandsAgainst files d f → ⊥) → (e : Refusal) → IsOver files d variables stored e → Answers files stored name variables (Err e)
@@ -173,13 +174,13 @@ over law files stored name variables d called none refusal.Spent is = absurd is
 
 -- either way
 pub answered : SomeAnswer → (files : Files) (stored : Data) (name : Option (List ℕ)) (variables : Data) (d : Definition) → chosen files.documents name ≡ Some d
-    → ((f : Fault) → StandsAgainst files d f → ⊥) → (r : Result Reply Refusal) → IfOk r (IsReplyOf files d variables stored) → IfErr r (IsOver files d variables stored)
-    → Answers files stored name variables (answer_of r)
-answered law files stored name variables d called none (Ok reply) ok err = replied law files stored name variables d called none reply ok
+    → ((f : Fault) → StandsAgainst files d f → ⊥) → (r : Result Ran Refusal) → IfOk r (IsOutcomeOf files d variables stored) → IfErr r (IsOver files d variables stored)
+    → Answers files stored name variables (ran_of r)
+answered law files stored name variables d called none (Ok ran) ok err = replied law files stored name variables d called none ran ok
 answered law files stored name variables d called none (Err e) ok err = over law files stored name variables d called none e err
 
 -- a call that failed for memory
-pub failed : (files : Files) (stored : Data) (name : Option (List ℕ)) (variables : Data) (r : Result Reply Refusal) → IsErrAnd r (λ e. e ≡ refusal.Memory)
-    → Answers files stored name variables (answer_of r)
-failed files stored name variables (Ok reply) is = absurd is
+pub failed : (files : Files) (stored : Data) (name : Option (List ℕ)) (variables : Data) (r : Result Ran Refusal) → IsErrAnd r (λ e. e ≡ refusal.Memory)
+    → Answers files stored name variables (ran_of r)
+failed files stored name variables (Ok ran) is = absurd is
 failed files stored name variables (Err e) is = subst (λ x. Answers files stored name variables (Err x)) (sym is) memory

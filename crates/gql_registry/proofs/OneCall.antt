@@ -9,9 +9,8 @@ use Rattle.gql_exec.specs.Laws.{OneResponse}
 use Rattle.gql_exec.specs.Requests.{Executes, Response, most_values, request_of}
 use Rattle.gql_facts.specs.ListMembers.{Contains-here}
 use Rattle.gql_operations.specs.Chosen.{chosen}
-use Rattle.gql_reply.specs.ReplyText.{reply_text}
 use Rattle.gql_report.specs.Laws.{OneOrder}
-use Rattle.gql_registry.specs.Calls.{AreAgainst, Answers, IsResponse, StandsAgainst, no_operation, faulty, too_large, served, memory}
+use Rattle.gql_registry.specs.Calls.{AreAgainst, Answers, CallOutcome, outcome_of, IsResponse, StandsAgainst, no_operation, faulty, too_large, served, memory}
 use Rattle.gql_registry.specs.Laws.{OneAnswer}
 use Rattle.gql_registry.specs.declared.refusal.Refusal.{Refusal}
 use Rattle.gql_registry.specs.declared.refusal.Refusal.TheVariants as refusal
@@ -51,7 +50,7 @@ module _ (responses : OneResponse) (orders : OneOrder) (files : Files) (stored :
   heavy : (p q : Response) → p ≡ q → most_values < p.weight → q.weight ≤ most_values → ⊥
   heavy p q same more most = omega (arith, more, most, ap (λ (r : Response). r.weight) same)
 
-  one : (r q : Result (List ℕ) Refusal) → Answers files stored name variables r → Answers files stored name variables q → (r ≡ Err refusal.Memory → ⊥) → (q ≡ Err refusal.Memory → ⊥) → r ≡ q
+  one : (r q : Result CallOutcome Refusal) → Answers files stored name variables r → Answers files stored name variables q → (r ≡ Err refusal.Memory → ⊥) → (q ≡ Err refusal.Memory → ⊥) → r ≡ q
   one _ _ memory k made other = absurd (made refl)
   one _ _ h memory made other = absurd (other refl)
   one _ _ (no_operation is) (no_operation also) made other = refl
@@ -60,7 +59,7 @@ module _ (responses : OneResponse) (orders : OneOrder) (files : Files) (stored :
   one _ _ (no_operation is) (served h most) made other = let clash : None ≡ Some h.definition = sym is ∙ h.served.called in absurd (cc clash)
   one _ _ (faulty called are some) (no_operation is) made other = let clash : None ≡ Some _ = sym is ∙ called in absurd (cc clash)
   one _ _ (faulty {d = d} {faults = fs} called are some) (faulty {d = e} {faults = gs} called_e are_e some_e) made other =
-      ap (λ (xs : List Fault). let a : Result (List ℕ) Refusal = Err (refusal.Faulty xs) in a) (same_faults d e fs gs called called_e are are_e)
+      ap (λ (xs : List Fault). let a : Result CallOutcome Refusal = Err (refusal.Faulty xs) in a) (same_faults d e fs gs called called_e are are_e)
   one _ _ (faulty {d = d} {faults = fs} called are some) (too_large {p = p} h more) made other = absurd (no_faults d fs p called are some h)
   one _ _ (faulty {d = d} {faults = fs} called are some) (served {p = p} h most) made other = absurd (no_faults d fs p called are some h)
   one _ _ (too_large h more) (no_operation is) made other = let clash : None ≡ Some h.definition = sym is ∙ h.served.called in absurd (cc clash)
@@ -71,7 +70,7 @@ module _ (responses : OneResponse) (orders : OneOrder) (files : Files) (stored :
   one _ _ (served {p = p} h most) (faulty {d = d} {faults = fs} called are some) made other = absurd (no_faults d fs p called are some h)
   one _ _ (served {p = p} h most) (too_large {p = q} k more) made other = absurd (heavy q p (one_response q p k h) more most)
   one _ _ (served {p = p} h most) (served {p = q} k also) made other =
-      ap (λ (r : Response). let a : Result (List ℕ) Refusal = Ok (reply_text r.outcome) in a) (one_response p q h k)
+      ap (λ (r : Response). let a : Result CallOutcome Refusal = Ok (outcome_of r) in a) (one_response p q h k)
 
 pub one_answer : OneResponse → OneOrder → OneAnswer
 one_answer responses orders files stored name variables r q h k made other = one responses orders files stored name variables r q h k made other

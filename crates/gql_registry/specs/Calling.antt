@@ -6,10 +6,11 @@ use Rattle.gql_ast.specs.declared.definition.Tree.TheVariants as tree
 use Rattle.gql_ast.specs.declared.executable.Operation.{Operation}
 use Rattle.gql_ast.specs.declared.files.Files.{Files}
 use Rattle.gql_exec.specs.Requests.{Executes, Response, most_values, request_of}
-use Rattle.gql_reply.specs.ReplyText.{reply_text}
+use Rattle.gql_registry.specs.Calls.{outcome_of}
+use Rattle.gql_registry.specs.Prepared as prepared
+use Rattle.gql_registry.specs.declared.calling.Ran.{Ran}
 use Rattle.gql_registry.specs.declared.refusal.Refusal.{Refusal}
 use Rattle.gql_registry.specs.declared.refusal.Refusal.TheVariants.{TooLarge, Memory}
-use Rattle.gql_registry.specs.declared.registry.Reply.{Reply}
 use Rattle.serde_json.specs.Data.{Data}
 
 -- `Holds` is true of each response to the request of an operation
@@ -18,10 +19,10 @@ OfResponses files d variables stored Holds = (operation : Operation)
     → d.tree ≡ tree.Operation operation → (p : Response)
     → Executes (request_of files d operation variables stored) p → Holds p
 
--- the reply has the text of the response, of which at most `most_values` values are completed
-abbrev pub IsReplyOf : Files → Definition → Data → Data → Reply → Type 0
-IsReplyOf files d variables stored reply = OfResponses files d variables stored
-    (λ p. (p.weight ≤ most_values) × (reply.body.items ≡ reply_text p.outcome))
+-- this is what the response comes to, of which at most `most_values` values are completed
+abbrev pub IsOutcomeOf : Files → Definition → Data → Data → Ran → Type 0
+IsOutcomeOf files d variables stored ran = OfResponses files d variables stored
+    (λ p. (p.weight ≤ most_values) × (prepared.outcome_of ran ≡ outcome_of p))
 
 -- the response has more values than `most_values`, or an allocation failed
 abbrev pub IsOver : Files → Definition → Data → Data → Refusal → Type 0

@@ -1,5 +1,6 @@
 -- What a call of a stored operation is answered (this registry's own rule): a refusal, if there is
--- no such operation or the operation is faulty; else the response that its execution gives.
+-- no such operation or the operation is faulty; else the response that its execution gives. A served
+-- mutation may add to the data; a refused call changes nothing.
 use Rattle.std.specs.Prelude.{◌≡◌, ◌≢◌, ◌↔◌, ◌<◌, ◌≤◌, ℕ, List, [], Contains, Option, Some, None, Result, Ok, Err}
 use Rattle.std.specs.List.Sorted.{IsStrictlySortedBy}
 use Rattle.gql_ast.specs.declared.definition.Definition.{Definition}
@@ -17,7 +18,7 @@ use Rattle.gql_serving.specs.Owned.{IsOwned}
 use Rattle.gql_registry.specs.Report.{IsFault}
 use Rattle.gql_registry.specs.declared.refusal.Refusal.{Refusal}
 use Rattle.gql_registry.specs.declared.refusal.Refusal.TheVariants.{NoOperation, Faulty, TooLarge, Memory}
-use Rattle.gql_registry.specs.declared.registry.Reply.{Reply}
+use Rattle.gql_stored.specs.Effects.{Effect}
 use Rattle.serde_json.specs.Data.{Data}
 
 -- A fault that keeps the operation d from being executed: one of the schema, or one of the files
@@ -46,10 +47,19 @@ pub record IsResponse (files : Files) (stored : Data) (name : Option (List ℕ))
   pub served : IsServed files name definition operation
   pub executes : Executes (request_of files definition operation variables stored) p
 
--- What a call is answered, with these values for the operation's variables: the text of a reply, or
--- a refusal.
+-- what a served call comes to: the text of its reply, and what it adds to the data, in order
+pub record CallOutcome : Type 0 where
+  pub text : List ℕ
+  pub effects : List Effect
+
+-- what the response to a call comes to
+abbrev pub outcome_of : Response → CallOutcome
+outcome_of p = record { text = reply_text p.outcome; effects = p.outcome.effects }
+
+-- What a call is answered, with these values for the operation's variables: what it comes to, or a
+-- refusal.
 pub data Answers (files : Files) (stored : Data) (name : Option (List ℕ)) (variables : Data)
-    : Result (List ℕ) Refusal → Type 0 where
+    : Result CallOutcome Refusal → Type 0 where
   -- 208: there is no operation of the name; or there is no name, and not exactly one operation
   no_operation : operations.chosen files.documents name ≡ None
       → Answers files stored name variables (Err NoOperation)
@@ -62,11 +72,16 @@ pub data Answers (files : Files) (stored : Data) (name : Option (List ℕ)) (var
       → Answers files stored name variables (Err TooLarge)
   -- the response
   served : {p : Response} → IsResponse files stored name variables p → p.weight ≤ most_values
-      → Answers files stored name variables (Ok (reply_text p.outcome))
+      → Answers files stored name variables (Ok (outcome_of p))
   -- an allocation failed
   memory : Answers files stored name variables (Err Memory)
 
 -- the text of a reply, or the refusal
-abbrev pub answer_of : Result Reply Refusal → Result (List ℕ) Refusal
-answer_of (Ok reply) = Ok reply.body.items
-answer_of (Err r) = Err r
+abbrev pub text_of : Result CallOutcome Refusal → Result (List ℕ) Refusal
+text_of (Ok c) = Ok c.text
+text_of (Err r) = Err r
+
+-- what a call adds to the data: a refused one nothing
+abbrev pub effects_in : Result CallOutcome Refusal → List Effect
+effects_in (Ok c) = c.effects
+effects_in (Err r) = []

@@ -7,7 +7,7 @@ use Rattle.gql_ast.specs.declared.definition.Document.{Document}
 use Rattle.gql_ast.specs.declared.fault.Fault.{Fault}
 use Rattle.gql_ast.specs.declared.fault.FileSide.{FileSide}
 use Rattle.gql_ast.specs.declared.files.Files.{Files}
-use Rattle.gql_registry.specs.Calls.{Answers}
+use Rattle.gql_registry.specs.Calls.{Answers, CallOutcome}
 use Rattle.gql_registry.specs.Edits.{Edit, put, remove, EditsFile, Leaves, Makes}
 use Rattle.gql_registry.specs.Report.{IsReport}
 use Rattle.gql_registry.specs.Sides.{IsFileOn, files_on}
@@ -30,7 +30,7 @@ OneEdit = (s t u : State) (expected : Option ℕ) (e : Edit) (r q : Result Edite
 -- a call has at most one answer, unless an allocation fails
 abbrev pub OneAnswer : Type 0
 OneAnswer = (files : Files) (stored : Data) (name : Option (List ℕ)) (variables : Data)
-    (r q : Result (List ℕ) Refusal) → Answers files stored name variables r
+    (r q : Result CallOutcome Refusal) → Answers files stored name variables r
     → Answers files stored name variables q → (r ≡ Err Memory → ⊥) → (q ≡ Err Memory → ⊥) → r ≡ q
 
 -- files have at most one report

@@ -7,6 +7,7 @@ pub mod Edits
 pub mod Works
 pub mod Calls
 pub mod Calling
+pub mod Prepared
 pub mod Checks
 pub mod Laws
 pub mod Changes

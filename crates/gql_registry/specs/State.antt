@@ -2,6 +2,7 @@
 use Rattle.std.specs.Prelude.{ℕ, ◌+◌, ◌^◌, ◌-◌, List, []}
 use Rattle.gql_ast.specs.declared.files.Files.{Files}
 use Rattle.gql_registry.specs.declared.registry.Registry.{Registry}
+use Rattle.gql_stored.specs.Effects.{Effect, after}
 use Rattle.gql_verdict.specs.Verdicts.{Judgement}
 use Rattle.serde_json.specs.Data.{Data, object, no_members}
 use Rattle.serde_json.specs.View.{view}
@@ -36,6 +37,10 @@ next s files = record s { files = files; revision = s.revision + 1 }
 -- the state after an accepted edit that leaves this data
 abbrev pub next_data : State → Data → State
 next_data s d = record s { stored = d; revision = s.revision + 1 }
+
+-- the state after a mutation that has these effects: the revision counts edits alone
+abbrev pub with_effects : State → List Effect → State
+with_effects s effects = record s { stored = after effects s.stored }
 
 -- the greatest revision
 abbrev pub last_revision : ℕ

@@ -2,21 +2,28 @@
 ghost use Rattle.std.specs.Prelude.{◌≡◌, ◌≢◌, ℕ, List, [], IfErr, IfOk};
 ghost use Rattle.std.specs.Option.{option_copied};
 ghost use Rattle.gql_ast.specs.declared.files.Files.{Files as TheFiles};
-ghost use Rattle.gql_registry.specs.Calling.{IsOver, IsReplyOf};
-ghost use Rattle.gql_registry.specs.Calls.{Answers, AreAgainst, answer_of};
+ghost use Rattle.gql_registry.specs.Calling.{IsOutcomeOf, IsOver};
+ghost use Rattle.gql_registry.specs.Calls.{Answers, AreAgainst};
 ghost use Rattle.gql_registry.specs.Keeping.{IsKnownOf};
+ghost use Rattle.gql_registry.specs.Prepared.{ran_of};
 ghost use Rattle.serde_json.specs.View.{view};
 
 use crate::refusal::Refusal;
-use crate::registry::Reply;
 use crate::report::{Known, copies};
 use gql_ast::{Definition, Fault, Items};
-use gql_exec::{ExecRefusal, execute};
+use gql_exec::{Effect, ExecRefusal, Outcome, execute};
 use gql_facts::Present;
 use gql_reply::reply_text;
 use gql_serving::{laws, owned_faults};
 use serde_json::Value;
 use std::alloc::{AllocError, Global};
+
+/// What an executed call comes to: the text of its reply, and what it is to add to the data.
+#[derive(Drop)]
+pub struct Ran {
+    pub body: Vec<u8>,
+    pub effects: Vec<Effect>,
+}
 
 /// The faults that keep an operation from being executed.
 fn faults_against(
@@ -36,16 +43,16 @@ fn faults_against(
     Ok(faults)
 }
 
-/// Executes an operation, and writes the answer.
-fn reply_of(
+/// Executes an operation, and writes the reply.
+fn ran(
     alloc: Global,
     known: &Known,
     definition: &Definition,
     variables: &Value,
     stored: &Value,
-) -> Result<Reply, Refusal>
-    ensures reply { IfOk result (λ reply. (files : TheFiles) → IsKnownOf files known.now
-        → IsReplyOf files definition.now (view variables.now) (view stored.now) reply) }
+) -> Result<Ran, Refusal>
+    ensures ran { IfOk result (λ ran. (files : TheFiles) → IsKnownOf files known.now
+        → IsOutcomeOf files definition.now (view variables.now) (view stored.now) ran) }
     ensures err { IfErr result (λ e. (files : TheFiles) → IsKnownOf files known.now
         → IsOver files definition.now (view variables.now) (view stored.now) e) }
 {
@@ -60,9 +67,11 @@ fn reply_of(
         variables,
         stored,
     ) {
-        Ok(outcome) => Ok(Reply {
-            body: reply_text(alloc, &outcome)?,
-        }),
+        Ok(outcome) => {
+            let body = reply_text(alloc, &outcome)?;
+            let Outcome { effects, .. } = outcome;
+            Ok(Ran { body, effects })
+        }
         Err(ExecRefusal::TooHeavy) => Err(Refusal::TooLarge),
         Err(ExecRefusal::Memory) => Err(Refusal::Memory),
     }
@@ -76,10 +85,10 @@ pub fn answer_call(
     name: Option<&str>,
     variables: &Value,
     stored: &Value,
-) -> Result<Reply, Refusal>
+) -> Result<Ran, Refusal>
     ensures { (files : TheFiles) → IsKnownOf files known.now
         → Answers files (view stored.now) (option_copied name.entry) (view variables.now)
-        (answer_of result) }
+        (ran_of result) }
 {
     // The law that every request of an operation without faults has a response.
     laws::some_answer();
@@ -92,5 +101,5 @@ pub fn answer_call(
             faults: Items::from_vec(faults),
         });
     }
-    reply_of(alloc, known, definition, variables, stored)
+    ran(alloc, known, definition, variables, stored)
 }

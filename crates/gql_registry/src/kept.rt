@@ -2,7 +2,8 @@
 ghost use Rattle.std.specs.Prelude.{◌≡◌, IfOk, IfSome, OnOk, OnErr};
 ghost use Rattle.std.specs.Option.{option_copied};
 ghost use Rattle.serde_json.specs.View.{view};
-ghost use Rattle.gql_registry.specs.Calls.{Answers, answer_of};
+ghost use Rattle.gql_registry.specs.Calls.{Answers};
+ghost use Rattle.gql_registry.specs.Prepared.{ran_of};
 ghost use Rattle.gql_registry.specs.Changes.{IsChangeOf, IsChangeTo, IsReportLength};
 ghost use Rattle.gql_registry.specs.Keeping.{AreFactsOf, AreSchemaFaults, IsPlanFor, IsShelfOf};
 ghost use Rattle.gql_registry.specs.Keeping.{IsIndexOf, IsKnownBefore, IsKnownOf, IsSideOf, IsWorkOn};
@@ -13,11 +14,10 @@ ghost use Rattle.gql_facts.specs.Facts as facts;
 ghost use Rattle.gql_registry.specs.Sides as spec;
 ghost use Rattle.gql_verdict.specs.FileOrder.{AreFilesPlaced};
 
-use crate::calling::answer_call;
+use crate::calling::{Ran, answer_call};
 use crate::change::{Change, change_by_put, change_by_removal};
 use crate::index::{DocumentIndex, document_index};
 use crate::refusal::Refusal;
-use crate::registry::Reply;
 use crate::report::{Known, SchemaSide, copies, documents_report, schema_report, schema_side};
 use gql_ast::{Document, Fault, FileName, FileSide, Files, Shared};
 use gql_facts::{Fragments, Present, SchemaFacts};
@@ -296,9 +296,9 @@ impl Kept {
         name: Option<&str>,
         variables: &Value,
         stored: &Value,
-    ) -> Result<Reply, Refusal>
+    ) -> Result<Ran, Refusal>
         ensures { Answers self.now.files (view stored.now) (option_copied name.entry)
-            (view variables.now) (answer_of result) }
+            (view variables.now) (ran_of result) }
     {
         if let Some(known) = &self.known {
             return answer_call(alloc, known, name, variables, stored);

@@ -13,4 +13,4 @@ mod report;
 mod sides;
 
 pub use refusal::Refusal;
-pub use registry::{Edited, MAX_FILE_BYTES, MAX_FILES, Registry, Reply};
+pub use registry::{Edited, MAX_FILE_BYTES, MAX_FILES, Prepared, Registry, Reply};

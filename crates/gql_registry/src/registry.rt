@@ -6,6 +6,7 @@ ghost use Rattle.gql_bodies.specs.DataBodies.{IsDataText};
 ghost use Rattle.gql_registry.specs.Checks.{IsBadData, IsRead, IsUnread};
 ghost use Rattle.serde_json.specs.View.{view};
 
+use crate::calling::Ran;
 use crate::change::Change;
 use crate::kept::Kept;
 use crate::refusal::Refusal;
@@ -13,6 +14,7 @@ use crate::sides::{files_on, parse_on};
 use gql_ast::{Document, Fault, FileMap, FileName, FileSide, Shared};
 use gql_bodies::{DataFault, data_in};
 use gql_parse_sdl::{one_answer, one_document_answer};
+use gql_stored::{Additions, StoredData};
 use gql_verdict::{Meter, Shelf};
 use serde_json::{Map, Value};
 use std::alloc::{AllocError, Global};
@@ -37,12 +39,30 @@ pub struct Reply {
     pub body: Vec<u8>,
 }
 
+/// A run that is prepared: its reply, and room for what it is to add to the data.
+#[derive(Drop)]
+pub struct Prepared {
+    reply: Reply,
+    additions: Additions,
+}
+
+impl Prepared {
+    ghost use Rattle.gql_registry.specs.Prepared.{body_of};
+
+    /// The reply, as JSON.
+    pub fn body(&self) -> &[u8]
+        ensures { result.now ≡ body_of self.now }
+    {
+        self.reply.body.as_slice()
+    }
+}
+
 /// The files that services and clients have put, a verdict on each definition of the document
 /// files, the data that operations are executed on, and how many edits were accepted.
 pub struct Registry {
     alloc: Global,
     kept: Kept,
-    stored: Value,
+    stored: StoredData,
     revision: u64,
 }
 
@@ -105,11 +125,12 @@ impl Registry {
     ghost use Rattle.gql_registry.specs.Checks.{IsInTime};
     ghost use Rattle.gql_registry.specs.Edits.{Edit, IsFirstRefusal, Makes, Reports};
     ghost use Rattle.gql_registry.specs.Edits as edit;
-    ghost use Rattle.gql_registry.specs.Calls.{Answers, answer_of};
+    ghost use Rattle.gql_registry.specs.Calls.{Answers, CallOutcome, effects_in, text_of};
+    ghost use Rattle.gql_registry.specs.Prepared.{IsPreparedFor, added_by, answer_of, body_of, prepared_of};
     ghost use Rattle.gql_registry.specs.Changes.{IsChangeBy, IsChangeOf, IsRefusedBy};
     ghost use Rattle.gql_registry.specs.Keeping.{IsShelfOf, IsWorkOn};
     ghost use Rattle.gql_registry.specs.Report as spec;
-    ghost use Rattle.gql_registry.specs.State.{state_of, shelf_of, empty, next};
+    ghost use Rattle.gql_registry.specs.State.{state_of, shelf_of, empty, next, with_effects};
     ghost use Rattle.gql_registry.specs.Works.{Works};
     ghost use Rattle.std.specs.Prelude.{[]};
 
@@ -121,7 +142,7 @@ impl Registry {
         Registry {
             alloc,
             kept: Kept::new(alloc),
-            stored: Value::Object(Map::new(alloc)),
+            stored: StoredData::new(Value::Object(Map::new(alloc))),
             revision: 0,
         }
     }
@@ -372,24 +393,55 @@ impl Registry {
         let revision = self.next_revision(expected)?;
         let stored = read_data(self.alloc, bytes)?;
         let faults = self.kept.count(self.alloc)?;
-        self.stored = stored;
+        self.stored = StoredData::new(stored);
         self.revision = revision;
         Ok(Edited { revision, faults })
     }
 
-    /// Runs the stored operation of a name, or without a name the only one, with the values of its
-    /// variables, which are an object or null, on the data that was put. The refusals, in this
+    /// Prepares a run of the stored operation of a name, or without a name of the only one, with the
+    /// values of its variables, which are an object or null, on the data. The refusals, in this
     /// order: 208 if there is no such operation; 209 if the schema, the operation or a fragment
     /// that it reaches has faults, with these faults; 210 if more than 100,000 values are to be
     /// completed; and 211 if an allocation fails. Nothing is changed.
     #[tactic(none)]
-    pub fn run(&mut self, name: Option<&str>, variables: &Value) -> Result<Reply, Refusal>
-        ensures answers { Answers (state_of self.old).files (state_of self.old).stored
-            (option_copied name.entry) (view variables.now) (answer_of result) }
-        ensures state { state_of self.new ≡ state_of self.old }
+    pub fn prepare(&self, name: Option<&str>, variables: &Value) -> Result<Prepared, Refusal>
+        ensures answers { Answers (state_of self.now).files (state_of self.now).stored
+            (option_copied name.entry) (view variables.now) (prepared_of result) }
+        ensures room { IfOk result (IsPreparedFor self.now) }
+    {
+        let stored = self.stored.get();
+        let Ran { body, effects } = self.kept.answer_call(self.alloc, name, variables, stored)?;
+        let additions = self.stored.prepare(self.alloc, effects)?;
+        let reply = Reply { body };
+        Ok(Prepared { reply, additions })
+    }
+
+    /// Adds what a prepared run is to add to the data, and returns its reply. The registry is as it
+    /// was when the run was prepared. This takes no memory, and the revision stays.
+    #[tactic(none)]
+    pub fn commit(&mut self, prepared: Prepared) -> Reply
+        requires { IsPreparedFor self.old prepared }
+        ensures reply { result.body.items ≡ body_of prepared }
+        ensures state { state_of self.new ≡ with_effects (state_of self.old) (added_by prepared) }
         ensures shelf { shelf_of self.new ≡ shelf_of self.old }
     {
-        self.kept
-            .answer_call(self.alloc, name, variables, &self.stored)
+        let Prepared { reply, additions } = prepared;
+        self.stored.commit(additions);
+        reply
+    }
+
+    /// Runs the stored operation of a name, as `prepare` and `commit` do: what a mutation adds to
+    /// the data is there when its reply is returned. A refused run changes nothing.
+    #[tactic(none)]
+    pub fn run(&mut self, name: Option<&str>, variables: &Value) -> Result<Reply, Refusal>
+        ensures answers { (r : Result CallOutcome Refusal)
+            × Answers (state_of self.old).files (state_of self.old).stored
+            (option_copied name.entry) (view variables.now) r
+            × (text_of r ≡ answer_of result)
+            × (state_of self.new ≡ with_effects (state_of self.old) (effects_in r)) }
+        ensures shelf { shelf_of self.new ≡ shelf_of self.old }
+    {
+        let prepared = self.prepare(name, variables)?;
+        Ok(self.commit(prepared))
     }
 }

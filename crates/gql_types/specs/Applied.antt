@@ -1,5 +1,5 @@
 -- Applied directives, their arguments, and strings in these (GraphQL 2.9.4 and 2.12).
-use Rattle.std.specs.Prelude.{◌≡◌, ℕ, List, find, bytes_eq, codes, Option, Some, None, option_and_then}
+use Rattle.std.specs.Prelude.{◌≡◌, ℕ, List, find, bytes_eq, codes, Bool, Option, Some, None, option_and_then}
 use Rattle.std.proofs.Common.{ap, sym, ◌∙◌}
 use Rattle.gql_text.specs.declared.place.Place.{Place}
 use Rattle.gql_ast.specs.declared.literal.Argument.{Argument}

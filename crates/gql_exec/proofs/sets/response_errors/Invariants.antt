@@ -4,7 +4,7 @@ use Rattle.gql_exec.specs.Outcomes.{error_of}
 use Rattle.gql_exec.specs.Requests as requests
 use Rattle.gql_exec.specs.States as states
 use Rattle.gql_exec.specs.declared.run.FieldError.{FieldError}
-use Rattle.gql_exec.proofs.whole.response_errors.Given as goal
+use Rattle.gql_exec.proofs.sets.response_errors.Given as goal
 
 abbrev pub invariant-loop-error : goal.invariant-loop-error
 invariant-loop-error l = map error_of l.all.items ++ map (λ (e : FieldError). requests.error_of (states.error_of e)) (into_iter_items l.error-iterator)

@@ -12,7 +12,7 @@ use Rattle.gql_exec.specs.declared.run.Run.{Run}
 use Rattle.gql_exec.proofs.Ending.{err_is, err_then, ok_then}
 use Rattle.gql_exec.proofs.Entries.{right_none}
 use Rattle.gql_exec.proofs.Starting.{sets_done, sets_heavy}
-use Rattle.gql_exec.proofs.whole.execute_sets.Goals as goal
+use Rattle.gql_exec.proofs.sets.execute_sets.Goals as goal
 
 other : Memory ≡ TooHeavy → ⊥
 other e = absurd (cc e)

@@ -4,11 +4,13 @@ use Rattle.gql_facts.specs.declared.fragments.Fragments.{Fragments}
 use Rattle.gql_exec.specs.Requests.{IsKeptOf}
 use Rattle.gql_intro.specs.Made.{made_of}
 use Rattle.gql_reply.specs.ReplyText.{reply_text}
+use Rattle.gql_exec.specs.Outcomes.{AnOutcome}
+use Rattle.gql_registry.specs.Calls.{CallOutcome}
 use Rattle.gql_registry.specs.Keeping.{IsKnownOf}
 use Rattle.gql_registry.specs.declared.report.Known.{Known}
 use Rattle.gql_registry.specs.declared.report.SchemaSide.{SchemaSide}
 use Rattle.gql_types.specs.Schemas.{schema_of}
-use Rattle.gql_registry.proofs.calling.reply_of.Goals as goal
+use Rattle.gql_registry.proofs.calling.ran.Goals as goal
 
 -- what is known of files is what execution takes as kept of them
 kept_of : (files : Files) (known : Known) (side : SchemaSide) → side ≡ known.schema → IsKnownOf files known
@@ -19,11 +21,15 @@ kept_of files known side is h = record {
   fragments = h.index.fragments;
 }
 
-pub returns-in_ok-reply_text-in-Ok-clause-reply : goal.returns-in_ok-reply_text-in-Ok-clause-reply
-returns-in_ok-reply_text-in-Ok-clause-reply c = λ files known operation is p executes.
+same_call : {a b : CallOutcome} → a.text ≡ b.text → a.effects ≡ b.effects → a ≡ b
+same_call {a} {b} t e = ap (λ x. let c : CallOutcome = record { text = x; effects = a.effects } in c) t
+    ∙ ap (λ x. let c : CallOutcome = record { text = b.text; effects = x } in c) e
+
+pub returns-in_ok-reply_text-in-Ok-clause-ran : goal.returns-in_ok-reply_text-in-Ok-clause-ran
+returns-in_ok-reply_text-in-Ok-clause-ran c = λ files known operation is p executes.
     let kept = kept_of files c.args.known.now c.get-schema.result.now c.get-schema.ensures known in
     let h = c.in-Ok.ensures.outcome files operation kept is p executes in
-    (h.0, c.in_ok-reply_text-in-Ok.ensures ∙ ap reply_text h.1)
+    (h.0, same_call (c.in_ok-reply_text-in-Ok.ensures ∙ ap reply_text h.1) (ap (λ (o : AnOutcome). o.effects) h.1))
 
 pub returns-in-Err-TooHeavy-clause-err : goal.returns-in-Err-TooHeavy-clause-err
 returns-in-Err-TooHeavy-clause-err c = λ files known operation is p executes.

@@ -4,7 +4,7 @@ use Rattle.gql_exec.specs.Requests as requests
 use Rattle.gql_exec.specs.States as states
 use Rattle.gql_exec.specs.declared.run.FieldError.{FieldError}
 use Rattle.gql_exec.proofs.Ending.{next_error}
-use Rattle.gql_exec.proofs.whole.response_errors.Goals as goal
+use Rattle.gql_exec.proofs.sets.response_errors.Goals as goal
 
 pub loop-error-preserved : goal.loop-error-preserved
 loop-error-preserved c = next_error c.loop-error.all.items c.push.new.self.items (into_iter_items c.loop-error.error-iterator) (into_iter_items c.next.new.self) c.in-Some.error _
