@@ -9,6 +9,7 @@ pub mod Entries
 pub mod Enums
 pub mod Escapes
 pub mod Executing
+pub mod FirstItems
 pub mod Grouped
 pub mod Holes
 pub mod Introspecting

@@ -1,7 +1,7 @@
 -- The fields, the items or the nodes of a group, one more of which is begun.
 use Rattle.std.proofs.Common.{◌≡◌, ℕ, ◌+◌, ◌<◌, ◌≤◌, List, [], ◌∷◌, ◌++◌, Bool, true, false, codes, drop, flat_map, map, length, get_or, option_to_list, Result, Ok, Err, sym, ap, ◌∙◌, arith, subst}
 use Rattle.std.specs.Result.{IsErrAnd}
-use Rattle.gql_inputs.specs.InputTypes.{is_non_null}
+use Rattle.gql_inputs.specs.InputTypes.{is_non_null, name_in}
 use Rattle.gql_intro.specs.Borrowed.{elements}
 use Rattle.gql_intro.specs.Nodes.{Node}
 use Rattle.gql_types.specs.Written.{Written, written}
@@ -14,9 +14,9 @@ use Rattle.gql_exec.specs.Parts.{Part, plain, settled}
 use Rattle.gql_exec.specs.Plans.{Basis, types_of}
 use Rattle.gql_exec.specs.Replies.{index, key}
 use Rattle.gql_exec.specs.States.{Done, Executes, Follows, path_of}
-use Rattle.gql_exec.specs.Tables.{Grows, Pair, planned_of}
+use Rattle.gql_exec.specs.Tables.{Grows, Pair, below_at, planned_of}
 use Rattle.gql_exec.specs.Texts.{value_part}
-use Rattle.gql_exec.specs.ValueParts.{called_part, content_of_item, content_of_node, content_part, data_items, field_part, item_part, node_part, nodes_in, placed_part, site_of}
+use Rattle.gql_exec.specs.ValueParts.{IsAsked, called_part, content_of_item, content_of_node, content_part, data_items, field_part, item_part, node_part, nodes_in, placed_part, site_of}
 use Rattle.gql_exec.specs.declared.ended.Ended.{Ended}
 use Rattle.gql_exec.specs.declared.frames.Around.{Around}
 use Rattle.gql_exec.specs.declared.frames.Begun.{Begun}
@@ -36,6 +36,7 @@ use Rattle.gql_exec.specs.declared.refusal.ExecRefusal.TheVariants.{TooHeavy}
 use Rattle.gql_exec.specs.declared.run.Run.{Run}
 use Rattle.gql_exec.specs.declared.table.Table.{Table}
 use Rattle.gql_exec.proofs.Doing.{stepped}
+use Rattle.gql_exec.proofs.Entries.{below_still}
 use Rattle.gql_exec.proofs.Executing.{At as AtField}
 use Rattle.gql_exec.proofs.Holes.{at_still, hole_stops, opens_lift}
 use Rattle.gql_exec.proofs.Midway.{midway_ends, midway_more, midway_path, midway_stops, numbered_at, numbered_length, numbered_within}
@@ -183,6 +184,11 @@ module _ (g : Basis) (t : Table) (f : FieldsFrame) (whole : Part) (start began n
     }
 
 -- ---- items
+
+-- what the items of a list are asked, by a table that has grown
+pub item_asked : (g : Basis) (t : Table) (f : ItemsFrame) (whole : Part) (start now : Run) (at : AtItems g t f whole start now) (u : Table) → Grows t u
+    → IsAsked g f.site (name_in (written f.item.now)) (below_at u f.site.slot) at.plan
+item_asked g t f whole start now at u more = subst (λ xs. IsAsked g f.site (name_in (written f.item.now)) xs at.plan) (sym (below_still t u f.site.slot more at.within)) at.asked
 
 module _ (g : Basis) (t : Table) (f : ItemsFrame) (whole : Part) (start began now : Run) (at : AtItems g t f whole start began) (k : ℕ) (ended : Ended)
     (m : Midway (codes "[") (codes "]") (item_parts f (site_of (types_of g) f.site.place at.plan) start) k ended whole start now) where

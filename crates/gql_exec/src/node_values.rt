@@ -35,11 +35,7 @@ use serde_json::Value;
 use std::alloc::Global;
 
 /// The list of the nodes that a field gives, each of the type of this name.
-fn nodes_below<'d, 'v>(
-    slot: Slot,
-    name: &'d str,
-    nodes: IntroNodes<'d>,
-) -> Reached<'d, 'v>
+fn nodes_below<'d, 'v>(slot: Slot, name: &'d str, nodes: IntroNodes<'d>) -> Reached<'d, 'v>
     ensures keeps { (g : Basis) (t : ATable) (now : ARun) → IsRight g t → InTable t slot
         → KeepsReached g t t now now (Ok result) }
     ensures does { (g : Basis) (t : ATable) (now : ARun) → InTable t slot
