@@ -19,7 +19,7 @@ use Rattle.gql_types.specs.declared.schema.Schema.{Schema}
 use Rattle.gql_types.specs.declared.schema_type.SchemaType.{SchemaType}
 use Rattle.gql_intro.specs.AnswerTypes.{HasType, HasValue, of_null, of_non_null, of_text, of_truth, of_enum_name, of_enum_names, of_node, of_nodes, type_name_of}
 use Rattle.gql_intro.specs.Applied.{is_deprecated}
-use Rattle.gql_intro.specs.Introspection.{default_text, fields_of, inputs_of, interfaces_of, possible_nodes, possible_of, root_node, shown_field, shown_value, values_of}
+use Rattle.gql_intro.specs.Introspection.{arguments_of, default_text, fields_of, inputs_of, interfaces_of, possible_nodes, possible_of, root_node, shown_field, shown_input, shown_value, values_of}
 use Rattle.gql_intro.specs.Nodes as n
 use Rattle.gql_intro.specs.Nodes.{Node, Answer, null, text, truth, enum_name, enum_names, node, nodes, optional_text, optional_node, nodes_of, named_node, type_node}
 use Rattle.gql_intro.specs.SchemaNodes.{AreNodesOf, HasTypeNamed, IsInputOf, of_input_object, IsKnown, IsNodeOf}
@@ -192,21 +192,24 @@ module _ (s : Schema) where
 
   -- ---- arguments and input fields
 
-  input_object : (d : InputValueDefinition) → IsInputOf s d → (x : Node) → Some (n.input_value d) ≡ Some x → IsObject (codes "__InputValue") x
-  input_object d of_schema x is = subst (IsObject (codes "__InputValue")) (some_same (n.input_value d) x is) (refl, of_schema)
+  input_object : (deprecated : Bool) (d : InputValueDefinition) → IsInputOf s d → (x : Node) → shown_input deprecated d ≡ Some x → IsObject (codes "__InputValue") x
+  input_object deprecated d of_schema x is = by (not deprecated && is_deprecated d.directives) is where
+    by : (b : Bool) → (if b then None else Some (n.input_value d)) ≡ Some x → IsObject (codes "__InputValue") x
+    by true h = absurd (none_some x h)
+    by false h = subst (IsObject (codes "__InputValue")) (some_same (n.input_value d) x h) (refl, of_schema)
 
-  pub arguments_answer : (ds : List InputValueDefinition) → ((d : InputValueDefinition) → Contains ds d → IsInputOf s d)
-      → IsAnswer (required (listed (required (named (codes "__InputValue"))))) (nodes_of (map (λ (d : InputValueDefinition). Some (n.input_value d)) ds))
-  arguments_answer ds each = required_list (codes "__InputValue") (λ (d : InputValueDefinition). Some (n.input_value d)) ds (λ d there x is. input_object d (each d there) x is)
+  pub arguments_answer : (deprecated : Bool) (ds : List InputValueDefinition) → ((d : InputValueDefinition) → Contains ds d → IsInputOf s d)
+      → IsAnswer (required (listed (required (named (codes "__InputValue"))))) (arguments_of deprecated ds)
+  arguments_answer deprecated ds each = required_list (codes "__InputValue") (shown_input deprecated) ds (λ d there x is. input_object deprecated d (each d there) x is)
 
-  pub inputs_answer : (t : SchemaType) → Contains s.types t → (k : TypeKind) → IsAnswer (listed (required (named (codes "__InputValue")))) (inputs_of k t)
-  inputs_answer t has kind.InputObject = list_answer (codes "__InputValue") (λ (d : Sited InputValueDefinition). Some (n.input_value d.node)) t.input_fields
-      (λ d there x is. input_object d.node (of_input_object t has (Contains-map (λ (e : Sited InputValueDefinition). e.node) t.input_fields d there)) x is)
-  inputs_answer t has kind.Scalar = null_list (required (named (codes "__InputValue")))
-  inputs_answer t has kind.Object = null_list (required (named (codes "__InputValue")))
-  inputs_answer t has kind.Interface = null_list (required (named (codes "__InputValue")))
-  inputs_answer t has kind.Union = null_list (required (named (codes "__InputValue")))
-  inputs_answer t has kind.Enum = null_list (required (named (codes "__InputValue")))
+  pub inputs_answer : (t : SchemaType) → Contains s.types t → (deprecated : Bool) (k : TypeKind) → IsAnswer (listed (required (named (codes "__InputValue")))) (inputs_of k deprecated t)
+  inputs_answer t has deprecated kind.InputObject = list_answer (codes "__InputValue") (λ (d : Sited InputValueDefinition). shown_input deprecated d.node) t.input_fields
+      (λ d there x is. input_object deprecated d.node (of_input_object t has (Contains-map (λ (e : Sited InputValueDefinition). e.node) t.input_fields d there)) x is)
+  inputs_answer t has deprecated kind.Scalar = null_list (required (named (codes "__InputValue")))
+  inputs_answer t has deprecated kind.Object = null_list (required (named (codes "__InputValue")))
+  inputs_answer t has deprecated kind.Interface = null_list (required (named (codes "__InputValue")))
+  inputs_answer t has deprecated kind.Union = null_list (required (named (codes "__InputValue")))
+  inputs_answer t has deprecated kind.Enum = null_list (required (named (codes "__InputValue")))
 
   pub directives_answer : IsAnswer (required (listed (required (named (codes "__Directive")))))
       (nodes_of (map (λ (d : Sited DirectiveDefinition). Some (n.directive d.node)) s.directives))

@@ -66,14 +66,14 @@ module _ (files : Files) (given : Given) (holds : IsIntrospectable files) where
       listed_there (n.non_null_type nullable) (codes "__Type") fields_of_type (type_fields files holds.extends_no_reserved)
       (wrapper_answers s (codes "NON_NULL") nullable there (kind_value files holds.extends_no_reserved (codes "NON_NULL") non_null_listed)) of_type is name d at
   own (n.field f) there of_type is name d at =
-      listed_there (n.field f) (codes "__Field") fields_of_field (field_fields files holds.extends_no_reserved) (field_answers s f (holds.has_field_types f there) (λ x h. of_field f there h)) of_type is name d at
+      listed_there (n.field f) (codes "__Field") fields_of_field (field_fields files holds.extends_no_reserved) (field_answers s f (holds.has_field_types f there) (includes_deprecated given) (λ x h. of_field f there h)) of_type is name d at
   own (n.input_value v) there of_type is name d at =
       listed_there (n.input_value v) (codes "__InputValue") fields_of_input_value (input_value_fields files holds.extends_no_reserved) (input_answers s v (holds.has_input_types v there)) of_type is name d at
   own (n.enum_value v) there of_type is name d at =
       listed_there (n.enum_value v) (codes "__EnumValue") fields_of_enum_value (enum_value_fields files holds.extends_no_reserved) (value_answers s v) of_type is name d at
   own (n.directive x) there of_type is name d at =
       listed_there (n.directive x) (codes "__Directive") fields_of_directive (directive_fields files holds.extends_no_reserved)
-      (directive_answers s x (λ l. location_value files holds.extends_no_reserved (location_name l) (location_listed l)) (λ y h. of_directive x there h)) of_type is name d at
+      (directive_answers s x (λ l. location_value files holds.extends_no_reserved (location_name l) (location_listed l)) (includes_deprecated given) (λ y h. of_directive x there h)) of_type is name d at
 
   -- ---- the fields that no type lists
 

@@ -22,7 +22,7 @@ use Rattle.gql_types.specs.declared.schema.Schema.{Schema}
 use Rattle.gql_types.specs.declared.schema_type.SchemaType.{SchemaType}
 use Rattle.gql_intro.specs.AnswerTypes.{HasValue}
 use Rattle.gql_intro.specs.Applied.{deprecation_reason, is_deprecated, specified_by_url}
-use Rattle.gql_intro.specs.Introspection.{default_text, directive_rows, field_rows, fields_of, input_rows, inputs_of, interfaces_of, kind_name, location_name, possible_of, root_node, schema_rows, type_rows, value_rows, values_of, wrapper_rows}
+use Rattle.gql_intro.specs.Introspection.{arguments_of, default_text, directive_rows, field_rows, fields_of, input_rows, inputs_of, interfaces_of, kind_name, location_name, possible_of, root_node, schema_rows, type_rows, value_rows, values_of, wrapper_rows}
 use Rattle.gql_intro.specs.Nodes as n
 use Rattle.gql_intro.specs.Nodes.{Node, Answer, Row, answer_in, null, text, truth, enum_name, node, nodes_of, named_node, optional_node, optional_text, type_node}
 use Rattle.gql_intro.specs.SchemaNodes.{IsInputOf, IsKnown}
@@ -166,7 +166,7 @@ module _ (s : Schema) where
               (
                 (values_of t.kind deprecated t, refl, list_of_answer (codes "__EnumValue") (values_of t.kind deprecated t) (values_answers s t has deprecated t.kind)),
                 (
-                  (inputs_of t.kind t, refl, list_of_answer (codes "__InputValue") (inputs_of t.kind t) (inputs_answer s t has t.kind)),
+                  (inputs_of t.kind deprecated t, refl, list_of_answer (codes "__InputValue") (inputs_of t.kind deprecated t) (inputs_answer s t has deprecated t.kind)),
                   (
                     (null, refl, word_answer (codes "__Type") null (null_answer s (codes "__Type"))),
                     (
@@ -219,17 +219,14 @@ module _ (s : Schema) where
 
   -- ---- __Field
 
-  abbrev inputs : List InputValueDefinition → Answer
-  inputs ds = nodes_of (map (λ (d : InputValueDefinition). Some (n.input_value d)) ds)
-
-  pub field_answers : (f : FieldDefinition) → IsKnown s (written f.of_type) → ((d : InputValueDefinition) → Contains f.arguments d → IsInputOf s d) → AllByRecursion (Resolves (field_rows s f)) fields_of_field
+  pub field_answers : (f : FieldDefinition) → IsKnown s (written f.of_type) → (deprecated : Bool) → ((d : InputValueDefinition) → Contains f.arguments d → IsInputOf s d) → AllByRecursion (Resolves (field_rows s f deprecated)) fields_of_field
   unfolding fields_of_field field_with word
-  field_answers f known each = (
+  field_answers f known deprecated each = (
     (text f.name.text, refl, name_of f.name.text),
     (
       (optional_text f.description, refl, optional f.description),
       (
-        (inputs f.arguments, refl, required_list_answer (codes "__InputValue") (inputs f.arguments) (arguments_answer s f.arguments each)),
+        (arguments_of deprecated f.arguments, refl, required_list_answer (codes "__InputValue") (arguments_of deprecated f.arguments) (arguments_answer s deprecated f.arguments each)),
         (
           (optional_node (type_node s (written f.of_type)), refl, required_answer (codes "__Type") (optional_node (type_node s (written f.of_type))) (known_node_answer s (codes "__Type") (type_node s (written f.of_type)) (is_type_node s (written f.of_type) known) (type_object s (written f.of_type) known))),
           (
@@ -256,7 +253,13 @@ module _ (s : Schema) where
         (optional_node (type_node s (written d.of_type)), refl, required_answer (codes "__Type") (optional_node (type_node s (written d.of_type))) (known_node_answer s (codes "__Type") (type_node s (written d.of_type)) (is_type_node s (written d.of_type) known) (type_object s (written d.of_type) known))),
         (
           (default_text d.default, refl, word_answer (codes "String") (default_text d.default) (default_answer s d.default)),
-          tt,
+          (
+            (truth (is_deprecated d.directives), refl, flag (is_deprecated d.directives)),
+            (
+              (optional_text (deprecation_reason d.directives), refl, optional (deprecation_reason d.directives)),
+              tt,
+            ),
+          ),
         ),
       ),
     ),
@@ -288,16 +291,16 @@ module _ (s : Schema) where
       (λ name h. let r = Contains-map_from location_name ls name h in subst (HasValue s (codes "__DirectiveLocation")) r.2 (each r.0))
 
   pub directive_answers : (d : DirectiveDefinition) → ((l : DirectiveLocation) → HasValue s (codes "__DirectiveLocation") (location_name l))
-      → ((x : InputValueDefinition) → Contains d.arguments x → IsInputOf s x) → AllByRecursion (Resolves (directive_rows d)) fields_of_directive
+      → (deprecated : Bool) → ((x : InputValueDefinition) → Contains d.arguments x → IsInputOf s x) → AllByRecursion (Resolves (directive_rows d deprecated)) fields_of_directive
   unfolding fields_of_directive field_with word
-  directive_answers d located each = (
+  directive_answers d located deprecated each = (
     (text d.name.text, refl, name_of d.name.text),
     (
       (optional_text d.description, refl, optional d.description),
       (
         (n.enum_names (map location_name d.locations), refl, required_list_answer (codes "__DirectiveLocation") (n.enum_names (map location_name d.locations)) (locations_answer d.locations located)),
         (
-          (inputs d.arguments, refl, required_list_answer (codes "__InputValue") (inputs d.arguments) (arguments_answer s d.arguments each)),
+          (arguments_of deprecated d.arguments, refl, required_list_answer (codes "__InputValue") (arguments_of deprecated d.arguments) (arguments_answer s deprecated d.arguments each)),
           (
             (truth d.is_repeatable, refl, flag d.is_repeatable),
             tt,

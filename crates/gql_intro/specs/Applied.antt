@@ -1,5 +1,5 @@
--- Directives that introspection reports: `@deprecated` with its reason (GraphQL 3.13.3), and
--- `@specifiedBy` with its URL (3.13.4).
+-- Directives that introspection reports: `@deprecated` with its reason (GraphQL 3.13.3; on arguments
+-- and input fields too, as in editions after October 2021), and `@specifiedBy` with its URL (3.13.4).
 use Rattle.std.specs.Prelude.{ℕ, List, ◌++◌, flat_map, codes, Bool, is_some, Option, Some, option_and_then}
 use Rattle.std.specs.Option.{option_map_or}
 use Rattle.gql_ast.specs.declared.literal.Argument.{Argument}
@@ -11,11 +11,12 @@ use Rattle.gql_types.specs.declared.schema_type.SchemaType.{SchemaType}
 
 -- ---- `@deprecated(reason: String = "No longer supported")`
 
--- the directive that makes a field or an enum value deprecated
+-- the directive that makes a definition deprecated: a field, an argument, an input field or an enum
+-- value
 abbrev pub deprecation : List Directive → Option Directive
 deprecation = directive_of (codes "deprecated")
 
--- whether a field or an enum value with these directives is deprecated
+-- whether a definition with these directives is deprecated
 abbrev pub is_deprecated : List Directive → Bool
 is_deprecated directives = is_some (deprecation directives)
 
@@ -24,7 +25,7 @@ abbrev pub reason_of : Directive → Option (List ℕ)
 reason_of directive = option_map_or (λ (a : Argument). string_of a.value)
     (argument_of (codes "reason") directive) (Some (codes "No longer supported"))
 
--- the deprecation reason of a field or an enum value with these directives
+-- the deprecation reason of a definition with these directives
 abbrev pub deprecation_reason : List Directive → Option (List ℕ)
 deprecation_reason directives = option_and_then reason_of (deprecation directives)
 

@@ -14,7 +14,7 @@ use Rattle.gql_intro.specs.declared.node.IntroNode.{IntroNode}
 use Rattle.gql_intro.specs.declared.node.IntroNode.TheVariants as n
 use Rattle.gql_intro.specs.declared.nodes.IntroNodes.{IntroNodes}
 use Rattle.gql_intro.specs.declared.nodes.IntroNodes.TheVariants as ns
-use Rattle.gql_intro.specs.Introspection.{Given, shown_field, shown_value, location_name}
+use Rattle.gql_intro.specs.Introspection.{Given, shown_field, shown_value, shown_input, location_name}
 use Rattle.gql_intro.specs.Nodes.{Node, query_root, schema, named_type, list_type, non_null_type, field, input_value, enum_value, directive, Answer, null, text, truth, enum_name, enum_names, node, nodes_of, named_node}
 
 -- a node of the code, as contracts see it
@@ -36,10 +36,9 @@ elements s (ns.Interfaces names) =
     map (λ (i : Sited Name). named_node s i.node.text) names.now
 elements s (ns.Fields fields deprecated) = map (shown_field deprecated) fields.now
 elements s (ns.EnumValues values deprecated) = map (shown_value deprecated) values.now
-elements s (ns.InputFields fields) =
-    map (λ (d : Sited InputValueDefinition). Some (input_value d.node)) fields.now
-elements s (ns.Arguments arguments) =
-    map (λ (d : InputValueDefinition). Some (input_value d)) arguments.now
+elements s (ns.InputFields fields deprecated) =
+    map (λ (d : Sited InputValueDefinition). shown_input deprecated d.node) fields.now
+elements s (ns.Arguments arguments deprecated) = map (shown_input deprecated) arguments.now
 elements s (ns.Directives directives) =
     map (λ (d : Sited DirectiveDefinition). Some (directive d.node)) directives.now
 

@@ -6,7 +6,9 @@ use Rattle.gql_ast.specs.declared.literal.Directive.{Directive}
 use Rattle.gql_ast.specs.declared.literal.Literal.TheVariants as l
 use Rattle.gql_ast.specs.declared.text.Name.{Name}
 use Rattle.gql_ast.specs.declared.type_ref.TypeRef.TheVariants as t
+use Rattle.gql_ast.specs.declared.type_system.DirectiveDefinition.{DirectiveDefinition}
 use Rattle.gql_ast.specs.declared.type_system.FieldDefinition.{FieldDefinition}
+use Rattle.gql_ast.specs.declared.type_system.InputValueDefinition.{InputValueDefinition}
 use Rattle.gql_ast.specs.declared.type_system.TypeParts.{TypeParts}
 use Rattle.gql_ast.specs.declared.type_system.TypeParts.TheVariants as parts
 use Rattle.gql_built_in.specs.declared.sited.Sited.{Sited}
@@ -21,7 +23,7 @@ use Rattle.gql_intro.specs.declared.made.IntroSchema.{IntroSchema}
 use Rattle.gql_intro.specs.Introspection.{Given, resolve}
 use Rattle.gql_intro.specs.Made.{shown_types}
 use Rattle.gql_intro.specs.MetaFields.{meta_fields}
-use Rattle.gql_intro.specs.Nodes.{query_root, schema, named_type, list_type, non_null_type, field, null, text, enum_name, node, nodes}
+use Rattle.gql_intro.specs.Nodes.{query_root, schema, named_type, list_type, non_null_type, field, input_value, directive, null, text, truth, enum_name, node, nodes}
 
 -- a name at a place
 abbrev name : Place → List ℕ → Name
@@ -197,3 +199,128 @@ reason_of_old p = refl
 
 reason_of_null : (p : Place) → deprecation_reason (deprecated_by_null p ∷ []) ≡ None
 reason_of_null p = null_is_none p
+
+-- an input value of type Int: an argument or an input field
+abbrev int_input : Place → List ℕ → List Directive → InputValueDefinition
+int_input p n directives = record {
+  description = None;
+  name = name p n;
+  of_type = t.Named (name p (codes "Int"));
+  default = None;
+  directives = directives;
+}
+
+-- the input value `new: Int`
+abbrev new_input : Place → InputValueDefinition
+new_input p = int_input p (codes "new") []
+
+-- the input value `old: Int @deprecated`
+abbrev old_input : Place → InputValueDefinition
+old_input p = int_input p (codes "old") (deprecated p ∷ [])
+
+-- the input values `old: Int @deprecated, new: Int`
+abbrev inputs : Place → List InputValueDefinition
+inputs p = old_input p ∷ new_input p ∷ []
+
+-- the field `size(old: Int @deprecated, new: Int): Int`
+abbrev size_field : Place → FieldDefinition
+size_field p = record {
+  description = None;
+  name = name p (codes "size");
+  arguments = inputs p;
+  of_type = t.Named (name p (codes "Int"));
+  directives = [];
+}
+
+-- `directive @sized(old: Int @deprecated, new: Int)`, with no locations
+abbrev sized : Place → DirectiveDefinition
+sized p = record {
+  place = p;
+  description = None;
+  name = name p (codes "sized");
+  arguments = inputs p;
+  is_repeatable = false;
+  locations = [];
+}
+
+-- the type `input Size { old: Int @deprecated new: Int }`
+abbrev size : Place → SchemaType
+size p = record {
+  definition = record {
+    file = None;
+    node = record {
+      place = p;
+      description = None;
+      name = name p (codes "Size");
+      directives = [];
+      parts = parts.InputObject (inputs p);
+    };
+  };
+  extensions = [];
+  kind = kind.InputObject;
+  interfaces = [];
+  fields = [];
+  members = [];
+  values = [];
+  input_fields = record { file = None; node = old_input p }
+      ∷ record { file = None; node = new_input p }
+      ∷ [];
+}
+
+-- the argument `includeDeprecated: true`
+abbrev with_deprecated : Given
+with_deprecated = record { name = None; include_deprecated = Some true }
+
+-- `args` of a field, and `args(includeDeprecated: true)`
+args_of_size : (p : Place)
+    → resolve (the_schema p) made plain (field (size_field p)) (codes "args")
+    ≡ Some (nodes (input_value (new_input p) ∷ []))
+args_of_size p = refl
+
+all_args_of_size : (p : Place)
+    → resolve (the_schema p) made with_deprecated (field (size_field p)) (codes "args")
+    ≡ Some (nodes (input_value (old_input p) ∷ input_value (new_input p) ∷ []))
+all_args_of_size p = refl
+
+-- `args` of a directive
+args_of_sized : (p : Place)
+    → resolve (the_schema p) made plain (directive (sized p)) (codes "args")
+    ≡ Some (nodes (input_value (new_input p) ∷ []))
+args_of_sized p = refl
+
+all_args_of_sized : (p : Place)
+    → resolve (the_schema p) made with_deprecated (directive (sized p)) (codes "args")
+    ≡ Some (nodes (input_value (old_input p) ∷ input_value (new_input p) ∷ []))
+all_args_of_sized p = refl
+
+-- `inputFields` of an input object
+input_fields_of_size : (p : Place)
+    → resolve (the_schema p) made plain (named_type (size p)) (codes "inputFields")
+    ≡ Some (nodes (input_value (new_input p) ∷ []))
+input_fields_of_size p = refl
+
+all_input_fields_of_size : (p : Place)
+    → resolve (the_schema p) made with_deprecated (named_type (size p)) (codes "inputFields")
+    ≡ Some (nodes (input_value (old_input p) ∷ input_value (new_input p) ∷ []))
+all_input_fields_of_size p = refl
+
+-- `isDeprecated` and `deprecationReason` of an input value
+is_old_deprecated : (p : Place)
+    → resolve (the_schema p) made plain (input_value (old_input p)) (codes "isDeprecated")
+    ≡ Some (truth true)
+is_old_deprecated p = refl
+
+is_new_deprecated : (p : Place)
+    → resolve (the_schema p) made plain (input_value (new_input p)) (codes "isDeprecated")
+    ≡ Some (truth false)
+is_new_deprecated p = refl
+
+reason_of_old_input : (p : Place)
+    → resolve (the_schema p) made plain (input_value (old_input p)) (codes "deprecationReason")
+    ≡ Some (text (codes "No longer supported"))
+reason_of_old_input p = refl
+
+reason_of_new_input : (p : Place)
+    → resolve (the_schema p) made plain (input_value (new_input p)) (codes "deprecationReason")
+    ≡ Some null
+reason_of_new_input p = refl

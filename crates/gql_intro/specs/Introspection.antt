@@ -25,13 +25,13 @@ use Rattle.gql_intro.specs.Applied.{is_deprecated, deprecation_reason, specified
 use Rattle.gql_intro.specs.Made.{is_shown}
 use Rattle.gql_intro.specs.Nodes.{Node, query_root, schema, named_type, list_type, non_null_type, field, input_value, enum_value, directive, Answer, null, text, truth, enum_name, enum_names, node, Row, answer_in, optional_text, optional_node, nodes_of, named_node, type_node}
 
--- The arguments of a field: `name` of `__type`, and `includeDeprecated` of `fields` and
--- `enumValues`. `None`: it is null or not given.
+-- The arguments of a field: `name` of `__type`, and `includeDeprecated` of `fields`, `enumValues`,
+-- `inputFields` and `args`. `None`: it is null or not given.
 pub record Given : Type 0 where
   pub name : Option (List ℕ)
   pub include_deprecated : Option Bool
 
--- whether deprecated fields and enum values are included; null counts as false
+-- whether deprecated elements are included; null counts as false
 abbrev pub includes_deprecated : Given → Bool
 includes_deprecated given = unwrap_or given.include_deprecated false
 
@@ -95,6 +95,15 @@ abbrev pub shown_value : Bool → Sited EnumValueDefinition → Option Node
 shown_value deprecated v =
     if not deprecated && is_deprecated v.node.directives then None else Some (enum_value v.node)
 
+-- an argument or an input field, unless it is deprecated and deprecated ones are not included
+abbrev pub shown_input : Bool → InputValueDefinition → Option Node
+shown_input deprecated d =
+    if not deprecated && is_deprecated d.directives then None else Some (input_value d)
+
+-- `args`: the arguments of a field or a directive
+abbrev pub arguments_of : Bool → List InputValueDefinition → Answer
+arguments_of deprecated arguments = nodes_of (map (shown_input deprecated) arguments)
+
 -- `fields`: those of an object or an interface, else null
 abbrev pub fields_of : TypeKind → Bool → SchemaType → Answer
 fields_of kind.Object deprecated t = nodes_of (map (shown_field deprecated) t.fields)
@@ -139,14 +148,14 @@ values_of kind.Union deprecated t = null
 values_of kind.InputObject deprecated t = null
 
 -- `inputFields`: those of an input object, else null
-abbrev pub inputs_of : TypeKind → SchemaType → Answer
-inputs_of kind.InputObject t =
-    nodes_of (map (λ (d : Sited InputValueDefinition). Some (input_value d.node)) t.input_fields)
-inputs_of kind.Scalar t = null
-inputs_of kind.Object t = null
-inputs_of kind.Interface t = null
-inputs_of kind.Union t = null
-inputs_of kind.Enum t = null
+abbrev pub inputs_of : TypeKind → Bool → SchemaType → Answer
+inputs_of kind.InputObject deprecated t = nodes_of
+    (map (λ (d : Sited InputValueDefinition). shown_input deprecated d.node) t.input_fields)
+inputs_of kind.Scalar deprecated t = null
+inputs_of kind.Object deprecated t = null
+inputs_of kind.Interface deprecated t = null
+inputs_of kind.Union deprecated t = null
+inputs_of kind.Enum deprecated t = null
 
 -- the fields of __Type that depend on the kind of the type
 abbrev pub part_rows : Schema → SchemaType → Bool → List Row
@@ -155,7 +164,7 @@ part_rows s t deprecated =
     ∷ (codes "interfaces", interfaces_of t.kind s t)
     ∷ (codes "possibleTypes", possible_of t.kind s t)
     ∷ (codes "enumValues", values_of t.kind deprecated t)
-    ∷ (codes "inputFields", inputs_of t.kind t)
+    ∷ (codes "inputFields", inputs_of t.kind deprecated t)
     ∷ []
 
 -- the fields of __Type, for a type of the schema
@@ -188,18 +197,19 @@ wrapper_rows s its_kind of_type =
 -- ---- __Field (4.2.3)
 
 -- the fields of __Field
-abbrev pub field_rows : Schema → FieldDefinition → List Row
-field_rows s f =
+abbrev pub field_rows : Schema → FieldDefinition → Bool → List Row
+field_rows s f deprecated =
     (codes "__typename", text (codes "__Field"))
     ∷ (codes "name", text f.name.text)
     ∷ (codes "description", optional_text f.description)
-    ∷ (codes "args", nodes_of (map (λ (d : InputValueDefinition). Some (input_value d)) f.arguments))
+    ∷ (codes "args", arguments_of deprecated f.arguments)
     ∷ (codes "type", optional_node (type_node s (written f.of_type)))
     ∷ (codes "isDeprecated", truth (is_deprecated f.directives))
     ∷ (codes "deprecationReason", optional_text (deprecation_reason f.directives))
     ∷ []
 
--- ---- __InputValue (4.2.4)
+-- ---- __InputValue (4.2.4; `isDeprecated` and `deprecationReason` are of editions after October
+-- 2021, and so is `includeDeprecated` of `inputFields` and `args`)
 
 -- `defaultValue`: the text of a default value, or null
 abbrev pub default_text : Option Literal → Answer
@@ -213,6 +223,8 @@ input_rows s d =
     ∷ (codes "description", optional_text d.description)
     ∷ (codes "type", optional_node (type_node s (written d.of_type)))
     ∷ (codes "defaultValue", default_text d.default)
+    ∷ (codes "isDeprecated", truth (is_deprecated d.directives))
+    ∷ (codes "deprecationReason", optional_text (deprecation_reason d.directives))
     ∷ []
 
 -- ---- __EnumValue (4.2.5)
@@ -252,13 +264,13 @@ location_name location.InputObject = codes "INPUT_OBJECT"
 location_name location.InputFieldDefinition = codes "INPUT_FIELD_DEFINITION"
 
 -- the fields of __Directive
-abbrev pub directive_rows : DirectiveDefinition → List Row
-directive_rows d =
+abbrev pub directive_rows : DirectiveDefinition → Bool → List Row
+directive_rows d deprecated =
     (codes "__typename", text (codes "__Directive"))
     ∷ (codes "name", text d.name.text)
     ∷ (codes "description", optional_text d.description)
     ∷ (codes "locations", enum_names (map location_name d.locations))
-    ∷ (codes "args", nodes_of (map (λ (x : InputValueDefinition). Some (input_value x)) d.arguments))
+    ∷ (codes "args", arguments_of deprecated d.arguments)
     ∷ (codes "isRepeatable", truth d.is_repeatable)
     ∷ []
 
@@ -271,10 +283,10 @@ rows s i given schema = schema_rows s i
 rows s i given (named_type t) = type_rows s t (includes_deprecated given)
 rows s i given (list_type item) = wrapper_rows s (codes "LIST") item
 rows s i given (non_null_type nullable) = wrapper_rows s (codes "NON_NULL") nullable
-rows s i given (field f) = field_rows s f
+rows s i given (field f) = field_rows s f (includes_deprecated given)
 rows s i given (input_value d) = input_rows s d
 rows s i given (enum_value v) = value_rows v
-rows s i given (directive d) = directive_rows d
+rows s i given (directive d) = directive_rows d (includes_deprecated given)
 
 -- what the field of this name of a node resolves to; `None` if the node has no such field
 abbrev pub resolve : Schema → IntroSchema → Given → Node → List ℕ → Option Answer

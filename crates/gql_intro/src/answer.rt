@@ -32,12 +32,13 @@ pub enum IntroAnswer<'s> {
 pub struct IntroArguments<'a> {
     /// `name` of `__type`.
     pub name: Option<&'a str>,
-    /// `includeDeprecated` of `fields` and `enumValues`. Null counts as false.
+    /// `includeDeprecated` of `fields`, `enumValues`, `inputFields` and `args`. Null counts as
+    /// false.
     pub include_deprecated: Option<bool>,
 }
 
 impl IntroArguments<'_> {
-    /// Whether deprecated fields and enum values are included.
+    /// Whether deprecated elements are included.
     pub(crate) fn includes_deprecated(self) -> bool
         ensures { result ≡ includes_deprecated (given_of self.entry) }
     {

@@ -8,7 +8,8 @@ ghost use Rattle.gql_types.specs.Applied.{directive_of as directive_named};
 use gql_ast::{Directive, Shared, TypeExtension};
 use gql_types::{SchemaType, Sited, argument_of, directive_of, string_of};
 
-/// Whether a field or an enum value with these directives is deprecated.
+/// Whether a definition with these directives is deprecated: a field, an argument, an input field
+/// or an enum value.
 pub fn is_deprecated(directives: &[Directive]) -> bool
     ensures { result ≡ spec.is_deprecated directives.now }
 {
@@ -25,7 +26,7 @@ fn reason_of(directive: &Directive) -> Option<&str>
     }
 }
 
-/// The deprecation reason of a field or an enum value with these directives.
+/// The deprecation reason of a definition with these directives.
 pub fn deprecation_reason(directives: &[Directive]) -> Option<&str>
     ensures { option_copied result ≡ spec.deprecation_reason directives.now }
 {

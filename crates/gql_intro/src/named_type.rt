@@ -44,7 +44,7 @@ fn part_of<'s>(
         "interfaces" => interfaces_of(of_type),
         "possibleTypes" => possible_of(schema, of_type),
         "enumValues" => values_of(of_type, deprecated),
-        "inputFields" => inputs_of(of_type),
+        "inputFields" => inputs_of(of_type, deprecated),
         _ => return None,
     })
 }

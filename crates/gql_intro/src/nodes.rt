@@ -2,7 +2,7 @@
 ghost use Rattle.std.specs.Prelude.{◌≡◌, ◌&&◌, not, length, option_map};
 ghost use Rattle.gql_types.specs.declared.schema.Schema.{Schema as ASchema};
 ghost use Rattle.gql_intro.specs.Borrowed.{elements, element_at, node_of};
-ghost use Rattle.gql_intro.specs.Introspection.{shown_field, shown_value};
+ghost use Rattle.gql_intro.specs.Introspection.{shown_field, shown_input, shown_value};
 
 use crate::applied::is_deprecated;
 use crate::node::{IntroNode, named_node};
@@ -13,8 +13,8 @@ use gql_ast::{
 use gql_types::{Schema, Sited};
 
 /// A list of nodes, which borrows the schema. An element may have no node: a name that is the name
-/// of no type, or a deprecated field or enum value if these are not included (the second part of
-/// `Fields` and of `EnumValues` says whether they are).
+/// of no type, or a deprecated definition if these are not included (the second part of `Fields`,
+/// `EnumValues`, `InputFields` and `Arguments` says whether they are).
 #[derive(Clone, Copy)]
 pub enum IntroNodes<'s> {
     /// Types, by their names.
@@ -22,8 +22,8 @@ pub enum IntroNodes<'s> {
     Interfaces(&'s [Sited<Name>]),
     Fields(&'s [Sited<Shared<FieldDefinition>>], bool),
     EnumValues(&'s [Sited<Shared<EnumValueDefinition>>], bool),
-    InputFields(&'s [Sited<Shared<InputValueDefinition>>]),
-    Arguments(&'s [Shared<InputValueDefinition>]),
+    InputFields(&'s [Sited<Shared<InputValueDefinition>>], bool),
+    Arguments(&'s [Shared<InputValueDefinition>], bool),
     Directives(&'s [Sited<Shared<DirectiveDefinition>>]),
 }
 
@@ -57,6 +57,17 @@ fn value_node<'s>(
     }
 }
 
+/// An argument or an input field, unless it is deprecated and deprecated ones are not included.
+fn input_node<'s>(definition: &'s InputValueDefinition, deprecated: bool) -> Option<IntroNode<'s>>
+    ensures { option_map node_of result ≡ shown_input deprecated definition.now }
+{
+    if !deprecated && is_deprecated(definition.directives.as_slice()) {
+        None
+    } else {
+        Some(IntroNode::InputValue(definition))
+    }
+}
+
 impl<'s> IntroNodes<'s> {
     /// How many elements the list has.
     pub fn len(&self) -> usize
@@ -67,8 +78,8 @@ impl<'s> IntroNodes<'s> {
             IntroNodes::Interfaces(names) => names.len(),
             IntroNodes::Fields(fields, _) => fields.len(),
             IntroNodes::EnumValues(values, _) => values.len(),
-            IntroNodes::InputFields(fields) => fields.len(),
-            IntroNodes::Arguments(arguments) => arguments.len(),
+            IntroNodes::InputFields(fields, _) => fields.len(),
+            IntroNodes::Arguments(arguments, _) => arguments.len(),
             IntroNodes::Directives(directives) => directives.len(),
         }
     }
@@ -95,12 +106,12 @@ impl<'s> IntroNodes<'s> {
                 Some(value) => value_node(value, deprecated),
                 None => None,
             },
-            IntroNodes::InputFields(fields) => match fields.get(index) {
-                Some(field) => Some(IntroNode::InputValue(field.node.get())),
+            IntroNodes::InputFields(fields, deprecated) => match fields.get(index) {
+                Some(field) => input_node(field.node.get(), deprecated),
                 None => None,
             },
-            IntroNodes::Arguments(arguments) => match arguments.get(index) {
-                Some(argument) => Some(IntroNode::InputValue(argument.get())),
+            IntroNodes::Arguments(arguments, deprecated) => match arguments.get(index) {
+                Some(argument) => input_node(argument.get(), deprecated),
                 None => None,
             },
             IntroNodes::Directives(directives) => match directives.get(index) {

@@ -78,12 +78,13 @@ pub fn values_of(of_type: &SchemaType, deprecated: bool) -> IntroAnswer<'_>
 }
 
 /// The fields of an input object.
-pub fn inputs_of(of_type: &SchemaType) -> IntroAnswer<'_>
-    ensures { (s : ASchema) → answer_of s result ≡ spec.inputs_of of_type.now.kind of_type.now }
+pub fn inputs_of(of_type: &SchemaType, deprecated: bool) -> IntroAnswer<'_>
+    ensures { (s : ASchema) → answer_of s result
+        ≡ spec.inputs_of of_type.now.kind deprecated of_type.now }
 {
     match of_type.kind {
         TypeKind::InputObject => {
-            IntroAnswer::Nodes(IntroNodes::InputFields(of_type.input_fields.as_slice()))
+            IntroAnswer::Nodes(IntroNodes::InputFields(of_type.input_fields.as_slice(), deprecated))
         }
         TypeKind::Scalar
         | TypeKind::Object

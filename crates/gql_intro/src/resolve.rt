@@ -18,7 +18,7 @@ use crate::node::{IntroNode, named_node, type_node};
 use crate::nodes::IntroNodes;
 use gql_ast::{
     DirectiveDefinition, EnumValueDefinition, FieldDefinition, InputValueDefinition, Literal,
-    OperationKind,
+    OperationKind, Shared,
 };
 use gql_types::Schema;
 
@@ -93,20 +93,28 @@ fn of_schema<'s>(schema: &'s Schema, made: &'s IntroSchema, field: &str) -> Opti
     })
 }
 
+/// The arguments of a field or a directive.
+fn arguments_of(arguments: &[Shared<InputValueDefinition>], deprecated: bool) -> IntroAnswer<'_>
+    ensures { (s : ASchema) → answer_of s result ≡ spec.arguments_of deprecated arguments.now }
+{
+    IntroAnswer::Nodes(IntroNodes::Arguments(arguments, deprecated))
+}
+
 fn of_field<'s>(
     schema: &'s Schema,
     definition: &'s FieldDefinition,
+    deprecated: bool,
     field: &str,
 ) -> Option<IntroAnswer<'s>>
     ensures { option_map (answer_of schema.now) result
-        ≡ answer_in (spec.field_rows schema.now definition.now) field.now }
+        ≡ answer_in (spec.field_rows schema.now definition.now deprecated) field.now }
 {
     let directives = definition.directives.as_slice();
     Some(match field {
         "__typename" => IntroAnswer::Text("__Field"),
         "name" => IntroAnswer::Text(definition.name.as_str()),
         "description" => optional_text(&definition.description),
-        "args" => IntroAnswer::Nodes(IntroNodes::Arguments(definition.arguments.as_slice())),
+        "args" => arguments_of(definition.arguments.as_slice(), deprecated),
         "type" => node_or_null(type_node(schema, &definition.of_type)),
         "isDeprecated" => IntroAnswer::Boolean(is_deprecated(directives)),
         "deprecationReason" => text_or_null(deprecation_reason(directives)),
@@ -132,12 +140,15 @@ fn of_input<'s>(
     ensures { option_map (answer_of schema.now) result
         ≡ answer_in (spec.input_rows schema.now definition.now) field.now }
 {
+    let directives = definition.directives.as_slice();
     Some(match field {
         "__typename" => IntroAnswer::Text("__InputValue"),
         "name" => IntroAnswer::Text(definition.name.as_str()),
         "description" => optional_text(&definition.description),
         "type" => node_or_null(type_node(schema, &definition.of_type)),
         "defaultValue" => default_of(&definition.default),
+        "isDeprecated" => IntroAnswer::Boolean(is_deprecated(directives)),
+        "deprecationReason" => text_or_null(deprecation_reason(directives)),
         _ => return None,
     })
 }
@@ -157,16 +168,20 @@ fn of_value<'s>(definition: &'s EnumValueDefinition, field: &str) -> Option<Intr
     })
 }
 
-fn of_directive<'s>(definition: &'s DirectiveDefinition, field: &str) -> Option<IntroAnswer<'s>>
+fn of_directive<'s>(
+    definition: &'s DirectiveDefinition,
+    deprecated: bool,
+    field: &str,
+) -> Option<IntroAnswer<'s>>
     ensures { (s : ASchema) → option_map (answer_of s) result
-        ≡ answer_in (spec.directive_rows definition.now) field.now }
+        ≡ answer_in (spec.directive_rows definition.now deprecated) field.now }
 {
     Some(match field {
         "__typename" => IntroAnswer::Text("__Directive"),
         "name" => IntroAnswer::Text(definition.name.as_str()),
         "description" => optional_text(&definition.description),
         "locations" => IntroAnswer::Locations(definition.locations.as_slice()),
-        "args" => IntroAnswer::Nodes(IntroNodes::Arguments(definition.arguments.as_slice())),
+        "args" => arguments_of(definition.arguments.as_slice(), deprecated),
         "isRepeatable" => IntroAnswer::Boolean(definition.is_repeatable),
         _ => return None,
     })
@@ -184,18 +199,17 @@ fn of_node<'s>(
         ≡ spec.resolve schema.now made.now (given_of arguments.entry)
         (node_of node.entry) field.now }
 {
+    let deprecated = arguments.includes_deprecated();
     match node {
         IntroNode::QueryRoot => of_root(schema, made, arguments, field),
         IntroNode::Schema => of_schema(schema, made, field),
-        IntroNode::Named(of_type) => {
-            of_named(schema, of_type, arguments.includes_deprecated(), field)
-        }
+        IntroNode::Named(of_type) => of_named(schema, of_type, deprecated, field),
         IntroNode::List(item) => of_wrapper(schema, "LIST", item, field),
         IntroNode::NonNull(nullable) => of_wrapper(schema, "NON_NULL", nullable, field),
-        IntroNode::Field(definition) => of_field(schema, definition, field),
+        IntroNode::Field(definition) => of_field(schema, definition, deprecated, field),
         IntroNode::InputValue(definition) => of_input(schema, definition, field),
         IntroNode::EnumValue(definition) => of_value(definition, field),
-        IntroNode::Directive(definition) => of_directive(definition, field),
+        IntroNode::Directive(definition) => of_directive(definition, deprecated, field),
     }
 }
 
