@@ -29,7 +29,7 @@ use Rattle.gql_exec.specs.Tables.{IsRight, Grows, InTable, below_at}
 use Rattle.gql_exec.specs.Texts.{value_part}
 use Rattle.gql_exec.specs.declared.ended.Ended.{Ended}
 use Rattle.gql_exec.specs.declared.items.DataItems.{DataItems}
-use Rattle.gql_exec.specs.declared.items.DataItems.TheVariants as data
+use Rattle.gql_exec.specs.declared.items.DataItems.TheVariants as items
 use Rattle.gql_exec.specs.declared.items.ListItems.{ListItems}
 use Rattle.gql_exec.specs.declared.planning.FieldPlan.{FieldPlan}
 use Rattle.gql_exec.specs.declared.resolve.Resolved.{Resolved}
@@ -111,8 +111,8 @@ items_in l = items_from (map view l.all.now) l.kept.now
 
 -- the items of a list of the data
 abbrev pub data_items : DataItems → List Data
-data_items (data.All vs) = map view vs.now
-data_items (data.Kept vs) = map (λ (v : Bor Value). view v.now) vs.items
+data_items (items.All vs) = map view vs.now
+data_items (items.Kept vs) = map (λ (v : Bor Value). view v.now) vs.items
 
 -- an item in its place
 abbrev pub item_at : Site → Written → Path → Data → Reply Data

@@ -12,14 +12,14 @@ use Rattle.gql_exec.specs.ValueParts.{IsOf, data_items, resolved_in}
 use Rattle.gql_exec.proofs.Completing.{has_items}
 use Rattle.gql_exec.proofs.Executing.{name_of_items}
 use Rattle.gql_exec.proofs.Reaching.{at_items}
-use Rattle.gql_exec.specs.declared.items.DataItems.TheVariants as data
+use Rattle.gql_exec.specs.declared.items.DataItems.TheVariants as items
 use Rattle.gql_exec.proofs.field_values.reach_resolved.Goals as goal
 
 pub returns-in-Some-clause-does : goal.returns-in-Some-clause-does
 returns-in-Some-clause-does c =
     let of_items = sym c.item_of.ensures ∙ ap (λ o. option_map written (option_copied o)) c.in-Some.is in
     at_items (basis c.args.setting.now) c.args.table.now c.args.site (below_at c.args.table.now c.args.site.slot) (Ok c.items_below.result) c.args.run.now c.args.run.now
-    (written c.args.of_type.now) (written c.in-Some.item.now) (resolved_in c.args.resolved) (data_items (data.Kept c.in-Items.found)) of_items
+    (written c.args.of_type.now) (written c.in-Some.item.now) (resolved_in c.args.resolved) (data_items (items.Kept c.in-Items.found)) of_items
     (name_of_items (written c.args.of_type.now) (written c.in-Some.item.now) of_items)
     (ap resolved_in c.in-Items.is)
     (c.items_below.ensures.does (basis c.args.setting.now) c.args.table.now c.args.run.now c.requires.within)
