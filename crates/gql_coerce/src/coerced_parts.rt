@@ -5,7 +5,7 @@ ghost use Rattle.serde_json.specs.Data.{put, array, object};
 ghost use Rattle.serde_json.specs.View.{view, items_view, members_view};
 
 use crate::coerced_value::CoercedValue;
-use crate::take_apart::{drop_of_levels, take_apart};
+use crate::taking_apart::{drop_of_levels, take_apart};
 use serde_json::{Map, Value};
 use std::alloc::{AllocError, Global};
 use std::marker::Model;

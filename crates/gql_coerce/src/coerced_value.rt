@@ -4,7 +4,7 @@ ghost use Rattle.serde_json.specs.View.{view};
 ghost use Rattle.gql_coerce.specs.Nesting.{NestsWithin};
 
 use crate::copies::copy_of;
-use crate::take_apart::{drop_of_levels, levels_of};
+use crate::taking_apart::{drop_of_levels, levels_of};
 use serde_json::Value;
 use std::alloc::{AllocError, Global};
 use std::marker::Model;

@@ -26,7 +26,7 @@ mod path;
 mod refusal;
 mod requests;
 mod single;
-mod take_apart;
+mod taking_apart;
 mod walk;
 
 pub use calls::{coerce_json, coerce_literal};
@@ -36,4 +36,4 @@ pub use gql_inputs::fits;
 pub use path::path_text;
 pub use refusal::{Reason, Refusal, Segment};
 pub use requests::{coerce_arguments, coerce_variables};
-pub use take_apart::take_apart;
+pub use taking_apart::take_apart;

@@ -1,4 +1,5 @@
 //! What the execution of an operation comes to.
+ghost use Rattle.std.specs.Prelude.{◌≡◌};
 
 use gql_stored::Effect;
 use gql_text::Place;
@@ -44,5 +45,19 @@ impl Drop for Outcome<'_> {
             errors: _,
             effects: _,
         } = self;
+    }
+}
+
+impl Outcome<'_> {
+    /// What is to be added to the stored data, in order.
+    pub fn into_effects(self) -> Vec<Effect>
+        ensures { result ≡ self.effects }
+    {
+        let Outcome {
+            data: _,
+            errors: _,
+            effects,
+        } = self;
+        effects
     }
 }

@@ -1,5 +1,6 @@
--- Directives that introspection reports: `@deprecated` with its reason (GraphQL 3.13.3; on arguments
--- and input fields too, as in editions after October 2021), and `@specifiedBy` with its URL (3.13.4).
+-- Directives that introspection reports: `@deprecated` with its reason (GraphQL 3.13.3; arguments
+-- and input fields may have it too, as in editions after October 2021), and `@specifiedBy` with its
+-- URL (3.13.4).
 use Rattle.std.specs.Prelude.{ℕ, List, ◌++◌, flat_map, codes, Bool, is_some, Option, Some, option_and_then}
 use Rattle.std.specs.Option.{option_map_or}
 use Rattle.gql_ast.specs.declared.literal.Argument.{Argument}

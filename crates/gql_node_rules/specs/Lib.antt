@@ -16,4 +16,6 @@ pub mod S30BadLocations
 pub mod S31RepeatedDirectives
 pub mod S32BadArguments
 pub mod S33BadArgumentValues
+pub mod S35DeprecatedRequiredInputs
+pub mod S36MisplacedAppends
 pub mod ValueFaults

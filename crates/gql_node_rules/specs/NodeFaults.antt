@@ -1,4 +1,5 @@
--- The faults by the rules on the nodes of schema files: S03, S16, S20 to S22, S29 to S33 and P01.
+-- The faults by the rules on the nodes of schema files: S03, S16, S20 to S22, S29 to S33, S35, S36
+-- and P01.
 use Rattle.std.specs.Prelude.{List, ◌++◌}
 use Rattle.gql_ast.specs.declared.fault.Fault.{Fault}
 use Rattle.gql_types.specs.declared.schema.Schema.{Schema}
@@ -14,6 +15,8 @@ use Rattle.gql_node_rules.specs.S30BadLocations as s30
 use Rattle.gql_node_rules.specs.S31RepeatedDirectives as s31
 use Rattle.gql_node_rules.specs.S32BadArguments as s32
 use Rattle.gql_node_rules.specs.S33BadArgumentValues as s33
+use Rattle.gql_node_rules.specs.S35DeprecatedRequiredInputs as s35
+use Rattle.gql_node_rules.specs.S36MisplacedAppends as s36
 
 -- the faults by the rule on names
 abbrev pub name_faults : AllNodes → List Fault
@@ -32,7 +35,11 @@ abbrev pub directive_faults : AllNodes → Schema → List Fault
 directive_faults n s = s29.faults n s ++ (s30.faults n s
     ++ (s31.faults n s ++ (s32.faults n s ++ s33.faults n s)))
 
+-- the faults by the rules on `@deprecated` and `@append`
+abbrev pub built_in_directive_faults : AllNodes → Schema → List Fault
+built_in_directive_faults n s = s35.faults n ++ s36.faults n s
+
 -- the faults by all these rules
 abbrev pub node_faults : AllNodes → Schema → List Fault
 node_faults n s = name_faults n ++ (role_faults n s
-    ++ (reference_faults n s ++ directive_faults n s))
+    ++ (reference_faults n s ++ (directive_faults n s ++ built_in_directive_faults n s)))

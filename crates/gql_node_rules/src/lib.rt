@@ -23,6 +23,8 @@ mod s30_bad_locations;
 mod s31_repeated_directives;
 mod s32_bad_arguments;
 mod s33_bad_argument_values;
+mod s35_deprecated_required_inputs;
+mod s36_misplaced_appends;
 mod signature;
 mod trees;
 mod value_faults;

@@ -14,6 +14,7 @@ use crate::{
     p01_float_references, s03_reserved_names, s16_non_input_types, s20_unknown_types,
     s21_non_output_types, s22_non_object_members, s29_unknown_directives, s30_bad_locations,
     s31_repeated_directives, s32_bad_arguments, s33_bad_argument_values,
+    s35_deprecated_required_inputs, s36_misplaced_appends,
 };
 use gql_ast::Fault;
 use gql_types::Schema;
@@ -118,7 +119,23 @@ fn check_directives(
     Ok(())
 }
 
-/// The faults by S03, S16, S20 to S22, S29 to S33 and P01. The schema is that of the nodes' files.
+// S35 and S36.
+fn check_built_in_directives(
+    alloc: Global,
+    schema: &Schema,
+    nodes: &Nodes<'_>,
+    faults: &mut Vec<Fault>,
+) -> Result<(), AllocError>
+    ensures { OnOk result (faults.new.items ≡ faults.old.items
+        ++ spec.built_in_directive_faults (lists nodes.now) schema.now) }
+{
+    s35_deprecated_required_inputs::check(alloc, nodes, faults)?;
+    s36_misplaced_appends::check(alloc, schema, nodes, faults)?;
+    Ok(())
+}
+
+/// The faults by S03, S16, S20 to S22, S29 to S33, S35, S36 and P01. The schema is that of the
+/// nodes' files.
 pub fn node_faults(
     alloc: Global,
     nodes: &Nodes<'_>,
@@ -130,5 +147,6 @@ pub fn node_faults(
     check_names(alloc, nodes, &mut faults)?;
     check_references(alloc, schema, nodes, &mut faults)?;
     check_directives(alloc, schema, nodes, &mut faults)?;
+    check_built_in_directives(alloc, schema, nodes, &mut faults)?;
     Ok(faults)
 }

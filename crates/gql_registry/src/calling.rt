@@ -11,7 +11,7 @@ ghost use Rattle.serde_json.specs.View.{view};
 use crate::refusal::Refusal;
 use crate::report::{Known, copies};
 use gql_ast::{Definition, Fault, Items};
-use gql_exec::{Effect, ExecRefusal, Outcome, execute};
+use gql_exec::{Effect, ExecRefusal, execute};
 use gql_facts::Present;
 use gql_reply::reply_text;
 use gql_serving::{laws, owned_faults};
@@ -69,7 +69,7 @@ fn ran(
     ) {
         Ok(outcome) => {
             let body = reply_text(alloc, &outcome)?;
-            let Outcome { effects, .. } = outcome;
+            let effects = outcome.into_effects();
             Ok(Ran { body, effects })
         }
         Err(ExecRefusal::TooHeavy) => Err(Refusal::TooLarge),

@@ -3,7 +3,7 @@ use Rattle.std.specs.Prelude.{◌==◌}
 use Rattle.serde_json.specs.View.{view}
 use Rattle.gql_coerce.specs.Nesting.{has_part}
 use Rattle.gql_coerce.proofs.Nesting.{array_part, object_part}
-use Rattle.gql_coerce.proofs.take_apart.has_part.Goals as goal
+use Rattle.gql_coerce.proofs.taking_apart.has_part.Goals as goal
 
 pub returns-in-Array : goal.returns-in-Array
 returns-in-Array c = array_part c.in-Array.items c.is_empty.result (c.is_empty.ensures ∙ ap (λ n. n == 0) (search rules)) ∙ ap (λ v. has_part (view v)) (sym c.in-Array.is)
