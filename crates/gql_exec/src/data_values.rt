@@ -77,10 +77,9 @@ fn reach_object<'d, 'v>(
         result run.old run.new }
 {
     if value.is_object() {
-        reach_below(alloc, setting, table, site.slot, name, value, run)
-    } else {
-        done(raise(alloc, run, site.place, Reason::NotAnObject))
+        return reach_below(alloc, setting, table, site.slot, name, value, run);
     }
+    done(raise(alloc, run, site.place, Reason::NotAnObject))
 }
 
 /// A value at an interface or a union (ResolveAbstractType).
@@ -103,10 +102,10 @@ fn reach_abstract<'d, 'v>(
         (spec.among (possible_in setting.now.context.schema.now name.now)
         (get (codes "__typename") (view value.now))))) result run.old run.new }
 {
-    match type_name(setting.context.schema, name, value) {
-        Some(of_type) => reach_below(alloc, setting, table, site.slot, of_type, value, run),
-        None => done(raise(alloc, run, site.place, Reason::NoPossibleType(name))),
-    }
+    let Some(of_type) = type_name(setting.context.schema, name, value) else {
+        return done(raise(alloc, run, site.place, Reason::NoPossibleType(name)));
+    };
+    reach_below(alloc, setting, table, site.slot, of_type, value, run)
 }
 
 /// A value at the type of a name.
@@ -134,8 +133,12 @@ fn reach_named<'d, 'v>(
     match site.kind {
         ValueKind::Scalar(scalar) => done(complete_scalar(alloc, scalar, leaf, value, run)),
         ValueKind::Enum => done(complete_enum(alloc, setting.context.schema, leaf, value, run)),
-        ValueKind::Object => reach_object(alloc, setting, table, site, name, value, run),
-        ValueKind::Abstract => reach_abstract(alloc, setting, table, site, name, value, run),
+        ValueKind::Object => {
+            return reach_object(alloc, setting, table, site, name, value, run);
+        }
+        ValueKind::Abstract => {
+            return reach_abstract(alloc, setting, table, site, name, value, run);
+        }
         ValueKind::NoOutput => done(raise(alloc, run, site.place, Reason::NotOfType(name))),
     }
 }
@@ -158,10 +161,10 @@ fn reach_list<'d, 'v>(
         (λ s. value_part (spec.on_list s (part.item_at s (written item.now)) (path_of run.old)
         (view value.now))) result run.old run.new }
 {
-    match value.as_array() {
-        Some(values) => Ok(items_below(site, item, DataItems::All(values.as_slice()))),
-        None => done(raise(alloc, run, site.place, Reason::NotAList)),
-    }
+    let Some(values) = value.as_array() else {
+        return done(raise(alloc, run, site.place, Reason::NotAList));
+    };
+    Ok(items_below(site, item, DataItems::All(values.as_slice())))
 }
 
 /// A value that is not null, at a type without a Non-Null mark.
@@ -191,7 +194,9 @@ fn reach_present<'d, 'v>(
         TypeRef::List { item, .. } => {
             reach_list(alloc, setting, table, site, item.get(), value, run)
         }
-        TypeRef::NonNull(_) => done(raise(alloc, run, site.place, Reason::NullForNonNull)),
+        TypeRef::NonNull(_) => {
+            return done(raise(alloc, run, site.place, Reason::NullForNonNull));
+        }
     }
 }
 

@@ -95,10 +95,10 @@ fn reach_stored<'d, 'v>(
             };
             reach_resolved(alloc, setting, table, site, of_type, resolved, run)
         }
-        Source::TypeName(name) => done(write_name(run, name.as_str())),
+        Source::TypeName(name) => return done(write_name(run, name.as_str())),
         Source::Root => {
             let root = IntroNode::QueryRoot;
-            reach_value(alloc, setting, table, slot, field, arguments, root, run)
+            return reach_value(alloc, setting, table, slot, field, arguments, root, run);
         }
     }
 }
@@ -134,7 +134,7 @@ pub fn reach_field<'d, 'v>(
 {
     match &field.arguments {
         Called::Refused(message) => {
-            done(raise(alloc, run, field.place, Reason::Refused(message.as_str())))
+            return done(raise(alloc, run, field.place, Reason::Refused(message.as_str())));
         }
         Called::Given(given) => match object {
             AnyObject::Stored(value) => {
@@ -142,7 +142,7 @@ pub fn reach_field<'d, 'v>(
             }
             AnyObject::Described(node) => {
                 let node = answering(&field.source, node);
-                reach_value(alloc, setting, table, slot, field, given.get(), node, run)
+                return reach_value(alloc, setting, table, slot, field, given.get(), node, run);
             }
         },
     }

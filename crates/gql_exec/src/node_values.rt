@@ -84,11 +84,11 @@ fn reach_answer<'d, 'v>(
             let name = name_in(field.of_type);
             let node = AnyObject::Described(node);
             let group = object_below(alloc, setting, table, slot, name.as_str(), node)?;
-            Ok(Reached::Inner(group))
+            return Ok(Reached::Inner(group));
         }
         IntroAnswer::Nodes(nodes) => {
             let name = name_in(field.of_type);
-            Ok(nodes_below(slot, name.as_str(), nodes))
+            return Ok(nodes_below(slot, name.as_str(), nodes));
         }
         IntroAnswer::Locations(locations) => done(write_locations(run, locations)),
     }
@@ -114,7 +114,7 @@ pub fn reach_value<'d, 'v>(
         (node_of node.entry) q (path_of run.old)) result run.old run.new }
 {
     match introspect(setting, node, field.name, arguments) {
-        Some(answer) => reach_answer(alloc, setting, table, slot, field, answer, run),
+        Some(answer) => return reach_answer(alloc, setting, table, slot, field, answer, run),
         None => done(complete_null(alloc, field.place, field.of_type, run)),
     }
 }
