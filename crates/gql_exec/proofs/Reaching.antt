@@ -31,7 +31,7 @@ null_is (json.string s) e = cc
 null_is (json.array ds) e = cc
 null_is (json.object ms) e = cc
 
-module _ (g : Basis) (here : FieldSite) (xs : List FileSelection) (table : Table) (result : Result Reached ExecRefusal) (s u : Run) where
+module _ (g : Basis) (table : Table) (here : FieldSite) (xs : List FileSelection) (result : Result Reached ExecRefusal) (s u : Run) where
   pub at_null : (t : Written) (d : Data) → is_some (as_null d) ≡ true
       → ((site : Site) → site.place ≡ here.place → Reaches g table (value_part (complete site t (path_of s) json.null)) result s u)
       → DoesValue g table here (name_in t) xs (λ site. value_part (complete site t (path_of s) d)) result s u

@@ -1,5 +1,5 @@
 //! The items of lists.
-ghost use Rattle.std.specs.Prelude.{◌≡◌, ◌<◌, length};
+ghost use Rattle.std.specs.Prelude.{◌≡◌, ◌<◌, length, map};
 ghost use Rattle.std.proofs.Common.{get_or};
 ghost use Rattle.serde_json.specs.View.{view};
 ghost use Rattle.gql_exec.specs.ValueParts.{data_items, items_in};
@@ -15,6 +15,20 @@ pub struct ListItems<'a, 'v> {
 }
 
 impl<'a, 'v> ListItems<'a, 'v> {
+    /// All items of a list of the data.
+    fn of_all(all: &'v [Value]) -> ListItems<'a, 'v>
+        ensures { items_in result ≡ map view all.now }
+    {
+        ListItems { all, kept: &[] }
+    }
+
+    /// The items that arguments keep.
+    fn of_kept(kept: &'a [&'v Value]) -> ListItems<'a, 'v>
+        ensures { items_in result ≡ map (λ v. view v.now) kept.now }
+    {
+        ListItems { all: &[], kept }
+    }
+
     /// How many items there are.
     pub fn count(&self) -> usize
         ensures { result ≡ length (items_in self.now) }
@@ -54,14 +68,8 @@ impl<'v> DataItems<'v> {
         ensures { items_in result ≡ data_items self.now }
     {
         match self {
-            DataItems::All(items) => ListItems {
-                all: *items,
-                kept: &[],
-            },
-            DataItems::Kept(items) => ListItems {
-                all: &[],
-                kept: items.as_slice(),
-            },
+            DataItems::All(items) => ListItems::of_all(items),
+            DataItems::Kept(items) => ListItems::of_kept(items.as_slice()),
         }
     }
 

@@ -13,8 +13,8 @@ use Rattle.gql_exec.proofs.Entering.{as_reached}
 use Rattle.gql_exec.proofs.Executing.{among_is, met_abstract}
 use Rattle.gql_exec.proofs.data_values.reach_abstract.Goals as goal
 
-pub returns-in-Some-clause-does : goal.returns-in-Some-clause-does
-returns-in-Some-clause-does c = λ x a.
+pub returns-clause-does : goal.returns-clause-does
+returns-clause-does c = λ x a.
     let g = basis c.args.setting.now in
     let n = c.args.name.now in
     let d = view c.args.value.now in
@@ -27,5 +27,5 @@ returns-in-Some-clause-does c = λ x a.
     (c.reach_below.ensures.does n (met_abstract g c.in-Some.of_type.now n
     (abstract_kind n (kind_named g.given.schema n) (sym a.kind ∙ c.requires.composite)) (among_is names found c.in-Some.of_type.now chosen)) x a.plan)
 
-pub returns-in-None-clause-keeps : goal.returns-in-None-clause-keeps
-returns-in-None-clause-keeps c = c.done.ensures.keeps (basis c.args.setting.now) c.args.table.now _ c.args.run.now c.raise.new.run c.requires.right c.raise.ensures
+pub returns-in_default-clause-keeps : goal.returns-in_default-clause-keeps
+returns-in_default-clause-keeps c = c.done.ensures.keeps (basis c.args.setting.now) c.args.table.now _ c.args.run.now c.raise.new.run c.requires.right c.raise.ensures

@@ -1,5 +1,5 @@
 use Rattle.gql_exec.specs.Objects.{basis}
 use Rattle.gql_exec.proofs.data_values.reach_object.Goals as goal
 
-pub returns-else-is_object-clause-keeps : goal.returns-else-is_object-clause-keeps
-returns-else-is_object-clause-keeps c = c.done.ensures.keeps (basis c.args.setting.now) c.args.table.now _ c.args.run.now c.raise.new.run c.requires.right c.raise.ensures
+pub returns-clause-keeps : goal.returns-clause-keeps
+returns-clause-keeps c = c.done.ensures.keeps (basis c.args.setting.now) c.args.table.now _ c.args.run.now c.raise.new.run c.requires.right c.raise.ensures

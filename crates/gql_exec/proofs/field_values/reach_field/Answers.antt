@@ -11,8 +11,8 @@ use Rattle.gql_exec.proofs.Entering.{as_reached}
 use Rattle.gql_exec.proofs.Executing.{called_described, called_stored}
 use Rattle.gql_exec.proofs.field_values.reach_field.Goals as goal
 
-pub returns-in-Stored-clause-does : goal.returns-in-Stored-clause-does
-returns-in-Stored-clause-does c = λ q h.
+pub returns-clause-does : goal.returns-clause-does
+returns-clause-does c = λ q h.
     let types = types_of (basis c.args.setting.now) in
     let p = path_of c.args.run.now in
     as_reached (basis c.args.setting.now) c.reach_stored.new.table (called_part types (object_in c.args.object) q p)

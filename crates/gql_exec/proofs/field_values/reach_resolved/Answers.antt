@@ -24,8 +24,8 @@ returns-in-Some-clause-does c =
     (ap resolved_in c.in-Items.is)
     (c.items_below.ensures.does (basis c.args.setting.now) c.args.table.now c.args.run.now c.requires.within)
 
-pub returns-in-None-clause-does : goal.returns-in-None-clause-does
-returns-in-None-clause-does c = λ x i. absurd (has_items (written c.args.of_type.now)
+pub returns-clause-does : goal.returns-clause-does
+returns-clause-does c = λ x i. absurd (has_items (written c.args.of_type.now)
     (subst (IsOf (written c.args.of_type.now)) c.in-Items.is c.requires.of) (sym c.item_of.ensures ∙ ap (λ o. option_map written (option_copied o)) c.in-None.is))
 
 pub returns-in-Null-clause-keeps : goal.returns-in-Null-clause-keeps
@@ -35,8 +35,8 @@ returns-in-Null-clause-keeps c =
     c.args.run.now c.complete_null.new.run c.requires.right (c.complete_null.ensures s refl)
 
 pub returns-in-Some-clause-keeps : goal.returns-in-Some-clause-keeps
-returns-in-Some-clause-keeps c = c.items_below.ensures.keeps (basis c.args.setting.now) c.args.table.now c.requires.right c.requires.within
+returns-in-Some-clause-keeps c = c.items_below.ensures.keeps (basis c.args.setting.now) c.args.table.now c.args.run.now c.requires.right c.requires.within
 
-pub returns-in-None-clause-keeps : goal.returns-in-None-clause-keeps
-returns-in-None-clause-keeps c = absurd (has_items (written c.args.of_type.now)
+pub returns-clause-keeps : goal.returns-clause-keeps
+returns-clause-keeps c = absurd (has_items (written c.args.of_type.now)
     (subst (IsOf (written c.args.of_type.now)) c.in-Items.is c.requires.of) (sym c.item_of.ensures ∙ ap (λ o. option_map written (option_copied o)) c.in-None.is))

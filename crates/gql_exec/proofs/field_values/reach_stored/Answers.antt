@@ -14,8 +14,8 @@ use Rattle.gql_exec.proofs.Executing.{source_stored}
 use Rattle.gql_exec.specs.declared.site.Site.{Site as FieldSite}
 use Rattle.gql_exec.proofs.field_values.reach_stored.Goals as goal
 
-pub returns-in_ok-resolved-in-Stored-clause-does : goal.returns-in_ok-resolved-in-Stored-clause-does
-returns-in_ok-resolved-in-Stored-clause-does c = λ q h.
+pub returns-clause-does : goal.returns-clause-does
+returns-clause-does c = λ q h.
     let g = basis c.args.setting.now in
     let f = c.args.field.now in
     let p = path_of c.args.run.now in

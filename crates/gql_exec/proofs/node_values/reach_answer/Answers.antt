@@ -56,8 +56,8 @@ returns-in-Locations-clause-does c = at_answer (basis c.args.setting.now) c.args
     (answer_of c.args.setting.now.context.schema.now c.args.answer) (intro.enum_names (map location_name c.in-Locations.locations.now)) (name_list_part (map location_name c.in-Locations.locations.now)) (ap (answer_of c.args.setting.now.context.schema.now) c.in-Locations.is) (λ site. answer_names site (written c.args.field.now.of_type.now) (path_of c.args.run.now) (map location_name c.in-Locations.locations.now))
     (c.done-in-Locations.ensures.does (basis c.args.setting.now) c.args.table.now (name_list_part (map location_name c.in-Locations.locations.now)) c.args.run.now c.write_locations.new.run c.write_locations.ensures)
 
-pub returns-in_ok-group-in-Node-clause-does : goal.returns-in_ok-group-in-Node-clause-does
-returns-in_ok-group-in-Node-clause-does c = at_node (basis c.args.setting.now) c.object_below.new.table c.args.field.now.place (written c.args.field.now.of_type.now) (below_at c.args.table.now c.args.slot)
+pub returns-in-Node-clause-does : goal.returns-in-Node-clause-does
+returns-in-Node-clause-does c = at_node (basis c.args.setting.now) c.object_below.new.table c.args.field.now.place (written c.args.field.now.of_type.now) (below_at c.args.table.now c.args.slot)
     (Ok (reached.Inner c.in_ok-group-in-Node.group)) c.args.run.now c.args.run.now
     (answer_of c.args.setting.now.context.schema.now c.args.answer) (node_of c.in-Node.node) c.as_str.result.now (ap (answer_of c.args.setting.now.context.schema.now) c.in-Node.is) (c.as_str.ensures ∙ c.name_in-name.ensures)
     (λ other met x i. (refl, c.in_ok-group-in-Node.ensures.enters c.args.run.now other met x i))
@@ -89,8 +89,8 @@ returns-in-Literal-clause-keeps c = c.done-in-Literal.ensures.keeps (basis c.arg
 pub returns-in-Locations-clause-keeps : goal.returns-in-Locations-clause-keeps
 returns-in-Locations-clause-keeps c = c.done-in-Locations.ensures.keeps (basis c.args.setting.now) c.args.table.now (name_list_part (map location_name c.in-Locations.locations.now)) c.args.run.now c.write_locations.new.run c.requires.right c.write_locations.ensures
 
-pub returns-in_ok-group-in-Node-clause-keeps : goal.returns-in_ok-group-in-Node-clause-keeps
-returns-in_ok-group-in-Node-clause-keeps c = c.in_ok-group-in-Node.ensures.keeps c.args.run.now
+pub returns-in-Node-clause-keeps : goal.returns-in-Node-clause-keeps
+returns-in-Node-clause-keeps c = c.in_ok-group-in-Node.ensures.keeps c.args.run.now
 
 pub returns-in-Nodes-clause-keeps : goal.returns-in-Nodes-clause-keeps
 returns-in-Nodes-clause-keeps c = c.nodes_below.ensures.keeps (basis c.args.setting.now) c.args.table.now c.args.run.now c.requires.right c.requires.within
