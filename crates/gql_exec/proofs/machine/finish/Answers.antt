@@ -31,7 +31,7 @@ pub returns-in_err-turn-in-Inner-clause-does : goal.returns-in_err-turn-in-Inner
 returns-in_err-turn-in-Inner-clause-does c = λ p start h.
     let g = basis c.args.setting.now in
     let w = enter_inside g c.steps.table c.steps.table (grows_same c.steps.table) c.steps.stack.items c.steps.reached c.in-Inner.group c.steps.run p start c.in-Inner.is (c.steps.invariant.holds p start h) in
-    stopped p c.from_residual-in_err-turn-in-Inner.result c.in_err-turn-in-Inner.field-0.0 start c.enter.new.run c.from_residual-in_err-turn-in-Inner.ensures.1
+    stopped p c.from_residual.result c.in_err-turn-in-Inner.field-0.0 start c.enter.new.run c.from_residual.ensures.1
     (λ heavy. waits_stop g c.steps.table (reverse c.steps.stack.items) w.0 c.steps.run p start w.2 (c.in_err-turn-in-Inner.ensures.does w.0 w.1 heavy))
 
 pub resume-requires-clause-right : goal.resume-requires-clause-right
