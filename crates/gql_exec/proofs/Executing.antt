@@ -13,7 +13,7 @@ use Rattle.gql_types.specs.declared.kind.TypeKind.{TypeKind}
 use Rattle.serde_json.specs.Data as json
 use Rattle.serde_json.specs.Data.{Data}
 use Rattle.serde_json.specs.Find.{as_null}
-use Rattle.serde_json.specs.View.{items_of, view}
+use Rattle.serde_json.specs.View.{view}
 use Rattle.serde_json.specs.declared.value.Value.{Value}
 use Rattle.gql_exec.specs.Execution.{Fields, Object, Plan, plan, PlannedField, Site, Types, among, answering, by_source, complete, described, execute, is_null, of_kind, on_answer, on_list, stored, value_of}
 use Rattle.gql_exec.specs.Execution as execution
@@ -24,16 +24,15 @@ use Rattle.gql_exec.specs.Resolution.{resolved}
 use Rattle.gql_exec.specs.States.{Executes, Follows, path_of}
 use Rattle.gql_exec.specs.Tables.{Has, IsRight, StandFor, StandsFor, called_of, fields_at, pairs_of, planned_of}
 use Rattle.gql_exec.specs.Texts.{value_part}
-use Rattle.gql_exec.specs.ValueParts.{Does, IsAbstract, IsAsked, Keeps, answer_part, called_part, source_part, item_at, list_part, object_part, placed_part, site_of}
+use Rattle.gql_exec.specs.ValueParts.{IsAbstract, Keeps, answer_part, called_part, source_part, object_part, placed_part, site_of}
 use Rattle.gql_exec.specs.declared.ended.Ended.{Ended}
 use Rattle.gql_exec.specs.declared.planning.Called.TheVariants as called
 use Rattle.gql_exec.specs.declared.planning.FieldPlan.{FieldPlan}
 use Rattle.gql_exec.specs.declared.planning.Source.TheVariants as source
 use Rattle.gql_exec.specs.declared.refusal.ExecRefusal.{ExecRefusal}
 use Rattle.gql_exec.specs.declared.run.Run.{Run}
-use Rattle.gql_exec.specs.declared.site.Site.{Site as FieldSite}
 use Rattle.gql_exec.specs.declared.table.Table.{Table}
-use Rattle.gql_exec.proofs.Completing.{items_at, list_is, object_is, present_list, present_named}
+use Rattle.gql_exec.proofs.Completing.{object_is}
 use Rattle.gql_exec.proofs.Entries.{grows_same, grows_twice}
 use Rattle.gql_exec.proofs.Grouped.{paired}
 

@@ -1,13 +1,12 @@
 -- The items of a list of the data that are written at once, at its beginning.
-use Rattle.std.proofs.Common.{◌≡◌, ℕ, zero, suc, ◌+◌, ◌<◌, ◌≤◌, List, [], ◌∷◌, codes, take, Result, Ok, Err, refl, sym, ap, ◌∙◌, arith, subst, zero-add}
+use Rattle.std.proofs.Common.{◌≡◌, ℕ, zero, suc, ◌+◌, ◌<◌, ◌≤◌, List, [], ◌∷◌, codes, take, Result, Ok, Err, refl, ap, ◌∙◌, arith, subst, zero-add}
 use Rattle.std.specs.Result.{IfErr, IfOk}
 use Rattle.gql_types.specs.Written.{written}
 use Rattle.serde_json.specs.Data.{Data}
 use Rattle.gql_exec.specs.DirectParts.{ItemsStop, ItemsWritten}
 use Rattle.gql_exec.specs.Ended.{both}
-use Rattle.gql_exec.specs.Execution.{Site}
 use Rattle.gql_exec.specs.Frames.{AtItems, Midway, WritesFirst, WritesFirstStop, item_parts}
-use Rattle.gql_exec.specs.Parts.{Outcome, text, bubble, Part, all, followed_by, joined, numbered, plain, within}
+use Rattle.gql_exec.specs.Parts.{Outcome, text, bubble, Part, all, followed_by, joined, numbered, plain}
 use Rattle.gql_exec.specs.Plans.{Basis, types_of}
 use Rattle.gql_exec.specs.States.{Done, path_of}
 use Rattle.gql_exec.specs.ValueParts.{data_items, item_part, items_part, site_of}
@@ -15,7 +14,6 @@ use Rattle.gql_exec.specs.declared.ended.Ended.{Ended}
 use Rattle.gql_exec.specs.declared.ended.Ended.TheVariants.{Written}
 use Rattle.gql_exec.specs.declared.frames.ItemsFrame.{ItemsFrame}
 use Rattle.gql_exec.specs.declared.refusal.ExecRefusal.{ExecRefusal}
-use Rattle.gql_exec.specs.declared.refusal.ExecRefusal.TheVariants.{TooHeavy}
 use Rattle.gql_exec.specs.declared.run.Run.{Run}
 use Rattle.gql_exec.specs.declared.table.Table.{Table}
 use Rattle.gql_exec.proofs.Doing.{both_written, done-both}

@@ -1,5 +1,5 @@
 -- How the calls that complete values of the data come together.
-use Rattle.std.proofs.Common.{◌≡◌, ℕ, List, Bool, true, false, Some, Result, is_some, refl, sym, subst, ap, ◌∙◌}
+use Rattle.std.proofs.Common.{◌≡◌, ℕ, List, true, false, Some, Result, is_some, refl, sym, subst, ap, ◌∙◌}
 use Rattle.gql_collect.specs.Nodes.{FileSelection}
 use Rattle.gql_inputs.specs.InputTypes.{item_of, name_in}
 use Rattle.gql_types.specs.Schemas.{kind_named}

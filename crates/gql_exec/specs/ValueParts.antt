@@ -6,7 +6,7 @@ use Rattle.std.specs.Borrow.{Bor}
 use Rattle.json.specs.Print.{quoted}
 use Rattle.gql_collect.specs.Borrowed.{all_selections}
 use Rattle.gql_collect.specs.Nodes.{FileSelection}
-use Rattle.gql_inputs.specs.InputTypes.{is_list, is_non_null, name_in}
+use Rattle.gql_inputs.specs.InputTypes.{is_list, is_non_null}
 use Rattle.gql_intro.specs.Borrowed.{elements}
 use Rattle.gql_intro.specs.Nodes.{Node}
 use Rattle.gql_intro.specs.declared.nodes.IntroNodes.{IntroNodes}

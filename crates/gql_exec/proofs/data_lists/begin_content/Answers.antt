@@ -1,4 +1,4 @@
-use Rattle.std.proofs.Common.{◌≡◌, ◌++◌, ◌∷◌, [], false, length, refl, subst, sym, rules, arith}
+use Rattle.std.proofs.Common.{false, refl, subst, rules, arith}
 use Rattle.serde_json.specs.View.{view}
 use Rattle.gql_types.specs.Written.{written}
 use Rattle.gql_exec.specs.Execution.{complete}

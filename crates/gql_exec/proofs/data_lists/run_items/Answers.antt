@@ -1,4 +1,4 @@
-use Rattle.std.proofs.Common.{◌≡◌, ◌<◌, length, subst, sym, arith}
+use Rattle.std.proofs.Common.{◌<◌, length, subst, arith}
 use Rattle.gql_exec.specs.Frames.{FitsBegun}
 use Rattle.gql_types.specs.Written.{written}
 use Rattle.serde_json.specs.View.{view}

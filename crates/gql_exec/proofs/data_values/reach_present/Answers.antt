@@ -1,4 +1,4 @@
-use Rattle.std.proofs.Common.{false, true≢false, sym, ap, ◌∙◌}
+use Rattle.std.proofs.Common.{true≢false, sym, ap, ◌∙◌}
 use Rattle.serde_json.specs.View.{view}
 use Rattle.gql_inputs.specs.InputTypes.{is_non_null}
 use Rattle.gql_types.specs.Written.{written, written_named, written_list, written_non_null, listed, named}

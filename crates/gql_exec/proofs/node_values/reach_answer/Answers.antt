@@ -1,4 +1,4 @@
-use Rattle.std.proofs.Common.{Ok, map, codes, refl, ap, ◌∙◌}
+use Rattle.std.proofs.Common.{Ok, map, refl, ap, ◌∙◌}
 use Rattle.json.specs.Print.{quoted}
 use Rattle.serde_json.specs.Data as json
 use Rattle.serde_json.specs.Written.{compact_text}
@@ -10,7 +10,6 @@ use Rattle.gql_types.specs.Written.{written}
 use Rattle.gql_exec.specs.Execution.{complete}
 use Rattle.gql_exec.specs.Objects.{basis}
 use Rattle.gql_exec.specs.Parts.{plain}
-use Rattle.gql_exec.specs.Plans.{types_of}
 use Rattle.gql_exec.specs.States.{path_of}
 use Rattle.gql_exec.specs.Tables.{below_at}
 use Rattle.gql_exec.specs.Texts.{value_part}
