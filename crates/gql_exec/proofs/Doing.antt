@@ -132,7 +132,7 @@ at-field r e x s t u v o es l ra p f vo ves vl vra vp = record {
 
 -- ---- a part between marks
 
-both_written : (e : Ended) → both e Written ≡ e
+pub both_written : (e : Ended) → both e Written ≡ e
 both_written Written = refl
 both_written Bubbled = refl
 

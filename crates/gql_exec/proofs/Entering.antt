@@ -1,24 +1,22 @@
--- What is kept and reached where nodes of introspection are executed, and nodes that are to be
--- entered.
+-- What is kept and reached where objects and lists are executed, and objects that are to be entered.
 use Rattle.std.proofs.Common.{◌≡◌, ℕ, zero, suc, ◌+◌, ◌≤◌, List, true, codes, Result, Ok, Err, refl, sym, subst, arith}
 use Rattle.std.specs.Result.{IfOk}
 use Rattle.gql_collect.specs.Nodes.{FileSelection}
-use Rattle.gql_intro.specs.Borrowed.{node_of}
-use Rattle.gql_intro.specs.declared.node.IntroNode.{IntroNode}
-use Rattle.gql_exec.specs.Execution.{Plan, plan, described, execute}
-use Rattle.gql_exec.specs.NodeFrames.{Enters, Fits, Kept, KeepsBegun, KeepsTurn, Reaches, field_parts}
+use Rattle.gql_exec.specs.Execution.{Plan, plan, execute}
+use Rattle.gql_exec.specs.Frames.{Enters, Fits, Kept, KeepsBegun, KeepsTurn, Reaches, field_parts, object_in}
 use Rattle.gql_exec.specs.Parts.{Part, comma}
 use Rattle.gql_exec.specs.Plans.{Basis, IsPlan, is_met, types_of}
 use Rattle.gql_exec.specs.States.{path_of}
 use Rattle.gql_exec.specs.Tables.{Has, pairs_of}
 use Rattle.gql_exec.specs.Texts.{value_part}
 use Rattle.gql_exec.specs.declared.ended.Ended.TheVariants as how
-use Rattle.gql_exec.specs.declared.node_frame.Around.{Around}
-use Rattle.gql_exec.specs.declared.node_frame.Begun.{Begun}
-use Rattle.gql_exec.specs.declared.node_frame.Group.{Group}
-use Rattle.gql_exec.specs.declared.node_frame.Group.TheVariants as group
-use Rattle.gql_exec.specs.declared.node_frame.Reached.{Reached}
-use Rattle.gql_exec.specs.declared.node_frame.Turn.{Turn}
+use Rattle.gql_exec.specs.declared.frames.AnyObject.{AnyObject}
+use Rattle.gql_exec.specs.declared.frames.Around.{Around}
+use Rattle.gql_exec.specs.declared.frames.Begun.{Begun}
+use Rattle.gql_exec.specs.declared.frames.Group.{Group}
+use Rattle.gql_exec.specs.declared.frames.Group.TheVariants as group
+use Rattle.gql_exec.specs.declared.frames.Reached.{Reached}
+use Rattle.gql_exec.specs.declared.frames.Turn.{Turn}
 use Rattle.gql_exec.specs.declared.refusal.ExecRefusal.{ExecRefusal}
 use Rattle.gql_exec.specs.declared.run.Run.{Run}
 use Rattle.gql_exec.specs.declared.table.Table.{Table}
@@ -52,14 +50,14 @@ turn_later g a b (Err e) s m u less h = tt
 pub as_reached : (g : Basis) (t : Table) (a b : Part) (result : Result Reached ExecRefusal) (old now : Run) → a ≡ b → Reaches g t b result old now → Reaches g t a result old now
 as_reached g t a b result old now e h = subst (λ r. Reaches g t r result old now) (sym e) h
 
--- a node whose fields none is executed of yet
-pub enters_entry : (g : Basis) (table : Table) (k : ℕ) (t name : List ℕ) (xs : List FileSelection) (x : Plan) (n : IntroNode) (s : Run)
+-- an object of which no field is executed yet
+pub enters_entry : (g : Basis) (table : Table) (k : ℕ) (t name : List ℕ) (xs : List FileSelection) (x : Plan) (o : AnyObject) (s : Run)
     → Has g table k t xs → is_met g t name ≡ true → IsPlan g name xs x
-    → Enters g table (group.Fields (record { entry = k; node = n; next = 0; ended = how.Written })) (value_part (execute (types_of g) x t (path_of s) (described (node_of n)))) s
-enters_entry g table k t name xs (plan by_type) n s has met is = λ m opens. record {
+    → Enters g table (group.Fields (record { entry = k; object = o; next = 0; ended = how.Written })) (value_part (execute (types_of g) x t (path_of s) (object_in o))) s
+enters_entry g table k t name xs (plan by_type) o s has met is = λ m opens. record {
   pairs = pairs_of (by_type t);
   within = has.within;
   stand = entry_stands g table k t name xs by_type has met is;
-  midway = midway_starts (codes "{") (codes "}") (field_parts g (record { entry = k; node = n; next = 0; ended = how.Written }) (pairs_of (by_type t)) s)
-      (value_part (execute (types_of g) (plan by_type) t (path_of s) (described (node_of n)))) s m opens (object_is (types_of g) by_type t (path_of s) (described (node_of n)));
+  midway = midway_starts (codes "{") (codes "}") (field_parts g (record { entry = k; object = o; next = 0; ended = how.Written }) (pairs_of (by_type t)) s)
+      (value_part (execute (types_of g) (plan by_type) t (path_of s) (object_in o))) s m opens (object_is (types_of g) by_type t (path_of s) (object_in o));
 }

@@ -1,25 +1,28 @@
--- Values within fields and items of nodes of introspection, and the groups that wait for them.
+-- Values within fields and items, and the objects and lists that wait for them.
 use Rattle.std.proofs.Common.{◌≡◌, ℕ, zero, suc, ◌+◌, ◌<◌, ◌≤◌, List, [], ◌∷◌, ◌++◌, Bool, true, false, get_or, length, take, codes, reverse, Result, Ok, Err, refl, sym, ap, ◌∙◌, arith, subst, if◌then◌else◌}
 use Rattle.std.specs.List.{All}
 use Rattle.std.proofs.lemmas.List.{length-append, reverse-append}
 use Rattle.std.proofs.lemmas.List.Elements.{All-append}
-use Rattle.gql_exec.specs.NodeFrames.{At, Begins, Enters, Fits, FitsFrame, FitsTurn, Hole, Inside, KeepsTurn, Opens, Pauses, RaisedAt, Reaches, Suspends, Turns, Waits, Holds, and_ended, content_by, counted_by, inner_in, placed_by}
+use Rattle.gql_exec.specs.Frames.{At, Begins, Enters, Fits, FitsFrame, FitsTurn, Hole, Inside, KeepsTurn, Opens, Pauses, RaisedAt, Reaches, Suspends, Turns, Waits, Holds, and_ended, content_by, counted_by, inner_in, placed_by}
+use Rattle.gql_inputs.specs.InputTypes.{name_in}
+use Rattle.gql_types.specs.Written.{written}
 use Rattle.gql_exec.specs.Parts.{Part, settled}
 use Rattle.gql_exec.specs.Plans.{Basis, IsPlan}
 use Rattle.gql_exec.specs.States.{Done, Executes}
 use Rattle.gql_exec.specs.Tables.{Grows, IsRight, StandFor}
+use Rattle.gql_exec.specs.ValueParts.{IsAsked}
 use Rattle.gql_exec.specs.declared.ended.Ended.{Ended}
 use Rattle.gql_exec.specs.declared.ended.Ended.TheVariants.{Written, Bubbled}
-use Rattle.gql_exec.specs.declared.node_frame.Around.{Around}
-use Rattle.gql_exec.specs.declared.node_frame.Begun.{Begun}
-use Rattle.gql_exec.specs.declared.node_frame.Begun.TheVariants as begun
-use Rattle.gql_exec.specs.declared.node_frame.Frame.{Frame}
-use Rattle.gql_exec.specs.declared.node_frame.Group.{Group}
-use Rattle.gql_exec.specs.declared.node_frame.Group.TheVariants as group
-use Rattle.gql_exec.specs.declared.node_frame.Reached.{Reached}
-use Rattle.gql_exec.specs.declared.node_frame.Reached.TheVariants as reached
-use Rattle.gql_exec.specs.declared.node_frame.Turn.{Turn}
-use Rattle.gql_exec.specs.declared.node_frame.Turn.TheVariants as turn
+use Rattle.gql_exec.specs.declared.frames.Around.{Around}
+use Rattle.gql_exec.specs.declared.frames.Begun.{Begun}
+use Rattle.gql_exec.specs.declared.frames.Begun.TheVariants as begun
+use Rattle.gql_exec.specs.declared.frames.Frame.{Frame}
+use Rattle.gql_exec.specs.declared.frames.Group.{Group}
+use Rattle.gql_exec.specs.declared.frames.Group.TheVariants as group
+use Rattle.gql_exec.specs.declared.frames.Reached.{Reached}
+use Rattle.gql_exec.specs.declared.frames.Reached.TheVariants as reached
+use Rattle.gql_exec.specs.declared.frames.Turn.{Turn}
+use Rattle.gql_exec.specs.declared.frames.Turn.TheVariants as turn
 use Rattle.gql_exec.specs.declared.refusal.ExecRefusal.{ExecRefusal}
 use Rattle.gql_exec.specs.declared.refusal.ExecRefusal.TheVariants.{TooHeavy}
 use Rattle.gql_exec.specs.declared.run.Run.{Run}
@@ -112,7 +115,13 @@ module _ (g : Basis) (a b : Table) (more : Grows a b) where
     stand = subst (λ fs. StandFor g fs x.pairs) (sym (fields_still a b f.entry more x.within)) x.stand;
     midway = x.midway;
   }
-  at_still (group.List f) whole start now x = record {
+  at_still (group.Items f) whole start now x = record {
+    plan = x.plan;
+    within = in_still a b f.site.slot more x.within;
+    asked = subst (λ xs. IsAsked g f.site (name_in (written f.item.now)) xs x.plan) (sym (below_still a b f.site.slot more x.within)) x.asked;
+    midway = x.midway;
+  }
+  at_still (group.Nodes f) whole start now x = record {
     plan = x.plan;
     place = x.place;
     within = in_still a b f.slot more x.within;
@@ -189,7 +198,8 @@ module _ (g : Basis) (t : Table) where
 module _ (a b : Table) (more : Grows a b) where
   fits_still : (i : Group) → Fits a i → Fits b i
   fits_still (group.Fields f) h = omega (arith, h, no_shorter a b more)
-  fits_still (group.List f) h = (in_still a b f.slot more h.0, h.1)
+  fits_still (group.Items f) h = in_still a b f.site.slot more h
+  fits_still (group.Nodes f) h = (in_still a b f.slot more h.0, h.1)
 
   pub all_still : (fs : List Frame) → All (FitsFrame a) fs → All (FitsFrame b) fs
   all_still fs all k d w = fits_frame (get_or fs k d) (all k d w)
@@ -209,7 +219,7 @@ all_init t (x ∷ fs) f a = let r = all_init t fs f (λ k d w. a (suc k) d (omeg
 -- ---- steps of the walk
 
 module _ (g : Basis) (t u : Table) (more : Grows t u) where
-  -- a node or a list is entered
+  -- an object or a list is entered
   pub enter_inside : (fs : List Frame) (r : Reached) (i : Group) (now : Run) (whole : Part) (start : Run) → r ≡ reached.Inner i → Holds g t fs r now whole start
       → (p : Part) × Enters g t i p now × Inside g t fs p now whole start × Inside g u fs p now whole start
   enter_inside fs r i now whole start is h =

@@ -8,13 +8,13 @@ use Rattle.gql_text.specs.declared.place.Place.{Place}
 use Rattle.gql_types.specs.Written.{Written}
 use Rattle.serde_json.specs.Data as json
 use Rattle.gql_exec.specs.Execution.{Plan, plan, Site, complete, described, execute, no_fields, on_answer}
-use Rattle.gql_exec.specs.NodeFrames.{DoesReach, Reaches}
+use Rattle.gql_exec.specs.Frames.{DoesReach, Reaches}
 use Rattle.gql_exec.specs.Parts.{Part}
 use Rattle.gql_exec.specs.Plans.{Basis, IsPlan, is_met, types_of}
 use Rattle.gql_exec.specs.States.{path_of}
 use Rattle.gql_exec.specs.Texts.{value_part}
 use Rattle.gql_exec.specs.ValueParts.{node_list_part, site_of}
-use Rattle.gql_exec.specs.declared.node_frame.Reached.{Reached}
+use Rattle.gql_exec.specs.declared.frames.Reached.{Reached}
 use Rattle.gql_exec.specs.declared.refusal.ExecRefusal.{ExecRefusal}
 use Rattle.gql_exec.specs.declared.run.Run.{Run}
 use Rattle.gql_exec.specs.declared.table.Table.{Table}

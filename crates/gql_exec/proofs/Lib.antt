@@ -9,6 +9,7 @@ pub mod Entries
 pub mod Enums
 pub mod Escapes
 pub mod Executing
+pub mod FirstItems
 pub mod Grouped
 pub mod Holes
 pub mod Introspecting
@@ -18,9 +19,11 @@ pub mod Midway
 pub mod Mutating
 pub mod Parts
 pub mod Picked
+pub mod Reaching
 pub mod Resolving
 pub mod Running
 pub mod SomePlan
 pub mod SomeResponse
 pub mod Starting
 pub mod Texting
+pub mod Writing

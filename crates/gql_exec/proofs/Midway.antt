@@ -4,7 +4,7 @@ use Rattle.std.specs.List.{fold}
 use Rattle.std.proofs.lemmas.List.{take_all}
 use Rattle.std.proofs.lemmas.List.Sums.{fold-append}
 use Rattle.gql_exec.specs.Ended.{both}
-use Rattle.gql_exec.specs.NodeFrames.{Midway}
+use Rattle.gql_exec.specs.Frames.{Midway}
 use Rattle.gql_exec.specs.Parts.{Part, all, followed_by, numbered, plain, within}
 use Rattle.gql_exec.specs.States.{Done, Follows, errors_of}
 use Rattle.gql_exec.specs.declared.ended.Ended.{Ended}

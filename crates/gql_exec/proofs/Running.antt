@@ -1,32 +1,34 @@
--- The fields or the nodes of a group, one more of which is begun.
-use Rattle.std.proofs.Common.{◌≡◌, ℕ, ◌+◌, ◌<◌, List, [], ◌∷◌, ◌++◌, Bool, true, false, codes, drop, flat_map, map, length, get_or, option_to_list, Result, Ok, Err, sym, ap, ◌∙◌, arith, subst}
+-- The fields, the items or the nodes of a group, one more of which is begun.
+use Rattle.std.proofs.Common.{◌≡◌, ℕ, ◌+◌, ◌<◌, ◌≤◌, List, [], ◌∷◌, ◌++◌, Bool, true, false, codes, drop, flat_map, map, length, get_or, option_to_list, Result, Ok, Err, sym, ap, ◌∙◌, arith, subst}
 use Rattle.std.specs.Result.{IsErrAnd}
-use Rattle.gql_inputs.specs.InputTypes.{is_non_null}
-use Rattle.gql_intro.specs.Borrowed.{elements, node_of}
+use Rattle.gql_inputs.specs.InputTypes.{is_non_null, name_in}
+use Rattle.gql_intro.specs.Borrowed.{elements}
 use Rattle.gql_intro.specs.Nodes.{Node}
-use Rattle.gql_types.specs.Written.{written}
+use Rattle.gql_types.specs.Written.{Written, written}
+use Rattle.serde_json.specs.Data.{Data}
 use Rattle.gql_exec.specs.Ended.{both}
-use Rattle.gql_exec.specs.Execution.{Object, PlannedField, Site, Types, described, on_node}
-use Rattle.gql_exec.specs.NodeFrames.{AtFields, AtList, Begins, BeginsNode, Enters, Hole, Midway, Opens, Pauses, Reaches, Turns, field_parts, node_parts, placed_by}
+use Rattle.gql_exec.specs.Execution.{Object, PlannedField, Site, Types, complete, on_node}
+use Rattle.gql_exec.specs.Frames.{AtFields, AtItems, AtNodes, Begins, BeginsNode, Enters, Hole, Midway, Opens, Pauses, Reaches, Turns, field_parts, item_parts, node_parts, object_in, placed_by}
 use Rattle.gql_exec.specs.Outcomes.{segment_of}
 use Rattle.gql_exec.specs.Parts.{Part, plain, settled}
 use Rattle.gql_exec.specs.Plans.{Basis, types_of}
 use Rattle.gql_exec.specs.Replies.{index, key}
 use Rattle.gql_exec.specs.States.{Done, Executes, Follows, path_of}
-use Rattle.gql_exec.specs.Tables.{Grows, Pair, planned_of}
+use Rattle.gql_exec.specs.Tables.{Grows, Pair, below_at, planned_of}
 use Rattle.gql_exec.specs.Texts.{value_part}
-use Rattle.gql_exec.specs.ValueParts.{called_part, content_of_node, content_part, field_part, node_part, nodes_in, placed_part, site_of}
+use Rattle.gql_exec.specs.ValueParts.{IsAsked, called_part, content_of_item, content_of_node, content_part, data_items, field_part, item_part, node_part, nodes_in, placed_part, site_of}
 use Rattle.gql_exec.specs.declared.ended.Ended.{Ended}
-use Rattle.gql_exec.specs.declared.node_frame.Around.{Around}
-use Rattle.gql_exec.specs.declared.node_frame.Begun.{Begun}
-use Rattle.gql_exec.specs.declared.node_frame.Begun.TheVariants as begun
-use Rattle.gql_exec.specs.declared.node_frame.FieldsFrame.{FieldsFrame}
-use Rattle.gql_exec.specs.declared.node_frame.Group.{Group}
-use Rattle.gql_exec.specs.declared.node_frame.Group.TheVariants as group
-use Rattle.gql_exec.specs.declared.node_frame.ListFrame.{ListFrame}
-use Rattle.gql_exec.specs.declared.node_frame.Reached.{Reached}
-use Rattle.gql_exec.specs.declared.node_frame.Reached.TheVariants as reached
-use Rattle.gql_exec.specs.declared.node_frame.Turn.{Turn}
+use Rattle.gql_exec.specs.declared.frames.Around.{Around}
+use Rattle.gql_exec.specs.declared.frames.Begun.{Begun}
+use Rattle.gql_exec.specs.declared.frames.Begun.TheVariants as begun
+use Rattle.gql_exec.specs.declared.frames.FieldsFrame.{FieldsFrame}
+use Rattle.gql_exec.specs.declared.frames.Group.{Group}
+use Rattle.gql_exec.specs.declared.frames.Group.TheVariants as group
+use Rattle.gql_exec.specs.declared.frames.ItemsFrame.{ItemsFrame}
+use Rattle.gql_exec.specs.declared.frames.NodesFrame.{NodesFrame}
+use Rattle.gql_exec.specs.declared.frames.Reached.{Reached}
+use Rattle.gql_exec.specs.declared.frames.Reached.TheVariants as reached
+use Rattle.gql_exec.specs.declared.frames.Turn.{Turn}
 use Rattle.gql_exec.specs.declared.outcome.Step.TheVariants as step
 use Rattle.gql_exec.specs.declared.planning.FieldPlan.{FieldPlan}
 use Rattle.gql_exec.specs.declared.refusal.ExecRefusal.{ExecRefusal}
@@ -34,6 +36,7 @@ use Rattle.gql_exec.specs.declared.refusal.ExecRefusal.TheVariants.{TooHeavy}
 use Rattle.gql_exec.specs.declared.run.Run.{Run}
 use Rattle.gql_exec.specs.declared.table.Table.{Table}
 use Rattle.gql_exec.proofs.Doing.{stepped}
+use Rattle.gql_exec.proofs.Entries.{below_still}
 use Rattle.gql_exec.proofs.Executing.{At as AtField}
 use Rattle.gql_exec.proofs.Holes.{at_still, hole_stops, opens_lift}
 use Rattle.gql_exec.proofs.Midway.{midway_ends, midway_more, midway_path, midway_stops, numbered_at, numbered_length, numbered_within}
@@ -120,6 +123,25 @@ module _ (s t : Run) (mark depth : ℕ) (required outer : Bool) (at : mark ≡ l
             (ap (λ b. placed_by b (value_part (on_node site name (path_of t) n))) is ∙ ap (λ p. value_part (on_node site name p n)) place) x;
       }
 
+  pub item_hole : (ty : Written) (site : Site) (i : ℕ) (d : Data) → required ≡ is_non_null ty → t.raised ≡ s.raised → t.path.items ≡ s.path.items ++ step.Index i ∷ []
+      → Hole (record { mark = mark; depth = depth; is_required = required; is_field = false; outer = outer }) (value_part (complete site ty (path_of t) d)) t
+      (content_of_item ty site i d (path_of s)) s
+  item_hole ty site i d is raised path =
+      let place : path_of t ≡ path_of s ++ index i ∷ [] = stepped s.path.items (step.Index i) t.path.items path in
+      record {
+        here = s;
+        step = step.Index i;
+        out = out;
+        errors = errors;
+        left = left;
+        raised = raised;
+        path = path;
+        mark = at;
+        depth = deep;
+        lifts = λ result u x. subst (λ r. Executes r result s u)
+            (ap (λ b. placed_by b (value_part (complete site ty (path_of t) d))) is ∙ ap (λ p. placed_part ty (value_part (complete site ty p d))) place) x;
+      }
+
 -- ---- fields
 
 module _ (g : Basis) (t : Table) (f : FieldsFrame) (whole : Part) (start began now : Run) (at : AtFields g t f whole start began) (k : ℕ) (ended : Ended)
@@ -128,26 +150,26 @@ module _ (g : Basis) (t : Table) (f : FieldsFrame) (whole : Part) (start began n
     fields_path : path_of now ≡ path_of start
     fields_path = ap (map segment_of) (midway_path (codes "{") (codes "}") (field_parts g f at.pairs start) k ended whole start now m)
 
-    pub field_more : (e : Ended) (next : Run) → Done (field_part (types_of g) (described (node_of f.node)) (path_of now) k a.pair) e now next
+    pub field_more : (e : Ended) (next : Run) → Done (field_part (types_of g) (object_in f.object) (path_of now) k a.pair) e now next
         → Midway (codes "{") (codes "}") (field_parts g f at.pairs start) (k + 1) (both ended e) whole start next
     field_more e next done = midway_more (codes "{") (codes "}") (field_parts g f at.pairs start) k ended whole start now m
-        (field_part (types_of g) (described (node_of f.node)) (path_of start) k a.pair) (numbered_within (field_part (types_of g) (described (node_of f.node)) (path_of start)) at.pairs k a.within)
-        (numbered_at (field_part (types_of g) (described (node_of f.node)) (path_of start)) at.pairs k a.pair a.within a.here) e next
-        (subst (λ p. Done (field_part (types_of g) (described (node_of f.node)) p k a.pair) e now next) fields_path done)
+        (field_part (types_of g) (object_in f.object) (path_of start) k a.pair) (numbered_within (field_part (types_of g) (object_in f.object) (path_of start)) at.pairs k a.within)
+        (numbered_at (field_part (types_of g) (object_in f.object) (path_of start)) at.pairs k a.pair a.within a.here) e next
+        (subst (λ p. Done (field_part (types_of g) (object_in f.object) p k a.pair) e now next) fields_path done)
 
-    pub field_stops : now.left < (field_part (types_of g) (described (node_of f.node)) (path_of now) k a.pair).weight → start.left < whole.weight
+    pub field_stops : now.left < (field_part (types_of g) (object_in f.object) (path_of now) k a.pair).weight → start.left < whole.weight
     field_stops heavy = midway_stops (codes "{") (codes "}") (field_parts g f at.pairs start) k ended whole start now m
-        (field_part (types_of g) (described (node_of f.node)) (path_of start) k a.pair) (numbered_within (field_part (types_of g) (described (node_of f.node)) (path_of start)) at.pairs k a.within)
-        (numbered_at (field_part (types_of g) (described (node_of f.node)) (path_of start)) at.pairs k a.pair a.within a.here)
-        (subst (λ p. now.left < (field_part (types_of g) (described (node_of f.node)) p k a.pair).weight) fields_path heavy)
+        (field_part (types_of g) (object_in f.object) (path_of start) k a.pair) (numbered_within (field_part (types_of g) (object_in f.object) (path_of start)) at.pairs k a.within)
+        (numbered_at (field_part (types_of g) (object_in f.object) (path_of start)) at.pairs k a.pair a.within a.here)
+        (subst (λ p. now.left < (field_part (types_of g) (object_in f.object) p k a.pair).weight) fields_path heavy)
 
     pub field_pauses : (u : Table) (around : Around) (i : Group) (next : Run) → Grows t u
-        → Opens g u around i (field_part (types_of g) (described (node_of f.node)) (path_of now) k a.pair) now next
+        → Opens g u around i (field_part (types_of g) (object_in f.object) (path_of now) k a.pair) now next
         → Pauses g u (record { group = group.Fields (record f { next = k + 1; ended = ended }); around = around }) i whole start next
     field_pauses u around i next more o = record {
       inner = o.inner;
       suspends = record {
-        part = field_part (types_of g) (described (node_of f.node)) (path_of now) k a.pair;
+        part = field_part (types_of g) (object_in f.object) (path_of now) k a.pair;
         before = now;
         hole = o.hole;
         goes_on = λ e v done. at_still g t u more (group.Fields (record f { next = k + 1; ended = both ended e })) whole start v (record {
@@ -161,9 +183,61 @@ module _ (g : Basis) (t : Table) (f : FieldsFrame) (whole : Part) (start began n
       enters = o.enters;
     }
 
+-- ---- items
+
+-- what the items of a list are asked, by a table that has grown
+pub item_asked : (g : Basis) (t : Table) (f : ItemsFrame) (whole : Part) (start now : Run) (at : AtItems g t f whole start now) (u : Table) → Grows t u
+    → IsAsked g f.site (name_in (written f.item.now)) (below_at u f.site.slot) at.plan
+item_asked g t f whole start now at u more = subst (λ xs. IsAsked g f.site (name_in (written f.item.now)) xs at.plan) (sym (below_still t u f.site.slot more at.within)) at.asked
+
+module _ (g : Basis) (t : Table) (f : ItemsFrame) (whole : Part) (start began now : Run) (at : AtItems g t f whole start began) (k : ℕ) (ended : Ended)
+    (m : Midway (codes "[") (codes "]") (item_parts f (site_of (types_of g) f.site.place at.plan) start) k ended whole start now) where
+  items_path : path_of now ≡ path_of start
+  items_path = ap (map segment_of) (midway_path (codes "[") (codes "]") (item_parts f (site_of (types_of g) f.site.place at.plan) start) k ended whole start now m)
+
+  pub items_end : length (data_items f.items) ≤ k → (end : Run) → Follows (plain (codes "]")) now end → Done whole ended start end
+  items_end all_done end closes = midway_ends (codes "[") (codes "]") (item_parts f (site_of (types_of g) f.site.place at.plan) start) k ended whole start now m
+      (omega (arith, all_done, numbered_length (item_part (written f.item.now) (site_of (types_of g) f.site.place at.plan) (path_of start)) 0 (data_items f.items))) end closes
+
+  module _ (d : Data) (is_item : k < length (data_items f.items)) (here : d ≡ get_or (data_items f.items) k d) where
+    pub item_more : (e : Ended) (next : Run) → Done (item_part (written f.item.now) (site_of (types_of g) f.site.place at.plan) (path_of now) k d) e now next
+        → Midway (codes "[") (codes "]") (item_parts f (site_of (types_of g) f.site.place at.plan) start) (k + 1) (both ended e) whole start next
+    item_more e next done = midway_more (codes "[") (codes "]") (item_parts f (site_of (types_of g) f.site.place at.plan) start) k ended whole start now m
+        (item_part (written f.item.now) (site_of (types_of g) f.site.place at.plan) (path_of start) k d)
+        (numbered_within (item_part (written f.item.now) (site_of (types_of g) f.site.place at.plan) (path_of start)) (data_items f.items) k is_item)
+        (numbered_at (item_part (written f.item.now) (site_of (types_of g) f.site.place at.plan) (path_of start)) (data_items f.items) k d is_item here) e next
+        (subst (λ p. Done (item_part (written f.item.now) (site_of (types_of g) f.site.place at.plan) p k d) e now next) items_path done)
+
+    pub item_stops : now.left < (item_part (written f.item.now) (site_of (types_of g) f.site.place at.plan) (path_of now) k d).weight → start.left < whole.weight
+    item_stops heavy = midway_stops (codes "[") (codes "]") (item_parts f (site_of (types_of g) f.site.place at.plan) start) k ended whole start now m
+        (item_part (written f.item.now) (site_of (types_of g) f.site.place at.plan) (path_of start) k d)
+        (numbered_within (item_part (written f.item.now) (site_of (types_of g) f.site.place at.plan) (path_of start)) (data_items f.items) k is_item)
+        (numbered_at (item_part (written f.item.now) (site_of (types_of g) f.site.place at.plan) (path_of start)) (data_items f.items) k d is_item here)
+        (subst (λ p. now.left < (item_part (written f.item.now) (site_of (types_of g) f.site.place at.plan) p k d).weight) items_path heavy)
+
+    pub item_pauses : (u : Table) (around : Around) (i : Group) (next : Run) → Grows t u
+        → Opens g u around i (item_part (written f.item.now) (site_of (types_of g) f.site.place at.plan) (path_of now) k d) now next
+        → Pauses g u (record { group = group.Items (record f { next = k + 1; ended = ended }); around = around }) i whole start next
+    item_pauses u around i next more o = record {
+      inner = o.inner;
+      suspends = record {
+        part = item_part (written f.item.now) (site_of (types_of g) f.site.place at.plan) (path_of now) k d;
+        before = now;
+        hole = o.hole;
+        goes_on = λ e v done. at_still g t u more (group.Items (record f { next = k + 1; ended = both ended e })) whole start v (record {
+          plan = at.plan;
+          within = at.within;
+          asked = at.asked;
+          midway = item_more e v done;
+        });
+        stops = item_stops;
+      };
+      enters = o.enters;
+    }
+
 -- ---- nodes
 
-module _ (g : Basis) (t : Table) (f : ListFrame) (whole : Part) (start now : Run) (at : AtList g t f whole start now) where
+module _ (g : Basis) (t : Table) (f : NodesFrame) (whole : Part) (start now : Run) (at : AtNodes g t f whole start now) where
   nodes_path : path_of now ≡ path_of start
   nodes_path = ap (map segment_of) (midway_path (codes "[") (codes "]") (node_parts g f (site_of (types_of g) at.place at.plan) start) f.next f.ended whole start now at.midway)
 
@@ -197,14 +271,14 @@ module _ (g : Basis) (t : Table) (f : ListFrame) (whole : Part) (start now : Run
 
     pub node_pauses : (u : Table) (around : Around) (i : Group) (next : Run) → Grows t u
         → Opens g u around i (node_part f.name.now (site_of (types_of g) at.place at.plan) (path_of now) f.next n) now next
-        → Pauses g u (record { group = group.List (record f { passed = passed; next = f.next + 1 }); around = around }) i whole start next
+        → Pauses g u (record { group = group.Nodes (record f { passed = passed; next = f.next + 1 }); around = around }) i whole start next
     node_pauses u around i next more o = record {
       inner = o.inner;
       suspends = record {
         part = node_part f.name.now (site_of (types_of g) at.place at.plan) (path_of now) f.next n;
         before = now;
         hole = o.hole;
-        goes_on = λ e v done. at_still g t u more (group.List (record f { passed = passed; next = f.next + 1; ended = both f.ended e })) whole start v (record {
+        goes_on = λ e v done. at_still g t u more (group.Nodes (record f { passed = passed; next = f.next + 1; ended = both f.ended e })) whole start v (record {
           plan = at.plan;
           place = at.place;
           within = at.within;

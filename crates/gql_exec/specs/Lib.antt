@@ -7,9 +7,10 @@ pub mod Kinds
 pub mod Laws
 pub mod LeafParts
 pub mod Leaves
-pub mod NodeFrames
+pub mod Frames
 pub mod Objects
 pub mod Outcomes
+pub mod PairFrames
 pub mod Parts
 pub mod Plans
 pub mod Replies
@@ -21,3 +22,4 @@ pub mod States
 pub mod Tables
 pub mod Texts
 pub mod ValueParts
+pub mod WriteFrames

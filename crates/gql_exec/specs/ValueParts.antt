@@ -6,7 +6,7 @@ use Rattle.std.specs.Borrow.{Bor}
 use Rattle.json.specs.Print.{quoted}
 use Rattle.gql_collect.specs.Borrowed.{all_selections}
 use Rattle.gql_collect.specs.Nodes.{FileSelection}
-use Rattle.gql_inputs.specs.InputTypes.{is_list, is_non_null, name_in}
+use Rattle.gql_inputs.specs.InputTypes.{is_list, is_non_null}
 use Rattle.gql_intro.specs.Borrowed.{elements}
 use Rattle.gql_intro.specs.Nodes.{Node}
 use Rattle.gql_intro.specs.declared.nodes.IntroNodes.{IntroNodes}
@@ -28,6 +28,8 @@ use Rattle.gql_exec.specs.States.{Executes}
 use Rattle.gql_exec.specs.Tables.{IsRight, Grows, InTable, below_at}
 use Rattle.gql_exec.specs.Texts.{value_part}
 use Rattle.gql_exec.specs.declared.ended.Ended.{Ended}
+use Rattle.gql_exec.specs.declared.items.DataItems.{DataItems}
+use Rattle.gql_exec.specs.declared.items.DataItems.TheVariants as items
 use Rattle.gql_exec.specs.declared.items.ListItems.{ListItems}
 use Rattle.gql_exec.specs.declared.planning.FieldPlan.{FieldPlan}
 use Rattle.gql_exec.specs.declared.resolve.Resolved.{Resolved}
@@ -106,6 +108,11 @@ items_from ds (v ∷ vs) = map (λ (x : Bor Value). view x.now) (v ∷ vs)
 -- the items of a list that is completed
 abbrev pub items_in : ListItems → List Data
 items_in l = items_from (map view l.all.now) l.kept.now
+
+-- the items of a list of the data
+abbrev pub data_items : DataItems → List Data
+data_items (items.All vs) = map view vs.now
+data_items (items.Kept vs) = map (λ (v : Bor Value). view v.now) vs.items
 
 -- an item in its place
 abbrev pub item_at : Site → Written → Path → Data → Reply Data

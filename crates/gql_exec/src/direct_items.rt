@@ -79,7 +79,7 @@ fn write_direct_item(run: &mut Run<'_>, i: usize, direct: Direct<'_>) -> Result<
 
 /// Writes items from the first one on, as long as they are Ints that need no error: how many these
 /// are.
-fn write_ints(run: &mut Run<'_>, items: ListItems<'_>) -> Result<usize, ExecRefusal>
+fn write_ints(run: &mut Run<'_>, items: ListItems<'_, '_>) -> Result<usize, ExecRefusal>
     ensures written { IfOk result (λ k.
         ScalarsWritten TheInt (items_in items.entry) k run.old run.new) }
     ensures stops { IfErr result (ScalarsStop TheInt (items_in items.entry) run.old) }
@@ -98,7 +98,7 @@ fn write_ints(run: &mut Run<'_>, items: ListItems<'_>) -> Result<usize, ExecRefu
 fn write_scalars(
     run: &mut Run<'_>,
     scalar: Scalar,
-    items: ListItems<'_>,
+    items: ListItems<'_, '_>,
 ) -> Result<usize, ExecRefusal>
     ensures written { IfOk result (λ k.
         ScalarsWritten scalar (items_in items.entry) k run.old run.new) }
@@ -122,7 +122,7 @@ pub fn write_direct_items(
     run: &mut Run<'_>,
     kind: ValueKind,
     of_type: &TypeRef,
-    items: ListItems<'_>,
+    items: ListItems<'_, '_>,
 ) -> Result<usize, ExecRefusal>
     ensures written { IfOk result (λ k.
         ItemsWritten kind (written of_type.now) (items_in items.entry) k run.old run.new) }

@@ -9,39 +9,50 @@ use std::alloc::{AllocError, Global};
 
 /// Whether an argument equals a member; a missing member equals null.
 #[tactic(auto, using(crate::proofs::Alike::same_as_null))]
-fn equals_member(argument: &Value, object: &Value, name: &str) -> bool
-    ensures { result ≡ spec.same_data (view argument.now)
-        (spec.member_or_null name.now (view object.now)) }
+fn equals_member(
+    alloc: Global,
+    argument: &Value,
+    object: &Value,
+    name: &str,
+) -> Result<bool, AllocError>
+    ensures { IfOk result (λ equals. equals ≡ spec.same_data (view argument.now)
+        (spec.member_or_null name.now (view object.now))) }
 {
     match object.get(name) {
-        Some(member) => is_same(argument, member),
-        None => argument.is_null(),
+        Some(member) => is_same(alloc, argument, member),
+        None => Ok(argument.is_null()),
     }
 }
 
 /// Whether an object has each argument as a member.
-fn has_members(arguments: &Map<String, Value>, object: &Value) -> bool
-    ensures { result ≡ spec.has_members (members_view arguments.now.entries) (view object.now) }
+fn has_members(
+    alloc: Global,
+    arguments: &Map<String, Value>,
+    object: &Value,
+) -> Result<bool, AllocError>
+    ensures { IfOk result (λ has. has
+        ≡ spec.has_members (members_view arguments.now.entries) (view object.now)) }
 {
     for (name, argument) in arguments.iter() {
-        if !equals_member(argument, object, name.as_str()) {
-            return false;
+        if !equals_member(alloc, argument, object, name.as_str())? {
+            return Ok(false);
         }
     }
-    true
+    Ok(true)
 }
 
 /// Whether an item is an object that has each argument as a member.
-fn meets(arguments: &Map<String, Value>, item: &Value) -> bool
-    ensures { result ≡ spec.meets (members_view arguments.now.entries) (view item.now) }
+fn meets(alloc: Global, arguments: &Map<String, Value>, item: &Value) -> Result<bool, AllocError>
+    ensures { IfOk result (λ meets. meets
+        ≡ spec.meets (members_view arguments.now.entries) (view item.now)) }
 {
     match item {
-        Value::Object(_) => has_members(arguments, item),
-        Value::Null => false,
-        Value::Bool(_) => false,
-        Value::Number(_) => false,
-        Value::String(_) => false,
-        Value::Array(_) => false,
+        Value::Object(_) => has_members(alloc, arguments, item),
+        Value::Null => Ok(false),
+        Value::Bool(_) => Ok(false),
+        Value::Number(_) => Ok(false),
+        Value::String(_) => Ok(false),
+        Value::Array(_) => Ok(false),
     }
 }
 
@@ -56,7 +67,7 @@ pub fn kept<'v>(
 {
     let mut found = Vec::new(alloc);
     for item in items {
-        if meets(arguments, item) {
+        if meets(alloc, arguments, item)? {
             found.push(item)?;
         }
     }
@@ -64,14 +75,18 @@ pub fn kept<'v>(
 }
 
 /// The first item that meets the arguments, if there is one.
-pub fn first_kept<'v>(arguments: &Map<String, Value>, items: &'v [Value]) -> Option<&'v Value>
-    ensures { option_map (λ v. view v.now) result
-        ≡ find (spec.meets (members_view arguments.now.entries)) (map view items.now) }
+pub fn first_kept<'v>(
+    alloc: Global,
+    arguments: &Map<String, Value>,
+    items: &'v [Value],
+) -> Result<Option<&'v Value>, AllocError>
+    ensures { IfOk result (λ found. option_map (λ v. view v.now) found
+        ≡ find (spec.meets (members_view arguments.now.entries)) (map view items.now)) }
 {
     for item in items {
-        if meets(arguments, item) {
-            return Some(item);
+        if meets(alloc, arguments, item)? {
+            return Ok(Some(item));
         }
     }
-    None
+    Ok(None)
 }

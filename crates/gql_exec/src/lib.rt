@@ -1,28 +1,33 @@
 //! The execution of operations (GraphQL specification, 6).
 #![tactic(auto)]
 
+mod below;
 mod credit;
+mod data_lists;
+mod data_values;
 mod direct;
 mod direct_field;
 mod direct_items;
+mod done;
 mod ended;
 mod equal_sets;
 mod executor;
+mod field_values;
+mod fields;
 mod filter;
+mod frames;
 mod introspection;
 mod items;
 mod kinds;
 pub mod laws;
 mod leaves;
+mod machine;
 mod mutation;
-mod node_fields;
-mod node_frame;
 mod node_lists;
-mod node_place;
 mod node_values;
-mod nodes;
 mod nulls;
 mod outcome;
+mod place;
 mod planning;
 mod refusal;
 mod resolve;

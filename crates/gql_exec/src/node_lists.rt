@@ -1,7 +1,7 @@
 //! The execution of the nodes of lists of introspection (GraphQL specification, 4.2 and 6.4.3).
 ghost use Rattle.std.specs.Prelude.{◌≡◌, ◌<◌, ◌≤◌, IfOk, IfSome};
 ghost use Rattle.gql_intro.specs.Borrowed.{elements, node_of};
-ghost use Rattle.gql_exec.specs.NodeFrames.{AtList, DoesBegin, Fits, Kept, KeepsTurn, NextIs, Turns};
+ghost use Rattle.gql_exec.specs.Frames.{AtNodes, DoesBegin, Fits, Kept, KeepsTurn, NextIs, Turns};
 ghost use Rattle.gql_exec.specs.Objects.{basis};
 ghost use Rattle.gql_exec.specs.Parts.{Part};
 ghost use Rattle.gql_exec.specs.States.{path_of};
@@ -9,8 +9,8 @@ ghost use Rattle.gql_exec.specs.Tables.{InTable, IsRight, below_at};
 ghost use Rattle.gql_exec.specs.ValueParts as part;
 ghost use Rattle.gql_exec.specs.declared.run.Run.{Run as ARun};
 
-use crate::node_frame::{Around, Frame, Group, ListFrame, Turn};
-use crate::node_values::node_below;
+use crate::below::object_below;
+use crate::frames::{AnyObject, Around, Frame, Group, NodesFrame, Turn};
 use crate::outcome::Step;
 use crate::refusal::ExecRefusal;
 use crate::run::Run;
@@ -22,7 +22,7 @@ use gql_types::Schema;
 use std::alloc::Global;
 
 /// A node of a list, at its path.
-fn begin_content<'d>(
+fn begin_content<'d, 'v>(
     alloc: Global,
     setting: &Setting<'d, '_>,
     table: &mut Table<'d>,
@@ -31,7 +31,7 @@ fn begin_content<'d>(
     i: usize,
     node: IntroNode<'d>,
     run: &mut Run<'d>,
-) -> Result<(Around, Group<'d>), ExecRefusal>
+) -> Result<(Around, Group<'d, 'v>), ExecRefusal>
     requires right { IsRight (basis setting.now) table.old }
     requires within { InTable table.old slot }
     ensures keeps { IfOk result (λ w. Kept (basis setting.now) table.old table.new 0
@@ -50,12 +50,13 @@ fn begin_content<'d>(
         outer: false,
     };
     run.path.push(Step::Index(i))?;
-    let group = node_below(alloc, setting, table, slot, name, node)?;
+    let node = AnyObject::Described(node);
+    let group = object_below(alloc, setting, table, slot, name, node)?;
     Ok((around, group))
 }
 
 /// A node of a list, with its comma.
-fn begin_node<'d>(
+fn begin_node<'d, 'v>(
     alloc: Global,
     setting: &Setting<'d, '_>,
     table: &mut Table<'d>,
@@ -64,7 +65,7 @@ fn begin_node<'d>(
     i: usize,
     node: IntroNode<'d>,
     run: &mut Run<'d>,
-) -> Result<(Around, Group<'d>), ExecRefusal>
+) -> Result<(Around, Group<'d, 'v>), ExecRefusal>
     requires right { IsRight (basis setting.now) table.old }
     requires within { InTable table.old slot }
     ensures keeps { IfOk result (λ w. Kept (basis setting.now) table.old table.new 1
@@ -96,22 +97,22 @@ fn next_node<'d>(
 }
 
 /// Goes on with the nodes of a list: the next one is to be entered, or all are done.
-pub fn run_list<'d>(
+pub fn run_nodes<'d, 'v>(
     alloc: Global,
     setting: &Setting<'d, '_>,
     table: &mut Table<'d>,
-    frame: ListFrame<'d>,
+    frame: NodesFrame<'d>,
     run: &mut Run<'d>,
-) -> Result<Turn<'d>, ExecRefusal>
+) -> Result<Turn<'d, 'v>, ExecRefusal>
     requires right { IsRight (basis setting.now) table.old }
     requires within { InTable table.old frame.slot }
     requires no_more { frame.next ≤ frame.passed }
     ensures keeps { KeepsTurn (basis setting.now) table.old table.new run.old run.new result }
     ensures does { (whole : Part) (start : ARun)
-        → AtList (basis setting.now) table.old frame.entry whole start run.old
+        → AtNodes (basis setting.now) table.old frame.entry whole start run.old
         → Turns (basis setting.now) table.new whole start result run.new }
 {
-    let ListFrame {
+    let NodesFrame {
         slot,
         name,
         next,
@@ -120,7 +121,7 @@ pub fn run_list<'d>(
     match next_node(setting.context.schema, frame.nodes, frame.passed) {
         Some((passed, node)) => {
             let (around, inner) = begin_node(alloc, setting, table, slot, name, next, node, run)?;
-            let group = Group::List(ListFrame {
+            let group = Group::Nodes(NodesFrame {
                 passed,
                 next: next + 1,
                 ..frame

@@ -48,7 +48,7 @@ fn taken<'v>(
     if is_list(of_type) {
         Ok(Resolved::Items(kept(alloc, arguments, items)?))
     } else {
-        Ok(found_or_null(first_kept(arguments, items)))
+        Ok(found_or_null(first_kept(alloc, arguments, items)?))
     }
 }
 

@@ -1,4 +1,4 @@
-use Rattle.std.proofs.Common.{Ok, map, codes, refl, ap, ◌∙◌}
+use Rattle.std.proofs.Common.{Ok, map, refl, ap, ◌∙◌}
 use Rattle.json.specs.Print.{quoted}
 use Rattle.serde_json.specs.Data as json
 use Rattle.serde_json.specs.Written.{compact_text}
@@ -10,14 +10,13 @@ use Rattle.gql_types.specs.Written.{written}
 use Rattle.gql_exec.specs.Execution.{complete}
 use Rattle.gql_exec.specs.Objects.{basis}
 use Rattle.gql_exec.specs.Parts.{plain}
-use Rattle.gql_exec.specs.Plans.{types_of}
 use Rattle.gql_exec.specs.States.{path_of}
 use Rattle.gql_exec.specs.Tables.{below_at}
 use Rattle.gql_exec.specs.Texts.{value_part}
 use Rattle.gql_exec.specs.ValueParts.{name_list_part, nodes_in}
 use Rattle.gql_exec.proofs.Completing.{answer_names}
 use Rattle.gql_exec.proofs.Introspecting.{any_site, at_answer, at_node, at_nodes, at_null}
-use Rattle.gql_exec.specs.declared.node_frame.Reached.TheVariants as reached
+use Rattle.gql_exec.specs.declared.frames.Reached.TheVariants as reached
 use Rattle.gql_exec.proofs.node_values.reach_answer.Goals as goal
 
 pub returns-in-Null-clause-does : goal.returns-in-Null-clause-does
@@ -56,17 +55,17 @@ returns-in-Locations-clause-does c = at_answer (basis c.args.setting.now) c.args
     (answer_of c.args.setting.now.context.schema.now c.args.answer) (intro.enum_names (map location_name c.in-Locations.locations.now)) (name_list_part (map location_name c.in-Locations.locations.now)) (ap (answer_of c.args.setting.now.context.schema.now) c.in-Locations.is) (λ site. answer_names site (written c.args.field.now.of_type.now) (path_of c.args.run.now) (map location_name c.in-Locations.locations.now))
     (c.done-in-Locations.ensures.does (basis c.args.setting.now) c.args.table.now (name_list_part (map location_name c.in-Locations.locations.now)) c.args.run.now c.write_locations.new.run c.write_locations.ensures)
 
-pub returns-in_ok-group-in-Node-clause-does : goal.returns-in_ok-group-in-Node-clause-does
-returns-in_ok-group-in-Node-clause-does c = at_node (basis c.args.setting.now) c.node_below.new.table c.args.field.now.place (written c.args.field.now.of_type.now) (below_at c.args.table.now c.args.slot)
+pub returns-in-Node-clause-does : goal.returns-in-Node-clause-does
+returns-in-Node-clause-does c = at_node (basis c.args.setting.now) c.object_below.new.table c.args.field.now.place (written c.args.field.now.of_type.now) (below_at c.args.table.now c.args.slot)
     (Ok (reached.Inner c.in_ok-group-in-Node.group)) c.args.run.now c.args.run.now
     (answer_of c.args.setting.now.context.schema.now c.args.answer) (node_of c.in-Node.node) c.as_str.result.now (ap (answer_of c.args.setting.now.context.schema.now) c.in-Node.is) (c.as_str.ensures ∙ c.name_in-name.ensures)
     (λ other met x i. (refl, c.in_ok-group-in-Node.ensures.enters c.args.run.now other met x i))
 
 pub returns-in-Nodes-clause-does : goal.returns-in-Nodes-clause-does
 returns-in-Nodes-clause-does c = at_nodes (basis c.args.setting.now) c.args.table.now c.args.field.now.place (written c.args.field.now.of_type.now) (below_at c.args.table.now c.args.slot)
-    (Ok c.list_below.result) c.args.run.now c.args.run.now
+    (Ok c.nodes_below.result) c.args.run.now c.args.run.now
     (answer_of c.args.setting.now.context.schema.now c.args.answer) (nodes_in c.args.setting.now.context.schema.now c.in-Nodes.nodes) c.as_str-in-Nodes.result.now (ap (answer_of c.args.setting.now.context.schema.now) c.in-Nodes.is) (c.as_str-in-Nodes.ensures ∙ c.name_in-name-in-Nodes.ensures)
-    (c.list_below.ensures.does (basis c.args.setting.now) c.args.table.now c.args.run.now c.requires.within)
+    (c.nodes_below.ensures.does (basis c.args.setting.now) c.args.table.now c.args.run.now c.requires.within)
 
 pub returns-in-Null-clause-keeps : goal.returns-in-Null-clause-keeps
 returns-in-Null-clause-keeps c =
@@ -89,8 +88,8 @@ returns-in-Literal-clause-keeps c = c.done-in-Literal.ensures.keeps (basis c.arg
 pub returns-in-Locations-clause-keeps : goal.returns-in-Locations-clause-keeps
 returns-in-Locations-clause-keeps c = c.done-in-Locations.ensures.keeps (basis c.args.setting.now) c.args.table.now (name_list_part (map location_name c.in-Locations.locations.now)) c.args.run.now c.write_locations.new.run c.requires.right c.write_locations.ensures
 
-pub returns-in_ok-group-in-Node-clause-keeps : goal.returns-in_ok-group-in-Node-clause-keeps
-returns-in_ok-group-in-Node-clause-keeps c = c.in_ok-group-in-Node.ensures.keeps c.args.run.now
+pub returns-in-Node-clause-keeps : goal.returns-in-Node-clause-keeps
+returns-in-Node-clause-keeps c = c.in_ok-group-in-Node.ensures.keeps c.args.run.now
 
 pub returns-in-Nodes-clause-keeps : goal.returns-in-Nodes-clause-keeps
-returns-in-Nodes-clause-keeps c = c.list_below.ensures.keeps (basis c.args.setting.now) c.args.table.now c.args.run.now c.requires.right c.requires.within
+returns-in-Nodes-clause-keeps c = c.nodes_below.ensures.keeps (basis c.args.setting.now) c.args.table.now c.args.run.now c.requires.right c.requires.within

@@ -32,8 +32,8 @@ returns-in-Some-clause-does c = λ q h.
     (subst (λ n. IsPlan g n (below_at c.args.table.now c.args.slot) q.1) (ap (λ (e : PlannedField). name_in e.of_type) h.planned)
     (subst (λ xs. IsPlan g (name_in q.0.of_type) xs q.1) (sym c.requires.at.below) h.below)))
 
-pub returns-in-None-clause-does : goal.returns-in-None-clause-does
-returns-in-None-clause-does c = λ q h.
+pub returns-clause-does : goal.returns-clause-does
+returns-clause-does c = λ q h.
     let g = basis c.args.setting.now in
     let s = site_of (types_of g) c.args.field.now.place q.1 in
     let t = written c.args.field.now.of_type.now in
@@ -44,8 +44,8 @@ returns-in-None-clause-does c = λ q h.
     ∙ ap (λ o. value_part (on_answer s t p o)) (sym c.introspect.ensures ∙ ap (option_map (answer_of c.args.setting.now.context.schema.now)) c.in-None.is))
     (c.done.ensures.does g c.args.table.now (value_part (complete s t p json.null)) c.args.run.now c.complete_null.new.run (c.complete_null.ensures s refl))
 
-pub returns-in-None-clause-keeps : goal.returns-in-None-clause-keeps
-returns-in-None-clause-keeps c =
+pub returns-clause-keeps : goal.returns-clause-keeps
+returns-clause-keeps c =
     let s = any_site (basis c.args.setting.now) c.args.field.now.place in
     c.done.ensures.keeps (basis c.args.setting.now) c.args.table.now (value_part (complete s (written c.args.field.now.of_type.now) (path_of c.args.run.now) json.null))
     c.args.run.now c.complete_null.new.run c.requires.right (c.complete_null.ensures s refl)
