@@ -403,7 +403,6 @@ impl Registry {
     /// order: 208 if there is no such operation; 209 if the schema, the operation or a fragment
     /// that it reaches has faults, with these faults; 210 if more than 100,000 values are to be
     /// completed; and 211 if an allocation fails. Nothing is changed.
-    #[tactic(none)]
     pub fn prepare(&self, name: Option<&str>, variables: &Value) -> Result<Prepared, Refusal>
         ensures answers { Answers (state_of self.now).files (state_of self.now).stored
             (option_copied name.entry) (view variables.now) (prepared_of result) }
@@ -418,7 +417,6 @@ impl Registry {
 
     /// Adds what a prepared run is to add to the data, and returns its reply. The registry is as it
     /// was when the run was prepared. This takes no memory, and the revision stays.
-    #[tactic(none)]
     pub fn commit(&mut self, prepared: Prepared) -> Reply
         requires { IsPreparedFor self.old prepared }
         ensures reply { result.body.items ≡ body_of prepared }
@@ -432,7 +430,6 @@ impl Registry {
 
     /// Runs the stored operation of a name, as `prepare` and `commit` do: what a mutation adds to
     /// the data is there when its reply is returned. A refused run changes nothing.
-    #[tactic(none)]
     pub fn run(&mut self, name: Option<&str>, variables: &Value) -> Result<Reply, Refusal>
         ensures answers { (r : Result CallOutcome Refusal)
             × Answers (state_of self.old).files (state_of self.old).stored
