@@ -25,7 +25,7 @@ use Rattle.gql_exec.specs.Execution.{answered}
 use Rattle.gql_exec.specs.Plans.{IsPlan}
 use Rattle.gql_exec.specs.Outcomes.{AnError, AnOutcome, error_of}
 use Rattle.gql_exec.specs.Replies.{Reply, kept, or_null}
-use Rattle.gql_exec.specs.Requests.{Request, Response, Executes, IsKeptOf, IsOutcome, basis_of, IsTooHeavy, most_values, refused, executed, request_error, request_of, response_of, variable_at}
+use Rattle.gql_exec.specs.Requests.{Request, Response, Executes, IsKeptOf, IsOutcome, answer_for, basis_of, IsTooHeavy, most_values, refused, executed, request_error, request_of, response_of, variable_at}
 use Rattle.gql_exec.specs.Requests as requests
 use Rattle.gql_exec.specs.Runs.{Answering, Finishes, IsFresh, IsOutcomeOf, IsRefused, came_to, request}
 use Rattle.gql_exec.specs.States.{Done, Leaves, ended_of, errors_of}
@@ -96,7 +96,8 @@ answers r values Holds one come h p (refused {why} {path} {v} c at) =
     let e : comes.value values ≡ comes.refused why path = one r.schema r.operation.variables r.variables (comes.value values) (comes.refused why path) come c in absurd (cc e)
 answers r values Holds one come h p (executed {values = others} {root = root} x c is object plans) =
     let e : comes.value values ≡ comes.value others = one r.schema r.operation.variables r.variables (comes.value values) (comes.value others) come c in
-    h root x is object (subst (λ d. IsPlan (basis_of r d) root.name.node.text (in_file r.file r.operation.selections) x) (sym (value_same e)) plans)
+    subst (λ d. Holds (response_of (answer_for r.operation.kind (basis_of r d) x root.name.node.text r.stored))) (value_same e)
+    (h root x is object (subst (λ d. IsPlan (basis_of r d) root.name.node.text (in_file r.file r.operation.selections) x) (sym (value_same e)) plans))
 
 -- a request with a variable that is refused
 pub answers_refused : (r : Request) (f : Refusal) (o : AnOutcome) → OneOfVariables → VariablesCome r.schema r.operation.variables r.variables (comes.refused f.reason f.path)

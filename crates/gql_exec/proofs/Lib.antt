@@ -20,6 +20,7 @@ pub mod Mutating
 pub mod Parts
 pub mod Picked
 pub mod Reaching
+pub mod Recursing
 pub mod Resolving
 pub mod Running
 pub mod SomePlan

@@ -109,6 +109,7 @@ null_list : answer types (box (codes "n") (listed (required (named (codes "Item"
       errors = error_at (codes "null for a Non-Null type") 17
           (key (codes "box") ∷ key (codes "n") ∷ index 1 ∷ []) ∷ [];
       weight = 7;
+      effects = [];
     }
 null_list = refl
 
@@ -120,6 +121,7 @@ null_object : answer types (box (codes "m") (required (listed (required (named (
       errors = error_at (codes "null for a Non-Null type") 17
           (key (codes "box") ∷ key (codes "m") ∷ index 1 ∷ []) ∷ [];
       weight = 7;
+      effects = [];
     }
 null_object = refl
 
@@ -131,6 +133,7 @@ first_error : answer types (leaf (simple (codes "a") 3 (listed (named (codes "In
       value = one_member (codes "a") (json.array (item json.null (item json.null no_items)));
       errors = error_at (codes "value is not of type Int") 3 (key (codes "a") ∷ index 0 ∷ []) ∷ [];
       weight = 3;
+      effects = [];
     }
 first_error = refl
 
@@ -141,7 +144,7 @@ abbrev put : Plan
 put = leaf (simple (codes "put") 11 (named (codes "Int")))
 
 greatest_int : answer types put (codes "Query") (one_member (codes "put") (number 2147483647))
-    ≡ record { value = one_member (codes "put") (number 2147483647); errors = []; weight = 1 }
+    ≡ record { value = one_member (codes "put") (number 2147483647); errors = []; weight = 1; effects = [] }
 greatest_int = refl
 
 one_past_it : answer types put (codes "Query") (one_member (codes "put") (number 2147483648))
@@ -149,6 +152,7 @@ one_past_it : answer types put (codes "Query") (one_member (codes "put") (number
       value = one_member (codes "put") json.null;
       errors = error_at (codes "value is not of type Int") 11 (key (codes "put") ∷ []) ∷ [];
       weight = 1;
+      effects = [];
     }
 one_past_it = refl
 
@@ -159,6 +163,7 @@ integer_id : answer types (leaf (simple (codes "a") 3 (named (codes "ID")))) (co
       value = one_member (codes "a") (json.string (signed_decimal (pos 7)));
       errors = [];
       weight = 1;
+      effects = [];
     }
 integer_id = refl
 
@@ -174,6 +179,7 @@ refused_arguments : answer types
       errors = error_at (codes "argument n: null for a Non-Null type") 20
           (key (codes "twice") ∷ []) ∷ [];
       weight = 1;
+      effects = [];
     }
 refused_arguments = refl
 
@@ -197,6 +203,7 @@ filtered_object : answer types
       value = one_member (codes "user") (one_member (codes "name") (json.string (codes "Bob")));
       errors = [];
       weight = 2;
+      effects = [];
     }
 filtered_object = refl
 
@@ -219,6 +226,7 @@ a_cat : answer types pet (codes "Query") (one_member (codes "pet")
       value = one_member (codes "pet") (one_member (codes "age") (number 3));
       errors = [];
       weight = 2;
+      effects = [];
     }
 a_cat = refl
 
@@ -229,6 +237,7 @@ no_pet : answer types pet (codes "Query")
       errors = error_at (codes "value names no possible type of Pet") 3
           (key (codes "pet") ∷ []) ∷ [];
       weight = 1;
+      effects = [];
     }
 no_pet = refl
 
@@ -356,6 +365,7 @@ type_name : answer types
       value = one_member (codes "__typename") (json.string (codes "Query"));
       errors = [];
       weight = 1;
+      effects = [];
     }
 type_name = refl
 
@@ -373,6 +383,7 @@ name_of_query : answer (types_of basis) query_type (codes "Query") (json.object 
           (one_member (codes "name") (json.string (codes "Query"))));
       errors = [];
       weight = 3;
+      effects = [];
     }
 unfolding same_operation
 name_of_query = refl
@@ -386,6 +397,7 @@ mine : answer types (on_any (field (simple (codes "mine") 3 (named (codes "__Typ
       value = one_member (codes "mine") (one_member (codes "name") (json.string (codes "x")));
       errors = [];
       weight = 2;
+      effects = [];
     }
 mine = refl
 
@@ -403,6 +415,7 @@ schema_of_a_node : answer (types_of basis)
           (one_member (codes "name") (json.string (codes "Query"))))));
       errors = [];
       weight = 5;
+      effects = [];
     }
 unfolding same_operation
 schema_of_a_node = refl
@@ -417,6 +430,7 @@ no_answer : answer (types_of basis)
       errors = error_at (codes "null for a Non-Null type") 14
           (key (codes "__schema") ∷ key (codes "x") ∷ []) ∷ [];
       weight = 2;
+      effects = [];
     }
 unfolding same_operation
 no_answer = refl

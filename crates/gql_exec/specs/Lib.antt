@@ -8,6 +8,7 @@ pub mod Laws
 pub mod LeafParts
 pub mod Leaves
 pub mod Frames
+pub mod MutationExamples
 pub mod Objects
 pub mod Outcomes
 pub mod PairFrames

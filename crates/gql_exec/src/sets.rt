@@ -84,7 +84,6 @@ fn outcome<'d>(
 
 /// What a run came to that ended in this way, with these effects: a null that bubbles up to the
 /// data stays there.
-#[tactic(auto, using(crate::proofs::Ending::finished_written, crate::proofs::Ending::finished_cut))]
 fn finish<'d>(
     alloc: Global,
     ended: Ended,

@@ -31,8 +31,9 @@ use Rattle.gql_exec.specs.declared.table.Slot.{Slot}
 use Rattle.gql_exec.proofs.Completing.{abstract_kind, direct_item, has_items, kind_abstract, kind_enum, kind_object, kind_other, kind_scalar}
 use Rattle.gql_exec.proofs.Doing.{at-field, caught-cut, caught-written, counted-executes, executes-after, loop-more, loop-stops, stepped, stopped, within-done, wrote}
 use Rattle.gql_exec.proofs.Entries.{at_slot, below_still, fields_still, grows_same, in_still, no_shorter}
-use Rattle.gql_exec.proofs.Executing.{among_is, as_many, as_part, at_array, at_items, at_list, at_named, called_stored, keeps_direct, keeps_same, keeps_twice, met_abstract, name_of_items, on_entry, placed_nullable, source_stored, stand_at}
+use Rattle.gql_exec.proofs.Executing.{among_is, as_many, as_part, called_stored, keeps_direct, keeps_same, keeps_twice, met_abstract, name_of_items, on_entry, placed_nullable, source_stored, stand_at}
 use Rattle.gql_exec.proofs.Listing.{kept_items}
+use Rattle.gql_exec.proofs.Recursing.{at_array, at_items, at_list, at_named}
 use Rattle.gql_exec.proofs.Resolving.{is_array}
 use Rattle.gql_exec.proofs.executor.+execute.Goals as goal
 

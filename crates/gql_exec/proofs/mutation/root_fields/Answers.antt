@@ -1,4 +1,4 @@
-use Rattle.std.proofs.Common.{◌≡◌, ◌<◌, ◌++◌, [], List, Vec, Global, length, get_or, take, refl, sym, ap, subst, ◌∙◌, arith, append_assoc, append-nil}
+use Rattle.std.proofs.Common.{◌≡◌, ◌<◌, ◌++◌, [], List, Vec, Global, length, get_or, take, sym, ap, subst, ◌∙◌, arith, append_assoc, append-nil, rules}
 use Rattle.std.proofs.lemmas.List.{take_all}
 use Rattle.gql_exec.specs.Objects.{basis}
 use Rattle.gql_exec.specs.Parts.{all, numbered}
@@ -13,14 +13,6 @@ use Rattle.gql_exec.proofs.Entries.{at_slot, fields_still, grows_same, no_shorte
 use Rattle.gql_exec.proofs.Executing.{as_many, keeps_twice, stand_at}
 use Rattle.gql_exec.proofs.Mutating.{effects_more}
 use Rattle.gql_exec.proofs.mutation.root_fields.Goals as goal
-
-pub loop-i-init : goal.loop-i-init
-loop-i-init c = record {
-  keeps = record { right = c.requires.right; grows = grows_same c.args.table.now; left = omega arith };
-  count = c.count-i-end.ensures ∙ ap (λ (v : Vec FieldPlan Global). length v.items) c.get-fields.ensures ∙ ap length c.in_ok-shared.ensures;
-  done = λ qs h. record { follows = record { out = sym (append-nil c.args.run.now.out.items); errors = sym (append-nil _); raised = refl; path = refl; left = omega arith }; ends = refl };
-  effects = λ qs h. sym (append-nil (seen c.args.effects.now.items));
-}
 
 pub root_field-requires-clause-right : goal.root_field-requires-clause-right
 root_field-requires-clause-right c = c.loop-i.invariant.keeps.right

@@ -1,11 +1,12 @@
-use Rattle.std.proofs.Common.{◌≡◌, ◌<◌, [], ◌∙◌, false, true, refl, sym}
+use Rattle.std.proofs.Common.{◌≡◌, ◌<◌, [], ◌∙◌, false, true, refl, sym, ap, subst}
 use Rattle.gql_collect.specs.Borrowed.{all_selections}
 use Rattle.serde_json.specs.View.{view}
-use Rattle.gql_exec.specs.Execution.{Plan, answer, execute, stored}
+use Rattle.gql_exec.specs.Execution.{Plan, answer, answered, execute, stored}
 use Rattle.gql_exec.specs.Objects.{basis}
 use Rattle.gql_exec.specs.Outcomes.{outcome_of}
 use Rattle.gql_exec.specs.Plans.{IsPlan, is_met, types_of}
 use Rattle.gql_exec.specs.Requests.{most_values}
+use Rattle.gql_exec.specs.RootParts.{seen}
 use Rattle.gql_exec.specs.Runs.{Finishes, IsOutcomeOf}
 use Rattle.gql_exec.specs.declared.refusal.ExecRefusal.TheVariants.{Memory, TooHeavy}
 use Rattle.gql_exec.specs.declared.run.Run.{Run}
@@ -27,11 +28,11 @@ returns-clause-outcome c =
     let types = types_of (basis c.args.setting.now) in
     let d = view c.args.initial.now in
     let s : Run = record { out = c.in_ok-with_capacity.field-0; errors = c.new.result; path = c.new-2.result; left = 100000; raised = false } in
-    ok_then c.finish.result (λ o. Finishes c.in_ok-ended.ended c.execute_object.new.run (outcome_of o))
+    ok_then c.finish.result (λ o. Finishes c.in_ok-ended.ended c.execute_object.new.run (seen c.new-3.result.items) (outcome_of o))
     (λ o. is_met g root root ≡ true → (x : Plan) → IsPlan g root (all_selections c.args.sets.now) x → IsOutcomeOf (outcome_of o) (answer types x root d))
-    (λ o h met x i. h (execute types x root [] (stored d)) s (record { out = c.in_ok-with_capacity.ensures.items; errors = c.new.ensures.items; raised = refl; left = refl })
+    (λ o h met x i. subst (λ es. IsOutcomeOf (outcome_of o) (answered es (execute types x root [] (stored d)))) (ap seen c.new-3.ensures.items) (h (execute types x root [] (stored d)) s (record { out = c.in_ok-with_capacity.ensures.items; errors = c.new.ensures.items; raised = refl; left = refl })
     (sets_done g c.add_sets.new.self c.in_ok-entry.entry root (all_selections c.args.sets.now) x d s c.execute_object.new.run c.in_ok-entry.ensures.has met i c.new-2.ensures.items
-    c.in_ok-ended.ended c.in_ok-ended.ensures.does)) c.finish.ensures.outcome
+    c.in_ok-ended.ended c.in_ok-ended.ensures.does))) c.finish.ensures.outcome
 
 pub returns-clause-heavy : goal.returns-clause-heavy
 returns-clause-heavy c =
