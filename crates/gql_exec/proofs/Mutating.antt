@@ -1,5 +1,5 @@
 -- What is written for the root fields of a mutation, and what they add to the data.
-use Rattle.std.proofs.Common.{◌≡◌, ◌<◌, ℕ, ◌+◌, inl, inr, Bool, true, false, List, [], ◌∷◌, ◌++◌, map, flat_map, length, take, get_or, codes, is_some, Option, Some, None, Ok, Err, refl, sym, ap, subst, ◌∙◌, arith, append_assoc, append-nil, if◌then◌else◌}
+use Rattle.std.proofs.Common.{◌≡◌, ◌<◌, ℕ, zero, suc, ◌+◌, inl, inr, Bool, true, false, List, [], ◌∷◌, ◌++◌, map, flat_map, length, take, get_or, codes, is_some, Option, Some, None, Ok, Err, refl, sym, ap, subst, ◌∙◌, arith, append_assoc, append-nil, if◌then◌else◌}
 use Rattle.std.proofs.Common.{◌⊎◌}
 use Rattle.gql_collect.specs.Nodes.{FileSelection}
 use Rattle.gql_types.specs.Schemas.{append_of}
@@ -68,6 +68,13 @@ root_is types r by_type t p =
 pub effects_are : (r : Root) (fs : Fields) → effects_of r.appending r.stored fs ≡ effects_in r (pairs_of fs)
 effects_are r no_fields = refl
 effects_are r (field f below rest) = ap (λ es. effect_of r.stored (r.appending f.name) f.arguments ++ es) (effects_are r rest)
+
+-- one more root field
+pub effects_more : (r : Root) (qs : List Pair) (k : ℕ) (q : Pair) → k < length qs → q ≡ get_or qs k q → effects_in r (take (k + 1) qs) ≡ effects_in r (take k qs) ++ effect_in r q
+effects_more r [] k q h e = absurd (omega (arith, h))
+effects_more r (x ∷ qs) zero q h e = append-nil (effect_in r x) ∙ ap (effect_in r) (sym e)
+effects_more r (x ∷ qs) (suc k) q h e = ap (λ es. effect_in r x ++ es) (effects_more r qs k q (omega (arith, h)) e)
+    ∙ sym (append_assoc (effect_in r x) (effects_in r (take k qs)) (effect_in r q))
 
 -- ---- the entry of the root
 

@@ -2,10 +2,9 @@
 -- errors, and what it adds to the stored data.
 use Rattle.std.specs.Prelude.{ℕ, List, map, string_bytes, Option, option_map}
 use Rattle.gql_text.specs.declared.place.Place.{Place}
-use Rattle.serde_json.specs.View.{view}
 use Rattle.gql_stored.specs.Effects.{Effect}
+use Rattle.gql_stored.specs.Rooms.{effect_of}
 use Rattle.gql_exec.specs.Replies.{Segment, key, index, Path}
-use Rattle.gql_stored.specs.declared.effect.Effect.{Effect as TheEffect}
 use Rattle.gql_exec.specs.declared.outcome.Outcome.{Outcome}
 use Rattle.gql_exec.specs.declared.outcome.ResponseError.{ResponseError}
 use Rattle.gql_exec.specs.declared.outcome.Step.{Step}
@@ -40,10 +39,6 @@ error_of e = record {
   place = e.place;
   path = option_map (λ p. path_of p.items) e.path;
 }
-
--- an effect, as specifications see it
-abbrev pub effect_of : TheEffect → Effect
-effect_of e = record { to = string_bytes e.to; value = view e.value }
 
 -- an outcome, as specifications see it
 abbrev pub outcome_of : Outcome → AnOutcome

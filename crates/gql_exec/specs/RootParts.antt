@@ -6,9 +6,9 @@ use Rattle.gql_types.specs.Schemas.{append_of}
 use Rattle.serde_json.specs.Data.{Data}
 use Rattle.serde_json.specs.View.{view}
 use Rattle.gql_stored.specs.Effects.{Effect}
+use Rattle.gql_stored.specs.Rooms.{effect_of as seen_effect}
 use Rattle.gql_exec.specs.Execution.{Appending, Object, PlannedField, Plan, Types, added, effect_of, given, refused, root_value}
 use Rattle.gql_exec.specs.Objects.{object_of}
-use Rattle.gql_exec.specs.Outcomes as outcomes
 use Rattle.gql_exec.specs.Parts.{Part, after_comma, all, counted, followed_by, numbered, plain, settled, within}
 use Rattle.gql_exec.specs.Plans.{Basis}
 use Rattle.gql_exec.specs.Replies.{Path, key}
@@ -64,7 +64,7 @@ effects_in r qs = flat_map (effect_in r) qs
 
 -- effects of the code, as specifications see them
 abbrev pub seen : List TheEffect → List Effect
-seen es = map outcomes.effect_of es
+seen es = map seen_effect es
 
 -- ---- root fields that add their arguments, d are the data, to a list
 

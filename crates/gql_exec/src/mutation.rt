@@ -5,7 +5,7 @@ ghost use Rattle.serde_json.specs.View.{view};
 ghost use Rattle.gql_exec.specs.Execution as spec;
 ghost use Rattle.gql_exec.specs.Execution.{given};
 ghost use Rattle.gql_exec.specs.Objects.{basis};
-ghost use Rattle.gql_exec.specs.Outcomes.{effect_of as effect_seen};
+ghost use Rattle.gql_stored.specs.Rooms.{effect_of as effect_seen};
 ghost use Rattle.gql_exec.specs.Plans.{types_of};
 ghost use Rattle.gql_exec.specs.RootParts as part;
 ghost use Rattle.gql_exec.specs.RootParts.{seen, effect_in, effects_in, root_of};
@@ -50,7 +50,7 @@ struct Addition<'d, 'v> {
 /// The effect of an addition.
 fn effect(alloc: Global, addition: Addition<'_, '_>) -> Result<Effect, AllocError>
     ensures { IfOk result (λ e. effect_seen e
-        ≡ record { to = addition.to.now; value = view addition.arguments.now }) }
+        ≡ record { to = addition.entry.to.now; value = view addition.entry.arguments.now }) }
 {
     Ok(Effect {
         to: String::from_str(alloc, addition.to)?,
@@ -75,11 +75,11 @@ fn add<'d>(
     ensures keeps { OnOk result (Keeps (basis setting.now) table.old table.new run.old run.new) }
     ensures does { (q : Pair) → StandsFor (basis setting.now) field.now q
         → Executes (value_part (spec.added (site_of (types_of (basis setting.now)) q.0.place q.1)
-        (view stored.now) q.0 addition.to.now (view addition.arguments.now) (path_of run.old)))
+        (view stored.now) q.0 addition.entry.to.now (view addition.entry.arguments.now) (path_of run.old)))
         result run.old run.new }
     ensures effects { OnOk result (seen effects.new.items ≡ seen effects.old.items
-        ++ spec.effect_of (view stored.now) (Some addition.to.now)
-        (given (view addition.arguments.now))) }
+        ++ spec.effect_of (view stored.now) (Some addition.entry.to.now)
+        (given (view addition.entry.arguments.now))) }
 {
     if !has_list(stored, addition.to) {
         return raise(alloc, run, field.place, Reason::NoList(addition.to));
@@ -112,11 +112,11 @@ fn place_added<'d>(
     ensures does { (q : Pair) → StandsFor (basis setting.now) field.now q
         → Executes (values.placed_part q.0.of_type (value_part (spec.added
         (site_of (types_of (basis setting.now)) q.0.place q.1)
-        (view stored.now) q.0 addition.to.now (view addition.arguments.now) (path_of run.old))))
+        (view stored.now) q.0 addition.entry.to.now (view addition.entry.arguments.now) (path_of run.old))))
         result run.old run.new }
     ensures effects { OnOk result (seen effects.new.items ≡ seen effects.old.items
-        ++ spec.effect_of (view stored.now) (Some addition.to.now)
-        (given (view addition.arguments.now))) }
+        ++ spec.effect_of (view stored.now) (Some addition.entry.to.now)
+        (given (view addition.entry.arguments.now))) }
 {
     let mark = run.out.len();
     let ended = add(
@@ -151,10 +151,10 @@ fn added_content<'d>(
     ensures keeps { OnOk result (Keeps (basis setting.now) table.old table.new run.old run.new) }
     ensures does { (q : Pair) → StandsFor (basis setting.now) field.now q
         → Executes (part.added_content (types_of (basis setting.now)) (view stored.now)
-        addition.to.now (view addition.arguments.now) q (path_of run.old)) result run.old run.new }
+        addition.entry.to.now (view addition.entry.arguments.now) q (path_of run.old)) result run.old run.new }
     ensures effects { OnOk result (seen effects.new.items ≡ seen effects.old.items
-        ++ spec.effect_of (view stored.now) (Some addition.to.now)
-        (given (view addition.arguments.now))) }
+        ++ spec.effect_of (view stored.now) (Some addition.entry.to.now)
+        (given (view addition.entry.arguments.now))) }
 {
     let outer = run.raised;
     let depth = run.path.len();
@@ -185,11 +185,11 @@ fn added_field<'d>(
     ensures keeps { OnOk result (Keeps (basis setting.now) table.old table.new run.old run.new) }
     ensures does { (q : Pair) → StandsFor (basis setting.now) field.now q
         → Executes (part.added_field (types_of (basis setting.now)) (view stored.now)
-        addition.to.now (view addition.arguments.now) (path_of run.old) slot.field q)
+        addition.entry.to.now (view addition.entry.arguments.now) (path_of run.old) slot.field q)
         result run.old run.new }
     ensures effects { OnOk result (seen effects.new.items ≡ seen effects.old.items
-        ++ spec.effect_of (view stored.now) (Some addition.to.now)
-        (given (view addition.arguments.now))) }
+        ++ spec.effect_of (view stored.now) (Some addition.entry.to.now)
+        (given (view addition.entry.arguments.now))) }
 {
     write_comma(run, slot.field)?;
     count(run)?;
@@ -231,10 +231,10 @@ fn root_field<'d>(
     ensures keeps { OnOk result (Keeps (basis setting.now) table.old table.new run.old run.new) }
     ensures does { (q : Pair) → StandsFor (basis setting.now) field.now q
         → Executes (part.root_field (types_of (basis setting.now))
-        (root_of (basis setting.now) root) (path_of run.old) slot.field q) result run.old run.new }
+        (root_of (basis setting.now) root.entry) (path_of run.old) slot.field q) result run.old run.new }
     ensures effects { (q : Pair) → StandsFor (basis setting.now) field.now q
         → OnOk result (seen effects.new.items ≡ seen effects.old.items
-        ++ effect_in (root_of (basis setting.now) root) q) }
+        ++ effect_in (root_of (basis setting.now) root.entry) q) }
 {
     match addition_of(setting, root.of_type, field) {
         Some(addition) => added_field(
@@ -267,11 +267,11 @@ fn root_fields<'d>(
     ensures does { (qs : List Pair)
         → StandFor (basis setting.now) (fields_at table.old.entries.items entry) qs
         → Executes (part.root_fields (types_of (basis setting.now))
-        (root_of (basis setting.now) root) qs (path_of run.old)) result run.old run.new }
+        (root_of (basis setting.now) root.entry) qs (path_of run.old)) result run.old run.new }
     ensures effects { (qs : List Pair)
         → StandFor (basis setting.now) (fields_at table.old.entries.items entry) qs
         → OnOk result (seen effects.new.items ≡ seen effects.old.items
-        ++ effects_in (root_of (basis setting.now) root) qs) }
+        ++ effects_in (root_of (basis setting.now) root.entry) qs) }
 {
     let shared = table.fields(entry)?;
     let fields = shared.get();
@@ -300,11 +300,11 @@ pub fn execute_root<'d>(
     ensures does { (qs : List Pair)
         → StandFor (basis setting.now) (fields_at table.old.entries.items entry) qs
         → Executes (part.root_part (types_of (basis setting.now))
-        (root_of (basis setting.now) root) qs (path_of run.old)) result run.old run.new }
+        (root_of (basis setting.now) root.entry) qs (path_of run.old)) result run.old run.new }
     ensures effects { (qs : List Pair)
         → StandFor (basis setting.now) (fields_at table.old.entries.items entry) qs
         → OnOk result (seen effects.new.items ≡ seen effects.old.items
-        ++ effects_in (root_of (basis setting.now) root) qs) }
+        ++ effects_in (root_of (basis setting.now) root.entry) qs) }
 {
     write_byte(run, b'{')?;
     let ended = root_fields(alloc, setting, table, entry, root, run, effects)?;

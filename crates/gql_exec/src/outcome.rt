@@ -51,7 +51,7 @@ impl Drop for Outcome<'_> {
 impl Outcome<'_> {
     /// What is to be added to the stored data, in order.
     pub fn into_effects(self) -> Vec<Effect>
-        ensures { result ≡ self.effects }
+        ensures { result ≡ self.entry.effects }
     {
         let Outcome {
             data: _,

@@ -143,18 +143,18 @@ pub fn mutate_sets<'d>(
     root: Root<'_>,
     sets: &[SelectionSet<'d>],
 ) -> Result<Outcome<'d>, ExecRefusal>
-    ensures outcome { IfOk result (λ o. is_met (basis setting.now) root.of_type.now
-        root.of_type.now ≡ true
-        → (x : Plan) → IsPlan (basis setting.now) root.of_type.now (all_selections sets.now) x
+    ensures outcome { IfOk result (λ o. is_met (basis setting.now) root.entry.of_type.now
+        root.entry.of_type.now ≡ true
+        → (x : Plan) → IsPlan (basis setting.now) root.entry.of_type.now (all_selections sets.now) x
         → IsOutcomeOf (outcome_of o) (mutation_answer (types_of (basis setting.now))
-        (append_of setting.now.context.schema.now root.of_type.now) x root.of_type.now
-        (view root.stored.now) (view root.initial.now))) }
+        (append_of setting.now.context.schema.now root.entry.of_type.now) x root.entry.of_type.now
+        (view root.entry.stored.now) (view root.entry.initial.now))) }
     ensures heavy { IfErr result (λ e. e ≡ ExecRefusal.TooHeavy
-        → is_met (basis setting.now) root.of_type.now root.of_type.now ≡ true
-        → (x : Plan) → IsPlan (basis setting.now) root.of_type.now (all_selections sets.now) x
+        → is_met (basis setting.now) root.entry.of_type.now root.entry.of_type.now ≡ true
+        → (x : Plan) → IsPlan (basis setting.now) root.entry.of_type.now (all_selections sets.now) x
         → most_values < (mutation_answer (types_of (basis setting.now))
-        (append_of setting.now.context.schema.now root.of_type.now) x root.of_type.now
-        (view root.stored.now) (view root.initial.now)).weight) }
+        (append_of setting.now.context.schema.now root.entry.of_type.now) x root.entry.of_type.now
+        (view root.entry.stored.now) (view root.entry.initial.now)).weight) }
 {
     let mut table = Table::new(alloc);
     let name = root.of_type;

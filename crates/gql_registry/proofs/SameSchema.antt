@@ -3,7 +3,7 @@ use Rattle.std.proofs.Common.{◌≡◌, ℕ, List, Option, Some, None, IfSome}
 use Rattle.gql_ast.specs.declared.definition.Document.{Document}
 use Rattle.gql_ast.specs.declared.fault.Fault.{Fault}
 use Rattle.gql_ast.specs.declared.files.Files.{Files}
-use Rattle.gql_schema_rules.specs.SchemaFaults.{IsSchemaFault, FaultsBy, by_s01, by_s02, by_s03, by_s04, by_s05, by_s06, by_s07, by_s08, by_s09, by_s10, by_s11, by_s12, by_s13, by_s14, by_s15, by_s16, by_s17, by_s18, by_s19, by_s20, by_s21, by_s22, by_s23, by_s24, by_s25, by_s26, by_s27, by_s28, by_s29, by_s30, by_s31, by_s32, by_s33, by_s34, by_p01, by_p02}
+use Rattle.gql_schema_rules.specs.SchemaFaults.{IsSchemaFault, FaultsBy, by_s01, by_s02, by_s03, by_s04, by_s05, by_s06, by_s07, by_s08, by_s09, by_s10, by_s11, by_s12, by_s13, by_s14, by_s15, by_s16, by_s17, by_s18, by_s19, by_s20, by_s21, by_s22, by_s23, by_s24, by_s25, by_s26, by_s27, by_s28, by_s29, by_s30, by_s31, by_s32, by_s33, by_s34, by_s35, by_s36, by_p01, by_p02}
 use Rattle.gql_ast.specs.declared.fault.FileSide.{FileSide}
 use Rattle.gql_ast.specs.declared.fault.FileSide.TheVariants.{Schema as SchemaFiles, Documents}
 use Rattle.gql_registry.specs.Changes.{schema_after}
@@ -56,6 +56,8 @@ fault_after files documents s f (by_s31 h) = by_s31 h
 fault_after files documents s f (by_s32 h) = by_s32 h
 fault_after files documents s f (by_s33 h) = by_s33 h
 fault_after files documents s f (by_s34 h) = by_s34 h
+fault_after files documents s f (by_s35 h) = by_s35 h
+fault_after files documents s f (by_s36 h) = by_s36 h
 fault_after files documents s f (by_p01 h) = by_p01 h
 fault_after files documents s f (by_p02 h) = by_p02 h
 
@@ -95,6 +97,8 @@ fault_before files documents s f (by_s31 h) = by_s31 h
 fault_before files documents s f (by_s32 h) = by_s32 h
 fault_before files documents s f (by_s33 h) = by_s33 h
 fault_before files documents s f (by_s34 h) = by_s34 h
+fault_before files documents s f (by_s35 h) = by_s35 h
+fault_before files documents s f (by_s36 h) = by_s36 h
 fault_before files documents s f (by_p01 h) = by_p01 h
 fault_before files documents s f (by_p02 h) = by_p02 h
 

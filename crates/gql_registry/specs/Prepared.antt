@@ -1,6 +1,5 @@
 -- Runs that are prepared, and what calls of the code come to, as contracts see them.
 use Rattle.std.specs.Prelude.{ℕ, List, map, Result, Ok, Err}
-use Rattle.gql_exec.specs.Outcomes.{effect_of}
 use Rattle.gql_registry.specs.Calls.{CallOutcome}
 use Rattle.gql_registry.specs.declared.calling.Ran.{Ran}
 use Rattle.gql_registry.specs.declared.refusal.Refusal.{Refusal}
@@ -9,6 +8,7 @@ use Rattle.gql_registry.specs.declared.registry.Registry.{Registry}
 use Rattle.gql_registry.specs.declared.registry.Reply.{Reply}
 use Rattle.gql_stored.specs.Effects.{Effect}
 use Rattle.gql_stored.specs.Rooms as rooms
+use Rattle.gql_stored.specs.Rooms.{effect_of}
 
 -- the text of the reply of a prepared run
 abbrev pub body_of : Prepared → List ℕ

@@ -31,10 +31,12 @@ use Rattle.gql_node_rules.specs.S31RepeatedDirectives as s31
 use Rattle.gql_node_rules.specs.S32BadArguments as s32
 use Rattle.gql_node_rules.specs.S33BadArgumentValues as s33
 use Rattle.gql_schema_rules.specs.S34DuplicateSchemas as s34
+use Rattle.gql_node_rules.specs.S35DeprecatedRequiredInputs as s35
+use Rattle.gql_node_rules.specs.S36MisplacedAppends as s36
 use Rattle.gql_node_rules.specs.P01FloatReferences as p01
 use Rattle.gql_schema_rules.specs.P02SubscriptionRoots as p02
 use Rattle.gql_schema_rules.specs.RuleGroups.{definition_faults, type_faults, root_faults}
-use Rattle.gql_schema_rules.specs.SchemaFaults.{FaultsBy, nodes_in, by_s01, by_s02, by_s03, by_s04, by_s05, by_s06, by_s07, by_s08, by_s09, by_s10, by_s11, by_s12, by_s13, by_s14, by_s15, by_s16, by_s17, by_s18, by_s19, by_s20, by_s21, by_s22, by_s23, by_s24, by_s25, by_s26, by_s27, by_s28, by_s29, by_s30, by_s31, by_s32, by_s33, by_s34, by_p01, by_p02}
+use Rattle.gql_schema_rules.specs.SchemaFaults.{FaultsBy, nodes_in, by_s01, by_s02, by_s03, by_s04, by_s05, by_s06, by_s07, by_s08, by_s09, by_s10, by_s11, by_s12, by_s13, by_s14, by_s15, by_s16, by_s17, by_s18, by_s19, by_s20, by_s21, by_s22, by_s23, by_s24, by_s25, by_s26, by_s27, by_s28, by_s29, by_s30, by_s31, by_s32, by_s33, by_s34, by_s35, by_s36, by_p01, by_p02}
 
 module _ (files : Files) (s : Schema) (f : Fault) where
   abbrev n : AllNodes
@@ -53,9 +55,9 @@ module _ (files : Files) (s : Schema) (f : Fault) where
   of_interfaces (iface.by_s26 h) = by_s26 h
 
   of_nodes : Contains (node_faults n s) f → FaultsBy files s f
-  of_nodes h = elim (Contains-append_cases (s03.faults n) (((s16.faults n s) ++ ((s21.faults n s) ++ (s22.faults n s))) ++ (((s20.faults n s) ++ (p01.faults n)) ++ ((s29.faults n s) ++ ((s30.faults n s) ++ ((s31.faults n s) ++ ((s32.faults n s) ++ (s33.faults n s))))))) f h) [
+  of_nodes h = elim (Contains-append_cases (s03.faults n) (((s16.faults n s) ++ ((s21.faults n s) ++ (s22.faults n s))) ++ (((s20.faults n s) ++ (p01.faults n)) ++ (((s29.faults n s) ++ ((s30.faults n s) ++ ((s31.faults n s) ++ ((s32.faults n s) ++ (s33.faults n s))))) ++ ((s35.faults n) ++ (s36.faults n s))))) f h) [
     | inl a1 ↦ by_s03 a1
-    | inr b1 ↦ elim (Contains-append_cases ((s16.faults n s) ++ ((s21.faults n s) ++ (s22.faults n s))) (((s20.faults n s) ++ (p01.faults n)) ++ ((s29.faults n s) ++ ((s30.faults n s) ++ ((s31.faults n s) ++ ((s32.faults n s) ++ (s33.faults n s)))))) f b1) [
+    | inr b1 ↦ elim (Contains-append_cases ((s16.faults n s) ++ ((s21.faults n s) ++ (s22.faults n s))) (((s20.faults n s) ++ (p01.faults n)) ++ (((s29.faults n s) ++ ((s30.faults n s) ++ ((s31.faults n s) ++ ((s32.faults n s) ++ (s33.faults n s))))) ++ ((s35.faults n) ++ (s36.faults n s)))) f b1) [
       | inl a2 ↦ elim (Contains-append_cases (s16.faults n s) ((s21.faults n s) ++ (s22.faults n s)) f a2) [
         | inl a3 ↦ by_s16 a3
         | inr b3 ↦ elim (Contains-append_cases (s21.faults n s) (s22.faults n s) f b3) [
@@ -63,22 +65,28 @@ module _ (files : Files) (s : Schema) (f : Fault) where
           | inr b4 ↦ by_s22 b4
         ]
       ]
-      | inr b2 ↦ elim (Contains-append_cases ((s20.faults n s) ++ (p01.faults n)) ((s29.faults n s) ++ ((s30.faults n s) ++ ((s31.faults n s) ++ ((s32.faults n s) ++ (s33.faults n s))))) f b2) [
+      | inr b2 ↦ elim (Contains-append_cases ((s20.faults n s) ++ (p01.faults n)) (((s29.faults n s) ++ ((s30.faults n s) ++ ((s31.faults n s) ++ ((s32.faults n s) ++ (s33.faults n s))))) ++ ((s35.faults n) ++ (s36.faults n s))) f b2) [
         | inl a5 ↦ elim (Contains-append_cases (s20.faults n s) (p01.faults n) f a5) [
           | inl a6 ↦ by_s20 a6
           | inr b6 ↦ by_p01 b6
         ]
-        | inr b5 ↦ elim (Contains-append_cases (s29.faults n s) ((s30.faults n s) ++ ((s31.faults n s) ++ ((s32.faults n s) ++ (s33.faults n s)))) f b5) [
-          | inl a7 ↦ by_s29 a7
-          | inr b7 ↦ elim (Contains-append_cases (s30.faults n s) ((s31.faults n s) ++ ((s32.faults n s) ++ (s33.faults n s))) f b7) [
-            | inl a8 ↦ by_s30 a8
-            | inr b8 ↦ elim (Contains-append_cases (s31.faults n s) ((s32.faults n s) ++ (s33.faults n s)) f b8) [
-              | inl a9 ↦ by_s31 a9
-              | inr b9 ↦ elim (Contains-append_cases (s32.faults n s) (s33.faults n s) f b9) [
-                | inl a10 ↦ by_s32 a10
-                | inr b10 ↦ by_s33 b10
+        | inr b5 ↦ elim (Contains-append_cases ((s29.faults n s) ++ ((s30.faults n s) ++ ((s31.faults n s) ++ ((s32.faults n s) ++ (s33.faults n s))))) ((s35.faults n) ++ (s36.faults n s)) f b5) [
+          | inl a7 ↦ elim (Contains-append_cases (s29.faults n s) ((s30.faults n s) ++ ((s31.faults n s) ++ ((s32.faults n s) ++ (s33.faults n s)))) f a7) [
+            | inl a8 ↦ by_s29 a8
+            | inr b8 ↦ elim (Contains-append_cases (s30.faults n s) ((s31.faults n s) ++ ((s32.faults n s) ++ (s33.faults n s))) f b8) [
+              | inl a9 ↦ by_s30 a9
+              | inr b9 ↦ elim (Contains-append_cases (s31.faults n s) ((s32.faults n s) ++ (s33.faults n s)) f b9) [
+                | inl a10 ↦ by_s31 a10
+                | inr b10 ↦ elim (Contains-append_cases (s32.faults n s) (s33.faults n s) f b10) [
+                  | inl a11 ↦ by_s32 a11
+                  | inr b11 ↦ by_s33 b11
+                ]
               ]
             ]
+          ]
+          | inr b7 ↦ elim (Contains-append_cases (s35.faults n) (s36.faults n s) f b7) [
+            | inl a12 ↦ by_s35 a12
+            | inr b12 ↦ by_s36 b12
           ]
         ]
       ]
@@ -170,7 +178,7 @@ module _ (files : Files) (s : Schema) (f : Fault) where
   all : (ifaces : List Fault) → (iface.IsInterfaceFault s f → Contains ifaces f) → FaultsBy files s f → Contains (joined ifaces) f
   all ifaces complete (by_s01 h) = in_definitions ifaces (Contains-append_left (s01.faults n) ((s02.faults n) ++ ((s04.faults n) ++ ((s27.faults n s) ++ (s28.faults n s)))) f h)
   all ifaces complete (by_s02 h) = in_definitions ifaces (Contains-append_right (s01.faults n) ((s02.faults n) ++ ((s04.faults n) ++ ((s27.faults n s) ++ (s28.faults n s)))) f (Contains-append_left (s02.faults n) ((s04.faults n) ++ ((s27.faults n s) ++ (s28.faults n s))) f h))
-  all ifaces complete (by_s03 h) = in_nodes ifaces (Contains-append_left (s03.faults n) (((s16.faults n s) ++ ((s21.faults n s) ++ (s22.faults n s))) ++ (((s20.faults n s) ++ (p01.faults n)) ++ ((s29.faults n s) ++ ((s30.faults n s) ++ ((s31.faults n s) ++ ((s32.faults n s) ++ (s33.faults n s))))))) f h)
+  all ifaces complete (by_s03 h) = in_nodes ifaces (Contains-append_left (s03.faults n) (((s16.faults n s) ++ ((s21.faults n s) ++ (s22.faults n s))) ++ (((s20.faults n s) ++ (p01.faults n)) ++ (((s29.faults n s) ++ ((s30.faults n s) ++ ((s31.faults n s) ++ ((s32.faults n s) ++ (s33.faults n s))))) ++ ((s35.faults n) ++ (s36.faults n s))))) f h)
   all ifaces complete (by_s04 h) = in_definitions ifaces (Contains-append_right (s01.faults n) ((s02.faults n) ++ ((s04.faults n) ++ ((s27.faults n s) ++ (s28.faults n s)))) f (Contains-append_right (s02.faults n) ((s04.faults n) ++ ((s27.faults n s) ++ (s28.faults n s))) f (Contains-append_left (s04.faults n) ((s27.faults n s) ++ (s28.faults n s)) f h)))
   all ifaces complete (by_s05 h) = in_types ifaces (Contains-append_left (s05.faults s) ((s06.faults s) ++ ((s07.faults s) ++ ((s08.faults s) ++ (s18.faults s)))) f h)
   all ifaces complete (by_s06 h) = in_types ifaces (Contains-append_right (s05.faults s) ((s06.faults s) ++ ((s07.faults s) ++ ((s08.faults s) ++ (s18.faults s)))) f (Contains-append_left (s06.faults s) ((s07.faults s) ++ ((s08.faults s) ++ (s18.faults s))) f h))
@@ -183,26 +191,28 @@ module _ (files : Files) (s : Schema) (f : Fault) where
   all ifaces complete (by_s13 h) = in_interfaces ifaces (complete (iface.by_s13 h))
   all ifaces complete (by_s14 h) = in_interfaces ifaces (complete (iface.by_s14 h))
   all ifaces complete (by_s15 h) = in_interfaces ifaces (complete (iface.by_s15 h))
-  all ifaces complete (by_s16 h) = in_nodes ifaces (Contains-append_right (s03.faults n) (((s16.faults n s) ++ ((s21.faults n s) ++ (s22.faults n s))) ++ (((s20.faults n s) ++ (p01.faults n)) ++ ((s29.faults n s) ++ ((s30.faults n s) ++ ((s31.faults n s) ++ ((s32.faults n s) ++ (s33.faults n s))))))) f (Contains-append_left ((s16.faults n s) ++ ((s21.faults n s) ++ (s22.faults n s))) (((s20.faults n s) ++ (p01.faults n)) ++ ((s29.faults n s) ++ ((s30.faults n s) ++ ((s31.faults n s) ++ ((s32.faults n s) ++ (s33.faults n s)))))) f (Contains-append_left (s16.faults n s) ((s21.faults n s) ++ (s22.faults n s)) f h)))
+  all ifaces complete (by_s16 h) = in_nodes ifaces (Contains-append_right (s03.faults n) (((s16.faults n s) ++ ((s21.faults n s) ++ (s22.faults n s))) ++ (((s20.faults n s) ++ (p01.faults n)) ++ (((s29.faults n s) ++ ((s30.faults n s) ++ ((s31.faults n s) ++ ((s32.faults n s) ++ (s33.faults n s))))) ++ ((s35.faults n) ++ (s36.faults n s))))) f (Contains-append_left ((s16.faults n s) ++ ((s21.faults n s) ++ (s22.faults n s))) (((s20.faults n s) ++ (p01.faults n)) ++ (((s29.faults n s) ++ ((s30.faults n s) ++ ((s31.faults n s) ++ ((s32.faults n s) ++ (s33.faults n s))))) ++ ((s35.faults n) ++ (s36.faults n s)))) f (Contains-append_left (s16.faults n s) ((s21.faults n s) ++ (s22.faults n s)) f h)))
   all ifaces complete (by_s17 h) = in_interfaces ifaces (complete (iface.by_s17 h))
   all ifaces complete (by_s18 h) = in_types ifaces (Contains-append_right (s05.faults s) ((s06.faults s) ++ ((s07.faults s) ++ ((s08.faults s) ++ (s18.faults s)))) f (Contains-append_right (s06.faults s) ((s07.faults s) ++ ((s08.faults s) ++ (s18.faults s))) f (Contains-append_right (s07.faults s) ((s08.faults s) ++ (s18.faults s)) f (Contains-append_right (s08.faults s) (s18.faults s) f h))))
   all ifaces complete (by_s19 h) = in_interfaces ifaces (complete (iface.by_s19 h))
-  all ifaces complete (by_s20 h) = in_nodes ifaces (Contains-append_right (s03.faults n) (((s16.faults n s) ++ ((s21.faults n s) ++ (s22.faults n s))) ++ (((s20.faults n s) ++ (p01.faults n)) ++ ((s29.faults n s) ++ ((s30.faults n s) ++ ((s31.faults n s) ++ ((s32.faults n s) ++ (s33.faults n s))))))) f (Contains-append_right ((s16.faults n s) ++ ((s21.faults n s) ++ (s22.faults n s))) (((s20.faults n s) ++ (p01.faults n)) ++ ((s29.faults n s) ++ ((s30.faults n s) ++ ((s31.faults n s) ++ ((s32.faults n s) ++ (s33.faults n s)))))) f (Contains-append_left ((s20.faults n s) ++ (p01.faults n)) ((s29.faults n s) ++ ((s30.faults n s) ++ ((s31.faults n s) ++ ((s32.faults n s) ++ (s33.faults n s))))) f (Contains-append_left (s20.faults n s) (p01.faults n) f h))))
-  all ifaces complete (by_s21 h) = in_nodes ifaces (Contains-append_right (s03.faults n) (((s16.faults n s) ++ ((s21.faults n s) ++ (s22.faults n s))) ++ (((s20.faults n s) ++ (p01.faults n)) ++ ((s29.faults n s) ++ ((s30.faults n s) ++ ((s31.faults n s) ++ ((s32.faults n s) ++ (s33.faults n s))))))) f (Contains-append_left ((s16.faults n s) ++ ((s21.faults n s) ++ (s22.faults n s))) (((s20.faults n s) ++ (p01.faults n)) ++ ((s29.faults n s) ++ ((s30.faults n s) ++ ((s31.faults n s) ++ ((s32.faults n s) ++ (s33.faults n s)))))) f (Contains-append_right (s16.faults n s) ((s21.faults n s) ++ (s22.faults n s)) f (Contains-append_left (s21.faults n s) (s22.faults n s) f h))))
-  all ifaces complete (by_s22 h) = in_nodes ifaces (Contains-append_right (s03.faults n) (((s16.faults n s) ++ ((s21.faults n s) ++ (s22.faults n s))) ++ (((s20.faults n s) ++ (p01.faults n)) ++ ((s29.faults n s) ++ ((s30.faults n s) ++ ((s31.faults n s) ++ ((s32.faults n s) ++ (s33.faults n s))))))) f (Contains-append_left ((s16.faults n s) ++ ((s21.faults n s) ++ (s22.faults n s))) (((s20.faults n s) ++ (p01.faults n)) ++ ((s29.faults n s) ++ ((s30.faults n s) ++ ((s31.faults n s) ++ ((s32.faults n s) ++ (s33.faults n s)))))) f (Contains-append_right (s16.faults n s) ((s21.faults n s) ++ (s22.faults n s)) f (Contains-append_right (s21.faults n s) (s22.faults n s) f h))))
+  all ifaces complete (by_s20 h) = in_nodes ifaces (Contains-append_right (s03.faults n) (((s16.faults n s) ++ ((s21.faults n s) ++ (s22.faults n s))) ++ (((s20.faults n s) ++ (p01.faults n)) ++ (((s29.faults n s) ++ ((s30.faults n s) ++ ((s31.faults n s) ++ ((s32.faults n s) ++ (s33.faults n s))))) ++ ((s35.faults n) ++ (s36.faults n s))))) f (Contains-append_right ((s16.faults n s) ++ ((s21.faults n s) ++ (s22.faults n s))) (((s20.faults n s) ++ (p01.faults n)) ++ (((s29.faults n s) ++ ((s30.faults n s) ++ ((s31.faults n s) ++ ((s32.faults n s) ++ (s33.faults n s))))) ++ ((s35.faults n) ++ (s36.faults n s)))) f (Contains-append_left ((s20.faults n s) ++ (p01.faults n)) (((s29.faults n s) ++ ((s30.faults n s) ++ ((s31.faults n s) ++ ((s32.faults n s) ++ (s33.faults n s))))) ++ ((s35.faults n) ++ (s36.faults n s))) f (Contains-append_left (s20.faults n s) (p01.faults n) f h))))
+  all ifaces complete (by_s21 h) = in_nodes ifaces (Contains-append_right (s03.faults n) (((s16.faults n s) ++ ((s21.faults n s) ++ (s22.faults n s))) ++ (((s20.faults n s) ++ (p01.faults n)) ++ (((s29.faults n s) ++ ((s30.faults n s) ++ ((s31.faults n s) ++ ((s32.faults n s) ++ (s33.faults n s))))) ++ ((s35.faults n) ++ (s36.faults n s))))) f (Contains-append_left ((s16.faults n s) ++ ((s21.faults n s) ++ (s22.faults n s))) (((s20.faults n s) ++ (p01.faults n)) ++ (((s29.faults n s) ++ ((s30.faults n s) ++ ((s31.faults n s) ++ ((s32.faults n s) ++ (s33.faults n s))))) ++ ((s35.faults n) ++ (s36.faults n s)))) f (Contains-append_right (s16.faults n s) ((s21.faults n s) ++ (s22.faults n s)) f (Contains-append_left (s21.faults n s) (s22.faults n s) f h))))
+  all ifaces complete (by_s22 h) = in_nodes ifaces (Contains-append_right (s03.faults n) (((s16.faults n s) ++ ((s21.faults n s) ++ (s22.faults n s))) ++ (((s20.faults n s) ++ (p01.faults n)) ++ (((s29.faults n s) ++ ((s30.faults n s) ++ ((s31.faults n s) ++ ((s32.faults n s) ++ (s33.faults n s))))) ++ ((s35.faults n) ++ (s36.faults n s))))) f (Contains-append_left ((s16.faults n s) ++ ((s21.faults n s) ++ (s22.faults n s))) (((s20.faults n s) ++ (p01.faults n)) ++ (((s29.faults n s) ++ ((s30.faults n s) ++ ((s31.faults n s) ++ ((s32.faults n s) ++ (s33.faults n s))))) ++ ((s35.faults n) ++ (s36.faults n s)))) f (Contains-append_right (s16.faults n s) ((s21.faults n s) ++ (s22.faults n s)) f (Contains-append_right (s21.faults n s) (s22.faults n s) f h))))
   all ifaces complete (by_s23 h) = in_roots ifaces (Contains-append_left (s23.faults s) ((s24.faults s) ++ ((s25.faults s) ++ ((s34.faults n s) ++ (p02.faults s)))) f h)
   all ifaces complete (by_s24 h) = in_roots ifaces (Contains-append_right (s23.faults s) ((s24.faults s) ++ ((s25.faults s) ++ ((s34.faults n s) ++ (p02.faults s)))) f (Contains-append_left (s24.faults s) ((s25.faults s) ++ ((s34.faults n s) ++ (p02.faults s))) f h))
   all ifaces complete (by_s25 h) = in_roots ifaces (Contains-append_right (s23.faults s) ((s24.faults s) ++ ((s25.faults s) ++ ((s34.faults n s) ++ (p02.faults s)))) f (Contains-append_right (s24.faults s) ((s25.faults s) ++ ((s34.faults n s) ++ (p02.faults s))) f (Contains-append_left (s25.faults s) ((s34.faults n s) ++ (p02.faults s)) f h)))
   all ifaces complete (by_s26 h) = in_interfaces ifaces (complete (iface.by_s26 h))
   all ifaces complete (by_s27 h) = in_definitions ifaces (Contains-append_right (s01.faults n) ((s02.faults n) ++ ((s04.faults n) ++ ((s27.faults n s) ++ (s28.faults n s)))) f (Contains-append_right (s02.faults n) ((s04.faults n) ++ ((s27.faults n s) ++ (s28.faults n s))) f (Contains-append_right (s04.faults n) ((s27.faults n s) ++ (s28.faults n s)) f (Contains-append_left (s27.faults n s) (s28.faults n s) f h))))
   all ifaces complete (by_s28 h) = in_definitions ifaces (Contains-append_right (s01.faults n) ((s02.faults n) ++ ((s04.faults n) ++ ((s27.faults n s) ++ (s28.faults n s)))) f (Contains-append_right (s02.faults n) ((s04.faults n) ++ ((s27.faults n s) ++ (s28.faults n s))) f (Contains-append_right (s04.faults n) ((s27.faults n s) ++ (s28.faults n s)) f (Contains-append_right (s27.faults n s) (s28.faults n s) f h))))
-  all ifaces complete (by_s29 h) = in_nodes ifaces (Contains-append_right (s03.faults n) (((s16.faults n s) ++ ((s21.faults n s) ++ (s22.faults n s))) ++ (((s20.faults n s) ++ (p01.faults n)) ++ ((s29.faults n s) ++ ((s30.faults n s) ++ ((s31.faults n s) ++ ((s32.faults n s) ++ (s33.faults n s))))))) f (Contains-append_right ((s16.faults n s) ++ ((s21.faults n s) ++ (s22.faults n s))) (((s20.faults n s) ++ (p01.faults n)) ++ ((s29.faults n s) ++ ((s30.faults n s) ++ ((s31.faults n s) ++ ((s32.faults n s) ++ (s33.faults n s)))))) f (Contains-append_right ((s20.faults n s) ++ (p01.faults n)) ((s29.faults n s) ++ ((s30.faults n s) ++ ((s31.faults n s) ++ ((s32.faults n s) ++ (s33.faults n s))))) f (Contains-append_left (s29.faults n s) ((s30.faults n s) ++ ((s31.faults n s) ++ ((s32.faults n s) ++ (s33.faults n s)))) f h))))
-  all ifaces complete (by_s30 h) = in_nodes ifaces (Contains-append_right (s03.faults n) (((s16.faults n s) ++ ((s21.faults n s) ++ (s22.faults n s))) ++ (((s20.faults n s) ++ (p01.faults n)) ++ ((s29.faults n s) ++ ((s30.faults n s) ++ ((s31.faults n s) ++ ((s32.faults n s) ++ (s33.faults n s))))))) f (Contains-append_right ((s16.faults n s) ++ ((s21.faults n s) ++ (s22.faults n s))) (((s20.faults n s) ++ (p01.faults n)) ++ ((s29.faults n s) ++ ((s30.faults n s) ++ ((s31.faults n s) ++ ((s32.faults n s) ++ (s33.faults n s)))))) f (Contains-append_right ((s20.faults n s) ++ (p01.faults n)) ((s29.faults n s) ++ ((s30.faults n s) ++ ((s31.faults n s) ++ ((s32.faults n s) ++ (s33.faults n s))))) f (Contains-append_right (s29.faults n s) ((s30.faults n s) ++ ((s31.faults n s) ++ ((s32.faults n s) ++ (s33.faults n s)))) f (Contains-append_left (s30.faults n s) ((s31.faults n s) ++ ((s32.faults n s) ++ (s33.faults n s))) f h)))))
-  all ifaces complete (by_s31 h) = in_nodes ifaces (Contains-append_right (s03.faults n) (((s16.faults n s) ++ ((s21.faults n s) ++ (s22.faults n s))) ++ (((s20.faults n s) ++ (p01.faults n)) ++ ((s29.faults n s) ++ ((s30.faults n s) ++ ((s31.faults n s) ++ ((s32.faults n s) ++ (s33.faults n s))))))) f (Contains-append_right ((s16.faults n s) ++ ((s21.faults n s) ++ (s22.faults n s))) (((s20.faults n s) ++ (p01.faults n)) ++ ((s29.faults n s) ++ ((s30.faults n s) ++ ((s31.faults n s) ++ ((s32.faults n s) ++ (s33.faults n s)))))) f (Contains-append_right ((s20.faults n s) ++ (p01.faults n)) ((s29.faults n s) ++ ((s30.faults n s) ++ ((s31.faults n s) ++ ((s32.faults n s) ++ (s33.faults n s))))) f (Contains-append_right (s29.faults n s) ((s30.faults n s) ++ ((s31.faults n s) ++ ((s32.faults n s) ++ (s33.faults n s)))) f (Contains-append_right (s30.faults n s) ((s31.faults n s) ++ ((s32.faults n s) ++ (s33.faults n s))) f (Contains-append_left (s31.faults n s) ((s32.faults n s) ++ (s33.faults n s)) f h))))))
-  all ifaces complete (by_s32 h) = in_nodes ifaces (Contains-append_right (s03.faults n) (((s16.faults n s) ++ ((s21.faults n s) ++ (s22.faults n s))) ++ (((s20.faults n s) ++ (p01.faults n)) ++ ((s29.faults n s) ++ ((s30.faults n s) ++ ((s31.faults n s) ++ ((s32.faults n s) ++ (s33.faults n s))))))) f (Contains-append_right ((s16.faults n s) ++ ((s21.faults n s) ++ (s22.faults n s))) (((s20.faults n s) ++ (p01.faults n)) ++ ((s29.faults n s) ++ ((s30.faults n s) ++ ((s31.faults n s) ++ ((s32.faults n s) ++ (s33.faults n s)))))) f (Contains-append_right ((s20.faults n s) ++ (p01.faults n)) ((s29.faults n s) ++ ((s30.faults n s) ++ ((s31.faults n s) ++ ((s32.faults n s) ++ (s33.faults n s))))) f (Contains-append_right (s29.faults n s) ((s30.faults n s) ++ ((s31.faults n s) ++ ((s32.faults n s) ++ (s33.faults n s)))) f (Contains-append_right (s30.faults n s) ((s31.faults n s) ++ ((s32.faults n s) ++ (s33.faults n s))) f (Contains-append_right (s31.faults n s) ((s32.faults n s) ++ (s33.faults n s)) f (Contains-append_left (s32.faults n s) (s33.faults n s) f h)))))))
-  all ifaces complete (by_s33 h) = in_nodes ifaces (Contains-append_right (s03.faults n) (((s16.faults n s) ++ ((s21.faults n s) ++ (s22.faults n s))) ++ (((s20.faults n s) ++ (p01.faults n)) ++ ((s29.faults n s) ++ ((s30.faults n s) ++ ((s31.faults n s) ++ ((s32.faults n s) ++ (s33.faults n s))))))) f (Contains-append_right ((s16.faults n s) ++ ((s21.faults n s) ++ (s22.faults n s))) (((s20.faults n s) ++ (p01.faults n)) ++ ((s29.faults n s) ++ ((s30.faults n s) ++ ((s31.faults n s) ++ ((s32.faults n s) ++ (s33.faults n s)))))) f (Contains-append_right ((s20.faults n s) ++ (p01.faults n)) ((s29.faults n s) ++ ((s30.faults n s) ++ ((s31.faults n s) ++ ((s32.faults n s) ++ (s33.faults n s))))) f (Contains-append_right (s29.faults n s) ((s30.faults n s) ++ ((s31.faults n s) ++ ((s32.faults n s) ++ (s33.faults n s)))) f (Contains-append_right (s30.faults n s) ((s31.faults n s) ++ ((s32.faults n s) ++ (s33.faults n s))) f (Contains-append_right (s31.faults n s) ((s32.faults n s) ++ (s33.faults n s)) f (Contains-append_right (s32.faults n s) (s33.faults n s) f h)))))))
+  all ifaces complete (by_s29 h) = in_nodes ifaces (Contains-append_right (s03.faults n) (((s16.faults n s) ++ ((s21.faults n s) ++ (s22.faults n s))) ++ (((s20.faults n s) ++ (p01.faults n)) ++ (((s29.faults n s) ++ ((s30.faults n s) ++ ((s31.faults n s) ++ ((s32.faults n s) ++ (s33.faults n s))))) ++ ((s35.faults n) ++ (s36.faults n s))))) f (Contains-append_right ((s16.faults n s) ++ ((s21.faults n s) ++ (s22.faults n s))) (((s20.faults n s) ++ (p01.faults n)) ++ (((s29.faults n s) ++ ((s30.faults n s) ++ ((s31.faults n s) ++ ((s32.faults n s) ++ (s33.faults n s))))) ++ ((s35.faults n) ++ (s36.faults n s)))) f (Contains-append_right ((s20.faults n s) ++ (p01.faults n)) (((s29.faults n s) ++ ((s30.faults n s) ++ ((s31.faults n s) ++ ((s32.faults n s) ++ (s33.faults n s))))) ++ ((s35.faults n) ++ (s36.faults n s))) f (Contains-append_left ((s29.faults n s) ++ ((s30.faults n s) ++ ((s31.faults n s) ++ ((s32.faults n s) ++ (s33.faults n s))))) ((s35.faults n) ++ (s36.faults n s)) f (Contains-append_left (s29.faults n s) ((s30.faults n s) ++ ((s31.faults n s) ++ ((s32.faults n s) ++ (s33.faults n s)))) f h)))))
+  all ifaces complete (by_s30 h) = in_nodes ifaces (Contains-append_right (s03.faults n) (((s16.faults n s) ++ ((s21.faults n s) ++ (s22.faults n s))) ++ (((s20.faults n s) ++ (p01.faults n)) ++ (((s29.faults n s) ++ ((s30.faults n s) ++ ((s31.faults n s) ++ ((s32.faults n s) ++ (s33.faults n s))))) ++ ((s35.faults n) ++ (s36.faults n s))))) f (Contains-append_right ((s16.faults n s) ++ ((s21.faults n s) ++ (s22.faults n s))) (((s20.faults n s) ++ (p01.faults n)) ++ (((s29.faults n s) ++ ((s30.faults n s) ++ ((s31.faults n s) ++ ((s32.faults n s) ++ (s33.faults n s))))) ++ ((s35.faults n) ++ (s36.faults n s)))) f (Contains-append_right ((s20.faults n s) ++ (p01.faults n)) (((s29.faults n s) ++ ((s30.faults n s) ++ ((s31.faults n s) ++ ((s32.faults n s) ++ (s33.faults n s))))) ++ ((s35.faults n) ++ (s36.faults n s))) f (Contains-append_left ((s29.faults n s) ++ ((s30.faults n s) ++ ((s31.faults n s) ++ ((s32.faults n s) ++ (s33.faults n s))))) ((s35.faults n) ++ (s36.faults n s)) f (Contains-append_right (s29.faults n s) ((s30.faults n s) ++ ((s31.faults n s) ++ ((s32.faults n s) ++ (s33.faults n s)))) f (Contains-append_left (s30.faults n s) ((s31.faults n s) ++ ((s32.faults n s) ++ (s33.faults n s))) f h))))))
+  all ifaces complete (by_s31 h) = in_nodes ifaces (Contains-append_right (s03.faults n) (((s16.faults n s) ++ ((s21.faults n s) ++ (s22.faults n s))) ++ (((s20.faults n s) ++ (p01.faults n)) ++ (((s29.faults n s) ++ ((s30.faults n s) ++ ((s31.faults n s) ++ ((s32.faults n s) ++ (s33.faults n s))))) ++ ((s35.faults n) ++ (s36.faults n s))))) f (Contains-append_right ((s16.faults n s) ++ ((s21.faults n s) ++ (s22.faults n s))) (((s20.faults n s) ++ (p01.faults n)) ++ (((s29.faults n s) ++ ((s30.faults n s) ++ ((s31.faults n s) ++ ((s32.faults n s) ++ (s33.faults n s))))) ++ ((s35.faults n) ++ (s36.faults n s)))) f (Contains-append_right ((s20.faults n s) ++ (p01.faults n)) (((s29.faults n s) ++ ((s30.faults n s) ++ ((s31.faults n s) ++ ((s32.faults n s) ++ (s33.faults n s))))) ++ ((s35.faults n) ++ (s36.faults n s))) f (Contains-append_left ((s29.faults n s) ++ ((s30.faults n s) ++ ((s31.faults n s) ++ ((s32.faults n s) ++ (s33.faults n s))))) ((s35.faults n) ++ (s36.faults n s)) f (Contains-append_right (s29.faults n s) ((s30.faults n s) ++ ((s31.faults n s) ++ ((s32.faults n s) ++ (s33.faults n s)))) f (Contains-append_right (s30.faults n s) ((s31.faults n s) ++ ((s32.faults n s) ++ (s33.faults n s))) f (Contains-append_left (s31.faults n s) ((s32.faults n s) ++ (s33.faults n s)) f h)))))))
+  all ifaces complete (by_s32 h) = in_nodes ifaces (Contains-append_right (s03.faults n) (((s16.faults n s) ++ ((s21.faults n s) ++ (s22.faults n s))) ++ (((s20.faults n s) ++ (p01.faults n)) ++ (((s29.faults n s) ++ ((s30.faults n s) ++ ((s31.faults n s) ++ ((s32.faults n s) ++ (s33.faults n s))))) ++ ((s35.faults n) ++ (s36.faults n s))))) f (Contains-append_right ((s16.faults n s) ++ ((s21.faults n s) ++ (s22.faults n s))) (((s20.faults n s) ++ (p01.faults n)) ++ (((s29.faults n s) ++ ((s30.faults n s) ++ ((s31.faults n s) ++ ((s32.faults n s) ++ (s33.faults n s))))) ++ ((s35.faults n) ++ (s36.faults n s)))) f (Contains-append_right ((s20.faults n s) ++ (p01.faults n)) (((s29.faults n s) ++ ((s30.faults n s) ++ ((s31.faults n s) ++ ((s32.faults n s) ++ (s33.faults n s))))) ++ ((s35.faults n) ++ (s36.faults n s))) f (Contains-append_left ((s29.faults n s) ++ ((s30.faults n s) ++ ((s31.faults n s) ++ ((s32.faults n s) ++ (s33.faults n s))))) ((s35.faults n) ++ (s36.faults n s)) f (Contains-append_right (s29.faults n s) ((s30.faults n s) ++ ((s31.faults n s) ++ ((s32.faults n s) ++ (s33.faults n s)))) f (Contains-append_right (s30.faults n s) ((s31.faults n s) ++ ((s32.faults n s) ++ (s33.faults n s))) f (Contains-append_right (s31.faults n s) ((s32.faults n s) ++ (s33.faults n s)) f (Contains-append_left (s32.faults n s) (s33.faults n s) f h))))))))
+  all ifaces complete (by_s33 h) = in_nodes ifaces (Contains-append_right (s03.faults n) (((s16.faults n s) ++ ((s21.faults n s) ++ (s22.faults n s))) ++ (((s20.faults n s) ++ (p01.faults n)) ++ (((s29.faults n s) ++ ((s30.faults n s) ++ ((s31.faults n s) ++ ((s32.faults n s) ++ (s33.faults n s))))) ++ ((s35.faults n) ++ (s36.faults n s))))) f (Contains-append_right ((s16.faults n s) ++ ((s21.faults n s) ++ (s22.faults n s))) (((s20.faults n s) ++ (p01.faults n)) ++ (((s29.faults n s) ++ ((s30.faults n s) ++ ((s31.faults n s) ++ ((s32.faults n s) ++ (s33.faults n s))))) ++ ((s35.faults n) ++ (s36.faults n s)))) f (Contains-append_right ((s20.faults n s) ++ (p01.faults n)) (((s29.faults n s) ++ ((s30.faults n s) ++ ((s31.faults n s) ++ ((s32.faults n s) ++ (s33.faults n s))))) ++ ((s35.faults n) ++ (s36.faults n s))) f (Contains-append_left ((s29.faults n s) ++ ((s30.faults n s) ++ ((s31.faults n s) ++ ((s32.faults n s) ++ (s33.faults n s))))) ((s35.faults n) ++ (s36.faults n s)) f (Contains-append_right (s29.faults n s) ((s30.faults n s) ++ ((s31.faults n s) ++ ((s32.faults n s) ++ (s33.faults n s)))) f (Contains-append_right (s30.faults n s) ((s31.faults n s) ++ ((s32.faults n s) ++ (s33.faults n s))) f (Contains-append_right (s31.faults n s) ((s32.faults n s) ++ (s33.faults n s)) f (Contains-append_right (s32.faults n s) (s33.faults n s) f h))))))))
   all ifaces complete (by_s34 h) = in_roots ifaces (Contains-append_right (s23.faults s) ((s24.faults s) ++ ((s25.faults s) ++ ((s34.faults n s) ++ (p02.faults s)))) f (Contains-append_right (s24.faults s) ((s25.faults s) ++ ((s34.faults n s) ++ (p02.faults s))) f (Contains-append_right (s25.faults s) ((s34.faults n s) ++ (p02.faults s)) f (Contains-append_left (s34.faults n s) (p02.faults s) f h))))
-  all ifaces complete (by_p01 h) = in_nodes ifaces (Contains-append_right (s03.faults n) (((s16.faults n s) ++ ((s21.faults n s) ++ (s22.faults n s))) ++ (((s20.faults n s) ++ (p01.faults n)) ++ ((s29.faults n s) ++ ((s30.faults n s) ++ ((s31.faults n s) ++ ((s32.faults n s) ++ (s33.faults n s))))))) f (Contains-append_right ((s16.faults n s) ++ ((s21.faults n s) ++ (s22.faults n s))) (((s20.faults n s) ++ (p01.faults n)) ++ ((s29.faults n s) ++ ((s30.faults n s) ++ ((s31.faults n s) ++ ((s32.faults n s) ++ (s33.faults n s)))))) f (Contains-append_left ((s20.faults n s) ++ (p01.faults n)) ((s29.faults n s) ++ ((s30.faults n s) ++ ((s31.faults n s) ++ ((s32.faults n s) ++ (s33.faults n s))))) f (Contains-append_right (s20.faults n s) (p01.faults n) f h))))
+  all ifaces complete (by_s35 h) = in_nodes ifaces (Contains-append_right (s03.faults n) (((s16.faults n s) ++ ((s21.faults n s) ++ (s22.faults n s))) ++ (((s20.faults n s) ++ (p01.faults n)) ++ (((s29.faults n s) ++ ((s30.faults n s) ++ ((s31.faults n s) ++ ((s32.faults n s) ++ (s33.faults n s))))) ++ ((s35.faults n) ++ (s36.faults n s))))) f (Contains-append_right ((s16.faults n s) ++ ((s21.faults n s) ++ (s22.faults n s))) (((s20.faults n s) ++ (p01.faults n)) ++ (((s29.faults n s) ++ ((s30.faults n s) ++ ((s31.faults n s) ++ ((s32.faults n s) ++ (s33.faults n s))))) ++ ((s35.faults n) ++ (s36.faults n s)))) f (Contains-append_right ((s20.faults n s) ++ (p01.faults n)) (((s29.faults n s) ++ ((s30.faults n s) ++ ((s31.faults n s) ++ ((s32.faults n s) ++ (s33.faults n s))))) ++ ((s35.faults n) ++ (s36.faults n s))) f (Contains-append_right ((s29.faults n s) ++ ((s30.faults n s) ++ ((s31.faults n s) ++ ((s32.faults n s) ++ (s33.faults n s))))) ((s35.faults n) ++ (s36.faults n s)) f (Contains-append_left (s35.faults n) (s36.faults n s) f h)))))
+  all ifaces complete (by_s36 h) = in_nodes ifaces (Contains-append_right (s03.faults n) (((s16.faults n s) ++ ((s21.faults n s) ++ (s22.faults n s))) ++ (((s20.faults n s) ++ (p01.faults n)) ++ (((s29.faults n s) ++ ((s30.faults n s) ++ ((s31.faults n s) ++ ((s32.faults n s) ++ (s33.faults n s))))) ++ ((s35.faults n) ++ (s36.faults n s))))) f (Contains-append_right ((s16.faults n s) ++ ((s21.faults n s) ++ (s22.faults n s))) (((s20.faults n s) ++ (p01.faults n)) ++ (((s29.faults n s) ++ ((s30.faults n s) ++ ((s31.faults n s) ++ ((s32.faults n s) ++ (s33.faults n s))))) ++ ((s35.faults n) ++ (s36.faults n s)))) f (Contains-append_right ((s20.faults n s) ++ (p01.faults n)) (((s29.faults n s) ++ ((s30.faults n s) ++ ((s31.faults n s) ++ ((s32.faults n s) ++ (s33.faults n s))))) ++ ((s35.faults n) ++ (s36.faults n s))) f (Contains-append_right ((s29.faults n s) ++ ((s30.faults n s) ++ ((s31.faults n s) ++ ((s32.faults n s) ++ (s33.faults n s))))) ((s35.faults n) ++ (s36.faults n s)) f (Contains-append_right (s35.faults n) (s36.faults n s) f h)))))
+  all ifaces complete (by_p01 h) = in_nodes ifaces (Contains-append_right (s03.faults n) (((s16.faults n s) ++ ((s21.faults n s) ++ (s22.faults n s))) ++ (((s20.faults n s) ++ (p01.faults n)) ++ (((s29.faults n s) ++ ((s30.faults n s) ++ ((s31.faults n s) ++ ((s32.faults n s) ++ (s33.faults n s))))) ++ ((s35.faults n) ++ (s36.faults n s))))) f (Contains-append_right ((s16.faults n s) ++ ((s21.faults n s) ++ (s22.faults n s))) (((s20.faults n s) ++ (p01.faults n)) ++ (((s29.faults n s) ++ ((s30.faults n s) ++ ((s31.faults n s) ++ ((s32.faults n s) ++ (s33.faults n s))))) ++ ((s35.faults n) ++ (s36.faults n s)))) f (Contains-append_left ((s20.faults n s) ++ (p01.faults n)) (((s29.faults n s) ++ ((s30.faults n s) ++ ((s31.faults n s) ++ ((s32.faults n s) ++ (s33.faults n s))))) ++ ((s35.faults n) ++ (s36.faults n s))) f (Contains-append_right (s20.faults n s) (p01.faults n) f h))))
   all ifaces complete (by_p02 h) = in_roots ifaces (Contains-append_right (s23.faults s) ((s24.faults s) ++ ((s25.faults s) ++ ((s34.faults n s) ++ (p02.faults s)))) f (Contains-append_right (s24.faults s) ((s25.faults s) ++ ((s34.faults n s) ++ (p02.faults s))) f (Contains-append_right (s25.faults s) ((s34.faults n s) ++ (p02.faults s)) f (Contains-append_right (s34.faults n s) (p02.faults s) f h))))
 
 -- the faults that the code found

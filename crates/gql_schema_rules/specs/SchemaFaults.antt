@@ -40,6 +40,8 @@ use Rattle.gql_node_rules.specs.S31RepeatedDirectives as s31
 use Rattle.gql_node_rules.specs.S32BadArguments as s32
 use Rattle.gql_node_rules.specs.S33BadArgumentValues as s33
 use Rattle.gql_schema_rules.specs.S34DuplicateSchemas as s34
+use Rattle.gql_node_rules.specs.S35DeprecatedRequiredInputs as s35
+use Rattle.gql_node_rules.specs.S36MisplacedAppends as s36
 use Rattle.gql_node_rules.specs.P01FloatReferences as p01
 use Rattle.gql_schema_rules.specs.P02SubscriptionRoots as p02
 
@@ -83,6 +85,8 @@ pub data FaultsBy (files : Files) (s : Schema) (f : Fault) : Type 0 where
   by_s32 : Contains (s32.faults (nodes_in files) s) f → FaultsBy files s f
   by_s33 : Contains (s33.faults (nodes_in files) s) f → FaultsBy files s f
   by_s34 : Contains (s34.faults (nodes_in files) s) f → FaultsBy files s f
+  by_s35 : Contains (s35.faults (nodes_in files)) f → FaultsBy files s f
+  by_s36 : Contains (s36.faults (nodes_in files) s) f → FaultsBy files s f
   by_p01 : Contains (p01.faults (nodes_in files)) f → FaultsBy files s f
   by_p02 : Contains (p02.faults s) f → FaultsBy files s f
 

@@ -23,11 +23,15 @@ fn is_scalar_name(name: &str) -> bool
 }
 
 // Whether a built-in directive has this name.
-#[tactic(auto, unfolding(gql_built_in::specs::BuiltIn::directives, gql_built_in::specs::BuiltIn::skip, gql_built_in::specs::BuiltIn::include, gql_built_in::specs::BuiltIn::deprecated, gql_built_in::specs::BuiltIn::specified_by, gql_built_in::specs::BuiltInWords::directive, gql_built_in::specs::BuiltInWords::word))]
+#[tactic(auto, unfolding(gql_built_in::specs::BuiltIn::directives, gql_built_in::specs::BuiltIn::skip, gql_built_in::specs::BuiltIn::include, gql_built_in::specs::BuiltIn::deprecated, gql_built_in::specs::BuiltIn::specified_by, gql_built_in::specs::BuiltIn::append, gql_built_in::specs::BuiltInWords::directive, gql_built_in::specs::BuiltInWords::word))]
 fn is_directive_name(name: &str) -> bool
     ensures { result ≡ spec.is_directive_name name.now }
 {
-    name == "skip" || name == "include" || name == "deprecated" || name == "specifiedBy"
+    name == "skip"
+        || name == "include"
+        || name == "deprecated"
+        || name == "specifiedBy"
+        || name == "append"
 }
 
 // Adds the fault at the name of a type.

@@ -10,7 +10,7 @@ use Rattle.gql_ast.specs.declared.type_system.InputValueDefinition.{InputValueDe
 use Rattle.gql_ast.specs.declared.type_system.TypeDefinition.{TypeDefinition}
 use Rattle.gql_ast.specs.declared.type_system.TypeExtension.{TypeExtension}
 use Rattle.gql_ast.specs.declared.type_system.TypeParts.{TypeParts}
-use Rattle.gql_built_in.specs.BuiltIn.{built_in, scalars, introspection, type_kinds, directive_locations, directives, skip, include, deprecated, specified_by}
+use Rattle.gql_built_in.specs.BuiltIn.{built_in, scalars, introspection, type_kinds, directive_locations, directives, skip, include, deprecated, specified_by, append}
 use Rattle.gql_built_in.specs.BuiltInWords.{type_of, directive, of_no_file}
 use Rattle.gql_built_in.specs.declared.sited.Sited.{Sited}
 use Rattle.gql_cycles.proofs.Members.{Contains-nil, Contains-there, Contains-here, Contains-cases, Contains-map_from, Contains-flat_map_from}
@@ -66,7 +66,7 @@ is_input (tree.Directive definition) = false
 is_input (tree.SchemaExtension extension) = false
 
 none_built_in : list_any (λ (d : Sited Tree). is_input d.node) built_in ≡ false
-unfolding built_in scalars introspection type_kinds directive_locations directives skip include deprecated specified_by type_of directive same_kind of_no_file
+unfolding built_in scalars introspection type_kinds directive_locations directives skip include deprecated specified_by append type_of directive same_kind of_no_file
 none_built_in = refl
 
 -- ---- definitions and extensions of types

@@ -8,7 +8,7 @@ use Rattle.gql_ast.specs.declared.files.Files.{Files}
 use Rattle.gql_ast.specs.declared.type_ref.TypeRef.{TypeRef}
 use Rattle.gql_ast.specs.declared.type_system.FieldDefinition.{FieldDefinition}
 use Rattle.gql_ast.specs.declared.type_system.InputValueDefinition.{InputValueDefinition}
-use Rattle.gql_built_in.specs.BuiltIn.{built_in, scalars, introspection, fields_of_schema, include_deprecated, fields_of_type, fields_of_field, fields_of_input_value, fields_of_enum_value, fields_of_directive, type_kinds, directive_locations, directives, skip, include, deprecated, specified_by, condition, reason, url}
+use Rattle.gql_built_in.specs.BuiltIn.{built_in, scalars, introspection, fields_of_schema, include_deprecated, fields_of_type, fields_of_field, fields_of_input_value, fields_of_enum_value, fields_of_directive, type_kinds, directive_locations, directives, skip, include, deprecated, specified_by, append, condition, reason, url, to}
 use Rattle.gql_built_in.specs.BuiltInWords as b
 use Rattle.gql_built_in.specs.BuiltInWords.{nowhere, word, argument, field_with, type_of, directive, of_no_file}
 use Rattle.gql_built_in.specs.declared.sited.Sited.{Sited}
@@ -110,15 +110,15 @@ module _ (files : Files) where
 
   type_known : AllByRecursion KnownField fields_of_type
   unfolding fields_of_type field_with
-  type_known = ((marked (codes "__TypeKind") has_type_kind, tt), ((plain (codes "String") has_string, tt), ((plain (codes "String") has_string, tt), ((listed (codes "__Field") has_field, inc), ((listed (codes "__Type") has_type, tt), ((listed (codes "__Type") has_type, tt), ((listed (codes "__EnumValue") has_enum_value, inc), ((listed (codes "__InputValue") has_input_value, tt), ((plain (codes "__Type") has_type, tt), ((plain (codes "String") has_string, tt), tt))))))))))
+  type_known = ((marked (codes "__TypeKind") has_type_kind, tt), ((plain (codes "String") has_string, tt), ((plain (codes "String") has_string, tt), ((listed (codes "__Field") has_field, inc), ((listed (codes "__Type") has_type, tt), ((listed (codes "__Type") has_type, tt), ((listed (codes "__EnumValue") has_enum_value, inc), ((listed (codes "__InputValue") has_input_value, inc), ((plain (codes "__Type") has_type, tt), ((plain (codes "String") has_string, tt), tt))))))))))
 
   field_known : AllByRecursion KnownField fields_of_field
   unfolding fields_of_field field_with
-  field_known = ((marked (codes "String") has_string, tt), ((plain (codes "String") has_string, tt), ((listed_marked (codes "__InputValue") has_input_value, tt), ((marked (codes "__Type") has_type, tt), ((marked (codes "Boolean") has_boolean, tt), ((plain (codes "String") has_string, tt), tt))))))
+  field_known = ((marked (codes "String") has_string, tt), ((plain (codes "String") has_string, tt), ((listed_marked (codes "__InputValue") has_input_value, inc), ((marked (codes "__Type") has_type, tt), ((marked (codes "Boolean") has_boolean, tt), ((plain (codes "String") has_string, tt), tt))))))
 
   input_value_known : AllByRecursion KnownField fields_of_input_value
   unfolding fields_of_input_value field_with
-  input_value_known = ((marked (codes "String") has_string, tt), ((plain (codes "String") has_string, tt), ((marked (codes "__Type") has_type, tt), ((plain (codes "String") has_string, tt), tt))))
+  input_value_known = ((marked (codes "String") has_string, tt), ((plain (codes "String") has_string, tt), ((marked (codes "__Type") has_type, tt), ((plain (codes "String") has_string, tt), ((marked (codes "Boolean") has_boolean, tt), ((plain (codes "String") has_string, tt), tt))))))
 
   enum_value_known : AllByRecursion KnownField fields_of_enum_value
   unfolding fields_of_enum_value field_with
@@ -126,7 +126,7 @@ module _ (files : Files) where
 
   directive_known : AllByRecursion KnownField fields_of_directive
   unfolding fields_of_directive field_with
-  directive_known = ((marked (codes "String") has_string, tt), ((plain (codes "String") has_string, tt), ((listed_marked (codes "__DirectiveLocation") has_location, tt), ((listed_marked (codes "__InputValue") has_input_value, tt), ((marked (codes "Boolean") has_boolean, tt), tt)))))
+  directive_known = ((marked (codes "String") has_string, tt), ((plain (codes "String") has_string, tt), ((listed_marked (codes "__DirectiveLocation") has_location, tt), ((listed_marked (codes "__InputValue") has_input_value, inc), ((marked (codes "Boolean") has_boolean, tt), tt)))))
 
   condition_known : AllByRecursion KnownInput condition
   unfolding condition argument
@@ -140,7 +140,11 @@ module _ (files : Files) where
   unfolding url argument
   url_known = (marked (codes "String") has_string, tt)
 
+  to_known : AllByRecursion KnownInput to
+  unfolding to argument
+  to_known = (marked (codes "String") has_string, tt)
+
   -- what is built in
   pub built_in_known : AllByRecursion (λ (x : Sited Tree). KnownTree x.node) built_in
-  unfolding built_in scalars introspection type_kinds directive_locations directives skip include deprecated specified_by type_of directive of_no_file
-  built_in_known = ((tt, tt), ((tt, tt), ((tt, tt), ((tt, tt), ((schema_known, tt), ((type_known, tt), ((field_known, tt), ((input_value_known, tt), ((enum_value_known, tt), ((directive_known, tt), ((tt, tt), ((tt, tt), (condition_known, (condition_known, (reason_known, (url_known, tt))))))))))))))))
+  unfolding built_in scalars introspection type_kinds directive_locations directives skip include deprecated specified_by append type_of directive of_no_file
+  built_in_known = ((tt, tt), ((tt, tt), ((tt, tt), ((tt, tt), ((schema_known, tt), ((type_known, tt), ((field_known, tt), ((input_value_known, tt), ((enum_value_known, tt), ((directive_known, tt), ((tt, tt), ((tt, tt), (condition_known, (condition_known, (reason_known, (url_known, (to_known, tt)))))))))))))))))

@@ -1,0 +1,5 @@
+pub mod Effects
+pub mod Changes
+pub mod Rooms
+pub mod Laws
+pub mod Examples
