@@ -261,7 +261,8 @@ Reaches g t r (Ok (reached.Ended ended)) old new = Done r ended old new
 Reaches g t r (Ok (reached.Inner i)) old new = (new ≡ old) × Enters g t i r old
 Reaches g t r (Err stop) old new = stop ≡ TooHeavy → old.left < r.weight
 
--- a field or an item has been done; or a group is to be entered for its value; or a call has stopped
+-- a field or an item has been done; or a group is to be entered for its value; or a call has
+-- stopped
 abbrev pub Begins : Basis → Table → Part → Result Begun ExecRefusal → Run → Run → Type 0
 Begins g t r (Ok (begun.Ended ended)) old new = Done r ended old new
 Begins g t r (Ok (begun.Within a i)) old new = Opens g t a i r old new

@@ -1,5 +1,5 @@
-//! What is entered in an execution: objects of the data, nodes of introspection and lists of either.
-//! They are on a stack while something within them is executed.
+//! What is entered in an execution: objects of the data, nodes of introspection and lists of
+//! either. They are on a stack while something within them is executed.
 ghost use Rattle.std.specs.Prelude.{◌≡◌, ◌∷◌, []};
 ghost use Rattle.gql_exec.specs.Frames as spec;
 
