@@ -1,7 +1,7 @@
 //! One request after the other, made on the registry.
 ghost use Rattle.std.specs.Prelude.{◌≡◌, ◌++◌, ◌+◌, ◌≤◌, OnOk, OnErr, IfOk, IsErr, List, [], ℕ, Some, vec_len, vec_capacity};
 ghost use Rattle.gql_ast.specs.declared.fault.Fault.{Fault};
-ghost use Rattle.gql_registry.specs.Calls.{Answers, CallOutcome, effects_in, text_of};
+ghost use Rattle.gql_registry.specs.Calls.{Answers, CallResult, effects_in, text_of};
 ghost use Rattle.gql_registry.specs.Edits as edit;
 ghost use Rattle.gql_registry.specs.Edits.{Makes};
 ghost use Rattle.gql_registry.specs.Report.{IsReport};
@@ -175,7 +175,7 @@ fn answer_call(
     variables: &Value,
     ending: Ending,
 ) -> Result<(), AllocError>
-    ensures ok { OnOk result ((r : Result CallOutcome Refusal) × (a : Said)
+    ensures ok { OnOk result ((r : CallResult) × (a : Said)
         × Answers (state_of registry.old).files (state_of registry.old).stored
         (option_copied name.entry) (view variables.now) r
         × (run_said (text_of r) ≡ Some a)

@@ -16,7 +16,8 @@ use Rattle.gql_operations.specs.declared.operations.NamedOperation.{NamedOperati
 use Rattle.gql_serving.specs.Laws.{SomeAnswer, HasNoFault}
 use Rattle.gql_registry.specs.Calling.{IsOver, IsOutcomeOf}
 use Rattle.gql_registry.specs.Calls.{AreAgainst, Answers, IsResponse, StandsAgainst, of_schema, of_documents, too_large, served, memory}
-use Rattle.gql_registry.specs.Prepared.{outcome_of, ran_of}
+use Rattle.gql_registry.specs.Prepared.{outcome_of, prepared_of, ran_of}
+use Rattle.gql_registry.specs.declared.registry.Prepared.{Prepared}
 use Rattle.gql_registry.specs.Report.{IsSound}
 use Rattle.gql_registry.specs.Report as report
 use Rattle.gql_registry.specs.declared.refusal.Refusal.{Refusal}
@@ -184,3 +185,9 @@ pub failed : (files : Files) (stored : Data) (name : Option (List ℕ)) (variabl
     → Answers files stored name variables (ran_of r)
 failed files stored name variables (Ok ran) is = absurd is
 failed files stored name variables (Err e) is = subst (λ x. Answers files stored name variables (Err x)) (sym is) memory
+
+-- a run that was not prepared, for memory
+pub not_prepared : (files : Files) (stored : Data) (name : Option (List ℕ)) (variables : Data) (r : Result Prepared Refusal) → IsErrAnd r (λ e. e ≡ refusal.Memory)
+    → Answers files stored name variables (prepared_of r)
+not_prepared files stored name variables (Ok p) is = absurd is
+not_prepared files stored name variables (Err e) is = subst (λ x. Answers files stored name variables (Err x)) (sym is) memory

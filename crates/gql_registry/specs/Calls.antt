@@ -76,12 +76,16 @@ pub data Answers (files : Files) (stored : Data) (name : Option (List ℕ)) (var
   -- an allocation failed
   memory : Answers files stored name variables (Err Memory)
 
+-- what a call comes to, or its refusal
+abbrev pub CallResult : Type 0
+CallResult = Result CallOutcome Refusal
+
 -- the text of a reply, or the refusal
-abbrev pub text_of : Result CallOutcome Refusal → Result (List ℕ) Refusal
+abbrev pub text_of : CallResult → Result (List ℕ) Refusal
 text_of (Ok c) = Ok c.text
 text_of (Err r) = Err r
 
 -- what a call adds to the data: a refused one nothing
-abbrev pub effects_in : Result CallOutcome Refusal → List Effect
+abbrev pub effects_in : CallResult → List Effect
 effects_in (Ok c) = c.effects
 effects_in (Err r) = []

@@ -44,14 +44,14 @@ fn faults_against(
 }
 
 /// Executes an operation, and writes the reply.
-fn ran(
+fn executed(
     alloc: Global,
     known: &Known,
     definition: &Definition,
     variables: &Value,
     stored: &Value,
 ) -> Result<Ran, Refusal>
-    ensures ran { IfOk result (λ ran. (files : TheFiles) → IsKnownOf files known.now
+    ensures ok { IfOk result (λ ran. (files : TheFiles) → IsKnownOf files known.now
         → IsOutcomeOf files definition.now (view variables.now) (view stored.now) ran) }
     ensures err { IfErr result (λ e. (files : TheFiles) → IsKnownOf files known.now
         → IsOver files definition.now (view variables.now) (view stored.now) e) }
@@ -101,5 +101,5 @@ pub fn answer_call(
             faults: Items::from_vec(faults),
         });
     }
-    ran(alloc, known, definition, variables, stored)
+    executed(alloc, known, definition, variables, stored)
 }

@@ -125,7 +125,7 @@ impl Registry {
     ghost use Rattle.gql_registry.specs.Checks.{IsInTime};
     ghost use Rattle.gql_registry.specs.Edits.{Edit, IsFirstRefusal, Makes, Reports};
     ghost use Rattle.gql_registry.specs.Edits as edit;
-    ghost use Rattle.gql_registry.specs.Calls.{Answers, CallOutcome, effects_in, text_of};
+    ghost use Rattle.gql_registry.specs.Calls.{Answers, CallResult, effects_in, text_of};
     ghost use Rattle.gql_registry.specs.Prepared.{IsPreparedFor, added_by, answer_of, body_of, prepared_of};
     ghost use Rattle.gql_registry.specs.Changes.{IsChangeBy, IsChangeOf, IsRefusedBy};
     ghost use Rattle.gql_registry.specs.Keeping.{IsShelfOf, IsWorkOn};
@@ -431,7 +431,7 @@ impl Registry {
     /// Runs the stored operation of a name, as `prepare` and `commit` do: what a mutation adds to
     /// the data is there when its reply is returned. A refused run changes nothing.
     pub fn run(&mut self, name: Option<&str>, variables: &Value) -> Result<Reply, Refusal>
-        ensures answers { (r : Result CallOutcome Refusal)
+        ensures answers { (r : CallResult)
             × Answers (state_of self.old).files (state_of self.old).stored
             (option_copied name.entry) (view variables.now) r
             × (text_of r ≡ answer_of result)

@@ -28,6 +28,6 @@ returns c = λ files known.
     answered c.some_answer.ensures files (view c.args.stored.now) (option_copied c.args.name) (view c.args.variables.now) c.in-Some.definition.now
     (sym (c.in-Some.ensures files.documents known.index.operations))
     (none_stands files c.in-Some.definition.now c.in_ok-faults.faults.items (c.in_ok-faults.ensures files known) none)
-    c.ran.result
-    (ok_map c.ran.result _ _ (λ reply h. h files known) c.ran.ensures.ran)
-    (err_map c.ran.result _ _ (λ e h. h files known) c.ran.ensures.err)
+    c.executed.result
+    (ok_map c.executed.result _ _ (λ reply h. h files known) c.executed.ensures.ok)
+    (err_map c.executed.result _ _ (λ e h. h files known) c.executed.ensures.err)

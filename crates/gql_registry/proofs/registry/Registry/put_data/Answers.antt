@@ -5,6 +5,7 @@ use Rattle.gql_registry.specs.State.{State, state_of, shelf_of, next_data}
 use Rattle.gql_registry.proofs.FirstRefusals.{data_accepted}
 use Rattle.gql_registry.proofs.Working.{first_answer, makes_memory, bad_data_answer}
 use Rattle.serde_json.specs.View.{view}
+use Rattle.serde_json.specs.declared.value.Value.{Value}
 use Rattle.gql_registry.proofs.registry.Registry.put_data.Goals as goal
 
 pub returns-in_err-revision-clause-makes : goal.returns-in_err-revision-clause-makes
@@ -42,7 +43,8 @@ returns-clause-makes c =
       (
         view c.in_ok-stored.stored,
         c.in_ok-stored.ensures.read.1,
-        ap (λ n. let t : State = record { files = s.files; stored = view c.in_ok-stored.stored; revision = n } in t) c.in_ok-revision.ensures.next,
+        ap (λ (v : Value). let t : State = record { files = s.files; stored = view v; revision = c.in_ok-revision.revision } in t) c.new.ensures
+            ∙ ap (λ n. let t : State = record { files = s.files; stored = view c.in_ok-stored.stored; revision = n } in t) c.in_ok-revision.ensures.next,
       ),
       (refl, c.in_ok-faults.ensures),
     )

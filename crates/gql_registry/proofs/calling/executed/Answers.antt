@@ -1,4 +1,6 @@
-use Rattle.std.proofs.Common.{◌≡◌, ap, ◌∙◌}
+use Rattle.std.proofs.Common.{◌≡◌, Vec, Global, map, ap, ◌∙◌}
+use Rattle.gql_stored.specs.Rooms.{effect_of}
+use Rattle.gql_stored.specs.declared.effect.Effect.{Effect}
 use Rattle.gql_ast.specs.declared.files.Files.{Files}
 use Rattle.gql_facts.specs.declared.fragments.Fragments.{Fragments}
 use Rattle.gql_exec.specs.Requests.{IsKeptOf}
@@ -10,7 +12,7 @@ use Rattle.gql_registry.specs.Keeping.{IsKnownOf}
 use Rattle.gql_registry.specs.declared.report.Known.{Known}
 use Rattle.gql_registry.specs.declared.report.SchemaSide.{SchemaSide}
 use Rattle.gql_types.specs.Schemas.{schema_of}
-use Rattle.gql_registry.proofs.calling.ran.Goals as goal
+use Rattle.gql_registry.proofs.calling.executed.Goals as goal
 
 -- what is known of files is what execution takes as kept of them
 kept_of : (files : Files) (known : Known) (side : SchemaSide) → side ≡ known.schema → IsKnownOf files known
@@ -25,11 +27,14 @@ same_call : {a b : CallOutcome} → a.text ≡ b.text → a.effects ≡ b.effect
 same_call {a} {b} t e = ap (λ x. let c : CallOutcome = record { text = x; effects = a.effects } in c) t
     ∙ ap (λ x. let c : CallOutcome = record { text = b.text; effects = x } in c) e
 
-pub returns-in_ok-reply_text-in-Ok-clause-ran : goal.returns-in_ok-reply_text-in-Ok-clause-ran
-returns-in_ok-reply_text-in-Ok-clause-ran c = λ files known operation is p executes.
+pub returns-in_ok-body-in-Ok-clause-ok : goal.returns-in_ok-body-in-Ok-clause-ok
+returns-in_ok-body-in-Ok-clause-ok c = λ files known operation is p executes.
     let kept = kept_of files c.args.known.now c.get-schema.result.now c.get-schema.ensures known in
-    let h = c.in-Ok.ensures.outcome files operation kept is p executes in
-    (h.0, same_call (c.in_ok-reply_text-in-Ok.ensures ∙ ap reply_text h.1) (ap (λ (o : AnOutcome). o.effects) h.1))
+    let h = c.in-Ok.ensures.outcome files operation kept is p executes in (
+      h.0,
+      same_call (c.in_ok-body-in-Ok.ensures ∙ ap reply_text h.1)
+          (ap (λ (v : Vec Effect Global). map effect_of v.items) c.into_effects-effects.ensures ∙ ap (λ (o : AnOutcome). o.effects) h.1),
+    )
 
 pub returns-in-Err-TooHeavy-clause-err : goal.returns-in-Err-TooHeavy-clause-err
 returns-in-Err-TooHeavy-clause-err c = λ files known operation is p executes.
