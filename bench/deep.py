@@ -4,7 +4,7 @@ import subprocess
 import sys
 import time
 
-LEVELS, PROGRAM = int(sys.argv[1]), sys.argv[2]
+LEVELS, READ, PROGRAM = int(sys.argv[1]), int(sys.argv[2]), sys.argv[3]
 # how deep one fragment reads, and the bytes of a file
 STEP, MOST = 95, 65000
 
@@ -63,7 +63,7 @@ inputs = ["input I%d{a:I%d={}}\n" % (n, n + 1) for n in range(LEVELS - 1)] + ["i
 put_all(b"schema", ["""type Query { things(a: I0): [Thing] raw: [Raw] } type Thing { a: Thing } scalar Raw
 type Mutation { thing(a: I0 = {}): Thing @append(to: "things") raw(a: I0 = {}): Raw @append(to: "raw") }
 """] + inputs)
-reach = min(LEVELS, 99990)
+reach = min(LEVELS, READ, 99990)
 count = (reach + STEP - 1) // STEP
 fragments = []
 for n in range(count):
