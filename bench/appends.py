@@ -30,7 +30,8 @@ class Program:
         head = b""
         while not head.endswith(b"\r\n\r\n"):
             head += self.process.stdout.readline()
-        length = next(line for line in head.split(b"\r\n") if line.lower().startswith(b"content-length:"))
+        lines = head.lower().split(b"\r\n")
+        length = next(line for line in lines if line.startswith(b"content-length:"))
         answer = self.process.stdout.read(int(length.partition(b":")[2]))
         if b" 200 " not in head.split(b"\r\n")[0] or b'"errors"' in answer:
             sys.exit("not served: %s %s" % (head.split(b"\r\n")[0].decode(), answer[:200].decode()))
@@ -72,7 +73,8 @@ def measure(path, count):
         program.add(number)
         times.append(time.perf_counter() - start)
     each = (program.memory() - before) / count
-    found = program.ask(b"POST", b"/run", b'{"operationName":"One","variables":{"i":"%d"}}' % (count - 1))
+    question = b'{"operationName":"One","variables":{"i":"%d"}}' % (count - 1)
+    found = program.ask(b"POST", b"/run", question)
     if found != b'{"data":{"notes":[{"text":"%s"}]}}' % TEXT.encode():
         sys.exit("the last object is not there: %s" % found[:200].decode())
     program.end()
