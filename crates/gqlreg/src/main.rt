@@ -1,11 +1,16 @@
-//! `gqlreg pipe` answers the requests of standard input on standard output, `gqlreg serve` those of
+//! `gqlreg check` checks the files of a folder. `gqlreg pipe` answers the requests of standard input on standard output, `gqlreg serve` those of
 //! connections.
 #![tactic(auto)]
+
+mod check;
+mod failure;
 
 ghost use Rattle.std.specs.Prelude.{◌≡◌, ◌≤◌, None};
 ghost use Rattle.gql_http.specs.Hubs.{rests_of};
 ghost use Rattle.gql_server.specs.Together.{AreClosed};
 
+use crate::check::run_check;
+use gql_check_command::is_check_command;
 use gql_command::{Command, CommandFault, read_command};
 use gql_http::{Hub, pipe, status_of};
 use gql_registry::Registry;
@@ -129,6 +134,9 @@ fn main(rt: HostRuntime) -> ExitCode {
         Ok(words) => words,
         Err(error) => return ExitCode::from(report_unread(&rt, &error)),
     };
+    if is_check_command(words.as_slice()) {
+        return ExitCode::from(run_check(&rt, words.as_slice()));
+    }
     ExitCode::from(match read_command(rt.alloc(), words.as_slice()) {
         Ok(Command::Pipe) => run_pipe(&rt),
         Ok(

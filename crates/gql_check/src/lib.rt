@@ -1,0 +1,12 @@
+//! Checks the files of a folder: all at once, as a registry that they are put into.
+#![tactic(auto)]
+
+mod affected;
+mod check;
+mod fault;
+mod places;
+mod refusal_text;
+
+pub use check::{Checked, GivenFile, check_files, registry_of};
+pub use fault::{CheckFault, FileFault};
+pub use refusal_text::refusal_text;

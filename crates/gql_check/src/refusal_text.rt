@@ -1,0 +1,117 @@
+//! Why a folder is not checked, in words.
+
+use crate::check::GivenFile;
+use crate::fault::{CheckFault, FileFault};
+use gql_ast::FileSide;
+use gql_findings::Source;
+use gql_text::Place;
+use std::alloc::{AllocError, Global};
+use std::str;
+use unicode_width::UnicodeWidthChar;
+
+/// The path of a file given, below its folder; empty where there is none.
+fn path_at(files: &[GivenFile], at: usize) -> &str {
+    match files.get(at) {
+        Some(file) => file.path.as_str(),
+        None => "",
+    }
+}
+
+/// Writes blanks as wide as the characters of a line before a column. A tab stays a tab.
+fn write_padding(out: &mut String, line: &str, column: usize) -> Result<(), AllocError> {
+    for character in line.chars().take(column.saturating_sub(1)) {
+        if character == '\t' {
+            out.push('\t')?;
+        } else {
+            for _ in 0..character.width().unwrap_or(0) {
+                out.push(' ')?;
+            }
+        }
+    }
+    Ok(())
+}
+
+/// Writes the line of a place, and below it a caret at the place.
+fn write_line(
+    alloc: Global,
+    out: &mut String,
+    file: &GivenFile,
+    place: Place,
+) -> Result<(), AllocError> {
+    let Ok(text) = str::from_utf8(file.bytes.as_slice()) else {
+        return Ok(());
+    };
+    let path = String::new(alloc);
+    let source = Source::new(alloc, path, String::from_str(alloc, text)?)?;
+    let line = source.line(place.line);
+    out.push_str("\n  ")?;
+    out.push_str(line)?;
+    out.push_str("\n  ")?;
+    write_padding(out, line, place.column)?;
+    out.push('^')?;
+    Ok(())
+}
+
+/// A file that is refused, with its place and its line if it has one.
+fn refused_text(
+    alloc: Global,
+    folder: &str,
+    files: &[GivenFile],
+    fault: &FileFault,
+) -> Result<String, AllocError> {
+    let path = path_at(files, fault.file);
+    let FileFault {
+        file: _,
+        place,
+        number,
+        reason,
+    } = fault;
+    let Some(place) = place else {
+        return format!(in alloc; "{folder}/{path}: {reason} ({number})");
+    };
+    let (line, column) = (place.line, place.column);
+    let mut out = format!(in alloc; "{folder}/{path}:{line}:{column}: {reason} ({number})")?;
+    if let Some(file) = files.get(fault.file) {
+        write_line(alloc, &mut out, file, *place)?;
+    }
+    Ok(out)
+}
+
+/// The name of the folder of a side.
+fn side_folder(side: FileSide) -> &'static str {
+    match side {
+        FileSide::Schema => "schema",
+        FileSide::Documents => "documents",
+    }
+}
+
+/// Why the files given, which are those of a folder, are not checked. Without a line break at its
+/// end.
+pub fn refusal_text(
+    alloc: Global,
+    folder: &str,
+    files: &[GivenFile],
+    fault: &CheckFault,
+) -> Result<String, AllocError> {
+    match fault {
+        CheckFault::Empty => format!(in alloc;
+            "{folder} has no files: schema/ and documents/ have those with .graphql at their end"
+        ),
+        CheckFault::TooMany { side } => {
+            let side = side_folder(*side);
+            format!(in alloc; "{folder}/{side} has more than 256 files")
+        }
+        CheckFault::Twice { first, at } => {
+            let (first, at) = (path_at(files, *first), path_at(files, *at));
+            format!(in alloc; "{folder}/{at} has the name of {folder}/{first}: a slash counts as a dot")
+        }
+        CheckFault::Misnamed { at } => {
+            let path = path_at(files, *at);
+            format!(in alloc;
+                "{folder}/{path} has a name that is not accepted: 1 to 64 letters, digits, `_`, `.` and `-`"
+            )
+        }
+        CheckFault::Refused(fault) => refused_text(alloc, folder, files, fault),
+        CheckFault::Memory => String::from_str(alloc, "out of memory"),
+    }
+}

@@ -1,0 +1,160 @@
+//! Finds the files of a folder that are those of a registry, and reads them.
+
+use crate::fault::{DiskFault, refused, unread};
+use gql_check::GivenFile;
+use gql_folder::{Role, role_of};
+use std::alloc::AllocError;
+use std::fs;
+
+/// The greatest number of bytes of a file.
+const MAX_FILE_BYTES: u64 = 65_536;
+
+/// The greatest number of bytes of the data.
+const MAX_DATA_BYTES: u64 = 262_144;
+
+/// How many folders are entered, and how many files and folders there may be in one.
+const MAX_ENTRIES: usize = 100_000;
+
+/// The folders that have the files of a registry.
+const SIDES: [&str; 2] = ["schema", "documents"];
+
+/// What is found: files that were read, and folders that were not entered yet. Paths are those below
+/// the folder.
+#[derive(Drop)]
+struct Found {
+    files: Vec<GivenFile>,
+    folders: Vec<String>,
+}
+
+/// A path in a folder.
+fn joined(rt: &HostRuntime, folder: &str, path: &str) -> Result<String, AllocError> {
+    let mut joined = String::from_str(rt.alloc(), folder)?;
+    joined.push('/')?;
+    joined.push_str(path)?;
+    Ok(joined)
+}
+
+/// The greatest number of bytes of a file of this role, and the reason if it has more.
+fn limit_of(role: &Role) -> (u64, &'static str) {
+    match role {
+        Role::Data => (MAX_DATA_BYTES, "has more than 262,144 bytes"),
+        _ => (MAX_FILE_BYTES, "has more than 65,536 bytes"),
+    }
+}
+
+/// Reads a file of the folder at a path below it, if it is one of a registry.
+fn read_file(
+    rt: &HostRuntime,
+    folder: &str,
+    path: String,
+    bytes: u64,
+    files: &mut Vec<GivenFile>,
+) -> Result<(), DiskFault> {
+    let role = role_of(path.as_str());
+    if matches!(&role, Role::Other) {
+        return Ok(());
+    }
+    let whole = joined(rt, folder, path.as_str())?;
+    let (limit, reason) = limit_of(&role);
+    if bytes > limit {
+        return Err(refused(rt.alloc(), whole.as_str(), reason));
+    }
+    match fs::read(rt, whole.as_str()) {
+        Ok(bytes) => {
+            files.push(GivenFile { path, bytes })?;
+            Ok(())
+        }
+        Err(error) => Err(unread(rt.alloc(), whole.as_str(), &error)),
+    }
+}
+
+/// Takes what is at a path below the folder: reads a file, and notes a folder.
+fn take(
+    rt: &HostRuntime,
+    folder: &str,
+    path: String,
+    found: &mut Found,
+) -> Result<(), DiskFault> {
+    let whole = joined(rt, folder, path.as_str())?;
+    let metadata = match fs::metadata(rt, whole.as_str()) {
+        Ok(metadata) => metadata,
+        Err(error) => return Err(unread(rt.alloc(), whole.as_str(), &error)),
+    };
+    if metadata.is_dir() {
+        found.folders.push(path)?;
+        return Ok(());
+    }
+    read_file(rt, folder, path, metadata.len(), &mut found.files)
+}
+
+/// Takes what is in a folder below the folder. Names that begin with a dot are left out.
+fn enter(
+    rt: &HostRuntime,
+    folder: &str,
+    inner: &str,
+    found: &mut Found,
+) -> Result<(), DiskFault> {
+    let whole = joined(rt, folder, inner)?;
+    let entries = match fs::read_dir(rt, whole.as_str()) {
+        Ok(entries) => entries,
+        Err(error) => return Err(unread(rt.alloc(), whole.as_str(), &error)),
+    };
+    for entry in entries {
+        let entry = match entry {
+            Ok(entry) => entry,
+            Err(error) => return Err(unread(rt.alloc(), whole.as_str(), &error)),
+        };
+        if !entry.file_name().starts_with('.') {
+            let path = joined(rt, inner, entry.file_name())?;
+            take(rt, folder, path, found)?;
+        }
+    }
+    Ok(())
+}
+
+/// Takes the data, and the folders of schema and documents, as far as they are there.
+fn begin(rt: &HostRuntime, folder: &str, found: &mut Found) -> Result<(), DiskFault> {
+    for side in SIDES {
+        let whole = joined(rt, folder, side)?;
+        if fs::metadata(rt, whole.as_str()).is_ok() {
+            found.folders.push(String::from_str(rt.alloc(), side)?)?;
+        }
+    }
+    let data = String::from_str(rt.alloc(), "data.json")?;
+    let whole = joined(rt, folder, "data.json")?;
+    if fs::metadata(rt, whole.as_str()).is_ok() {
+        take(rt, folder, data, found)?;
+    }
+    Ok(())
+}
+
+/// Whether a path is that of a folder, or why it is not.
+fn test_folder(rt: &HostRuntime, folder: &str) -> Result<(), DiskFault> {
+    match fs::metadata(rt, folder) {
+        Ok(metadata) if metadata.is_dir() => Ok(()),
+        Ok(_) => Err(refused(rt.alloc(), folder, "is not a folder")),
+        Err(error) => Err(unread(rt.alloc(), folder, &error)),
+    }
+}
+
+/// The files of a folder that are those of a registry, by their paths below it, in the order of
+/// these: the files of `schema/` and `documents/`, however deep, and `data.json`. Links are
+/// followed.
+pub fn find_files(rt: &HostRuntime, folder: &str) -> Result<Vec<GivenFile>, DiskFault> {
+    test_folder(rt, folder)?;
+    let mut found = Found {
+        files: Vec::new(rt.alloc()),
+        folders: Vec::new(rt.alloc()),
+    };
+    begin(rt, folder, &mut found)?;
+    for _ in 0..MAX_ENTRIES {
+        let Some(inner) = found.folders.pop() else {
+            let Found { mut files, folders: _ } = found;
+            files.sort_by(|a, b| a.path.as_str().cmp(b.path.as_str()))?;
+            return Ok(files);
+        };
+        enter(rt, folder, inner.as_str(), &mut found)?;
+    }
+    let reason = "has too many folders, or a link that leads back to itself";
+    Err(refused(rt.alloc(), folder, reason))
+}

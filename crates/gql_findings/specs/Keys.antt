@@ -1,0 +1,19 @@
+-- Helper definitions for private contracts: what the code's keys say.
+use Rattle.std.specs.Prelude.{List, map}
+use Rattle.gql_findings.specs.Marks.{Mark}
+use Rattle.gql_findings.specs.declared.marks.Key.{Key}
+
+-- the mark that a key says
+abbrev pub mark_of : Key → Mark
+mark_of k = record {
+  kind = k.kind;
+  rule = k.rule.now;
+  about = k.about.now;
+  path = k.path.now;
+  line = k.line.now;
+  owner = k.owner.now;
+}
+
+-- the marks that keys say
+abbrev pub marks_of : List Key → List Mark
+marks_of keys = map mark_of keys

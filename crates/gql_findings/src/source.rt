@@ -1,0 +1,73 @@
+//! A file: its path, its text, and where its lines are.
+
+ghost use Rattle.std.specs.Prelude.{◌≡◌, length, IfOk, string_bytes};
+ghost use Rattle.gql_findings.specs.Sources.{line_at, lines_of};
+
+use crate::lines::{LineSpan, line_spans};
+use std::alloc::{AllocError, Global};
+use std::marker::Model;
+
+/// A file: its path and its text. Contracts see these two.
+#[derive(Drop)]
+pub struct Source {
+    path: String,
+    text: String,
+    lines: Vec<LineSpan>,
+}
+
+impl Model for Source {
+    ghost use Rattle.std.specs.Prelude.{string_bytes};
+    ghost use Rattle.gql_findings.specs.Sources.{TextFile};
+    ghost use Rattle.gql_findings.specs.LineSpans.{AreSpans};
+
+    ghost Value = { TextFile };
+
+    ghost view = { λ s. record { path = string_bytes s.path; text = string_bytes s.text } };
+
+    ghost invariant = { λ s. AreSpans (string_bytes s.text) s.lines.items };
+}
+
+impl Source {
+    /// The file of this path and this text.
+    pub fn new(alloc: Global, path: String, text: String) -> Result<Source, AllocError>
+        ensures path { IfOk result (λ source. source.path ≡ string_bytes path) }
+        ensures text { IfOk result (λ source. source.text ≡ string_bytes text) }
+    {
+        let lines = line_spans(alloc, text.as_str())?;
+        Ok(Source { path, text, lines })
+    }
+
+    /// The path.
+    pub fn path(&self) -> &str
+        ensures { result.now ≡ self.now.path }
+    {
+        self.path.as_str()
+    }
+
+    /// The text.
+    pub fn text(&self) -> &str
+        ensures { result.now ≡ self.now.text }
+    {
+        self.text.as_str()
+    }
+
+    /// How many lines the text has. A text that ends in a line end has an empty line after it.
+    pub fn line_count(&self) -> usize
+        ensures { result ≡ length (lines_of self.now.text) }
+    {
+        self.lines.len()
+    }
+
+    /// The line of this number, counted from 1, without its end; empty where there is none.
+    pub fn line(&self, number: usize) -> &str
+        ensures { result.now ≡ line_at self.now.text number }
+    {
+        if number == 0 {
+            return "";
+        }
+        match self.lines.get(number - 1) {
+            Some(span) => span.of(self.text.as_str()),
+            None => "",
+        }
+    }
+}

@@ -1,0 +1,4 @@
+pub mod Roles
+pub mod Folders
+pub mod Adding
+pub mod Examples

@@ -1,0 +1,54 @@
+//! What is written: a check, alone or against a base.
+
+use gql_findings::{Affected, Cause, Comparison, Finding, Findings, Rule, causes};
+use std::alloc::{AllocError, Global};
+
+/// The check that a check is compared with, and the comparison of the two.
+#[derive(Clone, Copy)]
+pub struct Against<'c> {
+    pub findings: &'c Findings,
+    pub comparison: &'c Comparison,
+}
+
+/// A check, alone or against a base. Alone, all its faults are shown; against a base, those that it
+/// brings.
+#[derive(Clone, Copy)]
+pub struct Check<'c> {
+    pub now: &'c Findings,
+    pub base: Option<Against<'c>>,
+}
+
+/// The places of the faults that are shown.
+pub fn shown(alloc: Global, check: &Check<'_>) -> Result<Vec<usize>, AllocError> {
+    match &check.base {
+        Some(base) => base.comparison.brought.clone(),
+        None => {
+            let mut places = Vec::new(alloc);
+            for place in 0..check.now.findings.len() {
+                places.push(place)?;
+            }
+            Ok(places)
+        }
+    }
+}
+
+/// The causes of the faults that are shown.
+pub fn shown_causes(alloc: Global, check: &Check<'_>) -> Result<Vec<Cause>, AllocError> {
+    let places = shown(alloc, check)?;
+    causes(alloc, check.now.findings.as_slice(), places.as_slice())
+}
+
+/// The places of the operations that are reported as broken: all that are not served, or against a
+/// base those that the change breaks.
+pub fn broken(alloc: Global, check: &Check<'_>) -> Result<Vec<usize>, AllocError> {
+    match &check.base {
+        Some(base) => base.comparison.broken.clone(),
+        None => {
+            let mut places = Vec::new(alloc);
+            for place in 0..check.now.affected.len() {
+                places.push(place)?;
+            }
+            Ok(places)
+        }
+    }
+}

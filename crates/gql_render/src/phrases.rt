@@ -1,0 +1,151 @@
+//! Phrases that several formats have.
+
+use crate::check::Check;
+use crate::write::{write_number, write_text};
+use gql_findings::{
+    Affected, Finding, OperationKind, Owner, Source, Spot, Text, path_at, sentence, title,
+};
+use std::alloc::AllocError;
+
+/// Writes how many there are: `1 fault`, `2 faults`.
+pub fn write_count(out: &mut String, count: usize, noun: &str) -> Result<(), AllocError> {
+    write_number(out, count)?;
+    write_text(out, " ")?;
+    write_text(out, noun)?;
+    if count != 1 {
+        write_text(out, "s")?;
+    }
+    Ok(())
+}
+
+/// The word for a kind of operation.
+pub fn kind_word(kind: OperationKind) -> &'static str {
+    match kind {
+        OperationKind::Query => "query",
+        OperationKind::Mutation => "mutation",
+        OperationKind::Subscription => "subscription",
+    }
+}
+
+/// The words for an operation without a name.
+fn unnamed(kind: OperationKind) -> &'static str {
+    match kind {
+        OperationKind::Query => "an operation without a name",
+        OperationKind::Mutation => "a mutation without a name",
+        OperationKind::Subscription => "a subscription without a name",
+    }
+}
+
+/// Writes an operation by its kind and name, as `query Profile`.
+pub fn write_operation(
+    out: &mut String,
+    kind: OperationKind,
+    name: &Option<Text>,
+) -> Result<(), AllocError> {
+    match name {
+        Some(name) => {
+            write_text(out, kind_word(kind))?;
+            write_text(out, " ")?;
+            write_text(out, name.as_str())
+        }
+        None => write_text(out, unnamed(kind)),
+    }
+}
+
+/// Writes a definition, as `fragment Shown`.
+pub fn write_owner(out: &mut String, owner: &Owner) -> Result<(), AllocError> {
+    match owner {
+        Owner::Fragment(name) => {
+            write_text(out, "fragment ")?;
+            write_text(out, name.as_str())
+        }
+        Owner::Operation { kind, name } => write_operation(out, *kind, name),
+    }
+}
+
+/// Writes an operation that is not served, as `query Profile (by fragment Shown)`.
+pub fn write_affected(out: &mut String, affected: &Affected) -> Result<(), AllocError> {
+    write_operation(out, affected.kind, &affected.name)?;
+    if let Some(through) = &affected.through {
+        write_text(out, " (by fragment ")?;
+        write_text(out, through.as_str())?;
+        write_text(out, ")")?;
+    }
+    Ok(())
+}
+
+/// Writes the rule of a fault and what it is about.
+pub fn write_rule(out: &mut String, finding: &Finding) -> Result<(), AllocError> {
+    write_text(out, finding.rule.name())?;
+    if !finding.about.as_str().is_empty() {
+        write_text(out, " `")?;
+        write_text(out, finding.about.as_str())?;
+        write_text(out, "`")?;
+    }
+    Ok(())
+}
+
+/// Writes the name and the sentence of a fault's rule, and the definition that owns the fault.
+pub fn write_sentence(out: &mut String, finding: &Finding) -> Result<(), AllocError> {
+    write_text(out, title(finding.rule))?;
+    write_text(out, ": ")?;
+    write_text(out, sentence(finding.rule))?;
+    if let Some(owner) = &finding.owner {
+        write_text(out, " (in ")?;
+        write_owner(out, &owner.owner)?;
+        write_text(out, ")")?;
+    }
+    Ok(())
+}
+
+/// Writes a fault without its places.
+pub fn write_fault(out: &mut String, finding: &Finding) -> Result<(), AllocError> {
+    write_rule(out, finding)?;
+    write_text(out, ": ")?;
+    write_sentence(out, finding)
+}
+
+/// Writes a place, as `documents/profile.graphql:5:26`.
+pub fn write_spot(out: &mut String, sources: &[Source], spot: &Spot) -> Result<(), AllocError> {
+    write_text(out, path_at(sources, spot))?;
+    write_text(out, ":")?;
+    write_number(out, spot.line)?;
+    write_text(out, ":")?;
+    write_number(out, spot.column)
+}
+
+/// Writes the counts: `1 fault in 2 files`, or against a base `1 fault brought, 0 faults mended`.
+pub fn write_counts(out: &mut String, check: &Check<'_>) -> Result<(), AllocError> {
+    match &check.base {
+        Some(base) => {
+            write_count(out, base.comparison.brought.len(), "fault")?;
+            write_text(out, " brought, ")?;
+            write_count(out, base.comparison.mended.len(), "fault")?;
+            write_text(out, " mended")
+        }
+        None => {
+            write_count(out, check.now.findings.len(), "fault")?;
+            write_text(out, " in ")?;
+            write_count(out, check.now.sources.len(), "file")
+        }
+    }
+}
+
+/// What a schema with faults hides, in a sentence; empty where it hides nothing. Without operations
+/// there is nothing to hide.
+pub fn hidden(check: &Check<'_>) -> &'static str {
+    let Some(base) = &check.base else {
+        return if check.now.schema_is_faulty && !check.now.operations.is_empty() {
+            "the documents are not checked until the schema has no fault"
+        } else {
+            ""
+        };
+    };
+    if check.now.schema_is_faulty && !check.now.operations.is_empty() {
+        "no operation is served until the schema has no fault; nor are the documents checked"
+    } else if base.findings.schema_is_faulty && !base.findings.operations.is_empty() {
+        "the schema of the base has faults: faults of its documents are not known"
+    } else {
+        ""
+    }
+}

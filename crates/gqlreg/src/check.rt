@@ -1,0 +1,116 @@
+//! `gqlreg check`: what a check of a folder finds, written in a format.
+
+use crate::failure::{Failure, report, unwritten};
+use gql_check::{CheckFault, check_files, refusal_text};
+use gql_check_command::{CheckFault as CommandFault, CheckOptions, Format, read_check};
+use gql_disk::find_files;
+use gql_findings::{Comparison, Findings, compare};
+use gql_render::{Against, Check, as_github, as_html, as_json, as_markdown, as_sarif, as_text};
+use std::alloc::AllocError;
+use std::io::{IsTerminal, Write};
+use std::{env, fs};
+
+/// What a check of a folder on disk finds.
+fn findings_in(rt: &HostRuntime, folder: &str) -> Result<Findings, Failure> {
+    let files = find_files(rt, folder)?;
+    match check_files(rt.alloc(), folder, files.as_slice()) {
+        Ok(findings) => Ok(findings),
+        Err(CheckFault::Memory) => Err(Failure::Memory),
+        Err(fault) => {
+            let text = refusal_text(rt.alloc(), folder, files.as_slice(), &fault)?;
+            Err(Failure::Refused(text))
+        }
+    }
+}
+
+/// Whether lines are coloured: on a terminal, unless NO_COLOR is set.
+fn has_colours(rt: &HostRuntime) -> bool {
+    rt.stdout().is_terminal() && env::var(rt, "NO_COLOR").is_err()
+}
+
+/// A check in a format.
+fn written(
+    rt: &HostRuntime,
+    check: &Check<'_>,
+    format: Format,
+    colours: bool,
+) -> Result<Vec<u8>, AllocError> {
+    match format {
+        Format::Text => as_text(rt.alloc(), check, colours),
+        Format::Json => as_json(rt.alloc(), check),
+        Format::Github => as_github(rt.alloc(), check),
+        Format::Sarif => as_sarif(rt.alloc(), check),
+        Format::Markdown => as_markdown(rt.alloc(), check),
+        Format::Html => as_html(rt.alloc(), check),
+    }
+}
+
+/// Writes a text to a file, or to standard output if none is given.
+fn write_out(rt: &HostRuntime, text: Vec<u8>, output: &Option<String>) -> Result<(), Failure> {
+    match output {
+        Some(path) => match fs::write(rt, path.as_str(), text) {
+            Ok(()) => Ok(()),
+            Err(_) => Err(unwritten(rt, path.as_str())),
+        },
+        None => match rt.stdout().write_all(text.as_slice()) {
+            Ok(()) => Ok(()),
+            Err(_) => Err(Failure::Closed),
+        },
+    }
+}
+
+/// The status of a check: 1 if it has faults, or against a base if it brings some.
+fn status_of(now: &Findings, comparison: &Option<Comparison>) -> u8 {
+    let has_faults = match comparison {
+        Some(comparison) => !comparison.brought.is_empty(),
+        None => !now.findings.is_empty(),
+    };
+    u8::from(has_faults)
+}
+
+/// Checks a folder, and writes what is found.
+fn check(rt: &HostRuntime, options: &CheckOptions) -> Result<u8, Failure> {
+    let now = findings_in(rt, options.folder.as_str())?;
+    let base = match &options.base {
+        Some(folder) => Some(findings_in(rt, folder.as_str())?),
+        None => None,
+    };
+    let comparison = match &base {
+        Some(base) => Some(compare(rt.alloc(), &now, base)?),
+        None => None,
+    };
+    let against = match (&base, &comparison) {
+        (Some(findings), Some(comparison)) => Some(Against {
+            findings,
+            comparison,
+        }),
+        _ => None,
+    };
+    let check = Check {
+        now: &now,
+        base: against,
+    };
+    let colours = options.output.is_none() && has_colours(rt);
+    let text = written(rt, &check, options.format, colours)?;
+    write_out(rt, text, &options.output)?;
+    Ok(status_of(&now, &comparison))
+}
+
+/// Runs a check, and returns the status.
+pub fn run_check(rt: &HostRuntime, words: &[String]) -> u8 {
+    match read_check(rt.alloc(), words) {
+        Ok(options) => match check(rt, &options) {
+            Ok(status) => status,
+            Err(failure) => report(rt, failure),
+        },
+        Err(CommandFault::Help(text)) => match rt.print(text) {
+            Ok(()) => 0,
+            Err(_) => 1,
+        },
+        Err(CommandFault::Refused(text)) => {
+            let _ = rt.eprintln(text);
+            2
+        }
+        Err(CommandFault::Memory) => 4,
+    }
+}

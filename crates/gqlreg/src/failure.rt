@@ -1,0 +1,50 @@
+//! Why a command on a folder ends early, and its status then.
+
+use gql_disk::DiskFault;
+use std::alloc::AllocError;
+
+/// Why a command on a folder ends early.
+#[derive(Drop)]
+pub enum Failure {
+    /// A folder or a file is refused; why, in words.
+    Refused(String),
+    /// Standard output takes no more.
+    Closed,
+    /// An allocation failed.
+    Memory,
+}
+
+impl From<AllocError> for Failure {
+    fn from(_: AllocError) -> Failure {
+        Failure::Memory
+    }
+}
+
+impl From<DiskFault> for Failure {
+    fn from(fault: DiskFault) -> Failure {
+        match fault {
+            DiskFault::Memory => Failure::Memory,
+            DiskFault::Refused(text) => Failure::Refused(text),
+        }
+    }
+}
+
+/// The failure of a file that cannot be written.
+pub fn unwritten(rt: &HostRuntime, path: &str) -> Failure {
+    match format!(in rt.alloc(); "{path} cannot be written") {
+        Ok(text) => Failure::Refused(text),
+        Err(_) => Failure::Memory,
+    }
+}
+
+/// Reports a failure, and returns the status.
+pub fn report(rt: &HostRuntime, failure: Failure) -> u8 {
+    match failure {
+        Failure::Refused(text) => {
+            let _ = rt.eprintln(text);
+            2
+        }
+        Failure::Closed => 1,
+        Failure::Memory => 4,
+    }
+}
