@@ -5,33 +5,17 @@ use crate::fault::{CheckFault, file_fault, put_fault};
 use crate::places::{Places, owner_id};
 use gql_ast::{Definition, DefinitionId, Fault, FilePlace, FileSide, Operation, Text, Tree};
 use gql_findings::{Affected, Finding, Findings, OperationAt, Owner, OwnerAt, Source};
-use gql_folder::{Folder, NamedFile, read_folder};
+use gql_folder::{Folder, GivenFile, NamedFile, read_folder};
 use gql_registry::{NewFile, Registry};
 use gql_verdict::Meter;
 use std::alloc::{AllocError, Global};
 use std::str;
-
-/// A file that is given: its path below the folder, and its bytes.
-#[derive(Drop)]
-pub struct GivenFile {
-    pub path: String,
-    pub bytes: Vec<u8>,
-}
 
 /// The registry of files, and where its files are among those given.
 #[derive(Drop)]
 pub struct Checked {
     pub registry: Registry,
     pub folder: Folder,
-}
-
-/// The paths of files.
-fn paths_of(alloc: Global, files: &[GivenFile]) -> Result<Vec<String>, AllocError> {
-    let mut paths = Vec::new(alloc);
-    for file in files {
-        paths.push(file.path.clone()?)?;
-    }
-    Ok(paths)
 }
 
 /// Adds the files of a side to those that are put, and their indices.
@@ -96,8 +80,7 @@ fn put_data(
 
 /// The registry of these files.
 pub fn registry_of(alloc: Global, files: &[GivenFile]) -> Result<Checked, CheckFault> {
-    let paths = paths_of(alloc, files)?;
-    let folder = read_folder(alloc, paths.as_slice())?;
+    let folder = read_folder(alloc, files)?;
     if folder.schema.is_empty() && folder.documents.is_empty() && folder.data.is_none() {
         return Err(CheckFault::Empty);
     }

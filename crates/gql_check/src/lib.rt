@@ -7,6 +7,6 @@ mod fault;
 mod places;
 mod refusal_text;
 
-pub use check::{Checked, GivenFile, check_files, registry_of};
+pub use check::{Checked, check_files, registry_of};
 pub use fault::{CheckFault, FileFault};
 pub use refusal_text::refusal_text;

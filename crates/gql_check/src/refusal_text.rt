@@ -1,9 +1,9 @@
 //! Why a folder is not checked, in words.
 
-use crate::check::GivenFile;
 use crate::fault::{CheckFault, FileFault};
 use gql_ast::FileSide;
 use gql_findings::Source;
+use gql_folder::GivenFile;
 use gql_text::Place;
 use std::alloc::{AllocError, Global};
 use std::str;

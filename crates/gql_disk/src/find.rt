@@ -1,8 +1,7 @@
 //! Finds the files of a folder that are those of a registry, and reads them.
 
 use crate::fault::{DiskFault, refused, unread};
-use gql_check::GivenFile;
-use gql_folder::{Role, role_of};
+use gql_folder::{GivenFile, Role, role_of};
 use std::alloc::AllocError;
 use std::fs;
 

@@ -1,6 +1,6 @@
 -- Helper definitions for private contracts: what the code's keys say.
-use Rattle.std.specs.Prelude.{List, map}
-use Rattle.gql_findings.specs.Marks.{Mark}
+use Rattle.std.specs.Prelude.{Bool, List, map}
+use Rattle.gql_findings.specs.Marks.{Mark, same_mark}
 use Rattle.gql_findings.specs.declared.marks.Key.{Key}
 
 -- the mark that a key says
@@ -17,3 +17,7 @@ mark_of k = record {
 -- the marks that keys say
 abbrev pub marks_of : List Key → List Mark
 marks_of keys = map mark_of keys
+
+-- whether two keys say the same mark
+abbrev pub same_key : Key → Key → Bool
+same_key a b = same_mark (mark_of a) (mark_of b)

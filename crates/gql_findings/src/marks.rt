@@ -2,15 +2,17 @@
 
 ghost use Rattle.std.specs.Prelude.{◌≡◌, map, IfOk};
 ghost use Rattle.gql_findings.specs.Marks as spec;
-ghost use Rattle.gql_findings.specs.Keys.{mark_of, marks_of};
+ghost use Rattle.gql_findings.specs.Keys.{mark_of, marks_of, same_key};
+ghost use Rattle.gql_findings.specs.SameMarks.{same_key_equiv, same_key_hashes, same_key_partial, texts_of};
 
 use crate::finding::{Finding, Findings, Owner, OwnerAt, Spot};
 use crate::source::Source;
 use gql_ast::{OperationKind, Text};
 use std::alloc::{AllocError, Global};
+use std::hash::{Hash, Hasher};
 
 /// What something is known by. Parts that it does not have are empty.
-#[derive(Clone, Copy, PartialEq, Eq, Hash)]
+#[derive(Clone, Copy)]
 pub struct Key<'a> {
     pub kind: u8,
     pub rule: &'a str,
@@ -18,6 +20,39 @@ pub struct Key<'a> {
     pub path: &'a str,
     pub line: &'a str,
     pub owner: &'a str,
+}
+
+impl<'a> PartialEq for Key<'a> {
+    ghost eq = { same_key };
+
+    ghost laws = { same_key_partial };
+
+    fn eq(&self, other: &Key<'a>) -> bool {
+        self.kind == other.kind
+            && self.rule == other.rule
+            && self.about == other.about
+            && self.path == other.path
+            && self.line == other.line
+            && self.owner == other.owner
+    }
+}
+
+impl<'a> Eq for Key<'a> {
+    ghost laws = { same_key_equiv };
+}
+
+impl<'a> Hash for Key<'a> {
+    ghost hash_input = { λ k. texts_of (mark_of k) };
+
+    ghost respects_eq = { same_key_hashes };
+
+    fn hash<H: Hasher>(&self, state: &mut H) {
+        self.rule.hash(state);
+        self.about.hash(state);
+        self.path.hash(state);
+        self.line.hash(state);
+        self.owner.hash(state);
+    }
 }
 
 /// The number of a kind of operation.

@@ -1,19 +1,19 @@
 -- The files of a folder, as the files of a registry.
-use Rattle.std.specs.Prelude.{ℕ, ◌≡◌, ◌<◌, ◌≤◌, List, Contains, Option, Some, None, String, length, map, slice_get, string_bytes}
-use Rattle.std.specs.declared.alloc.Global.{Global}
+use Rattle.std.specs.Prelude.{ℕ, ◌≡◌, ◌<◌, ◌≤◌, List, Contains, Option, Some, None, length, map, slice_get, string_bytes}
 use Rattle.gql_ast.specs.declared.fault.FileSide.{FileSide}
 use Rattle.gql_ast.specs.declared.fault.FileSide.TheVariants.{Schema, Documents}
 use Rattle.gql_folder.specs.Roles.{role_at}
 use Rattle.gql_folder.specs.declared.folder.Folder.{Folder}
 use Rattle.gql_folder.specs.declared.folder.FolderFault.{FolderFault}
 use Rattle.gql_folder.specs.declared.folder.FolderFault.TheVariants.{Misnamed, Twice, TooMany, Memory}
+use Rattle.gql_folder.specs.declared.folder.GivenFile.{GivenFile}
 use Rattle.gql_folder.specs.declared.folder.NamedFile.{NamedFile}
 use Rattle.gql_folder.specs.declared.role.Role.{Role}
 use Rattle.gql_folder.specs.declared.role.Role.TheVariants as role
 
--- the texts of paths
-abbrev pub texts_of : List (String Global) → List (List ℕ)
-texts_of = map string_bytes
+-- the paths of files
+abbrev pub paths_of : List GivenFile → List (List ℕ)
+paths_of = map (λ (f : GivenFile). string_bytes f.path)
 
 -- the path at this index has this role
 abbrev pub HasRole : List (List ℕ) → ℕ → Role → Type 0

@@ -1,7 +1,7 @@
 //! The files of a folder, by their names in a registry.
 ghost use Rattle.std.specs.Prelude.{◌≡◌, ◌+◌, ◌<◌, ◌++◌, ◌∷◌, [], ℕ, List, IfErr, IfOk, OnOk, Contains, MatchOption, Some, length, map, slice_get};
 ghost use Rattle.gql_folder.specs.Adding.{IsAddFault, IsFound, IsFresh};
-ghost use Rattle.gql_folder.specs.Folders.{IsFolder, IsFolderFault, texts_of};
+ghost use Rattle.gql_folder.specs.Folders.{IsFolder, IsFolderFault, paths_of};
 
 use crate::role::{Role, role_of};
 use gql_ast::{FileName, FileSide};
@@ -11,14 +11,21 @@ use thiserror::Error;
 /// How many files of a kind a folder may have.
 pub const MAX_FILES: usize = 256;
 
-/// A file of a registry: its name there, and the index of its path.
+/// A file that is given: its path below the folder, with `/` between its parts, and its bytes.
+#[derive(Drop)]
+pub struct GivenFile {
+    pub path: String,
+    pub bytes: Vec<u8>,
+}
+
+/// A file of a registry: its name there, and the index of the file given.
 #[derive(Debug, Drop)]
 pub struct NamedFile {
     pub name: FileName,
     pub at: usize,
 }
 
-/// The files of a folder, and the index of the path of its data, if it has some. No two schema
+/// The files of a folder by their names, and the index of its data, if it has some. No two schema
 /// files have one name, and no two document files.
 #[derive(Drop)]
 pub struct Folder {
@@ -30,10 +37,10 @@ pub struct Folder {
 /// Why a folder is refused.
 #[derive(Debug, Drop, Error)]
 pub enum FolderFault {
-    /// The path at this index gives no name of a file.
+    /// The path of the file at this index gives no name.
     #[error("a file has a name that is not accepted")]
     Misnamed { at: usize },
-    /// The paths at these two indices give one name.
+    /// The paths of the files at these two indices give one name.
     #[error("two files have one name")]
     Twice { first: usize, at: usize },
     /// There are more than 256 files of this side.
@@ -125,18 +132,18 @@ impl Folder {
     }
 }
 
-/// The files at these paths below a folder, or why they are not the files of a registry.
-pub fn read_folder(alloc: Global, paths: &[String]) -> Result<Folder, FolderFault>
-    ensures folder { IfOk result (IsFolder (texts_of paths.now) (length paths.now)) }
-    ensures err { IfErr result (IsFolderFault (texts_of paths.now)) }
+/// The files of a folder by their names, or why they are not the files of a registry.
+pub fn read_folder(alloc: Global, files: &[GivenFile]) -> Result<Folder, FolderFault>
+    ensures folder { IfOk result (IsFolder (paths_of files.now) (length files.now)) }
+    ensures err { IfErr result (IsFolderFault (paths_of files.now)) }
 {
     let mut folder = Folder {
         schema: Vec::new(alloc),
         documents: Vec::new(alloc),
         data: None,
     };
-    for (at, path) in paths.iter().enumerate() {
-        folder.add(path.as_str(), at)?;
+    for (at, file) in files.iter().enumerate() {
+        folder.add(file.path.as_str(), at)?;
     }
     Ok(folder)
 }

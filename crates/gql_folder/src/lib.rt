@@ -4,5 +4,5 @@
 mod folder;
 mod role;
 
-pub use folder::{Folder, FolderFault, MAX_FILES, NamedFile, read_folder};
+pub use folder::{Folder, FolderFault, GivenFile, MAX_FILES, NamedFile, read_folder};
 pub use role::{Role, role_of};

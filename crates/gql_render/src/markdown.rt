@@ -1,9 +1,217 @@
 //! A check as a summary for a pull request, in Markdown.
 
-use crate::check::Check;
+use crate::check::{Check, broken, shown, shown_causes};
+use crate::escapes::write_markdown;
+use crate::phrases::{hidden, write_count, write_counts, write_owner, write_operation, write_spot};
+use crate::picking::picked;
+use crate::write::write_text;
+use gql_findings::{
+    Affected, Cause, Finding, Findings, Rule, Source, Spot, path_at, sentence, title,
+};
 use std::alloc::{AllocError, Global};
 
-/// The check as a summary for a pull request.
-pub fn as_markdown(alloc: Global, _check: &Check<'_>) -> Result<Vec<u8>, AllocError> {
-    Ok(Vec::new(alloc))
+/// Writes a text as code, which stays in its line.
+fn write_code(out: &mut String, text: &str) -> Result<(), AllocError> {
+    write_text(out, "<code>")?;
+    write_markdown(out, text)?;
+    write_text(out, "</code>")
+}
+
+/// Writes a place as code.
+fn write_place(
+    alloc: Global,
+    out: &mut String,
+    sources: &[Source],
+    spot: &Spot,
+) -> Result<(), AllocError> {
+    let mut place = String::new(alloc);
+    write_spot(&mut place, sources, spot)?;
+    write_code(out, place.as_str())
+}
+
+/// Writes an operation that is not served, as a list item.
+fn write_item(
+    alloc: Global,
+    out: &mut String,
+    sources: &[Source],
+    affected: &Affected,
+) -> Result<(), AllocError> {
+    let mut name = String::new(alloc);
+    write_operation(&mut name, affected.kind, &affected.name)?;
+    write_text(out, "- ")?;
+    write_code(out, name.as_str())?;
+    write_text(out, " in ")?;
+    write_code(out, path_at(sources, &affected.spot))?;
+    if let Some(through) = &affected.through {
+        write_text(out, " by fragment ")?;
+        write_code(out, through.as_str())?;
+    }
+    write_text(out, "\n")
+}
+
+/// Writes the operations at these places, with how many they are; nothing where there are none.
+fn write_operations(
+    alloc: Global,
+    out: &mut String,
+    findings: &Findings,
+    places: &[usize],
+    state: &str,
+) -> Result<(), AllocError> {
+    if places.is_empty() {
+        return Ok(());
+    }
+    let operations = picked(alloc, findings.affected.as_slice(), places)?;
+    write_text(out, "\n**")?;
+    write_count(out, operations.len(), "operation")?;
+    write_text(out, state)?;
+    write_text(out, "**\n\n")?;
+    for affected in operations {
+        write_item(alloc, out, findings.sources.as_slice(), affected)?;
+    }
+    Ok(())
+}
+
+/// Writes a rule, what it is about, and what is at fault.
+fn write_rule(out: &mut String, rule: Rule, about: &str) -> Result<(), AllocError> {
+    write_text(out, rule.name())?;
+    if !about.is_empty() {
+        write_text(out, " ")?;
+        write_code(out, about)?;
+    }
+    write_text(out, ": ")?;
+    write_markdown(out, title(rule))?;
+    write_text(out, ": ")?;
+    write_markdown(out, sentence(rule))
+}
+
+/// Writes the first places of a cause, at most three.
+fn write_first_places(
+    alloc: Global,
+    out: &mut String,
+    findings: &Findings,
+    members: &[usize],
+) -> Result<(), AllocError> {
+    let faults = picked(alloc, findings.findings.as_slice(), members)?;
+    let mut comma = "";
+    for fault in faults.as_slice().iter().take(3) {
+        if let Some(spot) = fault.spots.first() {
+            write_text(out, comma)?;
+            write_place(alloc, out, findings.sources.as_slice(), spot)?;
+            comma = ", ";
+        }
+    }
+    if faults.len() > 3 {
+        write_text(out, " ..")?;
+    }
+    Ok(())
+}
+
+/// Writes a cause as a row of a table.
+fn write_row(
+    alloc: Global,
+    out: &mut String,
+    findings: &Findings,
+    cause: &Cause,
+) -> Result<(), AllocError> {
+    write_text(out, "| ")?;
+    write_rule(out, cause.rule, cause.about.as_str())?;
+    write_text(out, " | ")?;
+    write_count(out, cause.members.len(), "fault")?;
+    write_text(out, " | ")?;
+    write_first_places(alloc, out, findings, cause.members.as_slice())?;
+    write_text(out, " |\n")
+}
+
+/// Writes the causes of the faults, the largest first.
+fn write_causes(alloc: Global, out: &mut String, check: &Check<'_>) -> Result<(), AllocError> {
+    let causes = shown_causes(alloc, check)?;
+    if causes.is_empty() {
+        return Ok(());
+    }
+    write_text(out, "\n| Cause | Faults | First places |\n|---|---|---|\n")?;
+    for cause in causes.as_slice() {
+        write_row(alloc, out, check.now, cause)?;
+    }
+    Ok(())
+}
+
+/// Writes a fault with all its places, as a list item.
+fn write_fault(
+    alloc: Global,
+    out: &mut String,
+    sources: &[Source],
+    fault: &Finding,
+) -> Result<(), AllocError> {
+    write_text(out, "- ")?;
+    for spot in fault.spots.as_slice() {
+        write_place(alloc, out, sources, spot)?;
+        write_text(out, " ")?;
+    }
+    write_rule(out, fault.rule, fault.about.as_str())?;
+    if let Some(owner) = &fault.owner {
+        let mut name = String::new(alloc);
+        write_owner(&mut name, &owner.owner)?;
+        write_text(out, " (in ")?;
+        write_code(out, name.as_str())?;
+        write_text(out, ")")?;
+    }
+    write_text(out, "\n")
+}
+
+/// Writes the faults at these places, folded; nothing where there are none.
+fn write_faults(
+    alloc: Global,
+    out: &mut String,
+    findings: &Findings,
+    places: &[usize],
+    summary: &str,
+) -> Result<(), AllocError> {
+    if places.is_empty() {
+        return Ok(());
+    }
+    write_text(out, "\n<details><summary>")?;
+    write_text(out, summary)?;
+    write_text(out, "</summary>\n\n")?;
+    for fault in picked(alloc, findings.findings.as_slice(), places)? {
+        write_fault(alloc, out, findings.sources.as_slice(), fault)?;
+    }
+    write_text(out, "\n</details>\n")
+}
+
+/// Writes the operations: without a base those that are not served, else those that the change breaks
+/// and heals.
+fn write_states(alloc: Global, out: &mut String, check: &Check<'_>) -> Result<(), AllocError> {
+    let places = broken(alloc, check)?;
+    match &check.base {
+        None => write_operations(alloc, out, check.now, places.as_slice(), " not served"),
+        Some(base) => {
+            let healed = base.comparison.healed.as_slice();
+            write_operations(alloc, out, check.now, places.as_slice(), " broken")?;
+            write_operations(alloc, out, base.findings, healed, " healed")
+        }
+    }
+}
+
+/// The check as a summary for a pull request: the counts, the operations that are broken, the causes
+/// of the faults, and then, folded, each fault.
+pub fn as_markdown(alloc: Global, check: &Check<'_>) -> Result<Vec<u8>, AllocError> {
+    let mut out = String::new(alloc);
+    write_text(&mut out, "### GraphQL: ")?;
+    write_counts(&mut out, check)?;
+    write_text(&mut out, "\n")?;
+    let hidden = hidden(check);
+    if !hidden.is_empty() {
+        write_text(&mut out, "\n")?;
+        write_text(&mut out, hidden)?;
+        write_text(&mut out, "\n")?;
+    }
+    write_states(alloc, &mut out, check)?;
+    write_causes(alloc, &mut out, check)?;
+    let places = shown(alloc, check)?;
+    write_faults(alloc, &mut out, check.now, places.as_slice(), "Each fault")?;
+    if let Some(base) = &check.base {
+        let mended = base.comparison.mended.as_slice();
+        write_faults(alloc, &mut out, base.findings, mended, "Mended faults")?;
+    }
+    Ok(out.into_bytes())
 }

@@ -2,8 +2,9 @@
 
 use crate::failure::{Failure, report, unwritten};
 use gql_check::{CheckFault, check_files, refusal_text};
-use gql_check_command::{CheckFault as CommandFault, CheckOptions, Format, read_check};
+use gql_folder_command::{CheckOptions, Format};
 use gql_disk::find_files;
+use gql_folder::GivenFile;
 use gql_findings::{Comparison, Findings, compare};
 use gql_render::{Against, Check, as_github, as_html, as_json, as_markdown, as_sarif, as_text};
 use std::alloc::AllocError;
@@ -13,11 +14,20 @@ use std::{env, fs};
 /// What a check of a folder on disk finds.
 fn findings_in(rt: &HostRuntime, folder: &str) -> Result<Findings, Failure> {
     let files = find_files(rt, folder)?;
-    match check_files(rt.alloc(), folder, files.as_slice()) {
+    checked(rt, folder, files.as_slice())
+}
+
+/// What a check of the files of a folder finds.
+pub fn checked(
+    rt: &HostRuntime,
+    folder: &str,
+    files: &[GivenFile],
+) -> Result<Findings, Failure> {
+    match check_files(rt.alloc(), folder, files) {
         Ok(findings) => Ok(findings),
         Err(CheckFault::Memory) => Err(Failure::Memory),
         Err(fault) => {
-            let text = refusal_text(rt.alloc(), folder, files.as_slice(), &fault)?;
+            let text = refusal_text(rt.alloc(), folder, files, &fault)?;
             Err(Failure::Refused(text))
         }
     }
@@ -91,26 +101,18 @@ fn check(rt: &HostRuntime, options: &CheckOptions) -> Result<u8, Failure> {
         base: against,
     };
     let colours = options.output.is_none() && has_colours(rt);
-    let text = written(rt, &check, options.format, colours)?;
+    let mut text = written(rt, &check, options.format, colours)?;
+    if matches!(options.format, Format::Json | Format::Sarif) {
+        text.push(b'\n')?;
+    }
     write_out(rt, text, &options.output)?;
     Ok(status_of(&now, &comparison))
 }
 
 /// Runs a check, and returns the status.
-pub fn run_check(rt: &HostRuntime, words: &[String]) -> u8 {
-    match read_check(rt.alloc(), words) {
-        Ok(options) => match check(rt, &options) {
-            Ok(status) => status,
-            Err(failure) => report(rt, failure),
-        },
-        Err(CommandFault::Help(text)) => match rt.print(text) {
-            Ok(()) => 0,
-            Err(_) => 1,
-        },
-        Err(CommandFault::Refused(text)) => {
-            let _ = rt.eprintln(text);
-            2
-        }
-        Err(CommandFault::Memory) => 4,
+pub fn run_check(rt: &HostRuntime, options: &CheckOptions) -> u8 {
+    match check(rt, options) {
+        Ok(status) => status,
+        Err(failure) => report(rt, failure),
     }
 }

@@ -1,13 +1,17 @@
 //! Why a command on a folder ends early, and its status then.
 
 use gql_disk::DiskFault;
-use std::alloc::AllocError;
+use std::alloc::{AllocError, AllocFailed};
 
 /// Why a command on a folder ends early.
 #[derive(Drop)]
 pub enum Failure {
     /// A folder or a file is refused; why, in words.
     Refused(String),
+    /// Somebody else has edited the registry; what is to be said of it.
+    Edited(String),
+    /// The server cannot be reached, or answers as no registry does.
+    NoServer,
     /// Standard output takes no more.
     Closed,
     /// An allocation failed.
@@ -16,6 +20,12 @@ pub enum Failure {
 
 impl From<AllocError> for Failure {
     fn from(_: AllocError) -> Failure {
+        Failure::Memory
+    }
+}
+
+impl<T: Drop> From<AllocFailed<T>> for Failure {
+    fn from(_: AllocFailed<T>) -> Failure {
         Failure::Memory
     }
 }
@@ -43,6 +53,14 @@ pub fn report(rt: &HostRuntime, failure: Failure) -> u8 {
         Failure::Refused(text) => {
             let _ = rt.eprintln(text);
             2
+        }
+        Failure::Edited(text) => {
+            let _ = rt.eprintln(text);
+            3
+        }
+        Failure::NoServer => {
+            let _ = rt.eprintln("no answer from the server, or not one of a registry");
+            5
         }
         Failure::Closed => 1,
         Failure::Memory => 4,

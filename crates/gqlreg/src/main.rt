@@ -1,17 +1,22 @@
-//! `gqlreg check` checks the files of a folder. `gqlreg pipe` answers the requests of standard input on standard output, `gqlreg serve` those of
+//! `gqlreg check` checks the files of a folder, `gqlreg push` puts them into a registry. `gqlreg pipe` answers the requests of standard input on standard output, `gqlreg serve` those of
 //! connections.
 #![tactic(auto)]
 
 mod check;
+mod connection;
 mod failure;
+mod push;
 
 ghost use Rattle.std.specs.Prelude.{◌≡◌, ◌≤◌, None};
 ghost use Rattle.gql_http.specs.Hubs.{rests_of};
 ghost use Rattle.gql_server.specs.Together.{AreClosed};
 
 use crate::check::run_check;
-use gql_check_command::is_check_command;
+use crate::push::run_push;
 use gql_command::{Command, CommandFault, read_command};
+use gql_folder_command::{
+    FolderCommand, FolderCommandFault, is_folder_command, read_folder_command,
+};
 use gql_http::{Hub, pipe, status_of};
 use gql_registry::Registry;
 use gql_server::{NetListener, ServeFault, serve_on, serve_together};
@@ -115,6 +120,20 @@ fn report_fault(rt: &HostRuntime, fault: CommandFault) -> u8 {
     }
 }
 
+/// Runs a command on a folder, and returns the status.
+fn run_on_folder(rt: &HostRuntime, words: &[String]) -> u8 {
+    match read_folder_command(rt.alloc(), words) {
+        Ok(FolderCommand::Check(options)) => run_check(rt, &options),
+        Ok(FolderCommand::Push(options)) => run_push(rt, &options),
+        Err(FolderCommandFault::Help(text)) => print_text(rt, text),
+        Err(FolderCommandFault::Refused(text)) => {
+            let _ = rt.eprintln(text);
+            2
+        }
+        Err(FolderCommandFault::Memory) => 4,
+    }
+}
+
 /// The status if the command line cannot be read: 4 if an allocation failed, and 2 with a text for
 /// words that are not UTF-8.
 fn report_unread(rt: &HostRuntime, error: &io::Error) -> u8 {
@@ -134,8 +153,8 @@ fn main(rt: HostRuntime) -> ExitCode {
         Ok(words) => words,
         Err(error) => return ExitCode::from(report_unread(&rt, &error)),
     };
-    if is_check_command(words.as_slice()) {
-        return ExitCode::from(run_check(&rt, words.as_slice()));
+    if is_folder_command(words.as_slice()) {
+        return ExitCode::from(run_on_folder(&rt, words.as_slice()));
     }
     ExitCode::from(match read_command(rt.alloc(), words.as_slice()) {
         Ok(Command::Pipe) => run_pipe(&rt),

@@ -1,4 +1,4 @@
-//! What a check is to read, and how it is to be written.
+//! What commands on a folder are to read, and how they are to write.
 
 use clap::ArgMatches;
 use std::alloc::{AllocError, Global};
@@ -62,15 +62,55 @@ fn text_of(
     }
 }
 
-/// The options that clap found.
-pub fn options_of(
+/// What a push reads, and where it puts what it reads.
+#[derive(Debug, Drop)]
+pub struct PushOptions {
+    /// The folder that is pushed.
+    pub folder: String,
+    /// The server: its host and its port.
+    pub server: String,
+    /// Whether all files are put, those that were pushed before too.
+    pub all: bool,
+    /// The file that keeps what was pushed; one in the folder if there is none.
+    pub state: Option<String>,
+    /// How many seconds to wait for a server that is not there yet.
+    pub wait: u64,
+    /// Whether nothing is put if the folder has faults.
+    pub fail_on_faults: bool,
+    /// Whether the files are put although somebody else has edited the registry.
+    pub force: bool,
+}
+
+/// The options of a push that clap found.
+pub fn push_options(alloc: Global, matches: &ArgMatches<'_>) -> Result<PushOptions, AllocError> {
+    Ok(PushOptions {
+        folder: folder_of(alloc, matches)?,
+        server: match text_of(alloc, matches, "to")? {
+            Some(server) => server,
+            None => String::from_str(alloc, "127.0.0.1:8080")?,
+        },
+        all: matches.get_flag("all"),
+        state: text_of(alloc, matches, "state")?,
+        wait: matches.get_one::<u64>("wait").unwrap_or(0),
+        fail_on_faults: matches.get_flag("fail-on-faults"),
+        force: matches.get_flag("force"),
+    })
+}
+
+/// The folder of a command.
+fn folder_of(alloc: Global, matches: &ArgMatches<'_>) -> Result<String, AllocError> {
+    match text_of(alloc, matches, "DIR")? {
+        Some(folder) => Ok(folder),
+        None => String::from_str(alloc, "."),
+    }
+}
+
+/// The options of a check that clap found.
+pub fn check_options(
     alloc: Global,
     matches: &ArgMatches<'_>,
 ) -> Result<CheckOptions, AllocError> {
-    let folder = match text_of(alloc, matches, "DIR")? {
-        Some(folder) => folder,
-        None => String::from_str(alloc, ".")?,
-    };
+    let folder = folder_of(alloc, matches)?;
     let format = match matches.get_str("format") {
         Some(word) => Format::of(word),
         None => Format::Text,

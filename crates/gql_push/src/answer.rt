@@ -1,0 +1,55 @@
+//! Answers, as they are read from a connection.
+
+use httparse::{EMPTY_HEADER, Response, Status};
+use std::str;
+
+/// Where an answer is in the bytes that were read: its status, where its body begins, and where it
+/// ends.
+#[derive(Clone, Copy, Debug, PartialEq, Eq)]
+pub struct AnswerSpan {
+    pub status: u16,
+    pub body: usize,
+    pub end: usize,
+}
+
+/// The greatest number of fields of an answer that is read.
+const MAX_FIELDS: usize = 32;
+
+/// The number that a field has, if it is one of at most 15 digits.
+fn number_in(value: &[u8]) -> Option<usize> {
+    if value.is_empty() || value.len() > 15 {
+        return None;
+    }
+    match str::from_utf8(value) {
+        Ok(text) => text.parse::<usize>().ok(),
+        Err(_) => None,
+    }
+}
+
+/// The answer at the start of these bytes. None if more bytes are to come; an `Err` if they are no
+/// answer of a registry.
+pub fn answer_in(bytes: &[u8]) -> Result<Option<AnswerSpan>, ()> {
+    let mut fields = [EMPTY_HEADER; MAX_FIELDS];
+    let mut response = Response::new(&mut fields);
+    let body = match response.parse(bytes) {
+        Ok(Status::Complete(body)) => body,
+        Ok(Status::Partial) => return Ok(None),
+        Err(_) => return Err(()),
+    };
+    let Some(status) = response.code else {
+        return Err(());
+    };
+    let length = response
+        .headers
+        .iter()
+        .find(|field| field.name.eq_ignore_ascii_case("content-length"))
+        .and_then(|field| number_in(field.value));
+    let Some(length) = length else {
+        return Err(());
+    };
+    let end = body.saturating_add(length);
+    if bytes.len() < end {
+        return Ok(None);
+    }
+    Ok(Some(AnswerSpan { status, body, end }))
+}

@@ -1,0 +1,93 @@
+//! Which edits a push makes.
+
+use crate::sum::sum_of;
+use gql_ast::FileSide;
+use gql_folder::{GivenFile, Role, role_of};
+use std::alloc::{AllocError, Global};
+
+/// A file of a registry, as a resource: its target without the slash before it, as `schema/users`
+/// or `data`; the sum of its bytes; and the index of its file.
+#[derive(Drop)]
+pub struct Resource {
+    pub target: String,
+    pub sum: String,
+    pub file: usize,
+}
+
+/// One edit of a push.
+#[derive(Drop)]
+pub enum Edit {
+    /// The file of a resource is put; the index of the resource.
+    Put(usize),
+    /// The file of a target that the folder no longer has is removed.
+    Remove(String),
+    /// The data that the folder no longer has is put in its first state, an empty object.
+    EmptyData,
+}
+
+/// The target of the file at a path below a folder, if it is one of a registry.
+fn target_of(alloc: Global, path: &str) -> Result<Option<String>, AllocError> {
+    match role_of(path) {
+        Role::File(FileSide::Schema, name) => {
+            let name = name.as_str();
+            Ok(Some(format!(in alloc; "schema/{name}")?))
+        }
+        Role::File(FileSide::Documents, name) => {
+            let name = name.as_str();
+            Ok(Some(format!(in alloc; "documents/{name}")?))
+        }
+        Role::Data => Ok(Some(String::from_str(alloc, "data")?)),
+        Role::Misnamed | Role::Other => Ok(None),
+    }
+}
+
+/// The resources of the files of a folder.
+pub fn resources_of(alloc: Global, files: &[GivenFile]) -> Result<Vec<Resource>, AllocError> {
+    let mut resources = Vec::new(alloc);
+    for (file, given) in files.iter().enumerate() {
+        if let Some(target) = target_of(alloc, given.path.as_str())? {
+            let sum = sum_of(alloc, given.bytes.as_slice())?;
+            resources.push(Resource { target, sum, file })?;
+        }
+    }
+    Ok(resources)
+}
+
+/// The resource of a target among these.
+fn find_target<'r>(resources: &'r [Resource], target: &str) -> Option<&'r Resource> {
+    resources.iter().find(|resource| resource.target.as_str() == target)
+}
+
+/// Whether a resource was pushed as it is.
+fn is_pushed(pushed: &[Resource], resource: &Resource) -> bool {
+    match find_target(pushed, resource.target.as_str()) {
+        Some(before) => before.sum == resource.sum,
+        None => false,
+    }
+}
+
+/// The edits that make the resources of a registry those of a folder, if these were pushed last.
+/// With `all`, every resource is put.
+pub fn plan(
+    alloc: Global,
+    resources: &[Resource],
+    pushed: &[Resource],
+    all: bool,
+) -> Result<Vec<Edit>, AllocError> {
+    let mut edits = Vec::new(alloc);
+    for (at, resource) in resources.iter().enumerate() {
+        if all || !is_pushed(pushed, resource) {
+            edits.push(Edit::Put(at))?;
+        }
+    }
+    for before in pushed {
+        if find_target(resources, before.target.as_str()).is_none() {
+            if before.target.as_str() == "data" {
+                edits.push(Edit::EmptyData)?;
+            } else {
+                edits.push(Edit::Remove(before.target.clone()?))?;
+            }
+        }
+    }
+    Ok(edits)
+}

@@ -1,0 +1,15 @@
+//! What a push of a folder to a registry puts and removes, the requests for it, and their answers.
+#![tactic(auto)]
+
+mod answer;
+mod body;
+mod edits;
+mod request;
+mod state;
+mod sum;
+
+pub use answer::{AnswerSpan, answer_in};
+pub use body::{Reply, reply_in};
+pub use edits::{Edit, Resource, plan, resources_of};
+pub use request::{write_edit, write_report};
+pub use state::{PushState, read_state};

@@ -1,0 +1,101 @@
+//! A connection to a registry, over which requests are sent and answers are read.
+
+use gql_push::{AnswerSpan, Reply, answer_in, reply_in};
+use std::alloc::AllocError;
+use std::io::{Read, Write};
+use std::net::TcpStream;
+use std::thread;
+use std::time::Duration;
+
+/// The greatest number of bytes of an answer that is read.
+const MAX_ANSWER_BYTES: usize = 1_073_741_824;
+
+/// Why there is no answer.
+#[derive(Drop)]
+pub enum NoAnswer {
+    /// The server cannot be reached, closes the connection, or answers as no registry does.
+    NoServer,
+    /// An allocation failed.
+    Memory,
+}
+
+impl From<AllocError> for NoAnswer {
+    fn from(_: AllocError) -> NoAnswer {
+        NoAnswer::Memory
+    }
+}
+
+/// A connection, and the bytes that were read and belong to no answer yet.
+#[derive(Drop)]
+pub struct Connection {
+    stream: TcpStream,
+    rest: Vec<u8>,
+}
+
+impl Connection {
+    /// A connection to a server, once it is there; it is waited for so many seconds.
+    pub fn open(rt: &HostRuntime, server: &str, seconds: u64) -> Result<Connection, NoAnswer> {
+        for _ in 0..=seconds {
+            if let Ok(stream) = TcpStream::connect(rt, server) {
+                return Ok(Connection {
+                    stream,
+                    rest: Vec::new(rt.alloc()),
+                });
+            }
+            if seconds > 0 {
+                let _ = thread::sleep(rt, Duration::from_secs(1));
+            }
+        }
+        Err(NoAnswer::NoServer)
+    }
+
+    /// Sends requests.
+    pub fn send(&mut self, requests: &[u8]) -> Result<(), NoAnswer> {
+        match (&self.stream).write_all(requests) {
+            Ok(()) => Ok(()),
+            Err(_) => Err(NoAnswer::NoServer),
+        }
+    }
+
+    /// Reads more bytes, and returns whether there were some.
+    fn read_more(&mut self) -> Result<bool, NoAnswer> {
+        let mut piece = [0u8; 16384];
+        match (&self.stream).read(&mut piece) {
+            Ok(count) if count <= piece.len() => {
+                self.rest.extend_from_slice(&piece[..count])?;
+                Ok(count > 0)
+            }
+            _ => Err(NoAnswer::NoServer),
+        }
+    }
+
+    /// Reads until there is a whole answer.
+    fn whole_answer(&mut self) -> Result<AnswerSpan, NoAnswer> {
+        for _ in 0..MAX_ANSWER_BYTES {
+            match answer_in(self.rest.as_slice()) {
+                Ok(Some(span)) => return Ok(span),
+                Ok(None) => {}
+                Err(()) => return Err(NoAnswer::NoServer),
+            }
+            if !self.read_more()? || self.rest.len() > MAX_ANSWER_BYTES {
+                return Err(NoAnswer::NoServer);
+            }
+        }
+        Err(NoAnswer::NoServer)
+    }
+
+    /// What the next answer says.
+    pub fn reply(&mut self, rt: &HostRuntime) -> Result<Reply, NoAnswer> {
+        let span = self.whole_answer()?;
+        let reply = match self.rest.get(span.body..span.end) {
+            Some(body) => reply_in(rt.alloc(), body)?,
+            None => Reply::Strange,
+        };
+        let mut rest = Vec::new(rt.alloc());
+        if let Some(after) = self.rest.get(span.end..) {
+            rest.extend_from_slice(after)?;
+        }
+        self.rest = rest;
+        Ok(reply)
+    }
+}
