@@ -19,7 +19,6 @@ server=
 trap '[ -z "$server" ] || kill "$server" 2> /dev/null; rm -rf "$room"' EXIT
 mkdir "$room/bin" "$room/blocks" "$room/home" "$room/hour"
 ln -s "$(realpath "$program")" "$room/bin/gqlreg"
-ln -s "$top/client/gqlreg-client" "$room/bin/gqlreg-client"
 
 # the blocks of the guide: N.sh with the commands, N.text with what they print
 awk -v room="$room/blocks" '
@@ -31,7 +30,7 @@ awk -v room="$room/blocks" '
 export PATH="$room/bin:$PATH" HOME="$room/home" TMPDIR="$room" NO_COLOR=1 LC_ALL=C.UTF-8
 export GIT_AUTHOR_NAME=Ann GIT_AUTHOR_EMAIL=ann@example.com
 export GIT_COMMITTER_NAME=Ann GIT_COMMITTER_EMAIL=ann@example.com GIT_CONFIG_NOSYSTEM=1
-export GQLREG_SERVER="http://127.0.0.1:$port" GQLREG_HOME="$top"
+export GQLREG_HOME="$top"
 unset GQLREG
 cd "$room/hour" || exit 2
 passed=0

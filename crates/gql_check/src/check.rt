@@ -210,12 +210,13 @@ fn sources_of(
 ) -> Result<Vec<Source>, AllocError> {
     let mut sources = Vec::new(alloc);
     for file in files {
-        let path = format!(in alloc; "{folder}/{}", file.path)?;
+        let label = format!(in alloc; "{folder}/{}", file.path)?;
+        let path = file.path.clone()?;
         let text = match str::from_utf8(file.bytes.as_slice()) {
             Ok(text) => String::from_str(alloc, text)?,
             Err(_) => String::new(alloc),
         };
-        sources.push(Source::new(alloc, path, text)?)?;
+        sources.push(Source::new(alloc, label, path, text)?)?;
     }
     Ok(sources)
 }

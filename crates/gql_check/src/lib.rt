@@ -9,4 +9,4 @@ mod refusal_text;
 
 pub use check::{Checked, check_files, registry_of};
 pub use fault::{CheckFault, FileFault};
-pub use refusal_text::refusal_text;
+pub use refusal_text::{refusal_annotation, refusal_text};

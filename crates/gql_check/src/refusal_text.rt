@@ -41,8 +41,8 @@ fn write_line(
     let Ok(text) = str::from_utf8(file.bytes.as_slice()) else {
         return Ok(());
     };
-    let path = String::new(alloc);
-    let source = Source::new(alloc, path, String::from_str(alloc, text)?)?;
+    let (label, path) = (String::new(alloc), String::new(alloc));
+    let source = Source::new(alloc, label, path, String::from_str(alloc, text)?)?;
     let line = source.line(place.line);
     out.push_str("\n  ")?;
     out.push_str(line)?;
@@ -114,4 +114,45 @@ pub fn refusal_text(
         CheckFault::Refused(fault) => refused_text(alloc, folder, files, fault),
         CheckFault::Memory => String::from_str(alloc, "out of memory"),
     }
+}
+
+/// Adds a text as the value of a property of an annotation.
+fn write_property(out: &mut String, text: &str) -> Result<(), AllocError> {
+    for character in text.chars() {
+        match character {
+            '%' => out.push_str("%25")?,
+            '\r' => out.push_str("%0D")?,
+            '\n' => out.push_str("%0A")?,
+            ':' => out.push_str("%3A")?,
+            ',' => out.push_str("%2C")?,
+            other => out.push(other)?,
+        }
+    }
+    Ok(())
+}
+
+/// Why a file given is refused, as an annotation of GitHub's build server, with a line break at its
+/// end. None for what is no fault of one file.
+pub fn refusal_annotation(
+    alloc: Global,
+    folder: &str,
+    files: &[GivenFile],
+    fault: &CheckFault,
+) -> Result<Option<String>, AllocError> {
+    let CheckFault::Refused(fault) = fault else {
+        return Ok(None);
+    };
+    let path = path_at(files, fault.file);
+    let path = format!(in alloc; "{folder}/{path}")?;
+    let mut out = String::from_str(alloc, "::error file=")?;
+    write_property(&mut out, path.as_str())?;
+    let (number, reason) = (fault.number, fault.reason);
+    if let Some(place) = fault.place {
+        let (line, column) = (place.line, place.column);
+        let at = format!(in alloc; ",line={line},col={column}")?;
+        out.push_str(at.as_str())?;
+    }
+    let end = format!(in alloc; ",title={number}::{reason} ({number})\n")?;
+    out.push_str(end.as_str())?;
+    Ok(Some(out))
 }

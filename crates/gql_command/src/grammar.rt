@@ -10,6 +10,10 @@ use std::alloc::{AllocError, Global};
 
 /// The end of the program's help.
 const AFTER_HELP: &str = "\
+Folders, each with a --help of its own:
+  gqlreg check DIR        checks the schema and the operations of a folder
+  gqlreg push DIR         puts the files of a folder into a registry
+
 Requests:
   PUT /schema/NAME        puts the body as the schema file of this name
   DELETE /schema/NAME     removes it

@@ -1,5 +1,5 @@
 -- Counts of equal keys, and places in a list.
-use Rattle.std.proofs.Common.{◌≡◌, ℕ, zero, suc, ◌+◌, ◌-◌, ◌<◌, ◌≤◌, List, [], ◌∷◌, ◌++◌, length, take, get_or, refl, sym, ap, subst, ◌∙◌, arith, Bool, true, false, cond, Option, Some, None, map, append_assoc, true≢false}
+use Rattle.std.proofs.Common.{◌≡◌, ℕ, zero, suc, ◌+◌, ◌-◌, ◌<◌, List, [], ◌∷◌, ◌++◌, length, take, get_or, refl, sym, ap, subst, ◌∙◌, arith, Bool, true, false, cond, Option, Some, map}
 use Rattle.std.specs.Prelude.{count_by, fold, unwrap_or, nat_le, nat_lt, not, ◌&&◌, ◌||◌}
 use Rattle.std.specs.List.{list_any}
 use Rattle.std.proofs.lemmas.Bool.Decides.{nat_tests}
@@ -8,7 +8,7 @@ use Rattle.std.proofs.lemmas.List.Folds.{list_any-append}
 use Rattle.std.proofs.lemmas.List.Sums.{count_by_more_yes, count_by_more_no}
 use Rattle.gql_findings.specs.Comparing.{places_from, count_of, unpaired}
 use Rattle.gql_findings.specs.Keys.{mark_of, marks_of, same_key}
-use Rattle.gql_findings.specs.Marks.{Mark, same_mark}
+use Rattle.gql_findings.specs.Marks.{same_mark}
 use Rattle.gql_findings.specs.SameMarks.{same_mark_equiv, same_mark_equal}
 use Rattle.gql_findings.specs.declared.marks.Key.{Key}
 

@@ -1,5 +1,5 @@
 -- The spans of the lines of a text.
-use Rattle.std.proofs.Common.{◌≡◌, ℕ, zero, suc, ◌+◌, ◌-◌, ◌<◌, ◌≤◌, List, [], ◌∷◌, ◌++◌, length, take, drop, length-drop, drop-drop, get_or, refl, sym, ap, subst, ◌∙◌, arith, append_assoc, map, ◌≢◌, Option, Some, None}
+use Rattle.std.proofs.Common.{◌≡◌, ℕ, zero, suc, ◌+◌, ◌-◌, ◌<◌, ◌≤◌, List, [], ◌∷◌, ◌++◌, length, take, drop, length-drop, drop-drop, get_or, refl, sym, ap, subst, ◌∙◌, arith, append_assoc, map, ◌≢◌, Some, None}
 use Rattle.std.specs.List.{slice_range, slice_get}
 use Rattle.std.specs.Prelude.{option_map, unwrap_or}
 use Rattle.std.proofs.lemmas.Option.{slice_get-map, slice_get-get_or, slice_get_past}
@@ -7,7 +7,7 @@ use Rattle.std.specs.Str.{IsCharBoundary}
 use Rattle.std.proofs.lemmas.Str.{IsCharBoundary-from_rest}
 use Rattle.std.proofs.lemmas.List.{map-append, append-nil, nil_from_length}
 use Rattle.gql_text.specs.Values.{lines_of}
-use Rattle.gql_text.specs.Escapes.{BreaksLine, break_len, begins_pair}
+use Rattle.gql_text.specs.Escapes.{BreaksLine, break_len}
 use Rattle.gql_text.proofs.Lines.{line_size, other_lines, first_line, line_stops, other_some}
 use Rattle.gql_findings.specs.Sources.{line_at}
 use Rattle.gql_findings.specs.LineSpans.{IsPart, part_of}

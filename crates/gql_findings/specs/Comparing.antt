@@ -1,6 +1,6 @@
 -- What a comparison of two checks has: the faults that are brought and mended, and the operations that
 -- are broken and healed.
-use Rattle.std.specs.Prelude.{ℕ, zero, suc, List, [], ◌∷◌, Bool, false, ◌&&◌, ◌||◌, not, nat_le, nat_eq, bytes_eq, codes, count_by, filter, take, option_map, unwrap_or, slice_get, if◌then◌else◌}
+use Rattle.std.specs.Prelude.{ℕ, suc, List, [], ◌∷◌, Bool, false, ◌&&◌, ◌||◌, not, nat_le, nat_eq, bytes_eq, codes, count_by, filter, take, option_map, unwrap_or, slice_get, if◌then◌else◌}
 use Rattle.std.specs.List.{list_any, starts_with}
 use Rattle.gql_ast.specs.Rules.{name_of}
 use Rattle.gql_ast.specs.declared.rule.Rule.{Rule}

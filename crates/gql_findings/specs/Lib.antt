@@ -1,4 +1,6 @@
+pub mod Causes
 pub mod Comparing
+pub mod Gathering
 pub mod Keys
 pub mod LineSpans
 pub mod Marks

@@ -4,10 +4,8 @@ use Rattle.gql_ast.specs.Rules.{name_of}
 use Rattle.gql_ast.specs.declared.executable.OperationKind.{OperationKind}
 use Rattle.gql_ast.specs.declared.executable.OperationKind.TheVariants.{Query, Mutation, Subscription}
 use Rattle.gql_findings.specs.Sources.{TextFile, line_at}
-use Rattle.gql_findings.specs.declared.finding.Affected.{Affected}
 use Rattle.gql_findings.specs.declared.finding.Finding.{Finding}
 use Rattle.gql_findings.specs.declared.finding.Findings.{Findings}
-use Rattle.gql_findings.specs.declared.finding.OperationAt.{OperationAt}
 use Rattle.gql_findings.specs.declared.finding.Owner.{Owner}
 use Rattle.gql_findings.specs.declared.finding.Owner.TheVariants.{Fragment, Operation}
 use Rattle.gql_findings.specs.declared.finding.OwnerAt.{OwnerAt}
@@ -27,7 +25,11 @@ abbrev pub same_mark : Mark → Mark → Bool
 same_mark a b = a.kind == b.kind && bytes_eq a.rule b.rule && bytes_eq a.about b.about
     && bytes_eq a.path b.path && bytes_eq a.line b.line && bytes_eq a.owner b.owner
 
--- the path of the file of a place; empty where the list has no such file
+-- the path, as it is shown, of the file of a place; empty where the list has no such file
+abbrev pub label_at : List TextFile → Spot → List ℕ
+label_at sources spot = unwrap_or (option_map (λ s. s.label) (slice_get sources spot.source)) []
+
+-- the path of the file of a place below its folder; empty where the list has no such file
 abbrev pub path_at : List TextFile → Spot → List ℕ
 path_at sources spot = unwrap_or (option_map (λ s. s.path) (slice_get sources spot.source)) []
 

@@ -2,8 +2,9 @@
 use Rattle.std.specs.Prelude.{ℕ, zero, suc, List, [], slice_get, unwrap_or}
 pub use Rattle.gql_text.specs.Values.{lines_of}
 
--- a file: its path and its text
+-- a file: its path as it is shown, its path below its folder, and its text
 pub record TextFile : Type 0 where
+  pub label : List ℕ
   pub path : List ℕ
   pub text : List ℕ
 

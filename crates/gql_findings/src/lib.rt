@@ -16,6 +16,6 @@ pub use comparison::{Comparison, compare};
 pub use finding::{Affected, Finding, Findings, OperationAt, Owner, OwnerAt, Spot};
 pub use gql_ast::{OperationKind, Rule, Text};
 pub use grouping::{Cause, causes};
-pub use marks::{line_at, path_at};
+pub use marks::{label_at, line_at, path_at};
 pub use source::Source;
 pub use words::{sentence, title};

@@ -66,6 +66,16 @@ fn kind_number(kind: OperationKind) -> u8
     }
 }
 
+/// The path, as it is shown, of the file of a place; empty where there is none.
+pub fn label_at<'a>(sources: &'a [Source], spot: &Spot) -> &'a str
+    ensures { result.now ≡ spec.label_at sources.now spot.now }
+{
+    match sources.get(spot.source) {
+        Some(source) => source.label(),
+        None => "",
+    }
+}
+
 /// The path of the file of a place; empty where the list has no such file.
 pub fn path_at<'a>(sources: &'a [Source], spot: &Spot) -> &'a str
     ensures { result.now ≡ spec.path_at sources.now spot.now }

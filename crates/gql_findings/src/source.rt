@@ -1,4 +1,4 @@
-//! A file: its path, its text, and where its lines are.
+//! A file: its paths, its text, and where its lines are.
 
 ghost use Rattle.std.specs.Prelude.{◌≡◌, length, IfOk, string_bytes};
 ghost use Rattle.gql_findings.specs.Sources.{line_at, lines_of};
@@ -7,9 +7,11 @@ use crate::lines::{LineSpan, line_spans};
 use std::alloc::{AllocError, Global};
 use std::marker::Model;
 
-/// A file: its path and its text. Contracts see these two.
+/// A file: its path as it is shown, its path below its folder, and its text. Contracts see these
+/// three.
 #[derive(Drop)]
 pub struct Source {
+    label: String,
     path: String,
     text: String,
     lines: Vec<LineSpan>,
@@ -22,22 +24,44 @@ impl Model for Source {
 
     ghost Value = { TextFile };
 
-    ghost view = { λ s. record { path = string_bytes s.path; text = string_bytes s.text } };
+    ghost view = { λ s. record {
+      label = string_bytes s.label;
+      path = string_bytes s.path;
+      text = string_bytes s.text;
+    } };
 
     ghost invariant = { λ s. AreSpans (string_bytes s.text) s.lines.items };
 }
 
 impl Source {
-    /// The file of this path and this text.
-    pub fn new(alloc: Global, path: String, text: String) -> Result<Source, AllocError>
+    /// The file of these paths and this text: the path as it is shown, and the one below the folder.
+    pub fn new(
+        alloc: Global,
+        label: String,
+        path: String,
+        text: String,
+    ) -> Result<Source, AllocError>
+        ensures label { IfOk result (λ source. source.label ≡ string_bytes label) }
         ensures path { IfOk result (λ source. source.path ≡ string_bytes path) }
         ensures text { IfOk result (λ source. source.text ≡ string_bytes text) }
     {
         let lines = line_spans(alloc, text.as_str())?;
-        Ok(Source { path, text, lines })
+        Ok(Source {
+            label,
+            path,
+            text,
+            lines,
+        })
     }
 
-    /// The path.
+    /// The path as it is shown.
+    pub fn label(&self) -> &str
+        ensures { result.now ≡ self.now.label }
+    {
+        self.label.as_str()
+    }
+
+    /// The path below the folder.
     pub fn path(&self) -> &str
         ensures { result.now ≡ self.now.path }
     {

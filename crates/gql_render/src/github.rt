@@ -4,7 +4,7 @@ use crate::check::{Check, broken, shown};
 use crate::escapes::{write_message, write_property};
 use crate::phrases::{hidden, write_affected, write_fault, write_spot};
 use crate::write::{write_number, write_text};
-use gql_findings::{Affected, Finding, Findings, Source, Spot, path_at};
+use gql_findings::{Affected, Finding, Findings, Source, Spot, label_at};
 use std::alloc::{AllocError, Global};
 
 /// The text of a fault: its sentence and its further places.
@@ -25,7 +25,7 @@ fn message(alloc: Global, sources: &[Source], finding: &Finding) -> Result<Strin
 /// Writes the place of an annotation.
 fn write_place(out: &mut String, sources: &[Source], spot: &Spot) -> Result<(), AllocError> {
     write_text(out, "file=")?;
-    write_property(out, path_at(sources, spot))?;
+    write_property(out, label_at(sources, spot))?;
     write_text(out, ",line=")?;
     write_number(out, spot.line)?;
     write_text(out, ",col=")?;
@@ -59,7 +59,7 @@ fn write_operation(
     affected: &Affected,
 ) -> Result<(), AllocError> {
     write_text(text, "\n")?;
-    write_text(text, path_at(sources, &affected.spot))?;
+    write_text(text, label_at(sources, &affected.spot))?;
     write_text(text, ": ")?;
     write_affected(text, affected)
 }

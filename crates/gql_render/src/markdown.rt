@@ -2,11 +2,11 @@
 
 use crate::check::{Check, broken, shown, shown_causes};
 use crate::escapes::write_markdown;
-use crate::phrases::{hidden, write_count, write_counts, write_owner, write_operation, write_spot};
+use crate::phrases::{hidden, write_count, write_counts, write_operation, write_owner, write_spot};
 use crate::picking::picked;
 use crate::write::write_text;
 use gql_findings::{
-    Affected, Cause, Finding, Findings, Rule, Source, Spot, path_at, sentence, title,
+    Affected, Cause, Finding, Findings, Rule, Source, Spot, label_at, sentence, title,
 };
 use std::alloc::{AllocError, Global};
 
@@ -41,7 +41,7 @@ fn write_item(
     write_text(out, "- ")?;
     write_code(out, name.as_str())?;
     write_text(out, " in ")?;
-    write_code(out, path_at(sources, &affected.spot))?;
+    write_code(out, label_at(sources, &affected.spot))?;
     if let Some(through) = &affected.through {
         write_text(out, " by fragment ")?;
         write_code(out, through.as_str())?;
@@ -92,12 +92,12 @@ fn write_first_places(
     members: &[usize],
 ) -> Result<(), AllocError> {
     let faults = picked(alloc, findings.findings.as_slice(), members)?;
-    let mut comma = "";
-    for fault in faults.as_slice().iter().take(3) {
+    for (number, fault) in faults.as_slice().iter().take(3).enumerate() {
         if let Some(spot) = fault.spots.first() {
-            write_text(out, comma)?;
+            if number > 0 {
+                write_text(out, ", ")?;
+            }
             write_place(alloc, out, findings.sources.as_slice(), spot)?;
-            comma = ", ";
         }
     }
     if faults.len() > 3 {

@@ -1,9 +1,12 @@
 //! Phrases that several formats have.
 
+ghost use Rattle.std.specs.Prelude.{◌≡◌};
+ghost use Rattle.gql_render.specs.Json.{kind_word};
+
 use crate::check::Check;
 use crate::write::{write_number, write_text};
 use gql_findings::{
-    Affected, Finding, OperationKind, Owner, Source, Spot, Text, path_at, sentence, title,
+    Affected, Finding, OperationKind, Owner, Source, Spot, Text, label_at, sentence, title,
 };
 use std::alloc::AllocError;
 
@@ -19,7 +22,9 @@ pub fn write_count(out: &mut String, count: usize, noun: &str) -> Result<(), All
 }
 
 /// The word for a kind of operation.
-pub fn kind_word(kind: OperationKind) -> &'static str {
+pub fn kind_word(kind: OperationKind) -> &'static str
+    ensures { result.now ≡ kind_word kind }
+{
     match kind {
         OperationKind::Query => "query",
         OperationKind::Mutation => "mutation",
@@ -107,7 +112,7 @@ pub fn write_fault(out: &mut String, finding: &Finding) -> Result<(), AllocError
 
 /// Writes a place, as `documents/profile.graphql:5:26`.
 pub fn write_spot(out: &mut String, sources: &[Source], spot: &Spot) -> Result<(), AllocError> {
-    write_text(out, path_at(sources, spot))?;
+    write_text(out, label_at(sources, spot))?;
     write_text(out, ":")?;
     write_number(out, spot.line)?;
     write_text(out, ":")?;

@@ -1,5 +1,8 @@
 //! Parts of a list, by their places in it.
 
+ghost use Rattle.std.specs.Prelude.{◌≡◌, map, IfOk};
+ghost use Rattle.gql_render.specs.Picking.{picked};
+
 use std::alloc::{AllocError, Global};
 
 /// The items at these places. A place past the end has none.
@@ -7,7 +10,9 @@ pub fn picked<'x, X>(
     alloc: Global,
     items: &'x [X],
     places: &[usize],
-) -> Result<Vec<&'x X>, AllocError> {
+) -> Result<Vec<&'x X>, AllocError>
+    ensures { IfOk result (λ found. map (λ x. x.now) found.items ≡ picked items.now places.now) }
+{
     let mut found = Vec::new(alloc);
     for place in places {
         if let Some(item) = items.get(*place) {
@@ -18,7 +23,9 @@ pub fn picked<'x, X>(
 }
 
 /// All items.
-pub fn every<'x, X>(alloc: Global, items: &'x [X]) -> Result<Vec<&'x X>, AllocError> {
+pub fn every<'x, X>(alloc: Global, items: &'x [X]) -> Result<Vec<&'x X>, AllocError>
+    ensures { IfOk result (λ found. map (λ x. x.now) found.items ≡ items.now) }
+{
     let mut found = Vec::new(alloc);
     for item in items {
         found.push(item)?;

@@ -6,7 +6,7 @@ use crate::json_write::{write_bytes, write_number, write_string};
 use crate::phrases::{hidden, write_affected, write_fault};
 use crate::picking::picked;
 use crate::write::write_text;
-use gql_findings::{Affected, Finding, Rule, Source, Spot, path_at, sentence, title};
+use gql_findings::{Affected, Finding, Rule, Source, Spot, label_at, sentence, title};
 use std::alloc::{AllocError, Global};
 
 /// The rules of the faults, each once, in the order of their first faults.
@@ -67,7 +67,7 @@ fn write_place(
     spot: &Spot,
 ) -> Result<(), AllocError> {
     let mut uri = String::new(alloc);
-    write_uri(&mut uri, path_at(sources, spot))?;
+    write_uri(&mut uri, label_at(sources, spot))?;
     write_bytes(out, b"\"physicalLocation\":{\"artifactLocation\":{\"uri\":")?;
     write_string(alloc, out, uri.as_str())?;
     write_bytes(out, b"},\"region\":{\"startLine\":")?;
@@ -187,7 +187,7 @@ fn write_operation_note(
     write_text(&mut text, " in ")?;
     write_text(
         &mut text,
-        path_at(check.now.sources.as_slice(), &affected.spot),
+        label_at(check.now.sources.as_slice(), &affected.spot),
     )?;
     write_note(alloc, out, text.as_str())
 }

@@ -5,7 +5,7 @@ use crate::phrases::{
     hidden, write_affected, write_counts, write_rule, write_sentence, write_spot,
 };
 use crate::write::write_text;
-use gql_findings::{Affected, Finding, Findings, Source, Spot, line_at, path_at};
+use gql_findings::{Affected, Finding, Findings, Source, Spot, line_at, label_at};
 use std::alloc::{AllocError, Global};
 use unicode_width::UnicodeWidthChar;
 
@@ -152,7 +152,7 @@ fn write_findings(
 /// Writes an operation in a line of its own.
 fn write_line(out: &mut String, sources: &[Source], affected: &Affected) -> Result<(), AllocError> {
     write_text(out, "  ")?;
-    write_text(out, path_at(sources, &affected.spot))?;
+    write_text(out, label_at(sources, &affected.spot))?;
     write_text(out, ": ")?;
     write_affected(out, affected)?;
     write_text(out, "\n")

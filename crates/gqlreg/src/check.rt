@@ -1,20 +1,37 @@
 //! `gqlreg check`: what a check of a folder finds, written in a format.
 
 use crate::failure::{Failure, report, unwritten};
-use gql_check::{CheckFault, check_files, refusal_text};
+use gql_check::{CheckFault, check_files, refusal_annotation, refusal_text};
 use gql_folder_command::{CheckOptions, Format};
 use gql_disk::find_files;
 use gql_folder::GivenFile;
 use gql_findings::{Comparison, Findings, compare};
-use gql_render::{Against, Check, as_github, as_html, as_json, as_markdown, as_sarif, as_text};
+use gql_page::as_html;
+use gql_render::{Against, Check, as_github, as_json, as_markdown, as_sarif, as_text};
 use std::alloc::AllocError;
 use std::io::{IsTerminal, Write};
 use std::{env, fs};
 
 /// What a check of a folder on disk finds.
-fn findings_in(rt: &HostRuntime, folder: &str) -> Result<Findings, Failure> {
+fn findings_in(rt: &HostRuntime, folder: &str, format: Format) -> Result<Findings, Failure> {
     let files = find_files(rt, folder)?;
-    checked(rt, folder, files.as_slice())
+    checked(rt, folder, files.as_slice(), format)
+}
+
+/// The failure of files that are not checked. For annotations, it is one of them, too.
+fn refused(
+    rt: &HostRuntime,
+    folder: &str,
+    files: &[GivenFile],
+    format: Format,
+    fault: &CheckFault,
+) -> Result<Failure, AllocError> {
+    if matches!(format, Format::Github) {
+        if let Some(text) = refusal_annotation(rt.alloc(), folder, files, fault)? {
+            let _ = rt.print(text);
+        }
+    }
+    Ok(Failure::Refused(refusal_text(rt.alloc(), folder, files, fault)?))
 }
 
 /// What a check of the files of a folder finds.
@@ -22,14 +39,12 @@ pub fn checked(
     rt: &HostRuntime,
     folder: &str,
     files: &[GivenFile],
+    format: Format,
 ) -> Result<Findings, Failure> {
     match check_files(rt.alloc(), folder, files) {
         Ok(findings) => Ok(findings),
         Err(CheckFault::Memory) => Err(Failure::Memory),
-        Err(fault) => {
-            let text = refusal_text(rt.alloc(), folder, files, &fault)?;
-            Err(Failure::Refused(text))
-        }
+        Err(fault) => Err(refused(rt, folder, files, format, &fault)?),
     }
 }
 
@@ -80,9 +95,9 @@ fn status_of(now: &Findings, comparison: &Option<Comparison>) -> u8 {
 
 /// Checks a folder, and writes what is found.
 fn check(rt: &HostRuntime, options: &CheckOptions) -> Result<u8, Failure> {
-    let now = findings_in(rt, options.folder.as_str())?;
+    let now = findings_in(rt, options.folder.as_str(), options.format)?;
     let base = match &options.base {
-        Some(folder) => Some(findings_in(rt, folder.as_str())?),
+        Some(folder) => Some(findings_in(rt, folder.as_str(), options.format)?),
         None => None,
     };
     let comparison = match &base {

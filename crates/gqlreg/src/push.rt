@@ -6,7 +6,7 @@ use crate::failure::{Failure, report, unwritten};
 use gql_folder::GivenFile;
 use gql_disk::find_files;
 use gql_findings::Findings;
-use gql_folder_command::PushOptions;
+use gql_folder_command::{Format, PushOptions};
 use gql_push::{
     Edit, PushState, Reply, Resource, plan, read_state, resources_of, write_edit, write_report,
 };
@@ -236,7 +236,7 @@ fn summary(
 /// Pushes the files of a folder, and returns the status.
 fn push(rt: &HostRuntime, options: &PushOptions) -> Result<u8, Failure> {
     let files = find_files(rt, options.folder.as_str())?;
-    let findings = checked(rt, options.folder.as_str(), files.as_slice())?;
+    let findings = checked(rt, options.folder.as_str(), files.as_slice(), Format::Text)?;
     if options.fail_on_faults && !findings.findings.is_empty() {
         let count = findings.findings.len();
         let folder = options.folder.as_str();
@@ -247,9 +247,13 @@ fn push(rt: &HostRuntime, options: &PushOptions) -> Result<u8, Failure> {
         return Ok(1);
     }
     let resources = resources_of(rt.alloc(), files.as_slice())?;
-    let last = last_push(rt, options)?;
+    let mut last = last_push(rt, options)?;
     let mut connection = Connection::open(rt, options.server.as_str(), options.wait)?;
     let mut progress = present(rt, &mut connection, options)?;
+    if progress.revision == 0 {
+        // A registry that has just been started has nothing of the last push.
+        last = None;
+    }
     test_revision(rt, options, &last, progress.revision)?;
     let none = Vec::new(rt.alloc());
     let before = match &last {

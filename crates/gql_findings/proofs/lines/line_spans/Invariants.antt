@@ -1,6 +1,6 @@
 use Rattle.std.proofs.Common.{◌≡◌, ◌≤◌, ◌-◌, ◌++◌, length, map, drop}
 use Rattle.std.specs.Prelude.{All}
-use Rattle.std.specs.Str.{IsUtf8, IsCharBoundary}
+use Rattle.std.specs.Str.{IsCharBoundary}
 use Rattle.gql_text.specs.Values.{lines_of}
 use Rattle.gql_findings.specs.LineSpans.{IsPart, part_of}
 use Rattle.gql_findings.proofs.lines.line_spans.Given as goal

@@ -1,4 +1,4 @@
-use Rattle.std.proofs.Common.{◌∙◌, refl, sym, ap, get_or, take, arith, length}
+use Rattle.std.proofs.Common.{◌∙◌, refl, ap, get_or, take, arith}
 use Rattle.std.specs.HashMap.{get}
 use Rattle.std.specs.Prelude.{count_by, unwrap_or, not}
 use Rattle.std.proofs.lemmas.List.{take_all}

@@ -1,4 +1,4 @@
-use Rattle.std.proofs.Common.{◌≡◌, ◌-◌, ◌<◌, ◌≤◌, ◌∙◌, sym, ap, subst, get_or, length}
+use Rattle.std.proofs.Common.{◌≡◌, ◌-◌, ◌<◌, ◌≤◌, ◌∙◌, ap, subst, get_or, length}
 use Rattle.std.specs.Prelude.{string_bytes}
 use Rattle.gql_findings.specs.LineSpans.{part_of}
 use Rattle.gql_findings.specs.Sources.{line_at}

@@ -1,0 +1,371 @@
+#!/bin/sh
+# Tests of `gqlreg check` and `gqlreg push`: tests/folder.sh. The last line is `N passed, M failed`.
+# GQLREG names the program; else it is that of this repository, which is built without proof if it is
+# not there (tools/program.sh).
+set -u
+LC_ALL=C
+export LC_ALL
+here=$(cd "$(dirname "$0")" && pwd)
+GQLREG=${GQLREG:-$("$here/../tools/program.sh" gqlreg)}
+export GQLREG
+[ -x "$GQLREG" ] || { echo "no program gqlreg: $GQLREG" >&2; exit 2; }
+NO_COLOR=1
+export NO_COLOR
+place=$(mktemp -d)
+server_pid=
+trap '[ -z "$server_pid" ] || kill "$server_pid" 2> /dev/null; rm -rf "$place"' EXIT
+cd "$place" || exit 2
+ln -s "$GQLREG" gqlreg
+gqlreg=$place/gqlreg
+passed=0
+failed=0
+echo "the tests of folders run, in some ten seconds" >&2
+
+# try NAME STATUS COMMAND..: runs a command, whose output has to be that of the standard input
+try() {
+    name=$1 wanted=$2
+    shift 2
+    cat > "$place/expected"
+    "$@" > "$place/printed" 2>&1
+    got=$?
+    if [ "$got" = "$wanted" ] && cmp -s "$place/expected" "$place/printed"; then
+        passed=$((passed + 1))
+    else
+        failed=$((failed + 1))
+        printf '%s: status %s, expected %s\n' "$name" "$got" "$wanted"
+        diff "$place/expected" "$place/printed"
+    fi
+}
+
+# has NAME STATUS PATTERN COMMAND..: runs a command, whose output has to have a line of this pattern
+has() {
+    name=$1 wanted=$2 pattern=$3
+    shift 3
+    "$@" > "$place/printed" 2>&1
+    got=$?
+    cp "$place/printed" "$place/printed-before"
+    if [ "$got" = "$wanted" ] && grep -q -- "$pattern" "$place/printed"; then
+        passed=$((passed + 1))
+    else
+        failed=$((failed + 1))
+        printf '%s: status %s, expected %s and a line %s\n' "$name" "$got" "$wanted" "$pattern"
+        cat "$place/printed"
+    fi
+}
+
+mkdir -p team/schema team/documents
+printf 'type Query { user(id: ID!): User }\ntype User { id: ID! name: String }\n' > team/schema/users.graphql
+printf 'query Profile($id: ID!) {\n  user(id: $id) { id ...Shown }\n}\n\nfragment Shown on User { name }\n' > team/documents/profile.graphql
+
+# ---- the command line
+
+has 'help' 0 '^  gqlreg check DIR' "$gqlreg" --help
+has 'help of check' 0 '--base <DIR>' "$gqlreg" check --help
+has 'help of push' 0 '--fail-on-faults' "$gqlreg" push --help
+has 'another option' 2 "unexpected argument '--bas'" "$gqlreg" check --bas team
+has 'one word too many' 2 "unexpected argument 'team'" "$gqlreg" check team team
+has 'check without a folder' 2 'required arguments' "$gqlreg" check
+has 'push without a server' 2 'required arguments' "$gqlreg" push team
+has 'another format' 2 "invalid value 'xml'" "$gqlreg" check team --format xml
+has 'no folder' 2 'nowhere is missing' "$gqlreg" check nowhere
+has 'a file for a folder' 2 'users.graphql is not a folder' "$gqlreg" check team/schema/users.graphql
+has 'no base' 2 'nowhere is missing' "$gqlreg" check team --base nowhere
+mkdir empty
+has 'no files' 2 'has no files' "$gqlreg" check empty
+
+# ---- files that are not sent
+
+mkdir -p bad/schema
+printf 'type Query { a: Int }\n' > 'bad/schema/a b.graphql'
+has 'a bad name' 2 'a b.graphql has a name that is not accepted' "$gqlreg" check bad
+mv 'bad/schema/a b.graphql' bad/schema/a.graphql
+cp bad/schema/a.graphql bad/schema/a.gql
+has 'a name twice' 2 'bad/schema/a.graphql has the name of bad/schema/a.gql' "$gqlreg" check bad
+rm bad/schema/a.gql
+mkdir bad/schema/folder.graphql
+has 'a folder with the name of a file' 0 '^0 faults in 1 file' "$gqlreg" check bad
+rmdir bad/schema/folder.graphql
+ln -s nowhere bad/schema/gone.graphql
+has 'a link to nothing' 2 'gone.graphql is missing' "$gqlreg" check bad
+rm bad/schema/gone.graphql
+mkdir bad/schema/more
+cp bad/schema/a.graphql bad/schema/more/b.graphql
+has 'a folder in a folder' 1 '^bad/schema/more/b.graphql:1:6: S01' "$gqlreg" check bad
+printf 'type Other { a: Int }\n' > bad/schema/more.b.graphql
+has 'a name twice, by a folder' 2 'bad/schema/more/b.graphql has the name of bad/schema/more.b.graphql' "$gqlreg" check bad
+rm bad/schema/more.b.graphql
+ln -s .. bad/schema/more/up
+has 'a link that leads back' 2 'bad/schema' "$gqlreg" check bad
+rm -r bad/schema/more
+long=a123456789b123456789c123456789d123456789e123456789f123456789g1234
+cp bad/schema/a.graphql bad/schema/$long.graphql
+has 'a name of 65 characters' 2 'has a name that is not accepted' "$gqlreg" check bad
+mv bad/schema/$long.graphql bad/schema/${long%4}.graphql
+has 'a name of 64 characters' 1 '^2 faults in 2 files' "$gqlreg" check bad
+rm bad/schema/${long%4}.graphql
+# a user that cannot read all files
+apart=
+[ "$(id -u)" != 0 ] || apart='setpriv --reuid=65534 --regid=65534 --clear-groups'
+if $apart true 2> /dev/null; then
+    chmod 755 "$place"
+    cp bad/schema/a.graphql bad/schema/hidden.graphql
+    chmod 0 bad/schema/hidden.graphql
+    # shellcheck disable=SC2086
+    has 'a file that cannot be read' 2 'hidden.graphql cannot be read' $apart "$gqlreg" check bad
+    rm -f bad/schema/hidden.graphql
+    mkdir bad/documents
+    chmod 0 bad/documents
+    # shellcheck disable=SC2086
+    has 'a folder that cannot be read' 2 'bad/documents cannot be read' $apart "$gqlreg" check bad
+    chmod 755 bad/documents
+    rmdir bad/documents
+fi
+mkdir -p many/documents
+for n in 1 2 3 4 5 6 7 8 9 10 11 12 13 14 15 16 17; do
+    for m in 1 2 3 4 5 6 7 8 9 10 11 12 13 14 15 16; do
+        printf '{ a }' > many/documents/f$n-$m.graphql
+    done
+done
+has 'too many files' 2 'many/documents has more than 256 files' "$gqlreg" check many
+awk 'BEGIN { for (i = 0; i < 7000; i++) print "# a comment" }' > bad/schema/long.graphql
+has 'a long file' 2 'has more than 65,536 bytes' "$gqlreg" check bad
+
+# ---- check
+
+try 'no faults' 0 "$gqlreg" check team <<'TEXT'
+0 faults in 2 files
+TEXT
+cp -r team changed
+printf 'type Query { user(id: ID!): User }\ntype User { id: ID! fullName: String }\n' > changed/schema/users.graphql
+try 'a fault' 1 "$gqlreg" check changed <<'TEXT'
+changed/documents/profile.graphql:5:26: V04 `name`: Field Selections: the parent type has no field of this name. (in fragment Shown)
+  fragment Shown on User { name }
+                           ^
+1 fault in 2 files
+TEXT
+try 'a fault as an annotation' 1 "$gqlreg" check --format github changed <<'TEXT'
+::error file=changed/documents/profile.graphql,line=5,col=26,title=V04::V04 `name`: Field Selections: the parent type has no field of this name. (in fragment Shown)
+::notice title=Operations::operations that are not served:%0Achanged/documents/profile.graphql: query Profile (by fragment Shown)
+TEXT
+try 'a report as it came' 1 "$gqlreg" check --format json changed <<'TEXT'
+{"schemaIsFaulty":false,"faults":[{"rule":"V04","title":"Field Selections","about":"name","places":[{"path":"changed/documents/profile.graphql","line":5,"column":26}],"owner":{"kind":"fragment","name":"Shown","path":"changed/documents/profile.graphql","line":5,"column":1}}],"affected":[{"kind":"query","name":"Profile","path":"changed/documents/profile.graphql","line":1,"column":1,"through":"Shown"}]}
+TEXT
+try 'what a change brings' 1 "$gqlreg" check changed --base team <<'TEXT'
+changed/documents/profile.graphql:5:26: V04 `name`: Field Selections: the parent type has no field of this name. (in fragment Shown)
+  fragment Shown on User { name }
+                           ^
+1 fault brought, 0 faults mended
+operations that this breaks:
+  changed/documents/profile.graphql: query Profile (by fragment Shown)
+TEXT
+try 'what a change mends' 0 "$gqlreg" check team --base changed <<'TEXT'
+0 faults brought, 1 fault mended
+mended:
+  changed/documents/profile.graphql:5:26: V04 `name`: Field Selections: the parent type has no field of this name. (in fragment Shown)
+    fragment Shown on User { name }
+                             ^
+operations that this heals:
+  changed/documents/profile.graphql: query Profile (by fragment Shown)
+TEXT
+mkdir -p names/schema names/documents
+printf 'type Query { a(s: String): Int b: Int query: Query }\n' > names/schema/s.graphql
+cat > names/documents/d.graphql <<'TEXT'
+# query Comment { a }
+query Block($s: String = """ { query No { "" \""" } """) @include(if: true) { a(s: $s) query { ...query } }
+query,First{b}
+query Second($query: String = "}#") { a(s: $query) ... on Query { ...Rest } }
+fragment query on Query { query { b } }
+fragment Rest on Query { a(s: "{") query { ...query } }
+query
+  Third
+{ a }
+TEXT
+cp -r names renamed
+printf 'type Query { a(s: String): Int query: Query }\n' > renamed/schema/s.graphql
+has 'operations that reach it' 1 '^2 faults brought' "$gqlreg" check renamed --base names
+try 'their names' 0 tail -n 4 printed-before <<'TEXT'
+operations that this breaks:
+  renamed/documents/d.graphql: query Block (by fragment query)
+  renamed/documents/d.graphql: query First
+  renamed/documents/d.graphql: query Second (by fragment query)
+TEXT
+cp -r changed moved
+{ printf '# one line more\n'; cat changed/documents/profile.graphql; } > moved/documents/profile.graphql
+has 'a fault that only moved' 0 '^0 faults brought, 0 faults mended' "$gqlreg" check moved --base changed
+printf '{\n  é: user(id: 1) { id }\n  "\n}\n' > changed/documents/cut.graphql
+try 'a file that is refused' 2 "$gqlreg" check changed <<'TEXT'
+changed/documents/cut.graphql:2:3: syntax: bad character (201)
+    é: user(id: 1) { id }
+    ^
+TEXT
+try 'a file that is refused, as an annotation' 2 "$gqlreg" check --format github changed <<'TEXT'
+::error file=changed/documents/cut.graphql,line=2,col=3,title=201::syntax: bad character (201)
+changed/documents/cut.graphql:2:3: syntax: bad character (201)
+    é: user(id: 1) { id }
+    ^
+TEXT
+has 'a base with a file that is refused' 2 '^changed/documents/cut.graphql:2:3: ' "$gqlreg" check team --base changed
+rm changed/documents/cut.graphql
+printf 'query Two {\n\tuser(id: "é", ida: 2) { id }\n}\n' > changed/documents/two.graphql
+has 'a caret after other characters' 1 '^  	              ^' "$gqlreg" check changed
+rm changed/documents/two.graphql
+mkdir -p pair/schema pair/documents
+printf 'type Query { x: Int y: Int }\n' > pair/schema/s.graphql
+printf '{ a: x a: y }\n' > pair/documents/d.graphql
+try 'a fault with two places' 1 "$gqlreg" check pair <<'TEXT'
+pair/documents/d.graphql:1:3: V05 `a`: Field Selection Merging: two fields of one response name differ in name or arguments. (in an operation without a name)
+  { a: x a: y }
+    ^
+  and pair/documents/d.graphql:1:8
+  { a: x a: y }
+         ^
+1 fault in 2 files
+TEXT
+mkdir -p rootless/schema
+printf 'type A { x: Int }\n' > rootless/schema/s.graphql
+has 'a fault without a place' 1 '^schema: S23 `query`: ' "$gqlreg" check rootless
+try 'a fault without a place, as an annotation' 1 "$gqlreg" check --format github rootless <<'TEXT'
+::error title=S23::S23 `query`: Missing Query Root: the schema has no query root operation type.
+TEXT
+# `.` is no pattern: these are three names
+mkdir -p dotted/schema
+for name in a-b a.b axb; do printf 'type Query { a: Int }\n' > dotted/schema/$name.graphql; done
+has 'names with dots' 1 ' in 3 files$' "$gqlreg" check dotted
+# a schema with faults hides those of documents
+cp -r changed hiding
+printf 'type Query { user(id: ID!): User }\ntype User { id: ID! fullName: Strin }\n' > hiding/schema/users.graphql
+has 'documents are not checked' 1 '^the documents are not checked until the schema has no fault' "$gqlreg" check hiding
+try 'a fault that is hidden is not mended' 1 "$gqlreg" check hiding --base changed <<'TEXT'
+hiding/schema/users.graphql:2:31: S20 `Strin`: Unknown Types: a reference names no type.
+  type User { id: ID! fullName: Strin }
+                                ^
+1 fault brought, 0 faults mended
+no operation is served until the schema has no fault; nor are the documents checked
+TEXT
+has 'a base that hides its faults' 1 '^the schema of the base has faults' "$gqlreg" check changed --base hiding
+has 'two places as an annotation' 1 ' And pair/documents/d.graphql:1:8.$' "$gqlreg" check pair --format github
+cp -r changed '50%, all'
+has 'an annotation of a strange folder' 1 '^::error file=50%25%2C all/documents' "$gqlreg" check --format github '50%, all'
+
+# ---- data
+
+printf '{"query": {"user": [{"id": "7", "name": "Ann"}]}}\n' > team/data.json
+try 'data' 0 "$gqlreg" check team <<'TEXT'
+0 faults in 3 files
+TEXT
+cp -r team spoilt
+printf '{"query": {"user": [1.5]}}\n' > spoilt/data.json
+try 'data that are refused' 2 "$gqlreg" check spoilt <<'TEXT'
+spoilt/data.json: data is not accepted (207)
+TEXT
+awk 'BEGIN { for (i = 0; i < 30000; i++) print "         " }' > spoilt/data.json
+has 'long data' 2 'data.json has more than 262,144 bytes' "$gqlreg" check spoilt
+
+# ---- colours
+
+if script -qec true /dev/null > /dev/null 2>&1; then
+    has 'colours on a terminal' 0 "$(printf '\033\\[31m')" env -u NO_COLOR TERM=xterm script -qc "$gqlreg check changed" /dev/null
+    has 'none with NO_COLOR' 1 '^[^\033]*$' env TERM=xterm script -qec "$gqlreg check changed" /dev/null
+fi
+if env -u NO_COLOR "$gqlreg" check changed | grep -q "$(printf '\033')"; then
+    failed=$((failed + 1))
+    echo 'colours in a pipe'
+else
+    passed=$((passed + 1))
+fi
+
+# ---- the other formats
+
+has 'markdown' 1 'V04' "$gqlreg" check changed --format markdown
+has 'SARIF' 1 '"version":"2.1.0"' "$gqlreg" check changed --format sarif
+has 'a page in a file' 1 '' "$gqlreg" check changed --format html --output page.html
+has 'the page' 0 'Field Selections' cat page.html
+has 'no script in it' 1 '' grep -q '<script' page.html
+has 'a file that cannot be written' 2 'nowhere/page.html cannot be written' "$gqlreg" check team --format html --output nowhere/page.html
+printf '{ user(id: "<&") { id } }\n' > changed/documents/html.graphql
+has 'a page of strange text' 1 '' "$gqlreg" check changed --format html --output page.html
+has 'it is written as text' 1 '' grep -q '"<&"' page.html
+rm changed/documents/html.graphql
+if command -v python3 > /dev/null 2>&1; then
+    "$gqlreg" check changed --base team --format json > page.json
+    has 'JSON is JSON' 0 '^1 1 0$' python3 -c 'import json; j = json.load(open("page.json")); print(len(j["brought"]), len(j["broken"]), len(j["mended"]))'
+fi
+
+# ---- a server
+
+port=$((20000 + $$ % 20000))
+to=127.0.0.1:$port
+
+# start: a server with an empty registry
+start() {
+    "$GQLREG" serve --port "$port" --connections 10000 > "$place/served" 2>&1 &
+    server_pid=$!
+    for _ in 1 2 3 4 5 6 7 8 9 10 11 12 13 14 15; do
+        if grep -q listening "$place/served" 2> /dev/null; then return; fi
+        sleep 0.2
+    done
+}
+
+rm -f team/data.json
+try 'push to no server' 5 "$gqlreg" push team --to "$to" <<'TEXT'
+no answer from the server, or not one of a registry
+TEXT
+start
+try 'push' 0 "$gqlreg" push team --to "$to" <<'TEXT'
+2 files put or removed: revision 2, 0 faults, 0 operations are not served
+TEXT
+try 'push again' 0 "$gqlreg" push team --to "$to" <<TEXT
+nothing to push: $to is at revision 2
+TEXT
+cp changed/schema/users.graphql team/schema/users.graphql
+has 'push of faults that is to fail' 1 'has 1 fault' "$gqlreg" push team --to "$to" --fail-on-faults
+try 'push what changed' 0 "$gqlreg" push team --to "$to" <<'TEXT'
+1 file put or removed: revision 3, 1 fault, 1 operation is not served
+TEXT
+printf 'type Query { user(id: ID!): User }\ntype User { id: ID! name: String! }\n' > team/schema/users.graphql
+printf '{"query": {"user": [{"id": "7", "name": "Ann"}, {"id": "8"}]}}\n' > team/data.json
+try 'push with data' 0 "$gqlreg" push team --to "$to" <<'TEXT'
+2 files put or removed: revision 5, 0 faults, 0 operations are not served
+TEXT
+rm team/data.json
+try 'push that empties the data' 0 "$gqlreg" push team --to "$to" <<'TEXT'
+1 file put or removed: revision 6, 0 faults, 0 operations are not served
+TEXT
+rm team/documents/profile.graphql
+try 'push a removal' 0 "$gqlreg" push team --to "$to" <<'TEXT'
+1 file put or removed: revision 7, 0 faults, 0 operations are not served
+TEXT
+curl -s -X PUT --data-binary 'type Other { a: Int }' "http://$to/schema/other" > /dev/null
+has 'push after an edit of somebody else' 3 'at revision 8, and the last push left 7: somebody else' "$gqlreg" push team --to "$to"
+try 'which put nothing' 0 curl -s "http://$to/report" <<'TEXT'
+{"revision":8,"faults":[]}
+TEXT
+try 'push all the same' 0 "$gqlreg" push team --to "$to" --force <<'TEXT'
+1 file put or removed: revision 9, 0 faults, 0 operations are not served
+TEXT
+has 'push with a state elsewhere' 3 'it is not known what was pushed last' "$gqlreg" push team --to "$to" --state pushed
+try 'push of all files' 0 "$gqlreg" push team --to "$to" --state pushed --all <<'TEXT'
+1 file put or removed: revision 10, 0 faults, 0 operations are not served
+TEXT
+try 'push again with it' 0 "$gqlreg" push team --to "$to" --state pushed <<TEXT
+nothing to push: $to is at revision 10
+TEXT
+has 'a state that cannot be written' 2 'nowhere/pushed cannot be written' "$gqlreg" push team --to "$to" --state nowhere/pushed --all
+mkdir -p long/documents
+for n in 1 2 3 4 5 6; do
+    for m in 0 1 2 3 4 5 6 7 8 9; do printf 'query Q%s%s { user(id: 1) { id } }\n' $n $m > long/documents/f$n$m.graphql; done
+done
+has 'a long push' 0 '^60 files put or removed' "$gqlreg" push long --to "$to" --all
+printf 'type {\n' > team/schema/users.graphql
+has 'push of a file that is refused' 2 'team/schema/users.graphql:1:6: syntax: unexpected token (201)' "$gqlreg" push team --to "$to"
+kill "$server_pid"
+wait "$server_pid" 2> /dev/null
+printf 'type Query { user(id: ID!): User }\ntype User { id: ID! name: String! }\n' > team/schema/users.graphql
+{ sleep 2; exec "$GQLREG" serve --port "$port" --connections 10000; } > "$place/served" 2>&1 &
+server_pid=$!
+try 'push after a restart' 0 "$gqlreg" push team --to "$to" --wait 10 <<'TEXT'
+1 file put or removed: revision 1, 0 faults, 0 operations are not served
+TEXT
+
+printf '%s passed, %s failed\n' "$passed" "$failed"
+[ "$failed" = 0 ]
