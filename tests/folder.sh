@@ -183,11 +183,10 @@ TEXT
 cp -r names renamed
 printf 'type Query { a(s: String): Int query: Query }\n' > renamed/schema/s.graphql
 has 'operations that reach it' 1 '^2 faults brought' "$gqlreg" check renamed --base names
-try 'their names' 0 tail -n 4 printed-before <<'TEXT'
+# Block and Second have faults in the base, too, so that this does not break them
+try 'their names' 0 tail -n 2 printed-before <<'TEXT'
 operations that this breaks:
-  renamed/documents/d.graphql: query Block (by fragment query)
   renamed/documents/d.graphql: query First
-  renamed/documents/d.graphql: query Second (by fragment query)
 TEXT
 cp -r changed moved
 { printf '# one line more\n'; cat changed/documents/profile.graphql; } > moved/documents/profile.graphql
@@ -278,13 +277,13 @@ fi
 
 has 'markdown' 1 'V04' "$gqlreg" check changed --format markdown
 has 'SARIF' 1 '"version":"2.1.0"' "$gqlreg" check changed --format sarif
-has 'a page in a file' 1 '' "$gqlreg" check changed --format html --output page.html
+try 'a page in a file' 1 "$gqlreg" check changed --format html --output page.html < /dev/null
 has 'the page' 0 'Field Selections' cat page.html
-has 'no script in it' 1 '' grep -q '<script' page.html
+try 'no script in it' 1 grep '<script' page.html < /dev/null
 has 'a file that cannot be written' 2 'nowhere/page.html cannot be written' "$gqlreg" check team --format html --output nowhere/page.html
 printf '{ user(id: "<&") { id } }\n' > changed/documents/html.graphql
-has 'a page of strange text' 1 '' "$gqlreg" check changed --format html --output page.html
-has 'it is written as text' 1 '' grep -q '"<&"' page.html
+try 'a page of strange text' 1 "$gqlreg" check changed --format html --output page.html < /dev/null
+try 'it is written as text' 1 grep '"<&"' page.html < /dev/null
 rm changed/documents/html.graphql
 if command -v python3 > /dev/null 2>&1; then
     "$gqlreg" check changed --base team --format json > page.json
@@ -337,9 +336,7 @@ try 'push a removal' 0 "$gqlreg" push team --to "$to" <<'TEXT'
 TEXT
 curl -s -X PUT --data-binary 'type Other { a: Int }' "http://$to/schema/other" > /dev/null
 has 'push after an edit of somebody else' 3 'at revision 8, and the last push left 7: somebody else' "$gqlreg" push team --to "$to"
-try 'which put nothing' 0 curl -s "http://$to/report" <<'TEXT'
-{"revision":8,"faults":[]}
-TEXT
+has 'which put nothing' 0 '^{"revision":8,"faults":..}$' curl -s "http://$to/report"
 try 'push all the same' 0 "$gqlreg" push team --to "$to" --force <<'TEXT'
 1 file put or removed: revision 9, 0 faults, 0 operations are not served
 TEXT

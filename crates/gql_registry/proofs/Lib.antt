@@ -10,5 +10,6 @@ pub mod OneEdit
 pub mod OneReport
 pub mod PlacedFiles
 pub mod Reports
+mod Loaded
 pub mod Working
 pub mod SameSchema

@@ -9,6 +9,7 @@ use Rattle.gql_registry.specs.declared.loading.NewFile.{NewFile}
 use Rattle.gql_registry.specs.declared.loading.PutFault.{PutFault}
 use Rattle.gql_registry.specs.declared.loading.PutFault.TheVariants.{Refused, Memory}
 use Rattle.gql_registry.specs.declared.refusal.Refusal.{Refusal}
+use Rattle.gql_registry.specs.declared.refusal.Refusal.TheVariants as refusal
 use Rattle.gql_registry.specs.declared.registry.Edited.{Edited}
 use Rattle.serde_json.specs.Data.{Data}
 
@@ -47,12 +48,22 @@ abbrev pub IsIdle : PutFault → List DefinitionId → List DefinitionId → Typ
 IsIdle (Refused at r) old new = new ≡ old
 IsIdle Memory old new = Unit {0}
 
--- a state with this data
+-- helper definitions for private contracts
+
+-- the refusal of the file at an index, as that of all files
+abbrev pub fault_of : ℕ → Refusal → PutFault
+fault_of at refusal.Memory = Memory
+fault_of at r = Refused at r
+
+-- the state with these files, this revision and this data
+abbrev pub state_with : Files → ℕ → Data → State
+state_with files revision d = record { files = files; stored = d; revision = revision }
+
+-- the state with what was loaded, and this data
 abbrev pub state_at : Data → Loaded → State
-state_at d l = record { files = l.files; stored = d; revision = l.revision }
+state_at d l = state_with l.files l.revision d
 
 -- these edits of the files and of the revision, one after the other, leave this
 abbrev pub IsLoaded : Files → ℕ → List Edit → Loaded → Type 0
 IsLoaded files revision edits then =
-    (d : Data) → AreMade (record { files = files; stored = d; revision = revision }) edits
-        (state_at d then)
+    (d : Data) → AreMade (state_with files revision d) edits (state_at d then)

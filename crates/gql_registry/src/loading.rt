@@ -1,9 +1,9 @@
 //! Files that are put at once. What they leave is what putting them one after the other leaves, but
 //! the schema, the verdicts and the report are made once for all of them.
-ghost use Rattle.std.specs.Prelude.{◌≡◌, ◌+◌, None, Err, IfErr, IfOk, map};
-ghost use Rattle.gql_registry.specs.Checks.{IsInTime};
+ghost use Rattle.std.specs.Prelude.{◌≡◌, ◌+◌, ◌<◌, None, Err, IfErr, IfOk, map};
 ghost use Rattle.gql_registry.specs.Edits.{Edit, IsAccepted, IsFirstRefusal, Leaves, Makes};
-ghost use Rattle.gql_registry.specs.Loading.{IsLoaded, IsPutFault, put_of, state_at};
+ghost use Rattle.gql_registry.specs.Loading.{IsLoaded, IsPutFault, fault_of, put_of, state_at, state_with};
+ghost use Rattle.gql_registry.specs.State.{State, last_revision};
 ghost use Rattle.gql_verdict.specs.FileOrder.{AreFilesPlaced};
 ghost use Rattle.serde_json.specs.Data.{Data};
 
@@ -55,6 +55,7 @@ pub struct Loaded {
 /// The revision after this one. The refusal is 212.
 fn revision_after(revision: u64) -> Result<u64, Refusal>
     ensures next { IfOk result (λ n. n ≡ revision + 1) }
+    ensures left { IfOk result (λ _. revision < last_revision) }
     ensures err { IfErr result (λ r. (s : State) (e : Edit) → s.revision ≡ revision
         → IsFirstRefusal s None e r) }
 {
@@ -91,6 +92,7 @@ fn load_file(alloc: Global, loaded: &Loaded, file: &NewFile<'_>) -> Result<Loade
 
 /// The refusal of the file at an index, as one of all files.
 fn fault_at(at: usize, refusal: Refusal) -> PutFault
+    ensures { result ≡ fault_of at refusal }
 {
     match refusal {
         Refusal::Memory => PutFault::Memory,
@@ -110,8 +112,7 @@ pub fn load(
     ensures placed { IfOk result (λ then. AreFilesPlaced then.files.documents) }
     ensures made { IfOk result (IsLoaded present.now revision (map put_of files.now)) }
     ensures err { IfErr result (λ fault. (d : Data)
-        → IsPutFault (state_at d (record { files = present.now; revision = revision }))
-        (map put_of files.now) fault) }
+        → IsPutFault (state_with present.now revision d) (map put_of files.now) fault) }
 {
     let mut loaded = Loaded {
         files: present.copy()?,
