@@ -14,7 +14,7 @@ mod retest;
 mod scan;
 mod table;
 
-pub use observation::{Observation, observe};
+pub use observation::{DefinitionReads, Observation, observe};
 pub use part::Part;
 pub use reading::{Reading, reads_of};
 pub use record::Record;

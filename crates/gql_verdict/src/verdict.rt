@@ -2,14 +2,15 @@
 ghost use Rattle.std.specs.Prelude.{◌≡◌, ◌↔◌, ◌++◌, ◌∷◌, [], IfOk, OnOk, OnErr, IsTrue};
 ghost use Rattle.gql_ast.specs.Trees.{id_of};
 ghost use Rattle.gql_facts.specs.Members.{Lists};
+ghost use Rattle.gql_facts.specs.Reads.{Reaches};
 ghost use Rattle.gql_verdict.specs.Faults.{IsFaultIn};
 ghost use Rattle.gql_verdict.specs.Verdicts.{IsCertificate, Judges};
 
 use crate::meter::Meter;
 use gql_ast::{Definition, Fault, Same};
-use gql_facts::World;
+use gql_facts::{FragmentFact, World};
 use gql_merge::merge_faults;
-use gql_reads::{Observation, observe};
+use gql_reads::{DefinitionReads, Observation, observe};
 use gql_rules::local_faults;
 use gql_vars::variable_faults;
 use std::alloc::{AllocError, Global};
@@ -91,20 +92,23 @@ impl Verdict {
     }
 }
 
-/// The faults of a definition by all rules on one definition.
+/// The faults of a definition by all rules on one definition, where these are the fragments that it
+/// reaches.
 fn faults_in<W: World>(
     alloc: Global,
     world: &mut W,
     definition: &Definition,
+    members: &[FragmentFact],
 ) -> Result<Vec<Fault>, AllocError>
+    requires { Lists members.now (Reaches (W.facts world.old) definition.now) }
     ensures facts { W.facts world.new ≡ W.facts world.old }
     ensures names { W.names world.new ≡ W.names world.old }
     ensures lent { W.lent world.new ≡ W.lent world.old }
     ensures faults { IfOk result (λ found.
         Lists found.items (IsFaultIn (W.facts world.old) definition.now)) }
 {
-    let mut faults = local_faults(alloc, world, definition)?;
-    let mut of_variables = variable_faults(alloc, world, definition)?;
+    let mut faults = local_faults(alloc, world, definition, members)?;
+    let mut of_variables = variable_faults(alloc, world, definition, members)?;
     faults.append(&mut of_variables)?;
     let mut of_merging = merge_faults(alloc, world, definition)?;
     faults.append(&mut of_merging)?;
@@ -126,10 +130,14 @@ pub fn examine<W: World>(
     ensures ok { OnOk result (meter.new ≡ meter.old ++ id_of definition.now ∷ []) }
     ensures err { OnErr result (meter.new ≡ meter.old) }
 {
-    let observations = observe(alloc, world, definition)?;
-    let faults = faults_in(alloc, world, definition)?;
+    let reads = observe(alloc, world, definition)?;
+    let faults = faults_in(alloc, world, definition, reads.members.as_slice())?;
     let def = definition.copy()?;
     meter.add(definition.id())?;
+    let DefinitionReads {
+        observations,
+        members: _,
+    } = reads;
     Ok(Verdict {
         def,
         faults,
