@@ -1,5 +1,6 @@
-use Rattle.std.proofs.Common.{subst}
+use Rattle.std.proofs.Common.{◌∙◌, subst}
 use Rattle.gql_facts.specs.Members.{Lists}
+use Rattle.gql_facts.specs.Reads.{Reaches}
 use Rattle.gql_verdict.specs.Faults.{IsFaultIn}
 use Rattle.gql_verdict.proofs.Certified.{certificate, judged}
 use Rattle.gql_verdict.proofs.verdict.examine.Goals as goal
@@ -8,12 +9,12 @@ pub invariant_of-result : goal.invariant_of-result
 invariant_of-result g c =
     let F = g.W.World.facts c.args.world.now in
     let d = c.args.definition.now in
-    certificate F d _ c.in_ok-reads.ensures.hold c.in_ok-reads.ensures.keys _ _ c.in_ok-def.ensures
-    (subst (λ f. Lists c.in_ok-faults.faults.items (IsFaultIn f d)) c.observe.ensures.facts c.in_ok-faults.ensures.faults)
+    certificate F d _ c.in_ok-reading.ensures.hold c.in_ok-reading.ensures.keys _ _ c.in_ok-def.ensures
+    (subst (λ f. Lists c.in_ok-faults.faults.items (IsFaultIn f d)) c.reads_of.ensures.facts c.in_ok-faults.ensures.faults)
 
 pub returns-clause-verdict : goal.returns-clause-verdict
 returns-clause-verdict g c =
     let F = g.W.World.facts c.args.world.now in
     let d = c.args.definition.now in
-    judged F d _ c.in_ok-reads.ensures.hold c.in_ok-reads.ensures.keys _ _ c.in_ok-def.ensures
-    (subst (λ f. Lists c.in_ok-faults.faults.items (IsFaultIn f d)) c.observe.ensures.facts c.in_ok-faults.ensures.faults)
+    judged F d _ c.in_ok-reading.ensures.hold c.in_ok-reading.ensures.keys _ _ c.in_ok-def.ensures
+    (subst (λ f. Lists c.in_ok-faults.faults.items (IsFaultIn f d)) c.reads_of.ensures.facts c.in_ok-faults.ensures.faults)
