@@ -14,7 +14,7 @@ use Rattle.gql_facts.specs.ListMembers.{Contains-nil, Contains-cases, Contains-m
 use Rattle.gql_facts.specs.Members.{Lists}
 use Rattle.gql_facts.specs.Worlds.{Facts}
 use Rattle.gql_reads.specs.Own.{Own, tree_of}
-use Rattle.gql_reads.specs.Observations.{keys_of}
+use Rattle.gql_reads.specs.Observations.{Hold, keys_of}
 use Rattle.gql_reads.specs.Reaching.{AreMet, IsNamed, IsPartOf, Meets}
 use Rattle.gql_reads.specs.Readings.{members_of, name_of}
 use Rattle.gql_reads.specs.Records.{IsCertified, IsRecord, IsTold, Kept}
@@ -71,6 +71,13 @@ module _ (F : Facts) (es : Entries) (g : FragmentFact) (p : Kept) where
   -- one that was made
   pub part_made : entry_at es (name_of g) ≡ Some p → p.fragment ≡ g → IsRecord F (tree_of g) p.seen → IsPartOf F es g p
   part_made there is seen = record { is = is; entry = there; seen = seen }
+
+  -- the record of one that was made before, where it holds
+  pub record_stays : p.fragment ≡ g → IsCertified p.fragment p.seen → Hold F p.seen → IsRecord F (tree_of g) p.seen
+  record_stays is certified hold = record {
+    hold = hold;
+    keys = subst (λ f. Lists (keys_of p.seen) (Own F (tree_of f))) is (certified F hold);
+  }
 
   pub part_stays : (fs : Entries) → Keeps es fs → IsPartOf F es g p → IsPartOf F fs g p
   part_stays fs keeps part = record { is = part.is; entry = keeps (name_of g) p part.entry; seen = part.seen }
