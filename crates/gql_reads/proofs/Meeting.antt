@@ -56,6 +56,13 @@ keeps_then a b c p q n k h = q n k (p n k h)
 
 -- ---- the part of a fragment
 
+-- the record of one that was made before, where it holds
+pub record_stays : (F : Facts) (g : FragmentFact) (p : Kept) → p.fragment ≡ g → IsCertified p.fragment p.seen → Hold F p.seen → IsRecord F (tree_of g) p.seen
+record_stays F g p is certified hold = record {
+  hold = hold;
+  keys = subst (λ f. Lists (keys_of p.seen) (Own F (tree_of f))) is (certified F hold);
+}
+
 module _ (F : Facts) (es : Entries) (g : FragmentFact) (p : Kept) where
   -- one that was there
   pub part_found : entry_at es (name_of g) ≡ Some p → AllHold F es → IsNamed F g → IsCertified p.fragment p.seen → IsPartOf F es g p
@@ -71,13 +78,6 @@ module _ (F : Facts) (es : Entries) (g : FragmentFact) (p : Kept) where
   -- one that was made
   pub part_made : entry_at es (name_of g) ≡ Some p → p.fragment ≡ g → IsRecord F (tree_of g) p.seen → IsPartOf F es g p
   part_made there is seen = record { is = is; entry = there; seen = seen }
-
-  -- the record of one that was made before, where it holds
-  pub record_stays : p.fragment ≡ g → IsCertified p.fragment p.seen → Hold F p.seen → IsRecord F (tree_of g) p.seen
-  record_stays is certified hold = record {
-    hold = hold;
-    keys = subst (λ f. Lists (keys_of p.seen) (Own F (tree_of f))) is (certified F hold);
-  }
 
   pub part_stays : (fs : Entries) → Keeps es fs → IsPartOf F es g p → IsPartOf F fs g p
   part_stays fs keeps part = record { is = part.is; entry = keeps (name_of g) p part.entry; seen = part.seen }

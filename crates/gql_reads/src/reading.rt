@@ -304,7 +304,14 @@ pub fn reads_of<W: World, K: KeptParts>(
         names: IndexSet::new(alloc),
         parts: Vec::new(alloc),
     };
-    meet_all(alloc, world, kept, table, own.record.get().spreads(), &mut met)?;
+    meet_all(
+        alloc,
+        world,
+        kept,
+        table,
+        own.record.get().spreads(),
+        &mut met,
+    )?;
     let mut at = 0;
     'walk: while at < met.names.len() {
         visit(alloc, world, kept, table, at, &mut met)?;

@@ -10,4 +10,4 @@ returns-clause-found g c =
     lists F d _ _
     (c.in_ok-check_parts.ensures.found ∙ ap (λ l. l ++ tree_faults F c.owner_of-owner.result d.tree) c.new-faults.ensures.items
     ∙ ap (λ o. tree_faults F o d.tree) c.owner_of-owner.ensures)
-    (c.in_ok-check_cycle.ensures F c.args.requires)
+    (c.in_ok-check_cycle.ensures F c.requires)

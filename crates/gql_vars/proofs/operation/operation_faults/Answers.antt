@@ -6,7 +6,7 @@ pub returns-clause-found : goal.returns-clause-found
 returns-clause-found g c =
     let F = g.W.World.facts c.args.world.now in
     let d = c.args.definition.now in
-    lists F d c.args.operation.now c.args.members.now c.args.requires
+    lists F d c.args.operation.now c.args.members.now c.requires
     c.check-2.new.faults.items
     (all_of F _ d c.args.operation.now c.args.members.now c.owner_of-owner.result c.as_slice-variables.result.now c.args.members.now
     c.new-faults.result.items _ _ _ _ c.owner_of-owner.ensures c.as_slice-variables.ensures refl
