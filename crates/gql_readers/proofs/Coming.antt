@@ -24,9 +24,14 @@ told_wider others id os o k f t = elim (Contains-append_cases others (reader id 
   | inl a ↦ (t.0, t.1, Contains-append_left others (reader id (os ++ o ∷ []) ∷ []) t.0 a, t.3, t.4, t.5)
   | inr b ↦ elim (Contains-cases t.0 (reader id os) [] b) [
     | inl e ↦
-        let m : Contains os t.1 = subst (λ (r : Reader). Contains r.observations t.1) e t.3 in
-        (reader id (os ++ o ∷ []), t.1, Contains-append_right others (reader id (os ++ o ∷ []) ∷ []) (reader id (os ++ o ∷ [])) (Contains-here (reader id (os ++ o ∷ [])) []),
-        Contains-append_left os (o ∷ []) t.1 m, t.4, t.5)
+        let m : Contains os t.1 = subst (λ (r : Reader). Contains r.observations t.1) e t.3 in (
+          reader id (os ++ o ∷ []),
+          t.1,
+          Contains-append_right others (reader id (os ++ o ∷ []) ∷ []) (reader id (os ++ o ∷ [])) (Contains-here (reader id (os ++ o ∷ [])) []),
+          Contains-append_left os (o ∷ []) t.1 m,
+          t.4,
+          t.5,
+        )
     | inr n ↦ absurd (Contains-nil t.0 n)
   ]
 ]

@@ -1,4 +1,4 @@
-use Rattle.std.proofs.Common.{◌≡◌, ◌∙◌, ◌++◌, List, append-nil, rules, subst, sym, take}
+use Rattle.std.proofs.Common.{◌≡◌, ◌∙◌, ◌<◌, ◌++◌, [], List, append-nil, get_or, length, rules, subst, sym, take}
 use Rattle.std.proofs.lemmas.List.{take_all}
 use Rattle.gql_reads.specs.Readings.{seen_in}
 use Rattle.gql_reads.specs.Records.{Kept}
@@ -23,14 +23,17 @@ loop-part-preserved c = λ coming going are new.
     let id = c.args.id.now in
     let own = c.args.reading.now.own.record in
     let ps = c.args.reading.now.parts.items in
-    let seen : c.observations-2.result.now ≡ p.seen = search rules in
-    let after = c.go_with-2.new.self in
-    subst (λ (zs : List Observation). AreNotes after coming (with_reader going id zs)) (more_parts own ps i p c.loop-part-test.true c.part-item.is)
+    let same : c.as_slice-part-items.result.now ≡ ps = c.as_slice-part-items.ensures.value in
+    let seen : c.observations-in-loop-part.result.now ≡ p.seen = search rules in
+    let after = c.go_with-in-loop-part.new.self in
+    subst (λ (zs : List Observation). AreNotes after coming (with_reader going id zs)) (more_parts own ps i p
+    (subst (λ (zs : List Kept). i < length zs) same c.loop-part-test.true) (subst (λ (zs : List Kept). p ≡ get_or zs i p) same c.part-item.is))
     (subst (λ (zs : List Observation). AreNotes after coming (with_reader going id ((own ++ seen_in (take i ps)) ++ zs))) seen
     (c.in_ok-go_with-2.ensures coming going (own ++ seen_in (take i ps)) new (c.loop-part.invariant coming going are new)))
 
 pub returns : goal.returns
 returns c = λ coming going are new.
     let own = c.args.reading.now.own.record in
-    subst (λ (zs : List Kept). AreNotes c.loop-part.self coming (with_reader going c.args.id.now (own ++ seen_in zs))) (take_all _ _ c.loop-part-test.false)
+    let same : c.as_slice-part-items.result.now ≡ c.args.reading.now.parts.items = c.as_slice-part-items.ensures.value in
+    subst (λ (zs : List Kept). AreNotes c.loop-part.self coming (with_reader going c.args.id.now (own ++ seen_in zs))) (subst (λ (zs : List Kept). take c.loop-part.part-index zs ≡ zs) same (take_all _ _ c.loop-part-test.false))
     (c.loop-part.invariant coming going are new)
