@@ -1,5 +1,5 @@
 -- One observation more of the reader that came last, or of the one that went last.
-use Rattle.std.proofs.Common.{◌≡◌, inl, inr, List, [], ◌∷◌, ◌++◌, ◌+◌, ◌<◌, ℕ, ap, append-nil, append_assoc, flat_map, get_or, length, refl, sym, subst, take, ◌∙◌, Contains}
+use Rattle.std.proofs.Common.{◌≡◌, inl, inr, List, [], ◌∷◌, ◌++◌, ◌+◌, ◌<◌, ℕ, ap, append-nil, append_assoc, get_or, length, refl, sym, subst, take, ◌∙◌, Contains}
 use Rattle.std.proofs.lemmas.List.{take_more}
 use Rattle.std.proofs.lemmas.List.Elements.{Contains-append_left, Contains-append_right, Contains-append_cases, Contains-push}
 use Rattle.gql_ast.specs.declared.definition.DefinitionId.{DefinitionId}
@@ -12,7 +12,7 @@ use Rattle.gql_reads.specs.declared.observation.Observation.{Observation}
 use Rattle.gql_readers.specs.Changes.{AreNotes, IsNew, Noted, Notes, WasTold, noted_of}
 use Rattle.gql_readers.specs.Merged.{NotesAt, come_noted, go_noted, noted_or}
 use Rattle.gql_readers.specs.Readers.{Reader, readers_of, with_reader}
-use Rattle.gql_readers.proofs.Noting.{AreTold, begun, fresh_of, list_more, list_stays, one_more, told_all, told_gone, told_step}
+use Rattle.gql_readers.proofs.Noting.{fresh_of, list_more, list_stays, one_more, told_all, told_gone, told_step}
 
 abbrev reader : DefinitionId → List Observation → Reader
 reader id os = record { id = id; observations = os }

@@ -1,5 +1,5 @@
 -- Notes of readers that come or go.
-use Rattle.std.proofs.Common.{◌≡◌, ◌≢◌, ◌⊎◌, ◌&&◌, ◌||◌, ◌+◌, ◌-◌, ◌<◌, inl, inr, ℕ, suc, arith, List, [], ◌∷◌, ◌++◌, Bool, true, false, cond, length, take, get_or, Option, Some, None, refl, ap, sym, subst, ◌∙◌, Contains, append_assoc, append-nil, nat_eq, bytes_eq, filter, map}
+use Rattle.std.proofs.Common.{◌≡◌, ◌≢◌, ◌&&◌, ◌||◌, ◌-◌, inl, inr, suc, arith, List, [], ◌∷◌, ◌++◌, Bool, true, false, cond, length, Option, Some, None, refl, ap, sym, subst, ◌∙◌, Contains, append-nil, filter, map}
 use Rattle.std.specs.Prelude.{slice_get}
 use Rattle.std.specs.BTreeMap.{is_at}
 use Rattle.std.specs.List.{list_any}
@@ -7,18 +7,18 @@ use Rattle.std.specs.Option.{option_map_or}
 use Rattle.std.specs.Ordering.{is_eq}
 use Rattle.std.specs.Cmp.{unsigned_Decides}
 use Rattle.std.proofs.lemmas.Cmp.{tied_itself}
-use Rattle.std.proofs.lemmas.List.{map-append, take_more}
+use Rattle.std.proofs.lemmas.List.{map-append}
 use Rattle.std.proofs.lemmas.List.Elements.{filter-append}
 use Rattle.std.proofs.lemmas.List.Folds.{list_any-append}
 use Rattle.std.proofs.lemmas.List.Elements.{Contains-append_left, Contains-append_right}
 use Rattle.std.proofs.lemmas.Slice.Eq.{bytes_eq-Decides}
 use Rattle.gql_ast.specs.declared.definition.DefinitionId.{DefinitionId}
 use Rattle.gql_facts.specs.Keys.{is_key, is_key_decides}
-use Rattle.gql_facts.specs.ListMembers.{Contains-nil, Contains-here, Contains-there, Contains-cases, either}
+use Rattle.gql_facts.specs.ListMembers.{Contains-here, Contains-there, either}
 use Rattle.gql_facts.specs.declared.fact.Fact.{Fact}
 use Rattle.gql_facts.specs.declared.key.Key.{Key}
 use Rattle.gql_reads.specs.declared.observation.Observation.{Observation}
-use Rattle.gql_readers.specs.Changes.{AreNotes, IsNew, Noted, Notes, WasTold, comes_in, goes_in, noted_of}
+use Rattle.gql_readers.specs.Changes.{IsNew, Noted, Notes, WasTold, noted_of}
 use Rattle.gql_readers.specs.Merged.{NotesAt, come_noted, fact_by, go_noted, is_last, noted_or, nothing_noted, with_last}
 use Rattle.gql_readers.specs.OrderLaws.{key_exact, key_total}
 use Rattle.gql_readers.specs.Orders.{is_id, key_order}

@@ -1,6 +1,5 @@
-use Rattle.std.proofs.Common.{◌∙◌, subst}
+use Rattle.std.proofs.Common.{subst}
 use Rattle.gql_facts.specs.Members.{Lists}
-use Rattle.gql_facts.specs.Reads.{Reaches}
 use Rattle.gql_verdict.specs.Faults.{IsFaultIn}
 use Rattle.gql_verdict.proofs.Certified.{certificate, judged}
 use Rattle.gql_verdict.proofs.verdict.examine.Goals as goal
