@@ -1,8 +1,8 @@
 //! How long the rules on one operation take, for operations of three sizes.
 use crate::speed::nanos_each;
 use anyhow::Result;
-use gql_ast::{Document, FileName, Files, Shared};
-use gql_facts::{Fragments, Present, SchemaFacts};
+use gql_ast::{Definition, Document, Fault, FileName, Files, Shared};
+use gql_facts::{Fragments, Present, SchemaFacts, walk_reads};
 use gql_parse::parse;
 use gql_parse_sdl::parse_sdl;
 use gql_rules::local_faults;
@@ -66,12 +66,22 @@ fn files(alloc: Global) -> Result<Files, AllocError> {
     Ok(files)
 }
 
+/// The faults of a definition.
+fn faults_in(
+    alloc: Global,
+    world: &mut Present<'_>,
+    definition: &Definition,
+) -> Result<Vec<Fault>, AllocError> {
+    let walk = walk_reads(alloc, world, definition)?;
+    local_faults(alloc, world, definition, walk.members.as_slice())
+}
+
 /// How many faults the operations of a document have.
 #[inline(never)]
 fn fault_count(alloc: Global, world: &mut Present<'_>, document: &Document) -> u64 {
     let mut found: u64 = 0;
     for definition in document.definitions.as_slice() {
-        if let Ok(faults) = local_faults(alloc, world, definition) {
+        if let Ok(faults) = faults_in(alloc, world, definition) {
             found = found.wrapping_add(faults.len() as u64);
         }
     }

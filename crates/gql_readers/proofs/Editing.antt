@@ -1,5 +1,5 @@
 -- The index after an edit.
-use Rattle.std.proofs.Common.{◌≡◌, ◌≢◌, ◌⊎◌, inl, inr, List, [], ◌∷◌, Bool, true, false, cond, Option, Some, None, refl, ap, sym, subst, ◌∙◌, Contains, get_or, arith}
+use Rattle.std.proofs.Common.{◌≡◌, ◌≢◌, inl, inr, List, [], ◌∷◌, Bool, true, false, cond, Option, Some, None, refl, ap, sym, subst, ◌∙◌, Contains, get_or, arith}
 use Rattle.std.specs.BTreeMap.{is_at}
 use Rattle.std.specs.List.{AllPairs}
 use Rattle.std.specs.List.Sorted.{IsStrictlySortedBy}
@@ -17,11 +17,11 @@ use Rattle.gql_facts.specs.Worlds.{Facts}
 use Rattle.gql_facts.specs.declared.fact.Fact.{Fact}
 use Rattle.gql_facts.specs.declared.key.Key.{Key}
 use Rattle.gql_reads.specs.declared.observation.Observation.{Observation}
-use Rattle.gql_readers.specs.Changes.{AreNotes, IsEdit, Noted, Notes, comes_in, goes_in}
+use Rattle.gql_readers.specs.Changes.{AreNotes, IsEdit, Noted, Notes}
 use Rattle.gql_readers.specs.Indexes.{IsIndexOf, Reading}
 use Rattle.gql_readers.specs.Merged.{IsUnchanged, changed_key, edited, entry_if, fact_after, fact_by, here, index_after, key_of, made, readers_after, readers_found}
 use Rattle.gql_readers.specs.Orders.{AreInOrder, key_order}
-use Rattle.gql_readers.specs.Readers.{Reader, observes, readers_of}
+use Rattle.gql_readers.specs.Readers.{Reader, readers_of}
 use Rattle.gql_readers.proofs.Merging.{about, here_from, here_has, merged_from, merged_keeps, merged_makes, merged_rises, not_less, pairs_head, pairs_none, pairs_one, pairs_tail}
 use Rattle.gql_readers.specs.OrderLaws.{key_exact, key_total}
 use Rattle.gql_readers.proofs.Reading.{about_id, edited_in_order, edited_readers, none_reads, observes_from, observes_has, reads_from, reads_has, reads_in_order, same_ids, same_readers, with_from, with_new, with_old, without_from, without_has}

@@ -1,9 +1,9 @@
 -- The entry of a key, and the readers of a key.
-use Rattle.std.proofs.Common.{◌≡◌, ℕ, zero, List, [], ◌∷◌, Some, None, Option, refl, ap, sym, subst, ◌∙◌, Contains, length, get_or, arith}
+use Rattle.std.proofs.Common.{◌≡◌, List, [], ◌∷◌, Some, None, ap, sym, subst, ◌∙◌, Contains, length, get_or, arith}
 use Rattle.std.specs.Prelude.{slice_get}
 use Rattle.gql_facts.specs.ListMembers.{Contains-nil, Contains-here}
 use Rattle.gql_facts.specs.declared.key.Key.{Key}
-use Rattle.gql_readers.specs.Indexes.{IsEntryOf, IsIndexOf, Reading}
+use Rattle.gql_readers.specs.Indexes.{IsIndexOf, Reading}
 use Rattle.gql_readers.specs.Merged.{here, key_of}
 use Rattle.gql_readers.specs.OrderLaws.{key_exact, key_total}
 use Rattle.gql_readers.specs.Orders.{key_order}

@@ -1,3 +1,4 @@
+pub mod Coming
 pub mod Editing
 pub mod Found
 pub mod Merging

@@ -1,5 +1,5 @@
 -- Notes of readers that come or go.
-use Rattle.std.proofs.Common.{◌≡◌, ◌≢◌, ◌⊎◌, ◌&&◌, ◌||◌, ◌+◌, ◌-◌, ◌<◌, inl, inr, ℕ, suc, arith, List, [], ◌∷◌, ◌++◌, Bool, true, false, cond, length, take, get_or, Option, Some, None, refl, ap, sym, subst, ◌∙◌, Contains, append_assoc, append-nil, nat_eq, bytes_eq, filter, map}
+use Rattle.std.proofs.Common.{◌≡◌, ◌≢◌, ◌&&◌, ◌||◌, ◌-◌, inl, inr, suc, arith, List, [], ◌∷◌, ◌++◌, Bool, true, false, cond, length, Option, Some, None, refl, ap, sym, subst, ◌∙◌, Contains, append-nil, filter, map}
 use Rattle.std.specs.Prelude.{slice_get}
 use Rattle.std.specs.BTreeMap.{is_at}
 use Rattle.std.specs.List.{list_any}
@@ -7,18 +7,18 @@ use Rattle.std.specs.Option.{option_map_or}
 use Rattle.std.specs.Ordering.{is_eq}
 use Rattle.std.specs.Cmp.{unsigned_Decides}
 use Rattle.std.proofs.lemmas.Cmp.{tied_itself}
-use Rattle.std.proofs.lemmas.List.{map-append, take_more}
+use Rattle.std.proofs.lemmas.List.{map-append}
 use Rattle.std.proofs.lemmas.List.Elements.{filter-append}
 use Rattle.std.proofs.lemmas.List.Folds.{list_any-append}
 use Rattle.std.proofs.lemmas.List.Elements.{Contains-append_left, Contains-append_right}
 use Rattle.std.proofs.lemmas.Slice.Eq.{bytes_eq-Decides}
 use Rattle.gql_ast.specs.declared.definition.DefinitionId.{DefinitionId}
 use Rattle.gql_facts.specs.Keys.{is_key, is_key_decides}
-use Rattle.gql_facts.specs.ListMembers.{Contains-nil, Contains-here, Contains-there, Contains-cases, either}
+use Rattle.gql_facts.specs.ListMembers.{Contains-here, Contains-there, either}
 use Rattle.gql_facts.specs.declared.fact.Fact.{Fact}
 use Rattle.gql_facts.specs.declared.key.Key.{Key}
 use Rattle.gql_reads.specs.declared.observation.Observation.{Observation}
-use Rattle.gql_readers.specs.Changes.{AreNotes, IsNew, Noted, Notes, WasTold, comes_in, goes_in, noted_of}
+use Rattle.gql_readers.specs.Changes.{IsNew, Noted, Notes, WasTold, noted_of}
 use Rattle.gql_readers.specs.Merged.{NotesAt, come_noted, fact_by, go_noted, is_last, noted_or, nothing_noted, with_last}
 use Rattle.gql_readers.specs.OrderLaws.{key_exact, key_total}
 use Rattle.gql_readers.specs.Orders.{is_id, key_order}
@@ -89,8 +89,8 @@ not_at j k e = elim (either (is_key j k)) [
 is_that : (j k : Key) → j ≡ k → is_key j k ≡ true
 is_that j k e = (is_key_decides j k).1 e
 
-any_more : (p : Observation → Bool) (os : List Observation) (i : ℕ) (o : Observation) → i < length os → o ≡ get_or os i o → list_any p (take (i + 1) os) ≡ list_any p (take i os) || p o
-any_more p os i o lt is = ap (list_any p) (take_more os i o lt ∙ ap (λ y. take i os ++ y ∷ []) (sym is)) ∙ list_any-append p (take i os) (o ∷ []) ∙ ap (λ b. list_any p (take i os) || b) (or_none (p o)) where
+any_more : (p : Observation → Bool) (os : List Observation) (o : Observation) → list_any p (os ++ o ∷ []) ≡ list_any p os || p o
+any_more p os o = list_any-append p os (o ∷ []) ∙ ap (λ b. list_any p os || b) (or_none (p o)) where
   or_none : (b : Bool) → b || false ≡ b
   or_none true = refl
   or_none false = refl
@@ -113,23 +113,23 @@ or_list f none x (Some n) = refl
 
 -- one observation more, in the list of those who come, or of those who go
 pub list_more : (f : Noted → List DefinitionId) → ((x : Fact) → f (nothing_noted x) ≡ []) → (old new : Notes) (base : Key → List DefinitionId) (id : DefinitionId) → ((k : Key) → Contains (base k) id → ⊥)
-    → (os : List Observation) (i : ℕ) (o : Observation) → i < length os → o ≡ get_or os i o
-    → ((k : Key) → list_in f old k ≡ begun (base k) id (list_any (λ (p : Observation). is_key p.key k) (take i os)))
+    → (os : List Observation) (o : Observation)
+    → ((k : Key) → list_in f old k ≡ begun (base k) id (list_any (λ (p : Observation). is_key p.key k) os))
     → (n : Noted) → NotesAt old new o.key n → f n ≡ with_last (f (noted_or o.fact (noted_of old o.key))) id
-    → (k : Key) → list_in f new k ≡ begun (base k) id (list_any (λ (p : Observation). is_key p.key k) (take (i + 1) os))
-list_more f none old new base id fresh os i o lt is so_far n at made k =
+    → (k : Key) → list_in f new k ≡ begun (base k) id (list_any (λ (p : Observation). is_key p.key k) (os ++ o ∷ []))
+list_more f none old new base id fresh os o so_far n at made k =
     let p = λ (q : Observation). is_key q.key k in
     elim (either (is_at (key_order o.key) k)) [
       | inl t ↦
           let s : o.key ≡ k = at_key o.key k t in
           let here : list_in f new k ≡ f n = ap (λ (z : Option Noted). option_map_or f z []) (at k ∙ ap (λ (b : Bool). cond b (Some n) (noted_of old k)) t) in
-          let before : f (noted_or o.fact (noted_of old o.key)) ≡ begun (base k) id (list_any p (take i os)) = or_list f none o.fact (noted_of old o.key) ∙ ap (λ z. list_in f old z) s ∙ so_far k in
-          here ∙ made ∙ ap (λ zs. with_last zs id) before ∙ last_added (base k) id (fresh k) (list_any p (take i os))
-          ∙ ap (begun (base k) id) (sym (any_more p os i o lt is ∙ ap (λ b. list_any p (take i os) || b) (is_that o.key k s) ∙ or_true (list_any p (take i os))))
+          let before : f (noted_or o.fact (noted_of old o.key)) ≡ begun (base k) id (list_any p os) = or_list f none o.fact (noted_of old o.key) ∙ ap (λ z. list_in f old z) s ∙ so_far k in
+          here ∙ made ∙ ap (λ zs. with_last zs id) before ∙ last_added (base k) id (fresh k) (list_any p os)
+          ∙ ap (begun (base k) id) (sym (any_more p os o ∙ ap (λ b. list_any p os || b) (is_that o.key k s) ∙ or_true (list_any p os)))
       | inr e ↦
           ap (λ (z : Option Noted). option_map_or f z []) (at k ∙ ap (λ (b : Bool). cond b (Some n) (noted_of old k)) e)
           ∙ so_far k
-          ∙ ap (begun (base k) id) (sym (any_more p os i o lt is ∙ ap (λ b. list_any p (take i os) || b) (not_at o.key k e) ∙ or_false (list_any p (take i os))))
+          ∙ ap (begun (base k) id) (sym (any_more p os o ∙ ap (λ b. list_any p os || b) (not_at o.key k e) ∙ or_false (list_any p os)))
     ]
 
 -- the other list stays

@@ -1,5 +1,5 @@
 -- The readers of a key, before and after an edit.
-use Rattle.std.proofs.Common.{◌≡◌, ◌≢◌, ◌⊎◌, ◌||◌, inl, inr, ℕ, List, [], ◌∷◌, ◌++◌, Bool, true, false, cond, filter, map, length, get_or, refl, ap, sym, subst, ◌∙◌, Contains}
+use Rattle.std.proofs.Common.{◌≡◌, ◌⊎◌, ◌||◌, inl, inr, List, [], ◌∷◌, Bool, true, false, filter, map, get_or, refl, ap, sym, subst, ◌∙◌, Contains}
 use Rattle.std.specs.List.{AllPairs, list_any}
 use Rattle.std.specs.declared.cmp.Ordering.TheVariants.{Less}
 use Rattle.std.proofs.lemmas.List.Kept.{AllPairs-cons, AllPairs-filter}
@@ -10,8 +10,8 @@ use Rattle.gql_facts.specs.ListMembers.{Contains-nil, Contains-here, Contains-th
 use Rattle.gql_facts.specs.Worlds.{Facts}
 use Rattle.gql_facts.specs.declared.key.Key.{Key}
 use Rattle.gql_reads.specs.declared.observation.Observation.{Observation}
-use Rattle.gql_readers.specs.Changes.{IsEdit, Noted}
-use Rattle.gql_readers.specs.Merged.{edited, itself, one_if, readers_after}
+use Rattle.gql_readers.specs.Changes.{IsEdit}
+use Rattle.gql_readers.specs.Merged.{edited, itself, one_if}
 use Rattle.gql_readers.specs.Orders.{AreInOrder, id_order}
 use Rattle.gql_readers.specs.Readers.{InReadingOrder, Reader, observes, readers_of}
 use Rattle.gql_readers.proofs.Merging.{about, filter_from, filter_has, merged_from, merged_keeps, merged_makes, merged_rises, not_less, not_self, pairs_head, pairs_none, pairs_one, pairs_tail, same_in_order}

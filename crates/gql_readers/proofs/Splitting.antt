@@ -1,7 +1,7 @@
 -- Where a place is in a list that is in order.
 use Rattle.std.proofs.Common.{◌≡◌, ◌⊎◌, inl, inr, ℕ, zero, suc, ◌<◌, ◌≤◌, ◌+◌, List, [], ◌∷◌, ◌++◌, ◌-◌, append_assoc, cond, take, drop, length, get_or, refl, ap, sym, subst, ◌∙◌, arith, Bool}
 use Rattle.std.specs.Cmp.{IsTotalOrder}
-use Rattle.std.specs.List.{AllPairs, AllWithin, HoldsAt}
+use Rattle.std.specs.List.{AllPairs, AllWithin}
 use Rattle.std.specs.List.Sorted.{IsBinarySearchResult, IsNonDecreasingBy, IsSearchInRange}
 use Rattle.std.specs.Ordering.{is_eq, is_gt, is_lt, ordering_index, ordering_reverse}
 use Rattle.std.specs.Prelude.{Result, Ok, Err}
@@ -10,7 +10,6 @@ use Rattle.std.specs.declared.cmp.Ordering.TheVariants.{Less, Equal, Greater}
 use Rattle.std.proofs.lemmas.List.{length-drop}
 use Rattle.std.proofs.Math.Seq.{take-length}
 use Rattle.gql_readers.specs.Merged.{IsSplit, above, below, here, merged}
-use Rattle.gql_readers.proofs.Merging.{by_order}
 
 module _ {A K : Type 0} (order : K → K → Ordering) (at : A → K) (k : K) where
   abbrev lt : A → Bool

@@ -1,5 +1,5 @@
 -- The orders of keys and of definitions are total, and what is ordered as equal is the same.
-use Rattle.std.proofs.Common.{◌≡◌, ℕ, List, refl, ap, sym, ◌∙◌, Bool, true, false, ◌&&◌, bytes_eq, nat_eq}
+use Rattle.std.proofs.Common.{◌≡◌, ℕ, List, refl, ap, Bool, true, ◌&&◌}
 use Rattle.std.specs.Cmp.{IsTotalOrder, unsigned_Decides}
 use Rattle.std.specs.Ordering.{nat_cmp, ordering_then}
 use Rattle.std.specs.declared.cmp.Ordering.TheVariants.{Equal}
@@ -8,7 +8,7 @@ use Rattle.std.proofs.lemmas.Map.Lookups.{exact_bytes, exact_pairs, exact_unsign
 use Rattle.std.proofs.lemmas.Slice.Eq.{bytes_eq-Decides}
 use Rattle.gql_ast.specs.FileMaps.{name_order}
 use Rattle.gql_ast.specs.declared.definition.DefinitionId.{DefinitionId}
-use Rattle.gql_facts.specs.Keys.{first_name, is_key, is_key_decides, number_of, second_name}
+use Rattle.gql_facts.specs.Keys.{first_name, is_key_decides, number_of, second_name}
 use Rattle.gql_facts.specs.declared.key.Key.{Key}
 use Rattle.gql_readers.specs.Orders.{id_order, key_order}
 

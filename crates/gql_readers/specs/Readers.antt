@@ -1,5 +1,5 @@
 -- Which definitions read a key.
-use Rattle.std.specs.Prelude.{List, Bool, map, filter}
+use Rattle.std.specs.Prelude.{List, [], ◌∷◌, ◌++◌, Bool, map, filter}
 use Rattle.std.specs.List.{list_any}
 use Rattle.gql_ast.specs.declared.definition.DefinitionId.{DefinitionId}
 use Rattle.gql_facts.specs.Keys.{is_key}
@@ -11,6 +11,11 @@ use Rattle.gql_readers.specs.Orders.{AreInOrder}
 pub record Reader : Type 0 where
   pub id : DefinitionId
   pub observations : List Observation
+
+-- readers, and after them this definition with what it observed
+abbrev pub with_reader : List Reader → DefinitionId → List Observation → List Reader
+with_reader readers id observations =
+    readers ++ record { id = id; observations = observations } ∷ []
 
 -- whether a reader observed a key
 abbrev pub observes : Key → Reader → Bool

@@ -1,14 +1,16 @@
 //! Changes of the index: readers that come, and readers that go.
-ghost use Rattle.std.specs.Prelude.{◌≡◌, ◌++◌, ◌∷◌, [], List, IfOk, OnOk};
+ghost use Rattle.std.specs.Prelude.{◌≡◌, ◌++◌, [], List, IfOk, OnOk};
+ghost use Rattle.gql_reads.specs.Readings.{flat};
+ghost use Rattle.gql_reads.specs.declared.observation.Observation.{Observation as AnObservation};
 ghost use Rattle.gql_readers.specs.Changes.{AreNotes, IsNew, noted_of};
 ghost use Rattle.gql_readers.specs.Merged.{IsTakenOut, NotesAt, come_noted, go_noted, is_last, noted_or, nothing_noted, with_last};
-ghost use Rattle.gql_readers.specs.Readers.{Reader};
+ghost use Rattle.gql_readers.specs.Readers.{Reader, with_reader};
 
 use crate::ids::{copy, is_same};
 use crate::orders::OrderedKey;
 use gql_ast::DefinitionId;
 use gql_facts::{Fact, Key};
-use gql_reads::Observation;
+use gql_reads::{Observation, Reading};
 use std::alloc::{AllocError, Global};
 use std::collections::BTreeMap;
 use std::marker::Model;
@@ -180,16 +182,17 @@ impl Changes {
         Ok(())
     }
 
-    /// Notes that a definition comes, with what it observed.
-    pub fn come(
+    /// Notes that the definition that came last has observed this, too.
+    fn come_with(
         &mut self,
         alloc: Global,
         id: &DefinitionId,
         observations: &[Observation],
     ) -> Result<(), AllocError>
-        ensures { OnOk result ((coming going : List Reader) → AreNotes self.old coming going
+        ensures { OnOk result ((coming going : List Reader) (before : List AnObservation)
             → IsNew id.now coming
-            → AreNotes self.new (coming ++ record { id = id.now; observations = observations.now } ∷ []) going) }
+            → AreNotes self.old (with_reader coming id.now before) going
+            → AreNotes self.new (with_reader coming id.now (before ++ observations.now)) going) }
     {
         for observation in observations {
             self.note_come(alloc, id, observation)?;
@@ -197,19 +200,56 @@ impl Changes {
         Ok(())
     }
 
-    /// Notes that a definition goes, with what it observed.
-    pub fn go(
+    /// Notes that a definition comes, with what it observed.
+    pub fn come(
+        &mut self,
+        alloc: Global,
+        id: &DefinitionId,
+        reading: &Reading,
+    ) -> Result<(), AllocError>
+        ensures { OnOk result ((coming going : List Reader) → AreNotes self.old coming going
+            → IsNew id.now coming
+            → AreNotes self.new (with_reader coming id.now (flat reading.now)) going) }
+    {
+        self.come_with(alloc, id, reading.own.record.get().observations())?;
+        for part in reading.parts.as_slice() {
+            self.come_with(alloc, id, part.seen().get().observations())?;
+        }
+        Ok(())
+    }
+
+    /// Notes that the definition that went last had observed this, too.
+    fn go_with(
         &mut self,
         alloc: Global,
         id: &DefinitionId,
         observations: &[Observation],
     ) -> Result<(), AllocError>
-        ensures { OnOk result ((coming going : List Reader) → AreNotes self.old coming going
+        ensures { OnOk result ((coming going : List Reader) (before : List AnObservation)
             → IsNew id.now going
-            → AreNotes self.new coming (going ++ record { id = id.now; observations = observations.now } ∷ [])) }
+            → AreNotes self.old coming (with_reader going id.now before)
+            → AreNotes self.new coming (with_reader going id.now (before ++ observations.now))) }
     {
         for observation in observations {
             self.note_go(alloc, id, observation)?;
+        }
+        Ok(())
+    }
+
+    /// Notes that a definition goes, with what it had observed.
+    pub fn go(
+        &mut self,
+        alloc: Global,
+        id: &DefinitionId,
+        reading: &Reading,
+    ) -> Result<(), AllocError>
+        ensures { OnOk result ((coming going : List Reader) → AreNotes self.old coming going
+            → IsNew id.now going
+            → AreNotes self.new coming (with_reader going id.now (flat reading.now))) }
+    {
+        self.go_with(alloc, id, reading.own.record.get().observations())?;
+        for part in reading.parts.as_slice() {
+            self.go_with(alloc, id, part.seen().get().observations())?;
         }
         Ok(())
     }

@@ -1,11 +1,8 @@
 pub mod Answered
 pub mod Entered
-pub mod Many
 pub mod Meeting
 pub mod Members
-pub mod Observed
 pub mod Owning
 pub mod Reaching
 pub mod Recorded
-pub mod Sweeping
 pub mod Takes

@@ -14,7 +14,7 @@ use Rattle.gql_facts.specs.ListMembers.{Contains-nil, Contains-cases, Contains-m
 use Rattle.gql_facts.specs.Members.{Lists}
 use Rattle.gql_facts.specs.Worlds.{Facts}
 use Rattle.gql_reads.specs.Own.{Own, tree_of}
-use Rattle.gql_reads.specs.Observations.{keys_of}
+use Rattle.gql_reads.specs.Observations.{Hold, keys_of}
 use Rattle.gql_reads.specs.Reaching.{AreMet, IsNamed, IsPartOf, Meets}
 use Rattle.gql_reads.specs.Readings.{members_of, name_of}
 use Rattle.gql_reads.specs.Records.{IsCertified, IsRecord, IsTold, Kept}
@@ -55,6 +55,13 @@ pub keeps_then : (a b c : Entries) → Keeps a b → Keeps b c → Keeps a c
 keeps_then a b c p q n k h = q n k (p n k h)
 
 -- ---- the part of a fragment
+
+-- the record of one that was made before, where it holds
+pub record_stays : (F : Facts) (g : FragmentFact) (p : Kept) → p.fragment ≡ g → IsCertified p.fragment p.seen → Hold F p.seen → IsRecord F (tree_of g) p.seen
+record_stays F g p is certified hold = record {
+  hold = hold;
+  keys = subst (λ f. Lists (keys_of p.seen) (Own F (tree_of f))) is (certified F hold);
+}
 
 module _ (F : Facts) (es : Entries) (g : FragmentFact) (p : Kept) where
   -- one that was there

@@ -4,5 +4,4 @@ pub mod Records
 pub mod Tables
 pub mod Readings
 pub mod Closings
-pub mod Sweeps
 pub mod Reaching

@@ -13,10 +13,6 @@ abbrev pub IsBroken : Facts → List Observation → Type 0
 IsBroken facts observations =
     (o : Observation) × Contains observations o × (facts o.key ≡ o.fact → ⊥)
 
--- the observation of a key's answer, by these facts
-abbrev pub observed : Facts → Key → Observation
-observed facts k = record { key = k; fact = facts k }
-
 -- the observed keys
 abbrev pub keys_of : List Observation → List Key
 keys_of observations = map (λ (o : Observation). o.key) observations

@@ -1,10 +1,8 @@
 -- What was observed of a definition: its own record, and one of each fragment that it reaches.
-use Rattle.std.specs.Prelude.{◌≡◌, ◌++◌, ℕ, List, Bool, MatchBool, Contains, Some, flat_map, map}
+use Rattle.std.specs.Prelude.{◌≡◌, ◌++◌, ℕ, List, Contains, Some, flat_map, map}
 use Rattle.gql_facts.specs.declared.fact.FragmentFact.{FragmentFact}
-use Rattle.gql_facts.specs.Worlds.{Facts}
 use Rattle.gql_facts.specs.declared.fact.Fact.TheVariants as fact
 use Rattle.gql_facts.specs.declared.key.Key.TheVariants as key
-use Rattle.gql_reads.specs.Observations.{Hold, IsBroken}
 use Rattle.gql_reads.specs.Records.{Kept}
 use Rattle.gql_reads.specs.Tables.{Entries, entry_at}
 use Rattle.gql_reads.specs.declared.observation.Observation.{Observation}
@@ -20,7 +18,7 @@ seen_in parts = flat_map (λ (p : Kept). p.seen) parts
 
 -- all observations, as one list
 abbrev pub flat : Reading → List Observation
-flat r = r.own ++ seen_in r.parts.items
+flat r = r.own.record ++ seen_in r.parts.items
 
 -- the fragments of these parts
 abbrev pub members_of : List Kept → List FragmentFact
@@ -35,7 +33,3 @@ own_name g = record { key = key.FragmentOf (name_of g); fact = fact.Fragment g }
 abbrev pub AreShared : Entries → Reading → Type 0
 AreShared entries r = (p : Kept) → Contains r.parts.items p
     → (entry_at entries (name_of p.fragment) ≡ Some p) × Contains (flat r) (own_name p.fragment)
-
--- whether all observations hold
-abbrev pub Tells : Facts → Reading → Bool → Type 0
-Tells facts r hold = MatchBool hold (Hold facts (flat r)) (IsBroken facts (flat r))

@@ -1,10 +1,10 @@
 -- A table of what was observed of fragments, each under its name.
-use Rattle.std.specs.Prelude.{◌≡◌, ◌⊎◌, ℕ, List, Option, Some, bytes_eq}
+use Rattle.std.specs.Prelude.{◌≡◌, ℕ, List, Option, Some, bytes_eq}
 use Rattle.std.specs.Map.{lookup}
 use Rattle.gql_facts.specs.declared.fact.Fact.TheVariants as fact
 use Rattle.gql_facts.specs.declared.key.Key.TheVariants as key
 use Rattle.gql_facts.specs.Worlds.{Facts}
-use Rattle.gql_reads.specs.Observations.{Hold, IsBroken}
+use Rattle.gql_reads.specs.Observations.{Hold}
 use Rattle.gql_reads.specs.Records.{Kept}
 
 -- the entries, each under a name
@@ -19,11 +19,6 @@ entry_at entries n = lookup (bytes_eq n) entries
 abbrev pub Holds : Facts → List ℕ → Kept → Type 0
 Holds facts n k = (facts (key.FragmentOf n) ≡ fact.Fragment k.fragment) × Hold facts k.seen
 
--- the name is not that of the fragment, or an observation does not hold
-abbrev pub IsEntryBroken : Facts → List ℕ → Kept → Type 0
-IsEntryBroken facts n k =
-    (facts (key.FragmentOf n) ≡ fact.Fragment k.fragment → ⊥) ⊎ IsBroken facts k.seen
-
 -- all entries hold
 pub record AllHold (facts : Facts) (entries : Entries) : Type 0 where
   pub each : (n : List ℕ) (k : Kept) → entry_at entries n ≡ Some k → Holds facts n k
@@ -32,10 +27,3 @@ pub record AllHold (facts : Facts) (entries : Entries) : Type 0 where
 abbrev pub Keeps : Entries → Entries → Type 0
 Keeps old new =
     (n : List ℕ) (k : Kept) → entry_at old n ≡ Some k → entry_at new n ≡ Some k
-
--- what is left are exactly the entries that hold, as they were
-pub record IsSwept (facts : Facts) (old new : Entries) : Type 0 where
-  pub holds : AllHold facts new
-  pub kept : (n : List ℕ) (k : Kept) → entry_at old n ≡ Some k
-      → (entry_at new n ≡ Some k) ⊎ IsEntryBroken facts n k
-  pub was : (n : List ℕ) (k : Kept) → entry_at new n ≡ Some k → entry_at old n ≡ Some k

@@ -14,9 +14,9 @@ mod retest;
 mod scan;
 mod table;
 
-pub use observation::{Observation, observe};
+pub use observation::Observation;
 pub use part::Part;
-pub use reading::{Reading, reads_of};
+pub use reading::{OwnReads, Reading, reads_of};
 pub use record::Record;
-pub use retest::{still_holds, sweep, which_hold};
+pub use retest::{KeptParts, NoParts};
 pub use table::ReadTable;

@@ -10,19 +10,30 @@ use gql_facts::{FragmentFact, World};
 use std::alloc::{AllocError, Global};
 use std::marker::Model;
 
-/// A fragment, and the answers to its own reads. Wherever a world gives these answers, they are
-/// those to exactly its own reads there. Copies share both.
-pub struct Part {
+/// What a part shares with its copies.
+pub struct Held {
     fragment: FragmentFact,
     seen: Shared<Record>,
 }
 
-impl Drop for Part {
+impl Drop for Held {
     fn drop(self) {
-        let Part {
+        let Held {
             fragment: _,
             seen: _,
         } = self;
+    }
+}
+
+/// A fragment, and the answers to its own reads. Wherever a world gives these answers, they are
+/// those to exactly its own reads there. Copies share both.
+pub struct Part {
+    held: Shared<Held>,
+}
+
+impl Drop for Part {
+    fn drop(self) {
+        let Part { held: _ } = self;
     }
 }
 
@@ -42,9 +53,9 @@ impl Model for Part {
       fact.the_row.coded,
     ) };
 
-    ghost view = { λ p. record { fragment = p.fragment; seen = p.seen } };
+    ghost view = { λ p. record { fragment = p.held.fragment; seen = p.held.seen } };
 
-    ghost invariant = { λ p. IsCertified p.fragment p.seen };
+    ghost invariant = { λ p. IsCertified p.held.fragment p.held.seen };
 }
 
 impl Part {
@@ -52,14 +63,14 @@ impl Part {
     pub fn fragment(&self) -> &FragmentFact
         ensures { result.now ≡ self.now.fragment }
     {
-        &self.fragment
+        &self.held.get().fragment
     }
 
     /// The name of the fragment.
     pub fn name(&self) -> &Text
         ensures { result.now ≡ name_of self.now.fragment }
     {
-        &self.fragment.fragment.get().name.text
+        &self.fragment().fragment.get().name.text
     }
 
     /// What was observed of the fragment alone.
@@ -67,7 +78,7 @@ impl Part {
         ensures value { result.now ≡ self.now.seen }
         ensures certificate { IsCertified self.now.fragment result.now }
     {
-        &self.seen
+        &self.held.get().seen
     }
 
     /// An equal part, which shares what this one has.
@@ -75,8 +86,7 @@ impl Part {
         ensures { IfOk result (λ part. part ≡ self.now) }
     {
         Ok(Part {
-            fragment: self.fragment.copy()?,
-            seen: self.seen.clone()?,
+            held: self.held.clone()?,
         })
     }
 }
@@ -98,5 +108,6 @@ pub fn walk_fragment<W: World>(
     let seen = record_of(alloc, world, &tree)?;
     let seen = Shared::new(alloc, seen)?;
     let fragment = fragment.copy()?;
-    Ok(Part { fragment, seen })
+    let held = Shared::new(alloc, Held { fragment, seen })?;
+    Ok(Part { held })
 }

@@ -12,23 +12,50 @@ ghost use Rattle.gql_reads.specs.Records.{IsRecord, IsTold, Kept};
 ghost use Rattle.gql_reads.specs.Tables.{AllHold, Keeps, entry_at};
 
 use crate::holds::is_named;
-use crate::part::{Part, walk_fragment};
+use crate::part::Part;
 use crate::record::{Record, record_of};
+use crate::retest::{KeptParts, part_for};
 use crate::table::ReadTable;
 use gql_ast::{Definition, Shared, Text, Tree};
 use gql_facts::{FragmentFact, World};
 use indexmap::IndexSet;
 use std::alloc::{AllocError, Global};
 
+/// What was observed of a definition alone.
+pub struct OwnReads {
+    pub record: Shared<Record>,
+    /// The part of the definition, if it is the fragment of its name.
+    pub part: Option<Part>,
+}
+
+impl Drop for OwnReads {
+    fn drop(self) {
+        let OwnReads { record: _, part: _ } = self;
+    }
+}
+
 /// What was observed of a definition alone, and of each fragment that it reaches.
 pub struct Reading {
-    pub own: Shared<Record>,
+    pub own: OwnReads,
     pub parts: Vec<Part>,
 }
 
 impl Drop for Reading {
     fn drop(self) {
         let Reading { own: _, parts: _ } = self;
+    }
+}
+
+impl Reading {
+    /// The fragments that the definition reaches.
+    pub fn members(&self, alloc: Global) -> Result<Vec<FragmentFact>, AllocError>
+        ensures { IfOk result (λ members. members.items ≡ members_of self.now.parts.items) }
+    {
+        let mut members = Vec::with_capacity(alloc, self.parts.len())?;
+        for part in self.parts.as_slice() {
+            members.push(part.fragment().copy()?)?;
+        }
+        Ok(members)
     }
 }
 
@@ -39,10 +66,11 @@ struct Met {
     parts: Vec<Part>,
 }
 
-/// Walks a fragment that has no entry, and adds one.
-fn add_part<W: World>(
+/// Makes the part of a fragment that has no entry, and adds it.
+fn add_part<W: World, K: KeptParts>(
     alloc: Global,
     world: &mut W,
+    kept: &K,
     table: &mut ReadTable,
     fragment: &FragmentFact,
 ) -> Result<Part, AllocError>
@@ -56,17 +84,18 @@ fn add_part<W: World>(
     ensures keeps { Keeps table.old table.new }
     ensures part { IfOk result (IsPartOf (W.facts world.old) table.new fragment.now) }
 {
-    let part = walk_fragment(alloc, world, fragment)?;
-    let kept = part.copy()?;
+    let part = part_for(alloc, world, kept, fragment)?;
+    let entry = part.copy()?;
     let name = fragment.fragment.get().name.text.copy()?;
-    table.add(name, kept)?;
+    table.add(name, entry)?;
     Ok(part)
 }
 
-/// The part of a fragment, from the table if it is there; else the fragment is walked.
-fn part_of<W: World>(
+/// The part of a fragment, from the table if it is there; else it is made.
+fn part_of<W: World, K: KeptParts>(
     alloc: Global,
     world: &mut W,
+    kept: &K,
     table: &mut ReadTable,
     fragment: &FragmentFact,
 ) -> Result<Part, AllocError>
@@ -82,14 +111,15 @@ fn part_of<W: World>(
     if let Some(part) = table.get(&fragment.fragment.get().name.text) {
         return part.copy();
     }
-    let part = add_part(alloc, world, table, fragment)?;
+    let part = add_part(alloc, world, kept, table, fragment)?;
     Ok(part)
 }
 
 /// Adds the part of a fragment, unless it was met.
-fn meet<W: World>(
+fn meet<W: World, K: KeptParts>(
     alloc: Global,
     world: &mut W,
+    kept: &K,
     table: &mut ReadTable,
     fragment: &FragmentFact,
     met: &mut Met,
@@ -111,16 +141,17 @@ fn meet<W: World>(
     if met.names.contains(name) {
         return Ok(());
     }
-    let part = part_of(alloc, world, table, fragment)?;
+    let part = part_of(alloc, world, kept, table, fragment)?;
     met.names.insert(name.copy()?)?;
     met.parts.push(part)?;
     Ok(())
 }
 
 /// Adds the parts of those of these fragments that were not met.
-fn meet_all<W: World>(
+fn meet_all<W: World, K: KeptParts>(
     alloc: Global,
     world: &mut W,
+    kept: &K,
     table: &mut ReadTable,
     fragments: &[FragmentFact],
     met: &mut Met,
@@ -139,7 +170,7 @@ fn meet_all<W: World>(
         met.old.parts.items met.new.parts.items) }
 {
     for fragment in fragments {
-        meet(alloc, world, table, fragment, met)?;
+        meet(alloc, world, kept, table, fragment, met)?;
     }
     Ok(())
 }
@@ -152,9 +183,10 @@ fn part_at(parts: &[Part], at: usize) -> Option<&Part>
 }
 
 /// Adds the parts of the fragments that the part at an index spreads.
-fn visit<W: World>(
+fn visit<W: World, K: KeptParts>(
     alloc: Global,
     world: &mut W,
+    kept: &K,
     table: &mut ReadTable,
     at: usize,
     met: &mut Met,
@@ -175,17 +207,18 @@ fn visit<W: World>(
         return Ok(());
     };
     let seen = part.seen().clone()?;
-    meet_all(alloc, world, table, seen.get().spreads(), met)?;
+    meet_all(alloc, world, kept, table, seen.get().spreads(), met)?;
     Ok(())
 }
 
-/// The record of a definition that is the fragment of its name: the one in the table.
-fn kept_own<W: World>(
+/// The part of a definition that is the fragment of its name: the one in the table.
+fn own_part<W: World, K: KeptParts>(
     alloc: Global,
     world: &mut W,
+    kept: &K,
     table: &mut ReadTable,
     definition: &Definition,
-) -> Result<Option<Shared<Record>>, AllocError>
+) -> Result<Option<Part>, AllocError>
     requires holds { AllHold (W.facts world.old) table.old }
     ensures facts { W.facts world.new ≡ W.facts world.old }
     ensures names { W.names world.new ≡ W.names world.old }
@@ -193,7 +226,7 @@ fn kept_own<W: World>(
     ensures holds { AllHold (W.facts world.old) table.new }
     ensures keeps { Keeps table.old table.new }
     ensures own { IfOk result (λ found.
-        IfSome found (IsRecord (W.facts world.old) definition.now.tree)) }
+        IfSome found (λ part. IsRecord (W.facts world.old) definition.now.tree part.seen)) }
 {
     let Tree::Fragment(fragment) = &definition.tree else {
         return Ok(None);
@@ -206,42 +239,50 @@ fn kept_own<W: World>(
     if !is_named {
         return Ok(None);
     }
-    let part = part_of(alloc, world, table, &fragment)?;
-    let seen = part.seen().clone()?;
-    Ok(Some(seen))
+    let part = part_of(alloc, world, kept, table, &fragment)?;
+    Ok(Some(part))
 }
 
-/// The record of a definition alone.
-fn own_of<W: World>(
+/// What was observed of a definition alone.
+fn own_of<W: World, K: KeptParts>(
     alloc: Global,
     world: &mut W,
+    kept: &K,
     table: &mut ReadTable,
     definition: &Definition,
-) -> Result<Shared<Record>, AllocError>
+) -> Result<OwnReads, AllocError>
     requires holds { AllHold (W.facts world.old) table.old }
     ensures facts { W.facts world.new ≡ W.facts world.old }
     ensures names { W.names world.new ≡ W.names world.old }
     ensures lent { W.lent world.new ≡ W.lent world.old }
     ensures holds { AllHold (W.facts world.old) table.new }
     ensures keeps { Keeps table.old table.new }
-    ensures own { IfOk result (IsRecord (W.facts world.old) definition.now.tree) }
+    ensures own { IfOk result (λ own. IsRecord (W.facts world.old) definition.now.tree own.record) }
 {
-    match kept_own(alloc, world, table, definition)? {
-        Some(seen) => Ok(seen),
+    match own_part(alloc, world, kept, table, definition)? {
+        Some(part) => {
+            let record = part.seen().clone()?;
+            Ok(OwnReads {
+                record,
+                part: Some(part),
+            })
+        }
         None => {
-            let seen = record_of(alloc, world, &definition.tree)?;
-            let seen = Shared::new(alloc, seen)?;
-            Ok(seen)
+            let record = record_of(alloc, world, &definition.tree)?;
+            let record = Shared::new(alloc, record)?;
+            Ok(OwnReads { record, part: None })
         }
     }
 }
 
 /// What was observed of a definition: a handle of its own record, and a part of each fragment that
-/// it reaches. A fragment that the table has is not walked; each other is walked once, and added.
+/// it reaches. A fragment that the table has is not walked. Of each other, a part that is kept is
+/// added to the table if what was observed then still holds; else the fragment is walked, once.
 /// Whether it succeeds or an allocation fails, no entry is lost, and all entries hold.
-pub fn reads_of<W: World>(
+pub fn reads_of<W: World, K: KeptParts>(
     alloc: Global,
     world: &mut W,
+    kept: &K,
     table: &mut ReadTable,
     definition: &Definition,
 ) -> Result<Reading, AllocError>
@@ -258,15 +299,22 @@ pub fn reads_of<W: World>(
         Lists (members_of r.parts.items) (Reaches (W.facts world.old) definition.now)) }
     ensures shared { IfOk result (AreShared table.new) }
 {
-    let own = own_of(alloc, world, table, definition)?;
+    let own = own_of(alloc, world, kept, table, definition)?;
     let mut met = Met {
         names: IndexSet::new(alloc),
         parts: Vec::new(alloc),
     };
-    meet_all(alloc, world, table, own.get().spreads(), &mut met)?;
+    meet_all(
+        alloc,
+        world,
+        kept,
+        table,
+        own.record.get().spreads(),
+        &mut met,
+    )?;
     let mut at = 0;
     'walk: while at < met.names.len() {
-        visit(alloc, world, table, at, &mut met)?;
+        visit(alloc, world, kept, table, at, &mut met)?;
         at += 1;
     }
     let Met { names: _, parts } = met;

@@ -83,6 +83,7 @@ fn record_from(alloc: Global, answers: IndexMap<Key, Fact>) -> Result<Record, Al
         add_spread(&fact, &mut spreads)?;
         observations.push(Observation { key, fact })?;
     }
+    spreads.shrink_to_fit();
     Ok(Record {
         observations,
         spreads,

@@ -1,10 +1,12 @@
 //! V16, Fragment Spreads Must Not Form Cycles: a fragment spreads itself.
-ghost use Rattle.std.specs.Prelude.{◌≡◌, ◌↔◌, Contains, IsTrue, IfOk};
+ghost use Rattle.std.specs.Prelude.{◌≡◌, ◌↔◌, Contains, IsTrue};
+ghost use Rattle.gql_facts.specs.Members.{Lists};
+ghost use Rattle.gql_facts.specs.Reads.{Reaches};
+ghost use Rattle.gql_facts.specs.Worlds.{Facts};
 ghost use Rattle.gql_rules.specs.V16FragmentSpreadsMustNotFormCycles as spec;
 
 use gql_ast::{Definition, Fragment, Same, Shared};
-use gql_facts::{FragmentFact, World, walk_reads};
-use std::alloc::{AllocError, Global};
+use gql_facts::FragmentFact;
 
 /// Whether this is the fragment of the definition.
 fn is_own(definition: &Definition, fragment: &Shared<Fragment>, member: &FragmentFact) -> bool
@@ -25,20 +27,15 @@ fn is_among(definition: &Definition, fragment: &Shared<Fragment>, members: &[Fra
     false
 }
 
-/// Whether the fragment of the definition reaches itself.
-pub fn is_cyclic<W: World>(
-    alloc: Global,
-    world: &mut W,
+/// Whether the fragment of the definition reaches itself, where these are the fragments that it
+/// reaches.
+pub fn is_cyclic(
     definition: &Definition,
     fragment: &Shared<Fragment>,
-) -> Result<bool, AllocError>
-    ensures facts { W.facts world.new ≡ W.facts world.old }
-    ensures names { W.names world.new ≡ W.names world.old }
-    ensures lent { W.lent world.new ≡ W.lent world.old }
-    ensures found { IfOk result (λ is. IsTrue is
-        ↔ spec.IsCyclic (W.facts world.old) definition.now fragment.now) }
+    members: &[FragmentFact],
+) -> bool
+    ensures { (facts : Facts) → Lists members.now (Reaches facts definition.now)
+        → (IsTrue result ↔ spec.IsCyclic facts definition.now fragment.now) }
 {
-    let walk = walk_reads(alloc, world, definition)?;
-    let is_cyclic = is_among(definition, fragment, walk.members.as_slice());
-    Ok(is_cyclic)
+    is_among(definition, fragment, members)
 }

@@ -1,6 +1,7 @@
 //! The faults of an operation by the rules on variables.
 ghost use Rattle.std.specs.Prelude.{◌≡◌, ◌++◌, IfOk, OnOk, flat_map};
 ghost use Rattle.gql_facts.specs.Members.{Lists as ListsAll};
+ghost use Rattle.gql_facts.specs.Reads.{Reaches};
 ghost use Rattle.gql_vars.specs.Lists.{type_faults, use_faults};
 ghost use Rattle.gql_vars.specs.VariableFaults as spec;
 
@@ -11,7 +12,7 @@ use crate::{
     v27_all_variable_uses_defined, v28_all_variables_used,
 };
 use gql_ast::{Definition, Fault, FilePlace, Operation, Tree, VariableDefinition};
-use gql_facts::{FragmentFact, World, walk_reads};
+use gql_facts::{FragmentFact, World};
 use gql_rules::owner_of;
 use std::alloc::{AllocError, Global};
 
@@ -61,7 +62,9 @@ fn operation_faults<W: World>(
     world: &mut W,
     definition: &Definition,
     operation: &Operation,
+    members: &[FragmentFact],
 ) -> Result<Vec<Fault>, AllocError>
+    requires { ListsAll members.now (Reaches (W.facts world.old) definition.now) }
     ensures facts { W.facts world.new ≡ W.facts world.old }
     ensures names { W.names world.new ≡ W.names world.old }
     ensures lent { W.lent world.new ≡ W.lent world.old }
@@ -73,8 +76,6 @@ fn operation_faults<W: World>(
     let mut faults = Vec::new(alloc);
     v25_variable_uniqueness::check(alloc, &owner, variables, &mut faults)?;
     check_types(alloc, world, &owner, variables, &mut faults)?;
-    let walk = walk_reads(alloc, world, definition)?;
-    let members = walk.members.as_slice();
     check_uses(alloc, &owner, definition, members, variables, &mut faults)?;
     let file = &definition.file;
     usage_nodes::check(alloc, world, &owner, file, operation, members, &mut faults)?;
@@ -82,13 +83,15 @@ fn operation_faults<W: World>(
 }
 
 /// The faults of an operation by the rules on its variables: V25 to V29 and P04 (GraphQL
-/// specification, 5.8). Another definition has none. If an allocation fails, the world answers as
-/// before.
+/// specification, 5.8). Another definition has none. The caller has the fragments that the
+/// definition reaches. If an allocation fails, the world answers as before.
 pub fn variable_faults<W: World>(
     alloc: Global,
     world: &mut W,
     definition: &Definition,
+    members: &[FragmentFact],
 ) -> Result<Vec<Fault>, AllocError>
+    requires { ListsAll members.now (Reaches (W.facts world.old) definition.now) }
     ensures facts { W.facts world.new ≡ W.facts world.old }
     ensures names { W.names world.new ≡ W.names world.old }
     ensures lent { W.lent world.new ≡ W.lent world.old }
@@ -97,7 +100,7 @@ pub fn variable_faults<W: World>(
 {
     match &definition.tree {
         Tree::Operation(operation) => {
-            let faults = operation_faults(alloc, world, definition, operation.get())?;
+            let faults = operation_faults(alloc, world, definition, operation.get(), members)?;
             Ok(faults)
         }
         _ => Ok(Vec::new(alloc)),

@@ -52,7 +52,7 @@ fn add_new(alloc: Global, step: &Slot, changes: &mut Changes) -> Result<(), Allo
         → AreNotes changes.new (coming ++ readers (verdicts (step.now ∷ []))) going) }
 {
     if let Slot::Here(verdict) = step {
-        changes.come(alloc, &verdict.def().id(), verdict.observations())?;
+        changes.come(alloc, &verdict.def().id(), verdict.reading())?;
     }
     Ok(())
 }
@@ -83,7 +83,7 @@ fn add_gone(
         return Ok(());
     }
     if let Slot::Here(verdict) = slot {
-        changes.go(alloc, &verdict.def().id(), verdict.observations())?;
+        changes.go(alloc, &verdict.def().id(), verdict.reading())?;
     }
     Ok(())
 }

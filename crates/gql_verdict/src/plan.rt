@@ -4,6 +4,7 @@ ghost use Rattle.std.specs.List.{AllZip};
 ghost use Rattle.gql_verdict.specs.Definitions.{all_definitions as definitions_of};
 ghost use Rattle.gql_verdict.specs.FileOrder.{AreFilesPlaced, InFileOrder};
 ghost use Rattle.gql_facts.specs.Worlds.{Facts};
+ghost use Rattle.gql_reads.specs.Tables.{AllHold};
 ghost use Rattle.gql_verdict.specs.Marks.{AreMarks};
 ghost use Rattle.gql_verdict.specs.Shelves.{IsDue, IsDueWork, IsStepWork};
 ghost use Rattle.gql_verdict.specs.Plans.{IsStep};
@@ -18,6 +19,7 @@ use crate::touched::Touched;
 use crate::verdict::{Verdict, examine};
 use gql_ast::{Definition, Files};
 use gql_facts::World;
+use gql_reads::{KeptParts, ReadTable};
 use std::alloc::{AllocError, Global};
 
 /// Whether a verdict is on this definition. One that the edit does not touch need not be compared.
@@ -64,8 +66,10 @@ fn kept_verdict(
     }
 }
 
-/// The verdict that a definition keeps, or a new one. The kept one is likely to be `near`.
-fn step<W: World>(
+/// The verdict that a definition keeps, or a new one. The kept one is likely to be `near`. The
+/// fragments that a new one reaches have their parts from the table, or from `parts` if they still
+/// hold.
+fn step<W: World, K: KeptParts>(
     alloc: Global,
     world: &mut W,
     kept: &[Slot],
@@ -73,15 +77,19 @@ fn step<W: World>(
     near: usize,
     definition: &Definition,
     touched: &Touched,
+    parts: &K,
+    reads: &mut ReadTable,
     meter: &mut Meter,
 ) -> Result<Slot, AllocError>
     requires order { IsInOrder kept.now }
     requires known { IsKnown (W.facts world.old) (definition.now ∷ []) (verdicts kept.now)
         touched.now }
     requires marks { AreMarks (W.facts world.old) touched.now kept.now marks.now }
+    requires holds { AllHold (W.facts world.old) reads.old }
     ensures facts { W.facts world.new ≡ W.facts world.old }
     ensures names { W.names world.new ≡ W.names world.old }
     ensures lent { W.lent world.new ≡ W.lent world.old }
+    ensures holds { AllHold (W.facts world.old) reads.new }
     ensures step { IfOk result (IsStep (W.facts world.old) kept.now definition.now) }
     ensures work { IsStepWork (W.facts world.old) (verdicts kept.now) definition.now
         meter.old meter.new }
@@ -89,7 +97,7 @@ fn step<W: World>(
     match kept_verdict(kept, marks, near, definition, touched) {
         Some(j) => Ok(Slot::At(j)),
         None => {
-            let verdict = examine(alloc, world, definition, meter)?;
+            let verdict = examine(alloc, world, definition, parts, reads, meter)?;
             Ok(Slot::Here(verdict))
         }
     }
@@ -104,22 +112,26 @@ fn near_after(step: &Slot, near: usize) -> usize {
 }
 
 /// A verdict for each definition, kept or new. Those that are kept stay where they are.
-fn plan_all<W: World>(
+fn plan_all<W: World, K: KeptParts>(
     alloc: Global,
     world: &mut W,
     kept: &[Slot],
     marks: &[bool],
     definitions: &[&Definition],
     touched: &Touched,
+    parts: &K,
+    reads: &mut ReadTable,
     meter: &mut Meter,
 ) -> Result<Vec<Slot>, AllocError>
     requires order { IsInOrder kept.now }
     requires known { IsKnown (W.facts world.old) (map (λ d. d.now) definitions.now)
         (verdicts kept.now) touched.now }
     requires marks { AreMarks (W.facts world.old) touched.now kept.now marks.now }
+    requires holds { AllHold (W.facts world.old) reads.old }
     ensures facts { W.facts world.new ≡ W.facts world.old }
     ensures names { W.names world.new ≡ W.names world.old }
     ensures lent { W.lent world.new ≡ W.lent world.old }
+    ensures holds { AllHold (W.facts world.old) reads.new }
     ensures steps { IfOk result (λ steps. AllZip (IsStep (W.facts world.old) kept.now)
         (map (λ d. d.now) definitions.now) steps.items) }
     ensures work { IsDueWork (W.facts world.old) (verdicts kept.now)
@@ -128,7 +140,9 @@ fn plan_all<W: World>(
     let mut steps = Vec::new(alloc);
     let mut near = 0;
     for definition in definitions {
-        let next = step(alloc, world, kept, marks, near, definition, touched, meter)?;
+        let next = step(
+            alloc, world, kept, marks, near, definition, touched, parts, reads, meter,
+        )?;
         near = near_after(&next, near);
         steps.push(next)?;
     }
@@ -137,22 +151,26 @@ fn plan_all<W: World>(
 
 /// A verdict for each definition of the document files, kept or new. Those that are kept stay where
 /// they are.
-pub fn plan<W: World>(
+pub fn plan<W: World, K: KeptParts>(
     alloc: Global,
     world: &mut W,
     kept: &[Slot],
     marks: &[bool],
     files: &Files,
     touched: &Touched,
+    parts: &K,
+    reads: &mut ReadTable,
     meter: &mut Meter,
 ) -> Result<Vec<Slot>, AllocError>
     requires order { IsInOrder kept.now }
     requires known { IsKnown (W.facts world.old) (definitions_of files.now.documents)
         (verdicts kept.now) touched.now }
     requires marks { AreMarks (W.facts world.old) touched.now kept.now marks.now }
+    requires holds { AllHold (W.facts world.old) reads.old }
     ensures facts { W.facts world.new ≡ W.facts world.old }
     ensures names { W.names world.new ≡ W.names world.old }
     ensures lent { W.lent world.new ≡ W.lent world.old }
+    ensures holds { AllHold (W.facts world.old) reads.new }
     ensures order { AreFilesPlaced files.now.documents
         → InFileOrder (definitions_of files.now.documents) }
     ensures steps { IfOk result (λ steps. AllZip (IsStep (W.facts world.old) kept.now)
@@ -168,6 +186,8 @@ pub fn plan<W: World>(
         marks,
         definitions.as_slice(),
         touched,
+        parts,
+        reads,
         meter,
     )?;
     Ok(steps)

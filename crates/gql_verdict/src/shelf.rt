@@ -19,8 +19,9 @@ use crate::slot::{Slot, fill, find, resolved};
 use crate::touched::Touched;
 use crate::verdict::Verdict;
 use gql_ast::{DefinitionId, Fault, Files};
-use gql_facts::{Key, World};
+use gql_facts::{FragmentFact, Key, World};
 use gql_readers::Index;
+use gql_reads::{KeptParts, Part, ReadTable};
 use std::alloc::{AllocError, Global};
 use std::marker::Model;
 
@@ -84,6 +85,19 @@ impl Model for Shelf {
     ghost invariant = { λ s. IsShelved s.slots.items s.index };
 }
 
+impl KeptParts for Shelf {
+    fn part(&self, fragment: &FragmentFact) -> Option<&Part> {
+        let id = DefinitionId {
+            file: fragment.file.copy(),
+            offset: fragment.fragment.get().place.offset,
+        };
+        match self.get(&id) {
+            Some(verdict) => verdict.part(),
+            None => None,
+        }
+    }
+}
+
 /// What makes a shelf current: for each definition a new verdict, or the index of one on the shelf;
 /// and who reads each key afterwards.
 #[derive(Drop)]
@@ -126,7 +140,8 @@ impl Shelf {
 
     /// Prepares to make the shelf current after an edit: examines each definition that has no
     /// verdict, or whose verdict no longer holds. The answer to each key that is read and that the
-    /// edit touches is asked once for all its readers. The shelf stays as it is.
+    /// edit touches is asked once for all its readers, and each fragment is walked at most once. The
+    /// shelf stays as it is.
     pub fn prepare<W: World>(
         &self,
         alloc: Global,
@@ -148,7 +163,18 @@ impl Shelf {
     {
         let kept = self.slots.as_slice();
         let marks = broken_marks(alloc, world, kept, &self.index, touched)?;
-        let steps = plan(alloc, world, kept, marks.as_slice(), files, touched, meter)?;
+        let mut reads = ReadTable::new(alloc);
+        let steps = plan(
+            alloc,
+            world,
+            kept,
+            marks.as_slice(),
+            files,
+            touched,
+            self,
+            &mut reads,
+            meter,
+        )?;
         let index = index_after(alloc, &self.index, kept, steps.as_slice())?;
         Ok(Prepared { steps, index })
     }

@@ -2,14 +2,17 @@
 ghost use Rattle.std.specs.Prelude.{◌≡◌, ◌↔◌, ◌++◌, ◌∷◌, [], IfOk, OnOk, OnErr, IsTrue};
 ghost use Rattle.gql_ast.specs.Trees.{id_of};
 ghost use Rattle.gql_facts.specs.Members.{Lists};
+ghost use Rattle.gql_facts.specs.Reads.{Reaches};
+ghost use Rattle.gql_reads.specs.Readings.{flat};
+ghost use Rattle.gql_reads.specs.Tables.{AllHold, Keeps};
 ghost use Rattle.gql_verdict.specs.Faults.{IsFaultIn};
 ghost use Rattle.gql_verdict.specs.Verdicts.{IsCertificate, Judges};
 
 use crate::meter::Meter;
 use gql_ast::{Definition, Fault, Same};
-use gql_facts::World;
+use gql_facts::{FragmentFact, World};
 use gql_merge::merge_faults;
-use gql_reads::{Observation, observe};
+use gql_reads::{KeptParts, Part, ReadTable, Reading, reads_of};
 use gql_rules::local_faults;
 use gql_vars::variable_faults;
 use std::alloc::{AllocError, Global};
@@ -20,7 +23,7 @@ use std::marker::Model;
 pub struct Verdict {
     def: Definition,
     faults: Vec<Fault>,
-    observations: Vec<Observation>,
+    reading: Reading,
 }
 
 impl Drop for Verdict {
@@ -28,7 +31,7 @@ impl Drop for Verdict {
         let Verdict {
             def: _,
             faults: _,
-            observations: _,
+            reading: _,
         } = self;
     }
 }
@@ -39,6 +42,7 @@ impl Model for Verdict {
     ghost use Rattle.gql_ast.specs.contracts.fault.Fault as fault;
     ghost use Rattle.gql_facts.specs.contracts.key.Key as key;
     ghost use Rattle.gql_facts.specs.contracts.fact.Fact as fact;
+    ghost use Rattle.gql_reads.specs.Readings.{flat};
     ghost use Rattle.gql_verdict.specs.Verdicts.{Judgement, IsCertificate};
 
     ghost Value = { Judgement };
@@ -54,10 +58,10 @@ impl Model for Verdict {
     ghost view = { λ v. record {
       def = v.def;
       faults = v.faults.items;
-      observations = v.observations.items;
+      observations = flat v.reading;
     } };
 
-    ghost invariant = { λ v. IsCertificate v.def v.faults.items v.observations.items };
+    ghost invariant = { λ v. IsCertificate v.def v.faults.items (flat v.reading) };
 }
 
 impl Verdict {
@@ -76,11 +80,17 @@ impl Verdict {
         self.faults.as_slice()
     }
 
-    /// The answers that the faults depend on, absences too.
-    pub fn observations(&self) -> &[Observation]
-        ensures { result.now ≡ self.now.observations }
+    /// The answers that the faults depend on, absences too: those to what the definition reads
+    /// alone, and for each fragment that it reaches those to what the fragment reads alone.
+    pub fn reading(&self) -> &Reading
+        ensures { flat result.now ≡ self.now.observations }
     {
-        self.observations.as_slice()
+        &self.reading
+    }
+
+    /// The part of the definition, if it is the fragment of its name.
+    pub(crate) fn part(&self) -> Option<&Part> {
+        self.reading.own.part.as_ref()
     }
 
     /// Whether it is the verdict on this definition, at this place.
@@ -91,48 +101,59 @@ impl Verdict {
     }
 }
 
-/// The faults of a definition by all rules on one definition.
+/// The faults of a definition by all rules on one definition, where these are the fragments that it
+/// reaches.
 fn faults_in<W: World>(
     alloc: Global,
     world: &mut W,
     definition: &Definition,
+    members: &[FragmentFact],
 ) -> Result<Vec<Fault>, AllocError>
+    requires { Lists members.now (Reaches (W.facts world.old) definition.now) }
     ensures facts { W.facts world.new ≡ W.facts world.old }
     ensures names { W.names world.new ≡ W.names world.old }
     ensures lent { W.lent world.new ≡ W.lent world.old }
     ensures faults { IfOk result (λ found.
         Lists found.items (IsFaultIn (W.facts world.old) definition.now)) }
 {
-    let mut faults = local_faults(alloc, world, definition)?;
-    let mut of_variables = variable_faults(alloc, world, definition)?;
+    let mut faults = local_faults(alloc, world, definition, members)?;
+    let mut of_variables = variable_faults(alloc, world, definition, members)?;
     faults.append(&mut of_variables)?;
     let mut of_merging = merge_faults(alloc, world, definition)?;
     faults.append(&mut of_merging)?;
     Ok(faults)
 }
 
-/// Examines a definition: records the answers to all keys that it reads, and finds its faults. If
-/// an allocation fails, nothing is added to the meter. The world answers as before either way.
-pub fn examine<W: World>(
+/// Examines a definition: records the answers to all keys that it reads, and finds its faults. What
+/// a fragment reads alone is recorded once, in a table. A part that is kept from before serves if it
+/// still holds. If an allocation fails, nothing is added to the meter. The world answers as before
+/// either way, and no entry of the table is lost.
+pub fn examine<W: World, K: KeptParts>(
     alloc: Global,
     world: &mut W,
     definition: &Definition,
+    kept: &K,
+    reads: &mut ReadTable,
     meter: &mut Meter,
 ) -> Result<Verdict, AllocError>
+    requires holds { AllHold (W.facts world.old) reads.old }
     ensures facts { W.facts world.new ≡ W.facts world.old }
     ensures names { W.names world.new ≡ W.names world.old }
     ensures lent { W.lent world.new ≡ W.lent world.old }
+    ensures holds { AllHold (W.facts world.old) reads.new }
+    ensures keeps { Keeps reads.old reads.new }
     ensures verdict { IfOk result (Judges (W.facts world.old) definition.now) }
     ensures ok { OnOk result (meter.new ≡ meter.old ++ id_of definition.now ∷ []) }
     ensures err { OnErr result (meter.new ≡ meter.old) }
 {
-    let observations = observe(alloc, world, definition)?;
-    let faults = faults_in(alloc, world, definition)?;
+    let reading = reads_of(alloc, world, kept, reads, definition)?;
+    let members = reading.members(alloc)?;
+    let faults = faults_in(alloc, world, definition, members.as_slice())?;
     let def = definition.copy()?;
     meter.add(definition.id())?;
     Ok(Verdict {
         def,
         faults,
-        observations,
+        reading,
     })
 }

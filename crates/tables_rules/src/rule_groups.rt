@@ -3,7 +3,7 @@
 use crate::facts::documents_in;
 use crate::faults::written_faults;
 use gql_ast::{Definition, Document, Fault, FileName};
-use gql_facts::{Fragments, Present, SchemaFacts};
+use gql_facts::{Fragments, Present, SchemaFacts, walk_reads};
 use gql_merge::merge_faults;
 use gql_report::in_order;
 use gql_rules::local_faults;
@@ -25,9 +25,11 @@ fn faults_by(
     rules: Rules,
     definition: &Definition,
 ) -> Option<Vec<Fault>> {
+    let walk = walk_reads(alloc, world, definition).ok()?;
+    let members = walk.members.as_slice();
     match rules {
-        Rules::Local => local_faults(alloc, world, definition).ok(),
-        Rules::Variables => variable_faults(alloc, world, definition).ok(),
+        Rules::Local => local_faults(alloc, world, definition, members).ok(),
+        Rules::Variables => variable_faults(alloc, world, definition, members).ok(),
         Rules::Merging => merge_faults(alloc, world, definition).ok(),
     }
 }

@@ -1,4 +1,4 @@
-use Rattle.std.proofs.Common.{◌≡◌, ◌∙◌}
+use Rattle.std.proofs.Common.{◌∙◌}
 use Rattle.gql_readers.proofs.Noting.{last_is}
 use Rattle.gql_readers.proofs.changes.ends_with.Goals as goal
 

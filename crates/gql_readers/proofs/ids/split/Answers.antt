@@ -1,4 +1,4 @@
-use Rattle.std.proofs.Common.{◌≡◌, ◌∙◌, ◌+◌, sym, rules}
+use Rattle.std.proofs.Common.{◌∙◌, ◌+◌, sym, rules}
 use Rattle.std.proofs.lemmas.Fn.{always_returns_same}
 use Rattle.std.specs.Prelude.{Ok, Err}
 use Rattle.gql_ast.specs.declared.definition.DefinitionId.{DefinitionId}

@@ -1,4 +1,4 @@
-use Rattle.std.proofs.Common.{◌≡◌, ◌++◌, ◌∙◌, ap}
+use Rattle.std.proofs.Common.{◌++◌, ◌∙◌, ap}
 use Rattle.gql_readers.proofs.Editing.{unchanged_made}
 use Rattle.gql_readers.proofs.index.add_made.Goals as goal
 

@@ -1,4 +1,4 @@
-use Rattle.std.proofs.Common.{◌≡◌, ◌∙◌, ap, sym, subst, false, List}
+use Rattle.std.proofs.Common.{◌∙◌, ap, sym, subst, false, List}
 use Rattle.gql_ast.specs.declared.definition.DefinitionId.{DefinitionId}
 use Rattle.gql_readers.specs.Changes.{Noted}
 use Rattle.gql_readers.specs.Orders.{AreInOrder}

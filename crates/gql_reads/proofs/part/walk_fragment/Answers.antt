@@ -8,5 +8,5 @@ pub invariant_of-result : goal.invariant_of-result
 invariant_of-result g c =
     let F = g.W.World.facts c.args.world.now in
     let r : IsRecord F (tree_of c.args.fragment.now) c.in_ok-seen.seen = search rules in
-    same_certified c.args.fragment.now c.in_ok-fragment.fragment c.in_ok-seen.seen c.in_ok-seen-2.seen c.in_ok-fragment.ensures c.in_ok-seen-2.ensures
+    same_certified c.args.fragment.now c.in_ok-held.held.fragment c.in_ok-seen.seen c.in_ok-held.held.seen (search rules) (search rules)
     (certified F c.args.fragment.now c.in_ok-seen.seen r)

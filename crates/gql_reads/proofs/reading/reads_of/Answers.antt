@@ -13,8 +13,8 @@ use Rattle.gql_reads.proofs.reading.reads_of.Goals as goal
 pub meet_all-requires-clause-named : goal.meet_all-requires-clause-named
 meet_all-requires-clause-named g c f h =
     let F = g.W.World.facts c.args.world.now in
-    let seen : c.get.result.now ≡ c.in_ok-own.own = c.get.ensures in
-    let named = told_named F (g.W.World.names c.args.world.now) (g.met.W.World.is_world c.args.world.now) c.in_ok-own.own f c.in_ok-own.ensures.own.hold
+    let seen : c.get.result.now ≡ c.in_ok-own.own.record = c.get.ensures in
+    let named = told_named F (g.W.World.names c.args.world.now) (g.met.W.World.is_world c.args.world.now) c.in_ok-own.own.record f c.in_ok-own.ensures.own.hold
     (subst (λ (os : List Observation). IsTold os f) seen (c.spreads.ensures.sound f h)) in
     subst (λ (G : Facts). IsNamed G f) (sym c.own_of.ensures.facts) named
 
@@ -25,7 +25,7 @@ pub walk-init : goal.walk-init
 walk-init g c =
     let F = g.W.World.facts c.args.world.now in
     let same : g.W.World.facts c.own_of.new.world ≡ F = c.own_of.ensures.facts in
-    let seen : c.get.result.now ≡ c.in_ok-own.own = c.get.ensures in
+    let seen : c.get.result.now ≡ c.in_ok-own.own.record = c.get.ensures in
     record {
       same_facts = c.meet_all.ensures.facts ∙ same;
       same_names = c.meet_all.ensures.names ∙ c.own_of.ensures.names;
@@ -33,9 +33,9 @@ walk-init g c =
       holds = subst (λ (G : Facts). AllHold G c.meet_all.new.table) same c.meet_all.ensures.holds;
       keeps = keeps_then c.args.table.now c.own_of.new.table c.meet_all.new.table c.own_of.ensures.keeps c.meet_all.ensures.keeps;
       met = subst (λ (G : Facts). AreMet G c.meet_all.new.table c.meet_all.new.met.names.keys c.meet_all.new.met.parts.items) same c.in_ok-meet_all.ensures.met;
-      walked = reaching_first F (g.W.World.names c.args.world.now) (g.met.W.World.is_world c.args.world.now) c.args.definition.now c.in_ok-own.own c.in_ok-own.ensures.own
+      walked = reaching_first F (g.W.World.names c.args.world.now) (g.met.W.World.is_world c.args.world.now) c.args.definition.now c.in_ok-own.own.record c.in_ok-own.ensures.own
           c.new-2.result.items c.meet_all.new.met.parts.items c.new-2.ensures.items
-          (meets_told c.spreads.result.now c.in_ok-own.own c.new-2.result.items c.meet_all.new.met.parts.items
+          (meets_told c.spreads.result.now c.in_ok-own.own.record c.new-2.result.items c.meet_all.new.met.parts.items
           (subst (λ (os : List Observation). Lists c.spreads.result.now (IsTold os)) seen c.spreads.ensures) c.in_ok-meet_all.ensures.meets);
     }
 
@@ -47,7 +47,7 @@ walk-smaller g c =
     let F = g.W.World.facts c.args.world.now in
     let met = c.walk.invariant.met in
     let lt : c.walk.at < length c.walk.met.parts.items = let n = met_count F c.walk.table c.walk.met.names.keys c.walk.met.parts.items met in omega (arith, n, c.walk-test.true, c.len.ensures.len) in
-    fewer_left F (g.W.World.names c.args.world.now) (g.met.W.World.is_world c.args.world.now) c.args.definition.now c.in_ok-own.own c.in_ok-own.ensures.own
+    fewer_left F (g.W.World.names c.args.world.now) (g.met.W.World.is_world c.args.world.now) c.args.definition.now c.in_ok-own.own.record c.in_ok-own.ensures.own
     c.walk.at c.walk.table c.walk.met.names.keys c.walk.met.parts.items c.walk.invariant.holds met c.len.ensures.unique lt
 
 pub walk-preserved : goal.walk-preserved
@@ -64,7 +64,7 @@ walk-preserved g c =
       holds = subst (λ (G : Facts). AllHold G c.visit.new.table) same c.visit.ensures.holds;
       keeps = keeps_then c.args.table.now c.walk.table c.visit.new.table c.walk.invariant.keeps c.visit.ensures.keeps;
       met = subst (λ (G : Facts). AreMet G c.visit.new.table c.visit.new.met.names.keys c.visit.new.met.parts.items) same c.in_ok-visit.ensures.met;
-      walked = reaching_more F (g.W.World.names c.args.world.now) (g.met.W.World.is_world c.args.world.now) c.args.definition.now c.in_ok-own.own c.in_ok-own.ensures.own
+      walked = reaching_more F (g.W.World.names c.args.world.now) (g.met.W.World.is_world c.args.world.now) c.args.definition.now c.in_ok-own.own.record c.in_ok-own.ensures.own
           c.walk.at ps c.visit.new.met.parts.items c.walk.invariant.walked lt (λ p m. (met.each p m).seen) c.in_ok-visit.ensures.meets;
     }
 
@@ -74,7 +74,7 @@ returns-clause-hold g c =
     let met = c.walk.invariant.met in
     let ps = c.walk.met.parts.items in
     let end : length ps ≤ c.walk.at = let n = met_count F c.walk.table c.walk.met.names.keys ps met in omega (arith, n, c.walk-test.false, c.len.ensures.len) in
-    all_hold F (g.W.World.names c.args.world.now) (g.met.W.World.is_world c.args.world.now) c.args.definition.now c.in_ok-own.own c.in_ok-own.ensures.own
+    all_hold F (g.W.World.names c.args.world.now) (g.met.W.World.is_world c.args.world.now) c.args.definition.now c.in_ok-own.own.record c.in_ok-own.ensures.own
     c.walk.at c.walk.table c.walk.met.names.keys ps c.walk.invariant.walked met end
 
 pub returns-clause-keys : goal.returns-clause-keys
@@ -83,7 +83,7 @@ returns-clause-keys g c =
     let met = c.walk.invariant.met in
     let ps = c.walk.met.parts.items in
     let end : length ps ≤ c.walk.at = let n = met_count F c.walk.table c.walk.met.names.keys ps met in omega (arith, n, c.walk-test.false, c.len.ensures.len) in
-    all_keys F (g.W.World.names c.args.world.now) (g.met.W.World.is_world c.args.world.now) c.args.definition.now c.in_ok-own.own c.in_ok-own.ensures.own
+    all_keys F (g.W.World.names c.args.world.now) (g.met.W.World.is_world c.args.world.now) c.args.definition.now c.in_ok-own.own.record c.in_ok-own.ensures.own
     c.walk.at c.walk.table c.walk.met.names.keys ps c.walk.invariant.walked met end
 
 pub returns-clause-members : goal.returns-clause-members
@@ -92,7 +92,7 @@ returns-clause-members g c =
     let met = c.walk.invariant.met in
     let ps = c.walk.met.parts.items in
     let end : length ps ≤ c.walk.at = let n = met_count F c.walk.table c.walk.met.names.keys ps met in omega (arith, n, c.walk-test.false, c.len.ensures.len) in
-    all_members F (g.W.World.names c.args.world.now) (g.met.W.World.is_world c.args.world.now) c.args.definition.now c.in_ok-own.own c.in_ok-own.ensures.own
+    all_members F (g.W.World.names c.args.world.now) (g.met.W.World.is_world c.args.world.now) c.args.definition.now c.in_ok-own.own.record c.in_ok-own.ensures.own
     c.walk.at c.walk.table c.walk.met.names.keys ps c.walk.invariant.walked met end
 
 pub returns-clause-shared : goal.returns-clause-shared
@@ -101,5 +101,5 @@ returns-clause-shared g c =
     let met = c.walk.invariant.met in
     let ps = c.walk.met.parts.items in
     let end : length ps ≤ c.walk.at = let n = met_count F c.walk.table c.walk.met.names.keys ps met in omega (arith, n, c.walk-test.false, c.len.ensures.len) in
-    all_shared F (g.W.World.names c.args.world.now) (g.met.W.World.is_world c.args.world.now) c.args.definition.now c.in_ok-own.own c.in_ok-own.ensures.own
+    all_shared F (g.W.World.names c.args.world.now) (g.met.W.World.is_world c.args.world.now) c.args.definition.now c.in_ok-own.own.record c.in_ok-own.ensures.own
     c.walk.at c.walk.table c.walk.met.names.keys ps c.walk.invariant.walked met end

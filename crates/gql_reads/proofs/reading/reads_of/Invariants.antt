@@ -13,7 +13,7 @@ invariant-walk g l =
       holds : AllHold F l.table;
       keeps : Keeps l.fn.table l.table;
       met : AreMet F l.table l.met.names.keys l.met.parts.items;
-      walked : IsReaching F l.fn.definition l.own l.at l.met.parts.items;
+      walked : IsReaching F l.fn.definition l.own.record l.at l.met.parts.items;
     }
 
 abbrev pub decreases-walk : goal.decreases-walk

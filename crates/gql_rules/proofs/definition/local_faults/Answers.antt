@@ -1,5 +1,5 @@
-use Rattle.std.proofs.Common.{◌++◌, ◌∙◌, ap, subst}
-use Rattle.gql_rules.specs.LocalFaults.{AddsCycle, tree_faults}
+use Rattle.std.proofs.Common.{◌++◌, ◌∙◌, ap}
+use Rattle.gql_rules.specs.LocalFaults.{tree_faults}
 use Rattle.gql_rules.proofs.Whole.{lists}
 use Rattle.gql_rules.proofs.definition.local_faults.Goals as goal
 
@@ -10,4 +10,4 @@ returns-clause-found g c =
     lists F d _ _
     (c.in_ok-check_parts.ensures.found ∙ ap (λ l. l ++ tree_faults F c.owner_of-owner.result d.tree) c.new-faults.ensures.items
     ∙ ap (λ o. tree_faults F o d.tree) c.owner_of-owner.ensures)
-    (subst (λ f. AddsCycle f d c.check_parts.new.faults.items c.check_cycle.new.faults.items) c.in_ok-check_parts.ensures.facts c.in_ok-check_cycle.ensures.found)
+    (c.in_ok-check_cycle.ensures F c.requires)

@@ -14,5 +14,5 @@ returns-in_ok-come c = λ coming going are.
     let named : c.id.result ≡ id_of v.def = c.id.ensures ∙ ap id_of c.def.ensures in
     came_one c.args.step.now v c.in-Here.is coming going after
     (λ new. subst (λ (i : DefinitionId). AreNotes after (coming ++ record { id = i; observations = v.observations } ∷ []) going) named
-    (subst (λ (os : List Observation). AreNotes after (coming ++ record { id = c.id.result; observations = os } ∷ []) going) c.observations.ensures
+    (subst (λ (os : List Observation). AreNotes after (coming ++ record { id = c.id.result; observations = os } ∷ []) going) c.reading.ensures
     (c.in_ok-come.ensures coming going are (subst (λ (i : DefinitionId). IsNew i coming) (sym named) new))))

@@ -8,12 +8,12 @@ pub invariant_of-result : goal.invariant_of-result
 invariant_of-result g c =
     let F = g.W.World.facts c.args.world.now in
     let d = c.args.definition.now in
-    certificate F d _ c.in_ok-observations.ensures.hold c.in_ok-observations.ensures.keys _ _ c.in_ok-def.ensures
-    (subst (λ f. Lists c.in_ok-faults.faults.items (IsFaultIn f d)) c.observe.ensures.facts c.in_ok-faults.ensures.faults)
+    certificate F d _ c.in_ok-reading.ensures.hold c.in_ok-reading.ensures.keys _ _ c.in_ok-def.ensures
+    (subst (λ f. Lists c.in_ok-faults.faults.items (IsFaultIn f d)) c.reads_of.ensures.facts c.in_ok-faults.ensures.faults)
 
 pub returns-clause-verdict : goal.returns-clause-verdict
 returns-clause-verdict g c =
     let F = g.W.World.facts c.args.world.now in
     let d = c.args.definition.now in
-    judged F d _ c.in_ok-observations.ensures.hold c.in_ok-observations.ensures.keys _ _ c.in_ok-def.ensures
-    (subst (λ f. Lists c.in_ok-faults.faults.items (IsFaultIn f d)) c.observe.ensures.facts c.in_ok-faults.ensures.faults)
+    judged F d _ c.in_ok-reading.ensures.hold c.in_ok-reading.ensures.keys _ _ c.in_ok-def.ensures
+    (subst (λ f. Lists c.in_ok-faults.faults.items (IsFaultIn f d)) c.reads_of.ensures.facts c.in_ok-faults.ensures.faults)

@@ -1,51 +1,39 @@
-use Rattle.std.proofs.Common.{◌≡◌, ◌++◌, ◌∷◌, [], ◌∙◌, ◌+◌, List, append-nil, ap, refl, sym, subst, take, Contains}
+use Rattle.std.proofs.Common.{◌≡◌, ◌∙◌, ◌<◌, ◌++◌, [], List, append-nil, get_or, length, rules, subst, sym, take}
 use Rattle.std.proofs.lemmas.List.{take_all}
-use Rattle.std.proofs.lemmas.List.Elements.{Contains-append_right}
-use Rattle.std.specs.List.{list_any}
-use Rattle.gql_facts.specs.Keys.{is_key}
-use Rattle.gql_facts.specs.ListMembers.{Contains-here}
-use Rattle.gql_facts.specs.declared.key.Key.{Key}
+use Rattle.gql_reads.specs.Readings.{seen_in}
+use Rattle.gql_reads.specs.Records.{Kept}
 use Rattle.gql_reads.specs.declared.observation.Observation.{Observation}
-use Rattle.gql_readers.specs.Changes.{Noted, noted_of}
-use Rattle.gql_readers.specs.Merged.{come_noted, noted_or}
-use Rattle.gql_readers.specs.Readers.{Reader, readers_of}
-use Rattle.gql_readers.proofs.Noting.{begun, fresh_of, list_more, list_stays, one_more, told_all, told_step}
+use Rattle.gql_readers.specs.Changes.{AreNotes}
+use Rattle.gql_readers.specs.Readers.{with_reader}
+use Rattle.gql_readers.proofs.Coming.{come_none, more_parts}
 use Rattle.gql_readers.proofs.changes.Changes.come.Goals as goal
 
-pub loop-observation-init : goal.loop-observation-init
-loop-observation-init c = record {
-  comes = λ coming going are new k. are.comes k ∙ sym (append-nil (readers_of k coming));
-  goes = λ k. refl;
-  told = λ coming going are. told_all c.args.self.now coming (record { id = c.args.id.now; observations = c.args.observations.now }) are.facts;
-}
+pub loop-part-init : goal.loop-part-init
+loop-part-init c = λ coming going are new.
+    let own = c.args.reading.now.own.record in
+    let seen : c.observations.result.now ≡ own = search rules in
+    let after = c.come_with.new.self in
+    subst (λ (zs : List Observation). AreNotes after (with_reader coming c.args.id.now zs) going) (seen ∙ sym (append-nil own))
+    (c.in_ok-come_with.ensures coming going [] new (come_none c.args.id.now coming c.args.self.now going are))
 
-pub loop-observation-preserved : goal.loop-observation-preserved
-loop-observation-preserved c =
-    let o = c.observation-item.result in
-    let i = c.loop-observation.observation-index in
-    let before = c.loop-observation.self in
-    let after = c.note_come.new.self in
+pub loop-part-preserved : goal.loop-part-preserved
+loop-part-preserved c = λ coming going are new.
+    let p = c.part-item.result in
+    let i = c.loop-part.part-index in
     let id = c.args.id.now in
-    let os = c.args.observations.now in
-    let r : Reader = record { id = id; observations = os } in
-    let n = come_noted (noted_or o.fact (noted_of before o.key)) o.fact id in
-    record {
-      comes = λ coming going are new. list_more (λ (m : Noted). m.comes) (λ x. refl) before after (λ k. readers_of k coming) id (fresh_of coming id new) os i o c.loop-observation-test.true c.observation-item.is
-          (c.loop-observation.invariant.comes coming going are new) n c.in_ok-note_come.ensures refl;
-      goes = λ k. list_stays (λ (m : Noted). m.goes) (λ x. refl) before after o.key o.fact n c.in_ok-note_come.ensures refl k ∙ c.loop-observation.invariant.goes k;
-      told = λ coming going are. told_step before after (coming ++ r ∷ []) r o id (Contains-append_right coming (r ∷ []) r (Contains-here r []))
-          (i, c.loop-observation-test.true, sym c.observation-item.is) c.in_ok-note_come.ensures (c.loop-observation.invariant.told coming going are);
-    }
+    let own = c.args.reading.now.own.record in
+    let ps = c.args.reading.now.parts.items in
+    let same : c.as_slice-part-items.result.now ≡ ps = c.as_slice-part-items.ensures.value in
+    let seen : c.observations-in-loop-part.result.now ≡ p.seen = search rules in
+    let after = c.come_with-in-loop-part.new.self in
+    subst (λ (zs : List Observation). AreNotes after (with_reader coming id zs) going) (more_parts own ps i p
+    (subst (λ (zs : List Kept). i < length zs) same c.loop-part-test.true) (subst (λ (zs : List Kept). p ≡ get_or zs i p) same c.part-item.is))
+    (subst (λ (zs : List Observation). AreNotes after (with_reader coming id ((own ++ seen_in (take i ps)) ++ zs)) going) seen
+    (c.in_ok-come_with-2.ensures coming going (own ++ seen_in (take i ps)) new (c.loop-part.invariant coming going are new)))
 
 pub returns : goal.returns
 returns c = λ coming going are new.
-    let id = c.args.id.now in
-    let os = c.args.observations.now in
-    let r : Reader = record { id = id; observations = os } in
-    record {
-      comes = λ k. c.loop-observation.invariant.comes coming going are new k
-          ∙ ap (λ (zs : List Observation). begun (readers_of k coming) id (list_any (λ (p : Observation). is_key p.key k) zs)) (take_all _ _ c.loop-observation-test.false)
-          ∙ sym (one_more k coming r);
-      goes = λ k. c.loop-observation.invariant.goes k ∙ are.goes k;
-      facts = c.loop-observation.invariant.told coming going are;
-    }
+    let own = c.args.reading.now.own.record in
+    let same : c.as_slice-part-items.result.now ≡ c.args.reading.now.parts.items = c.as_slice-part-items.ensures.value in
+    subst (λ (zs : List Kept). AreNotes c.loop-part.self (with_reader coming c.args.id.now (own ++ seen_in zs)) going) (subst (λ (zs : List Kept). take c.loop-part.part-index zs ≡ zs) same (take_all _ _ c.loop-part-test.false))
+    (c.loop-part.invariant coming going are new)

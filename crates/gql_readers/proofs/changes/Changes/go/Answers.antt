@@ -1,47 +1,39 @@
-use Rattle.std.proofs.Common.{◌≡◌, ◌++◌, ◌∷◌, [], ◌∙◌, ◌+◌, List, append-nil, ap, refl, sym, subst, take, Contains}
+use Rattle.std.proofs.Common.{◌≡◌, ◌∙◌, ◌<◌, ◌++◌, [], List, append-nil, get_or, length, rules, subst, sym, take}
 use Rattle.std.proofs.lemmas.List.{take_all}
-use Rattle.std.specs.List.{list_any}
-use Rattle.gql_facts.specs.Keys.{is_key}
-use Rattle.gql_facts.specs.declared.key.Key.{Key}
+use Rattle.gql_reads.specs.Readings.{seen_in}
+use Rattle.gql_reads.specs.Records.{Kept}
 use Rattle.gql_reads.specs.declared.observation.Observation.{Observation}
-use Rattle.gql_readers.specs.Changes.{Noted, noted_of}
-use Rattle.gql_readers.specs.Merged.{go_noted, noted_or}
-use Rattle.gql_readers.specs.Readers.{Reader, readers_of}
-use Rattle.gql_readers.proofs.Noting.{begun, fresh_of, list_more, list_stays, one_more, told_gone}
+use Rattle.gql_readers.specs.Changes.{AreNotes}
+use Rattle.gql_readers.specs.Readers.{with_reader}
+use Rattle.gql_readers.proofs.Coming.{go_none, more_parts}
 use Rattle.gql_readers.proofs.changes.Changes.go.Goals as goal
 
-pub loop-observation-init : goal.loop-observation-init
-loop-observation-init c = record {
-  goes = λ coming going are new k. are.goes k ∙ sym (append-nil (readers_of k going));
-  comes = λ k. refl;
-  told = λ coming going are. are.facts;
-}
+pub loop-part-init : goal.loop-part-init
+loop-part-init c = λ coming going are new.
+    let own = c.args.reading.now.own.record in
+    let seen : c.observations.result.now ≡ own = search rules in
+    let after = c.go_with.new.self in
+    subst (λ (zs : List Observation). AreNotes after coming (with_reader going c.args.id.now zs)) (seen ∙ sym (append-nil own))
+    (c.in_ok-go_with.ensures coming going [] new (go_none c.args.id.now going c.args.self.now coming are))
 
-pub loop-observation-preserved : goal.loop-observation-preserved
-loop-observation-preserved c =
-    let o = c.observation-item.result in
-    let i = c.loop-observation.observation-index in
-    let before = c.loop-observation.self in
-    let after = c.note_go.new.self in
+pub loop-part-preserved : goal.loop-part-preserved
+loop-part-preserved c = λ coming going are new.
+    let p = c.part-item.result in
+    let i = c.loop-part.part-index in
     let id = c.args.id.now in
-    let os = c.args.observations.now in
-    let n = go_noted (noted_or o.fact (noted_of before o.key)) id in
-    record {
-      goes = λ coming going are new. list_more (λ (m : Noted). m.goes) (λ x. refl) before after (λ k. readers_of k going) id (fresh_of going id new) os i o c.loop-observation-test.true c.observation-item.is
-          (c.loop-observation.invariant.goes coming going are new) n c.in_ok-note_go.ensures refl;
-      comes = λ k. list_stays (λ (m : Noted). m.comes) (λ x. refl) before after o.key o.fact n c.in_ok-note_go.ensures refl k ∙ c.loop-observation.invariant.comes k;
-      told = λ coming going are. told_gone before after coming o id c.in_ok-note_go.ensures (c.loop-observation.invariant.told coming going are);
-    }
+    let own = c.args.reading.now.own.record in
+    let ps = c.args.reading.now.parts.items in
+    let same : c.as_slice-part-items.result.now ≡ ps = c.as_slice-part-items.ensures.value in
+    let seen : c.observations-in-loop-part.result.now ≡ p.seen = search rules in
+    let after = c.go_with-in-loop-part.new.self in
+    subst (λ (zs : List Observation). AreNotes after coming (with_reader going id zs)) (more_parts own ps i p
+    (subst (λ (zs : List Kept). i < length zs) same c.loop-part-test.true) (subst (λ (zs : List Kept). p ≡ get_or zs i p) same c.part-item.is))
+    (subst (λ (zs : List Observation). AreNotes after coming (with_reader going id ((own ++ seen_in (take i ps)) ++ zs))) seen
+    (c.in_ok-go_with-2.ensures coming going (own ++ seen_in (take i ps)) new (c.loop-part.invariant coming going are new)))
 
 pub returns : goal.returns
 returns c = λ coming going are new.
-    let id = c.args.id.now in
-    let os = c.args.observations.now in
-    let r : Reader = record { id = id; observations = os } in
-    record {
-      comes = λ k. c.loop-observation.invariant.comes k ∙ are.comes k;
-      goes = λ k. c.loop-observation.invariant.goes coming going are new k
-          ∙ ap (λ (zs : List Observation). begun (readers_of k going) id (list_any (λ (p : Observation). is_key p.key k) zs)) (take_all _ _ c.loop-observation-test.false)
-          ∙ sym (one_more k going r);
-      facts = c.loop-observation.invariant.told coming going are;
-    }
+    let own = c.args.reading.now.own.record in
+    let same : c.as_slice-part-items.result.now ≡ c.args.reading.now.parts.items = c.as_slice-part-items.ensures.value in
+    subst (λ (zs : List Kept). AreNotes c.loop-part.self coming (with_reader going c.args.id.now (own ++ seen_in zs))) (subst (λ (zs : List Kept). take c.loop-part.part-index zs ≡ zs) same (take_all _ _ c.loop-part-test.false))
+    (c.loop-part.invariant coming going are new)

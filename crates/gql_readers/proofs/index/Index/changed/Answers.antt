@@ -1,4 +1,4 @@
-use Rattle.std.proofs.Common.{◌≡◌, ◌++◌, ◌∷◌, [], ◌∙◌, List, ap, refl, sym, subst, Contains}
+use Rattle.std.proofs.Common.{◌≡◌, ◌++◌, ◌∷◌, [], ◌∙◌, List, ap, sym, subst, Contains}
 use Rattle.std.specs.Ordering.{is_gt}
 use Rattle.std.specs.declared.cmp.Ordering.TheVariants.{Less}
 use Rattle.std.proofs.lemmas.List.Kept.{AllPairs-filter}
@@ -9,7 +9,7 @@ use Rattle.gql_readers.specs.Changes.{Noted, Notes}
 use Rattle.gql_readers.specs.Indexes.{AreEntriesInOrder, IsIndexOf, Reading}
 use Rattle.gql_readers.specs.Merged.{above, below, changed_key, here, index_after, key_of, made, readers_found}
 use Rattle.gql_readers.specs.OrderLaws.{key_exact, key_total}
-use Rattle.gql_readers.specs.Orders.{AreInOrder, key_order}
+use Rattle.gql_readers.specs.Orders.{key_order}
 use Rattle.gql_readers.proofs.Editing.{AreSorted, found_in_order, goes_among, goes_in_order, index_then, sorted_notes}
 use Rattle.gql_readers.proofs.Merging.{filter_from, here_above, here_from, pairs_head, pairs_tail}
 use Rattle.gql_readers.proofs.Splitting.{merged_more}

@@ -1,4 +1,4 @@
-use Rattle.std.proofs.Common.{◌≡◌, ◌∙◌, ap, sym, subst, List, Some, Contains}
+use Rattle.std.proofs.Common.{◌≡◌, ◌∙◌, ap, sym, subst, Contains}
 use Rattle.gql_readers.specs.Indexes.{Reading}
 use Rattle.gql_readers.specs.Merged.{here, key_of}
 use Rattle.gql_readers.specs.Orders.{key_order}

@@ -1,4 +1,4 @@
-use Rattle.std.proofs.Common.{◌≡◌, ◌∙◌, sym}
+use Rattle.std.proofs.Common.{◌∙◌, sym}
 use Rattle.gql_readers.proofs.Found.{readers_none, readers_some}
 use Rattle.gql_readers.proofs.index.Index.readers.Goals as goal
 
