@@ -81,3 +81,15 @@ pub record AreNeeded (z : Sets) (bodies : List ℕ) (pairs : List Item) : Type 0
   pub from : (x : Item) → Contains pairs x → IsSpreadPair z bodies x.left x.right
   pub has : (s t u : ℕ) → Contains bodies s → SpreadsTo (nodes_of z) s t
       → SpreadsTo (nodes_of z) s u → Contains pairs (item_of t u Merge) ⊎ IsWithin z s t u
+
+-- one of these bodies spreads t, in any number of steps, or is t
+abbrev pub IsSpreadBy : Sets → List ℕ → ℕ → Type 0
+IsSpreadBy z bodies t = (s : ℕ) × Contains bodies s × SpreadsTo (nodes_of z) s t
+
+-- the bodies that these spread were found
+pub record AreSpread (z : Sets) (bodies : List ℕ) (rows : List (List Bool)) (found : List ℕ)
+    : Type 0 where
+  pub closed : IsClosed z rows
+  pub begun : (s : ℕ) → Contains bodies s → WasMet rows s
+  pub met : (t : ℕ) → WasMet rows t → Contains found t
+  pub from : (t : ℕ) → Contains found t → IsSpreadBy z bodies t
