@@ -1,3 +1,4 @@
+pub mod BySets
 pub mod Calls
 pub mod Clean
 pub mod Conflicts

@@ -3,7 +3,7 @@
 use crate::facts::documents_in;
 use crate::faults::written_faults;
 use gql_ast::{Definition, Document, Fault, FileName};
-use gql_facts::{Fragments, Present, SchemaFacts};
+use gql_facts::{Fragments, Present, SchemaFacts, walk_reads};
 use gql_merge::merge_faults;
 use gql_report::in_order;
 use gql_rules::local_faults;
@@ -19,6 +19,16 @@ pub enum Rules {
     Merging,
 }
 
+/// The faults by the rules on the merging of fields.
+fn merging_faults(
+    alloc: Global,
+    world: &mut Present<'_>,
+    definition: &Definition,
+) -> Option<Vec<Fault>> {
+    let walk = walk_reads(alloc, world, definition).ok()?;
+    merge_faults(alloc, world, definition, walk.members.as_slice()).ok()
+}
+
 fn faults_by(
     alloc: Global,
     world: &mut Present<'_>,
@@ -28,7 +38,7 @@ fn faults_by(
     match rules {
         Rules::Local => local_faults(alloc, world, definition).ok(),
         Rules::Variables => variable_faults(alloc, world, definition).ok(),
-        Rules::Merging => merge_faults(alloc, world, definition).ok(),
+        Rules::Merging => merging_faults(alloc, world, definition),
     }
 }
 
