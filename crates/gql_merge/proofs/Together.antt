@@ -74,7 +74,7 @@ shape_back o m i j bad t = Contains-append_right (call_faults o m j i) (shape_fa
 
 -- ---- pairs that are reached
 
-two_reached : (z : Sets) (seeds : ℕ → ℕ → Type 0) {f g : ℕ} {m : Mode} → Reached (nodes_of z) seeds f g m → AreTwo (nodes_of z) f g
+pub two_reached : (z : Sets) (seeds : ℕ → ℕ → Type 0) {f g : ℕ} {m : Mode} → Reached (nodes_of z) seeds f g m → AreTwo (nodes_of z) f g
 two_reached z seeds (seed two s) = two
 two_reached z seeds (turn {f} {g} r) = two_turn (nodes_of z) (number_tests z) f g (two_reached z seeds r)
 two_reached z seeds (step r fine is a b two) = two

@@ -1,10 +1,13 @@
+pub mod BySets
 pub mod Calls
+pub mod Clean
 pub mod Conflicts
 pub mod FieldNodes
 pub mod FieldSets
 pub mod Flat
 pub mod Flattened
 pub mod Known
+pub mod Light
 pub mod MergeFaults
 pub mod MergedNodes
 pub mod Numbers

@@ -4,6 +4,7 @@ ghost use Rattle.gql_ast.specs.declared.definition.Definition.{Definition};
 ghost use Rattle.gql_ast.specs.declared.fault.Fault.{Fault};
 ghost use Rattle.gql_facts.specs.Reads.{Agree};
 ghost use Rattle.gql_facts.specs.Worlds.{Facts};
+ghost use Rattle.gql_merge.specs.BySets.{IsFaultBySets};
 ghost use Rattle.gql_merge.specs.MergeFaults.{IsMergeFault};
 
 /// The faults by the rules on the merging of fields depend only on what the definition reads: facts
@@ -11,4 +12,12 @@ ghost use Rattle.gql_merge.specs.MergeFaults.{IsMergeFault};
 pub fn same_merge_faults()
     ensures { (v u : Facts) → (d : Definition) → Agree v u d
         → (f : Fault) → IsMergeFault v d f ↔ IsMergeFault u d f }
+{}
+
+/// The faults by the rules on the merging of fields are those of the definition's selection sets:
+/// for each set, those from pairs with a field of the set itself, and those between two fragments
+/// that the set spreads, in any number of steps.
+pub fn merge_faults_are_of_sets()
+    ensures { (facts : Facts) → (d : Definition) → (f : Fault)
+        → IsMergeFault facts d f ↔ IsFaultBySets facts d f }
 {}

@@ -3,6 +3,8 @@
 //! A function that adds to a list may have added a part of it if an allocation fails.
 #![tactic(auto)]
 
+mod checking;
+mod clean;
 mod columns;
 mod faults;
 mod flat;
@@ -12,10 +14,13 @@ pub mod laws;
 mod merging;
 mod numbers;
 mod orders;
+mod own_fragment;
 mod parents;
+mod searching;
 mod shapes;
 mod texts;
 mod v05_different_calls;
 mod v06_different_shapes;
 
-pub use merging::merge_faults;
+pub use clean::CleanFragments;
+pub use merging::{merge_faults, merge_faults_with};

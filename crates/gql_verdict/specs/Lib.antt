@@ -18,3 +18,4 @@ pub mod V03LoneAnonymousOperation
 pub mod V11FragmentNameUniqueness
 pub mod V14FragmentsMustBeUsed
 pub mod Verdicts
+pub mod SharedWorks

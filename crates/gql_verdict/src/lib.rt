@@ -13,6 +13,7 @@ mod names;
 mod naming;
 mod plan;
 mod shelf;
+mod shared_work;
 mod slot;
 mod spreads;
 mod touched;
@@ -25,6 +26,7 @@ mod verdict;
 
 pub use meter::Meter;
 pub use names::name_faults;
+pub use shared_work::SharedWork;
 pub use shelf::{Prepared, Shelf};
 pub use touched::Touched;
 pub use verdict::{Verdict, examine};

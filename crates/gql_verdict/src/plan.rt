@@ -4,8 +4,8 @@ ghost use Rattle.std.specs.List.{AllZip};
 ghost use Rattle.gql_verdict.specs.Definitions.{all_definitions as definitions_of};
 ghost use Rattle.gql_verdict.specs.FileOrder.{AreFilesPlaced, InFileOrder};
 ghost use Rattle.gql_facts.specs.Worlds.{Facts};
-ghost use Rattle.gql_reads.specs.Tables.{AllHold};
 ghost use Rattle.gql_verdict.specs.Marks.{AreMarks};
+ghost use Rattle.gql_verdict.specs.SharedWorks.{Holds};
 ghost use Rattle.gql_verdict.specs.Shelves.{IsDue, IsDueWork, IsStepWork};
 ghost use Rattle.gql_verdict.specs.Plans.{IsStep};
 ghost use Rattle.gql_verdict.specs.Slots.{IsInOrder, verdicts};
@@ -14,12 +14,13 @@ ghost use Rattle.gql_verdict.specs.declared.slot.Slot.TheVariants.{At};
 
 use crate::definitions::all_definitions;
 use crate::meter::Meter;
+use crate::shared_work::SharedWork;
 use crate::slot::{Slot, find_near};
 use crate::touched::Touched;
 use crate::verdict::{Verdict, examine};
 use gql_ast::{Definition, Files};
 use gql_facts::World;
-use gql_reads::{KeptParts, ReadTable};
+use gql_reads::KeptParts;
 use std::alloc::{AllocError, Global};
 
 /// Whether a verdict is on this definition. One that the edit does not touch need not be compared.
@@ -67,8 +68,8 @@ fn kept_verdict(
 }
 
 /// The verdict that a definition keeps, or a new one. The kept one is likely to be `near`. The
-/// fragments that a new one reaches have their parts from the table, or from `parts` if they still
-/// hold.
+/// fragments that a new one reaches have their parts from what is shared, or from `parts` if they
+/// still hold.
 fn step<W: World, K: KeptParts>(
     alloc: Global,
     world: &mut W,
@@ -78,18 +79,18 @@ fn step<W: World, K: KeptParts>(
     definition: &Definition,
     touched: &Touched,
     parts: &K,
-    reads: &mut ReadTable,
+    shared: &mut SharedWork,
     meter: &mut Meter,
 ) -> Result<Slot, AllocError>
     requires order { IsInOrder kept.now }
     requires known { IsKnown (W.facts world.old) (definition.now ∷ []) (verdicts kept.now)
         touched.now }
     requires marks { AreMarks (W.facts world.old) touched.now kept.now marks.now }
-    requires holds { AllHold (W.facts world.old) reads.old }
+    requires holds { Holds (W.facts world.old) shared.old }
     ensures facts { W.facts world.new ≡ W.facts world.old }
     ensures names { W.names world.new ≡ W.names world.old }
     ensures lent { W.lent world.new ≡ W.lent world.old }
-    ensures holds { AllHold (W.facts world.old) reads.new }
+    ensures holds { Holds (W.facts world.old) shared.new }
     ensures step { IfOk result (IsStep (W.facts world.old) kept.now definition.now) }
     ensures work { IsStepWork (W.facts world.old) (verdicts kept.now) definition.now
         meter.old meter.new }
@@ -97,7 +98,7 @@ fn step<W: World, K: KeptParts>(
     match kept_verdict(kept, marks, near, definition, touched) {
         Some(j) => Ok(Slot::At(j)),
         None => {
-            let verdict = examine(alloc, world, definition, parts, reads, meter)?;
+            let verdict = examine(alloc, world, definition, parts, shared, meter)?;
             Ok(Slot::Here(verdict))
         }
     }
@@ -120,18 +121,18 @@ fn plan_all<W: World, K: KeptParts>(
     definitions: &[&Definition],
     touched: &Touched,
     parts: &K,
-    reads: &mut ReadTable,
+    shared: &mut SharedWork,
     meter: &mut Meter,
 ) -> Result<Vec<Slot>, AllocError>
     requires order { IsInOrder kept.now }
     requires known { IsKnown (W.facts world.old) (map (λ d. d.now) definitions.now)
         (verdicts kept.now) touched.now }
     requires marks { AreMarks (W.facts world.old) touched.now kept.now marks.now }
-    requires holds { AllHold (W.facts world.old) reads.old }
+    requires holds { Holds (W.facts world.old) shared.old }
     ensures facts { W.facts world.new ≡ W.facts world.old }
     ensures names { W.names world.new ≡ W.names world.old }
     ensures lent { W.lent world.new ≡ W.lent world.old }
-    ensures holds { AllHold (W.facts world.old) reads.new }
+    ensures holds { Holds (W.facts world.old) shared.new }
     ensures steps { IfOk result (λ steps. AllZip (IsStep (W.facts world.old) kept.now)
         (map (λ d. d.now) definitions.now) steps.items) }
     ensures work { IsDueWork (W.facts world.old) (verdicts kept.now)
@@ -141,7 +142,7 @@ fn plan_all<W: World, K: KeptParts>(
     let mut near = 0;
     for definition in definitions {
         let next = step(
-            alloc, world, kept, marks, near, definition, touched, parts, reads, meter,
+            alloc, world, kept, marks, near, definition, touched, parts, shared, meter,
         )?;
         near = near_after(&next, near);
         steps.push(next)?;
@@ -159,18 +160,18 @@ pub fn plan<W: World, K: KeptParts>(
     files: &Files,
     touched: &Touched,
     parts: &K,
-    reads: &mut ReadTable,
+    shared: &mut SharedWork,
     meter: &mut Meter,
 ) -> Result<Vec<Slot>, AllocError>
     requires order { IsInOrder kept.now }
     requires known { IsKnown (W.facts world.old) (definitions_of files.now.documents)
         (verdicts kept.now) touched.now }
     requires marks { AreMarks (W.facts world.old) touched.now kept.now marks.now }
-    requires holds { AllHold (W.facts world.old) reads.old }
+    requires holds { Holds (W.facts world.old) shared.old }
     ensures facts { W.facts world.new ≡ W.facts world.old }
     ensures names { W.names world.new ≡ W.names world.old }
     ensures lent { W.lent world.new ≡ W.lent world.old }
-    ensures holds { AllHold (W.facts world.old) reads.new }
+    ensures holds { Holds (W.facts world.old) shared.new }
     ensures order { AreFilesPlaced files.now.documents
         → InFileOrder (definitions_of files.now.documents) }
     ensures steps { IfOk result (λ steps. AllZip (IsStep (W.facts world.old) kept.now)
@@ -187,7 +188,7 @@ pub fn plan<W: World, K: KeptParts>(
         definitions.as_slice(),
         touched,
         parts,
-        reads,
+        shared,
         meter,
     )?;
     Ok(steps)

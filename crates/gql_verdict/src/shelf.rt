@@ -15,13 +15,14 @@ use crate::indexing::index_after;
 use crate::marks::broken_marks;
 use crate::meter::Meter;
 use crate::plan::plan;
+use crate::shared_work::SharedWork;
 use crate::slot::{Slot, fill, find, resolved};
 use crate::touched::Touched;
 use crate::verdict::Verdict;
 use gql_ast::{DefinitionId, Fault, Files};
 use gql_facts::{FragmentFact, Key, World};
 use gql_readers::Index;
-use gql_reads::{KeptParts, Part, ReadTable};
+use gql_reads::{KeptParts, Part};
 use std::alloc::{AllocError, Global};
 use std::marker::Model;
 
@@ -163,7 +164,7 @@ impl Shelf {
     {
         let kept = self.slots.as_slice();
         let marks = broken_marks(alloc, world, kept, &self.index, touched)?;
-        let mut reads = ReadTable::new(alloc);
+        let mut shared = SharedWork::new(alloc);
         let steps = plan(
             alloc,
             world,
@@ -172,7 +173,7 @@ impl Shelf {
             files,
             touched,
             self,
-            &mut reads,
+            &mut shared,
             meter,
         )?;
         let index = index_after(alloc, &self.index, kept, steps.as_slice())?;

@@ -4,15 +4,18 @@ ghost use Rattle.gql_ast.specs.Trees.{id_of};
 ghost use Rattle.gql_facts.specs.Members.{Lists};
 ghost use Rattle.gql_facts.specs.Reads.{Reaches};
 ghost use Rattle.gql_reads.specs.Readings.{flat};
-ghost use Rattle.gql_reads.specs.Tables.{AllHold, Keeps};
+ghost use Rattle.gql_merge.specs.Clean.{AreClean};
+ghost use Rattle.gql_reads.specs.Tables.{Keeps};
+ghost use Rattle.gql_verdict.specs.SharedWorks.{Holds};
 ghost use Rattle.gql_verdict.specs.Faults.{IsFaultIn};
 ghost use Rattle.gql_verdict.specs.Verdicts.{IsCertificate, Judges};
 
 use crate::meter::Meter;
+use crate::shared_work::SharedWork;
 use gql_ast::{Definition, Fault, Same};
 use gql_facts::{FragmentFact, World};
-use gql_merge::merge_faults;
-use gql_reads::{KeptParts, Part, ReadTable, Reading, reads_of};
+use gql_merge::{CleanFragments, merge_faults_with};
+use gql_reads::{KeptParts, Part, Reading, reads_of};
 use gql_rules::local_faults;
 use gql_vars::variable_faults;
 use std::alloc::{AllocError, Global};
@@ -108,47 +111,56 @@ fn faults_in<W: World>(
     world: &mut W,
     definition: &Definition,
     members: &[FragmentFact],
+    clean: &mut CleanFragments,
 ) -> Result<Vec<Fault>, AllocError>
-    requires { Lists members.now (Reaches (W.facts world.old) definition.now) }
+    requires clean { AreClean (W.facts world.old) clean.old }
+    requires members { Lists members.now (Reaches (W.facts world.old) definition.now) }
     ensures facts { W.facts world.new ≡ W.facts world.old }
     ensures names { W.names world.new ≡ W.names world.old }
     ensures lent { W.lent world.new ≡ W.lent world.old }
+    ensures clean { AreClean (W.facts world.old) clean.new }
     ensures faults { IfOk result (λ found.
         Lists found.items (IsFaultIn (W.facts world.old) definition.now)) }
 {
     let mut faults = local_faults(alloc, world, definition, members)?;
     let mut of_variables = variable_faults(alloc, world, definition, members)?;
     faults.append(&mut of_variables)?;
-    let mut of_merging = merge_faults(alloc, world, definition)?;
+    let mut of_merging = merge_faults_with(alloc, world, definition, members, clean)?;
     faults.append(&mut of_merging)?;
     Ok(faults)
 }
 
 /// Examines a definition: records the answers to all keys that it reads, and finds its faults. What
-/// a fragment reads alone is recorded once, in a table. A part that is kept from before serves if it
-/// still holds. If an allocation fails, nothing is added to the meter. The world answers as before
-/// either way, and no entry of the table is lost.
+/// a fragment reads alone is recorded once, in what the examinations share. A part that is kept from
+/// before serves if it still holds. If an allocation fails, nothing is added to the meter. The world answers as before
+/// either way, and no record is lost.
 pub fn examine<W: World, K: KeptParts>(
     alloc: Global,
     world: &mut W,
     definition: &Definition,
     kept: &K,
-    reads: &mut ReadTable,
+    shared: &mut SharedWork,
     meter: &mut Meter,
 ) -> Result<Verdict, AllocError>
-    requires holds { AllHold (W.facts world.old) reads.old }
+    requires holds { Holds (W.facts world.old) shared.old }
     ensures facts { W.facts world.new ≡ W.facts world.old }
     ensures names { W.names world.new ≡ W.names world.old }
     ensures lent { W.lent world.new ≡ W.lent world.old }
-    ensures holds { AllHold (W.facts world.old) reads.new }
-    ensures keeps { Keeps reads.old reads.new }
+    ensures holds { Holds (W.facts world.old) shared.new }
+    ensures keeps { Keeps shared.old.reads shared.new.reads }
     ensures verdict { IfOk result (Judges (W.facts world.old) definition.now) }
     ensures ok { OnOk result (meter.new ≡ meter.old ++ id_of definition.now ∷ []) }
     ensures err { OnErr result (meter.new ≡ meter.old) }
 {
-    let reading = reads_of(alloc, world, kept, reads, definition)?;
+    let reading = reads_of(alloc, world, kept, &mut shared.reads, definition)?;
     let members = reading.members(alloc)?;
-    let faults = faults_in(alloc, world, definition, members.as_slice())?;
+    let faults = faults_in(
+        alloc,
+        world,
+        definition,
+        members.as_slice(),
+        &mut shared.clean,
+    )?;
     let def = definition.copy()?;
     meter.add(definition.id())?;
     Ok(Verdict {

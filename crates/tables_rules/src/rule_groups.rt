@@ -30,7 +30,7 @@ fn faults_by(
     match rules {
         Rules::Local => local_faults(alloc, world, definition, members).ok(),
         Rules::Variables => variable_faults(alloc, world, definition, members).ok(),
-        Rules::Merging => merge_faults(alloc, world, definition).ok(),
+        Rules::Merging => merge_faults(alloc, world, definition, members).ok(),
     }
 }
 

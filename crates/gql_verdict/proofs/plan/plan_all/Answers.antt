@@ -1,7 +1,7 @@
 use Rattle.std.proofs.Common.{refl, sym, ◌∙◌, subst, List, [], ◌∷◌, map, ◌+◌, Bor}
 use Rattle.std.specs.List.{AllZip}
 use Rattle.gql_facts.specs.Worlds.{Facts}
-use Rattle.gql_reads.specs.Tables.{AllHold}
+use Rattle.gql_verdict.specs.SharedWorks.{Holds}
 use Rattle.gql_verdict.specs.Shelves.{IsStepWork}
 use Rattle.gql_verdict.specs.Marks.{AreMarks}
 use Rattle.gql_verdict.specs.Plans.{IsStep}
@@ -78,7 +78,7 @@ loop-definition-preserved g c =
       same_facts = c.step.ensures.facts ∙ same;
       same_names = c.step.ensures.names ∙ c.loop-definition.invariant.same_names;
       same_lent = c.step.ensures.lent ∙ c.loop-definition.invariant.same_lent;
-      holds = subst (λ (G : Facts). AllHold G c.step.new.reads) same c.step.ensures.holds;
+      holds = subst (λ (G : Facts). Holds G c.step.new.shared) same c.step.ensures.holds;
       steps = zip_more (IsStep F K) ds c.loop-definition.steps.items _ i d c.in_ok-next.next lt item c.loop-definition.invariant.steps
           (subst (λ (G : Facts). IsStep G K d c.in_ok-next.next) same c.in_ok-next.ensures.step) c.in_ok-push.ensures.items;
       work = work_more F (verdicts K) ds i d lt item _ c.loop-definition.meter _ c.loop-definition.invariant.work
