@@ -1,17 +1,14 @@
-//! A check of a folder as one page of HTML without scripts. It is written in time linear in the page
-//! and the lines of the files that it shows, and fails only where memory is out.
+//! A check of a folder as people read it in a browser: one page of HTML without scripts, and a summary
+//! in Markdown for a pull request. The time is linear in what is written and in the lines of the files
+//! that the page shows, and the only failure is memory.
 #![tactic(auto)]
 
 mod files;
 mod lines;
+mod markdown;
 mod page;
 mod parts;
 mod style;
 
+pub use markdown::as_markdown;
 pub use page::as_html;
-
-#[cfg(test)]
-mod tests {
-    #[test]
-    fn nothing() {}
-}

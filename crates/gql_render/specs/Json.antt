@@ -7,7 +7,6 @@ use Rattle.gql_ast.specs.declared.executable.OperationKind.TheVariants.{Query, M
 use Rattle.gql_findings.specs.Marks.{label_at}
 use Rattle.gql_findings.specs.Sources.{TextFile}
 use Rattle.gql_findings.specs.Words.{title_of}
-use Rattle.gql_findings.specs.declared.comparison.Comparison.{Comparison}
 use Rattle.gql_findings.specs.declared.finding.Affected.{Affected}
 use Rattle.gql_findings.specs.declared.finding.Finding.{Finding}
 use Rattle.gql_findings.specs.declared.finding.Findings.{Findings}

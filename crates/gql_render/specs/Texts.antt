@@ -46,9 +46,13 @@ unfoldable pub operation_text : OperationKind → Option (List ℕ) → List ℕ
 operation_text kind name =
     codes "\"kind\":" ++ quoted (kind_word kind) ++ codes ",\"name\":" ++ name_text name
 
+-- the members of a fragment
+unfoldable pub fragment_text : List ℕ → List ℕ
+fragment_text name = codes "\"kind\":\"fragment\",\"name\":" ++ quoted name
+
 -- the members of a definition
 unfoldable pub definition_text : Owner → List ℕ
-definition_text (Fragment name) = codes "\"kind\":\"fragment\",\"name\":" ++ quoted name
+definition_text (Fragment name) = fragment_text name
 definition_text (Operation kind name) = operation_text kind name
 
 -- the owner of a fault, or null
@@ -75,10 +79,15 @@ fault_text sources f = what_text f ++ where_text sources f
 unfoldable pub faults_text : List TextFile → List Finding → List ℕ
 faults_text sources = comma_list (fault_text sources)
 
+-- the first members of an operation that is not served
+unfoldable pub affected_start : List TextFile → Affected → List ℕ
+affected_start sources a = codes "{" ++ operation_text a.kind a.name ++ codes ","
+    ++ place_text sources a.spot
+
 -- an operation that is not served
 unfoldable pub affected_text : List TextFile → Affected → List ℕ
-affected_text sources a = codes "{" ++ operation_text a.kind a.name ++ codes ","
-    ++ place_text sources a.spot ++ codes ",\"through\":" ++ name_text a.through ++ codes "}"
+affected_text sources a =
+    affected_start sources a ++ codes ",\"through\":" ++ name_text a.through ++ codes "}"
 
 -- operations that are not served
 unfoldable pub operations_text : List TextFile → List Affected → List ℕ
@@ -99,11 +108,14 @@ abbrev pub truth_text : Bool → List ℕ
 truth_text true = codes "true"
 truth_text false = codes "false"
 
+-- whether the schema of the base has faults
+unfoldable pub base_text : Against → List ℕ
+base_text base = codes ",\"baseSchemaIsFaulty\":" ++ truth_text base.findings.now.schema_is_faulty
+
 -- what a change does to faults
 unfoldable pub fault_changes_text : Findings → Against → List ℕ
 fault_changes_text now base =
-    codes ",\"baseSchemaIsFaulty\":" ++ truth_text base.findings.now.schema_is_faulty
-    ++ codes ",\"brought\":" ++ fault_list_text now base.comparison.now.brought.items
+    codes ",\"brought\":" ++ fault_list_text now base.comparison.now.brought.items
     ++ codes ",\"mended\":" ++ fault_list_text base.findings.now base.comparison.now.mended.items
 
 -- what a change does to operations
@@ -115,10 +127,23 @@ operation_changes_text now base =
 -- what a change does; nothing without a base
 unfoldable pub changes_text : Findings → Option Against → List ℕ
 changes_text now None = []
-changes_text now (Some base) = fault_changes_text now base ++ operation_changes_text now base
+changes_text now (Some base) =
+    base_text base ++ fault_changes_text now base ++ operation_changes_text now base
 
--- all of a check but what a change does and the last bracket
+-- the first member of a check
+unfoldable pub head_text : Findings → List ℕ
+head_text now = codes "{\"schemaIsFaulty\":" ++ truth_text now.schema_is_faulty
+
+-- all faults, as a list
+unfoldable pub all_faults_text : Findings → List ℕ
+all_faults_text now = codes "[" ++ faults_text now.sources.items now.findings.items ++ codes "]"
+
+-- all operations that are not served, as a list
+unfoldable pub all_operations_text : Findings → List ℕ
+all_operations_text now =
+    codes "[" ++ operations_text now.sources.items now.affected.items ++ codes "]"
+
+-- all faults, and all operations that are not served
 unfoldable pub state_text : Findings → List ℕ
-state_text now = codes "{\"schemaIsFaulty\":" ++ truth_text now.schema_is_faulty
-    ++ codes ",\"faults\":[" ++ faults_text now.sources.items now.findings.items
-    ++ codes "],\"affected\":[" ++ operations_text now.sources.items now.affected.items ++ codes "]"
+state_text now = codes ",\"faults\":" ++ all_faults_text now ++ codes ",\"affected\":"
+    ++ all_operations_text now

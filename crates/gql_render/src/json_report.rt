@@ -95,16 +95,22 @@ fn write_operation(
     write_name(alloc, out, name)
 }
 
+/// Writes the kind and the name of a fragment, as members.
+fn write_fragment(alloc: Global, out: &mut Vec<u8>, name: &Text) -> Result<(), AllocError>
+    ensures { OnOk result (out.new.items ≡ out.old.items ++ spec.fragment_text name.now) }
+{
+    write_bytes(out, b"\"kind\":\"fragment\",\"name\":")?;
+    write_string(alloc, out, name.as_str())?;
+    Ok(())
+}
+
 /// Writes the kind and the name of a definition, as members.
 #[tactic(auto, unfolding(crate::specs::Texts::definition_text))]
 fn write_definition(alloc: Global, out: &mut Vec<u8>, owner: &Owner) -> Result<(), AllocError>
     ensures { OnOk result (out.new.items ≡ out.old.items ++ spec.definition_text owner.now) }
 {
     match owner {
-        Owner::Fragment(name) => {
-            write_bytes(out, b"\"kind\":\"fragment\",\"name\":")?;
-            write_string(alloc, out, name.as_str())
-        }
+        Owner::Fragment(name) => write_fragment(alloc, out, name),
         Owner::Operation { kind, name } => write_operation(alloc, out, *kind, name),
     }
 }
@@ -194,6 +200,23 @@ fn write_faults(
     Ok(())
 }
 
+/// Writes the first members of an operation that is not served.
+#[tactic(auto, unfolding(crate::specs::Texts::affected_start))]
+fn write_affected_start(
+    alloc: Global,
+    out: &mut Vec<u8>,
+    sources: &[Source],
+    affected: &Affected,
+) -> Result<(), AllocError>
+    ensures { OnOk result (out.new.items
+        ≡ out.old.items ++ spec.affected_start sources.now affected.now) }
+{
+    write_bytes(out, b"{")?;
+    write_operation(alloc, out, affected.kind, &affected.name)?;
+    write_bytes(out, b",")?;
+    write_place_members(alloc, out, sources, &affected.spot)
+}
+
 /// Writes an operation that is not served.
 #[tactic(auto, unfolding(crate::specs::Texts::affected_text))]
 fn write_affected(
@@ -202,12 +225,10 @@ fn write_affected(
     sources: &[Source],
     affected: &Affected,
 ) -> Result<(), AllocError>
-    ensures { OnOk result (out.new.items ≡ out.old.items ++ spec.affected_text sources.now affected.now) }
+    ensures { OnOk result (out.new.items
+        ≡ out.old.items ++ spec.affected_text sources.now affected.now) }
 {
-    write_bytes(out, b"{")?;
-    write_operation(alloc, out, affected.kind, &affected.name)?;
-    write_bytes(out, b",")?;
-    write_place_members(alloc, out, sources, &affected.spot)?;
+    write_affected_start(alloc, out, sources, affected)?;
     write_bytes(out, b",\"through\":")?;
     write_name(alloc, out, &affected.through)?;
     write_bytes(out, b"}")
@@ -278,26 +299,33 @@ fn truth(value: bool) -> &'static [u8]
     if value { b"true" } else { b"false" }
 }
 
+/// Writes whether the schema of the base has faults, as a member.
+fn write_base(out: &mut Vec<u8>, base: &Against<'_>) -> Result<(), AllocError>
+    ensures { OnOk result (out.new.items ≡ out.old.items ++ spec.base_text base.now) }
+{
+    write_bytes(out, b",\"baseSchemaIsFaulty\":")?;
+    write_bytes(out, truth(base.findings.schema_is_faulty))?;
+    Ok(())
+}
+
 /// Writes what a change does to faults, as members.
-#[tactic(auto, unfolding(crate::specs::Texts::fault_changes_text))]
 fn write_fault_changes(
     alloc: Global,
     out: &mut Vec<u8>,
     now: &Findings,
     base: &Against<'_>,
 ) -> Result<(), AllocError>
-    ensures { OnOk result (out.new.items ≡ out.old.items ++ spec.fault_changes_text now.now base.now) }
+    ensures { OnOk result (out.new.items
+        ≡ out.old.items ++ spec.fault_changes_text now.now base.now) }
 {
-    write_bytes(out, b",\"baseSchemaIsFaulty\":")?;
-    write_bytes(out, truth(base.findings.schema_is_faulty))?;
     write_bytes(out, b",\"brought\":")?;
     write_fault_list(alloc, out, now, base.comparison.brought.as_slice())?;
     write_bytes(out, b",\"mended\":")?;
-    write_fault_list(alloc, out, base.findings, base.comparison.mended.as_slice())
+    write_fault_list(alloc, out, base.findings, base.comparison.mended.as_slice())?;
+    Ok(())
 }
 
 /// Writes what a change does to operations, as members.
-#[tactic(auto, unfolding(crate::specs::Texts::operation_changes_text))]
 fn write_operation_changes(
     alloc: Global,
     out: &mut Vec<u8>,
@@ -310,7 +338,8 @@ fn write_operation_changes(
     write_bytes(out, b",\"broken\":")?;
     write_operation_list(alloc, out, now, base.comparison.broken.as_slice())?;
     write_bytes(out, b",\"healed\":")?;
-    write_operation_list(alloc, out, base.findings, base.comparison.healed.as_slice())
+    write_operation_list(alloc, out, base.findings, base.comparison.healed.as_slice())?;
+    Ok(())
 }
 
 /// Writes what a change does, as members; nothing without a base.
@@ -325,6 +354,7 @@ fn write_changes(
 {
     match base {
         Some(base) => {
+            write_base(out, base)?;
             write_fault_changes(alloc, out, now, base)?;
             write_operation_changes(alloc, out, now, base)
         }
@@ -332,28 +362,54 @@ fn write_changes(
     }
 }
 
-/// Writes all of a check but what a change does and the last bracket.
-#[tactic(auto, unfolding(crate::specs::Texts::state_text))]
+/// Writes the first member of a check.
+fn write_head(out: &mut Vec<u8>, now: &Findings) -> Result<(), AllocError>
+    ensures { OnOk result (out.new.items ≡ out.old.items ++ spec.head_text now.now) }
+{
+    write_bytes(out, b"{\"schemaIsFaulty\":")?;
+    write_bytes(out, truth(now.schema_is_faulty))?;
+    Ok(())
+}
+
+/// Writes all faults, as a list.
+#[tactic(auto, unfolding(crate::specs::Texts::all_faults_text))]
+fn write_all_faults(alloc: Global, out: &mut Vec<u8>, now: &Findings) -> Result<(), AllocError>
+    ensures { OnOk result (out.new.items ≡ out.old.items ++ spec.all_faults_text now.now) }
+{
+    let faults = every(alloc, now.findings.as_slice())?;
+    write_bytes(out, b"[")?;
+    write_faults(alloc, out, now.sources.as_slice(), faults.as_slice())?;
+    write_bytes(out, b"]")
+}
+
+/// Writes all operations that are not served, as a list.
+#[tactic(auto, unfolding(crate::specs::Texts::all_operations_text))]
+fn write_all_operations(alloc: Global, out: &mut Vec<u8>, now: &Findings) -> Result<(), AllocError>
+    ensures { OnOk result (out.new.items ≡ out.old.items ++ spec.all_operations_text now.now) }
+{
+    let operations = every(alloc, now.affected.as_slice())?;
+    write_bytes(out, b"[")?;
+    write_operations(alloc, out, now.sources.as_slice(), operations.as_slice())?;
+    write_bytes(out, b"]")
+}
+
+/// Writes all faults, and all operations that are not served, as members.
 fn write_state(alloc: Global, out: &mut Vec<u8>, now: &Findings) -> Result<(), AllocError>
     ensures { OnOk result (out.new.items ≡ out.old.items ++ spec.state_text now.now) }
 {
-    let sources = now.sources.as_slice();
-    let faults = every(alloc, now.findings.as_slice())?;
-    let affected = every(alloc, now.affected.as_slice())?;
-    write_bytes(out, b"{\"schemaIsFaulty\":")?;
-    write_bytes(out, truth(now.schema_is_faulty))?;
-    write_bytes(out, b",\"faults\":[")?;
-    write_faults(alloc, out, sources, faults.as_slice())?;
-    write_bytes(out, b"],\"affected\":[")?;
-    write_operations(alloc, out, sources, affected.as_slice())?;
-    write_bytes(out, b"]")
+    write_bytes(out, b",\"faults\":")?;
+    write_all_faults(alloc, out, now)?;
+    write_bytes(out, b",\"affected\":")?;
+    write_all_operations(alloc, out, now)?;
+    Ok(())
 }
 
 /// The check as one JSON object, in compact form.
 pub fn as_json(alloc: Global, check: &Check<'_>) -> Result<Vec<u8>, AllocError>
-    ensures { IfOk result (λ body. body.items ≡ compact_text (check_json check.now)) }
+    ensures { IfOk result (λ body. body.items ≡ compact_text (check_json check.entry.now)) }
 {
     let mut out = Vec::new(alloc);
+    write_head(&mut out, check.now)?;
     write_state(alloc, &mut out, check.now)?;
     write_changes(alloc, &mut out, check.now, &check.base)?;
     write_bytes(&mut out, b"}")?;

@@ -1,9 +1,21 @@
 //! Parts of a list, by their places in it.
 
-ghost use Rattle.std.specs.Prelude.{◌≡◌, map, IfOk};
-ghost use Rattle.gql_render.specs.Picking.{picked};
+ghost use Rattle.std.specs.Prelude.{◌≡◌, ◌++◌, map, IfOk, OnOk};
+ghost use Rattle.std.specs.Option.{option_copied};
+ghost use Rattle.gql_render.specs.Picking.{listed, picked};
 
 use std::alloc::{AllocError, Global};
+
+/// Adds an item, if there is one.
+fn push_some<'x, X>(found: &mut Vec<&'x X>, item: Option<&'x X>) -> Result<(), AllocError>
+    ensures { OnOk result (map (λ x. x.now) found.new.items
+        ≡ map (λ x. x.now) found.old.items ++ listed (option_copied item.entry)) }
+{
+    if let Some(item) = item {
+        found.push(item)?;
+    }
+    Ok(())
+}
 
 /// The items at these places. A place past the end has none.
 pub fn picked<'x, X>(
@@ -15,9 +27,7 @@ pub fn picked<'x, X>(
 {
     let mut found = Vec::new(alloc);
     for place in places {
-        if let Some(item) = items.get(*place) {
-            found.push(item)?;
-        }
+        push_some(&mut found, items.get(*place))?;
     }
     Ok(found)
 }

@@ -1,13 +1,15 @@
 //! A check as a summary for a pull request, in Markdown.
 
-use crate::check::{Check, broken, shown, shown_causes};
-use crate::escapes::write_markdown;
-use crate::phrases::{hidden, write_count, write_counts, write_operation, write_owner, write_spot};
-use crate::picking::picked;
-use crate::write::write_text;
 use gql_findings::{
     Affected, Cause, Finding, Findings, Rule, Source, Spot, label_at, sentence, title,
 };
+use gql_render::check::{Check, broken, shown, shown_causes};
+use gql_render::escapes::write_markdown;
+use gql_render::phrases::{
+    hidden, write_count, write_counts, write_operation, write_owner, write_spot,
+};
+use gql_render::picking::picked;
+use gql_render::write::write_text;
 use std::alloc::{AllocError, Global};
 
 /// Writes a text as code, which stays in its line.
