@@ -123,8 +123,3 @@ noted_or f (Some n) = n
 abbrev pub NotesAt : Notes → Notes → Key → Noted → Type 0
 NotesAt old new key n = (k : Key)
     → noted_of new k ≡ cond (is_at (key_order key) k) (Some n) (noted_of old k)
-
--- one key has no note, and all others have theirs
-abbrev pub IsTakenOut : Notes → Notes → Key → Type 0
-IsTakenOut old new key = (k : Key) → is_at (key_order key) k ≡ false
-    → noted_of new k ≡ noted_of old k

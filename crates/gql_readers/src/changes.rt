@@ -3,7 +3,7 @@ ghost use Rattle.std.specs.Prelude.{◌≡◌, ◌++◌, [], List, IfOk, OnOk};
 ghost use Rattle.gql_reads.specs.Readings.{flat};
 ghost use Rattle.gql_reads.specs.declared.observation.Observation.{Observation as AnObservation};
 ghost use Rattle.gql_readers.specs.Changes.{AreNotes, IsNew, noted_of};
-ghost use Rattle.gql_readers.specs.Merged.{IsTakenOut, NotesAt, come_noted, go_noted, is_last, noted_or, nothing_noted, with_last};
+ghost use Rattle.gql_readers.specs.Merged.{NotesAt, come_noted, go_noted, is_last, noted_or, nothing_noted, with_last};
 ghost use Rattle.gql_readers.specs.Readers.{Reader, with_reader};
 
 use crate::ids::{copy, is_same};
@@ -122,17 +122,6 @@ impl Changes {
         }
     }
 
-    /// Takes out what is noted of a key.
-    fn take(&mut self, alloc: Global, key: &OrderedKey, fact: &Fact) -> Result<Noted, AllocError>
-        ensures noted { IfOk result (λ n. n ≡ noted_or fact.now (noted_of self.old key.now)) }
-        ensures others { OnOk result (IsTakenOut self.old self.new key.now) }
-    {
-        match self.notes.remove(key) {
-            Some(noted) => Ok(noted),
-            None => Noted::new(alloc, fact),
-        }
-    }
-
     /// Puts in what is noted of a key.
     fn put(&mut self, key: OrderedKey, noted: Noted) -> Result<(), AllocError>
         ensures { OnOk result (NotesAt self.old self.new key noted) }
@@ -157,7 +146,11 @@ impl Changes {
         let key = OrderedKey {
             key: observation.key.copy()?,
         };
-        let mut noted = self.take(alloc, &key, &observation.fact)?;
+        if let Some(noted) = self.notes.get_mut(&key) {
+            noted.come(&observation.fact, id)?;
+            return Ok(());
+        }
+        let mut noted = Noted::new(alloc, &observation.fact)?;
         noted.come(&observation.fact, id)?;
         self.put(key, noted)?;
         Ok(())
@@ -176,7 +169,11 @@ impl Changes {
         let key = OrderedKey {
             key: observation.key.copy()?,
         };
-        let mut noted = self.take(alloc, &key, &observation.fact)?;
+        if let Some(noted) = self.notes.get_mut(&key) {
+            noted.go(id)?;
+            return Ok(());
+        }
+        let mut noted = Noted::new(alloc, &observation.fact)?;
         noted.go(id)?;
         self.put(key, noted)?;
         Ok(())
