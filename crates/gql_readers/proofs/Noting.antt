@@ -89,7 +89,7 @@ not_at j k e = elim (either (is_key j k)) [
 is_that : (j k : Key) → j ≡ k → is_key j k ≡ true
 is_that j k e = (is_key_decides j k).1 e
 
-any_more : (p : Observation → Bool) (os : List Observation) (o : Observation) → list_any p (os ++ o ∷ []) ≡ list_any p os || p o
+pub any_more : (p : Observation → Bool) (os : List Observation) (o : Observation) → list_any p (os ++ o ∷ []) ≡ list_any p os || p o
 any_more p os o = list_any-append p os (o ∷ []) ∙ ap (λ b. list_any p os || b) (or_none (p o)) where
   or_none : (b : Bool) → b || false ≡ b
   or_none true = refl
@@ -99,7 +99,7 @@ or_true : (b : Bool) → b || true ≡ true
 or_true true = refl
 or_true false = refl
 
-or_false : (b : Bool) → b || false ≡ b
+pub or_false : (b : Bool) → b || false ≡ b
 or_false true = refl
 or_false false = refl
 
