@@ -89,7 +89,7 @@ not_at j k e = elim (either (is_key j k)) [
 is_that : (j k : Key) → j ≡ k → is_key j k ≡ true
 is_that j k e = (is_key_decides j k).1 e
 
-any_more : (p : Observation → Bool) (os : List Observation) (o : Observation) → list_any p (os ++ o ∷ []) ≡ list_any p os || p o
+pub any_more : (p : Observation → Bool) (os : List Observation) (o : Observation) → list_any p (os ++ o ∷ []) ≡ list_any p os || p o
 any_more p os o = list_any-append p os (o ∷ []) ∙ ap (λ b. list_any p os || b) (or_none (p o)) where
   or_none : (b : Bool) → b || false ≡ b
   or_none true = refl
@@ -99,7 +99,7 @@ or_true : (b : Bool) → b || true ≡ true
 or_true true = refl
 or_true false = refl
 
-or_false : (b : Bool) → b || false ≡ b
+pub or_false : (b : Bool) → b || false ≡ b
 or_false true = refl
 or_false false = refl
 
@@ -207,10 +207,3 @@ told_gone old new readers o id at all k n e some = elim (either (is_at (key_orde
       (noted_told readers o.key o.fact (noted_of old o.key) (all o.key) (λ q. some (sym (ap (λ (z : Noted). z.comes) is) ∙ q))))
   | inr f ↦ all k n (sym (at k ∙ ap (λ (b : Bool). cond b (Some (go_noted (noted_or o.fact (noted_of old o.key)) id)) (noted_of old k)) f) ∙ e) some
 ]
-
--- what is taken out, and put in
-pub put_back : (old mid new : Notes) (key : Key) (n : Noted) → ((k : Key) → is_at (key_order key) k ≡ false → noted_of mid k ≡ noted_of old k) → NotesAt mid new key n → NotesAt old new key n
-put_back old mid new key n others at k = at k ∙ by_test (is_at (key_order key) k) refl where
-  by_test : (b : Bool) → is_at (key_order key) k ≡ b → cond b (Some n) (noted_of mid k) ≡ cond b (Some n) (noted_of old k)
-  by_test true e = refl
-  by_test false e = others k e

@@ -1,9 +1,9 @@
 //! Changes of the index: readers that come, and readers that go.
-ghost use Rattle.std.specs.Prelude.{◌≡◌, ◌++◌, [], List, IfOk, OnOk};
+ghost use Rattle.std.specs.Prelude.{◌≡◌, ◌++◌, ◌∷◌, [], List, IfOk, OnOk};
 ghost use Rattle.gql_reads.specs.Readings.{flat};
 ghost use Rattle.gql_reads.specs.declared.observation.Observation.{Observation as AnObservation};
 ghost use Rattle.gql_readers.specs.Changes.{AreNotes, IsNew, noted_of};
-ghost use Rattle.gql_readers.specs.Merged.{IsTakenOut, NotesAt, come_noted, go_noted, is_last, noted_or, nothing_noted, with_last};
+ghost use Rattle.gql_readers.specs.Merged.{AreComing, AreGoing, NotesAt, come_noted, go_noted, is_last, noted_or, nothing_noted, with_last};
 ghost use Rattle.gql_readers.specs.Readers.{Reader, with_reader};
 
 use crate::ids::{copy, is_same};
@@ -11,6 +11,7 @@ use crate::orders::OrderedKey;
 use gql_ast::DefinitionId;
 use gql_facts::{Fact, Key};
 use gql_reads::{Observation, Reading};
+use indexmap::IndexSet;
 use std::alloc::{AllocError, Global};
 use std::collections::BTreeMap;
 use std::marker::Model;
@@ -122,17 +123,6 @@ impl Changes {
         }
     }
 
-    /// Takes out what is noted of a key.
-    fn take(&mut self, alloc: Global, key: &OrderedKey, fact: &Fact) -> Result<Noted, AllocError>
-        ensures noted { IfOk result (λ n. n ≡ noted_or fact.now (noted_of self.old key.now)) }
-        ensures others { OnOk result (IsTakenOut self.old self.new key.now) }
-    {
-        match self.notes.remove(key) {
-            Some(noted) => Ok(noted),
-            None => Noted::new(alloc, fact),
-        }
-    }
-
     /// Puts in what is noted of a key.
     fn put(&mut self, key: OrderedKey, noted: Noted) -> Result<(), AllocError>
         ensures { OnOk result (NotesAt self.old self.new key noted) }
@@ -157,7 +147,11 @@ impl Changes {
         let key = OrderedKey {
             key: observation.key.copy()?,
         };
-        let mut noted = self.take(alloc, &key, &observation.fact)?;
+        if let Some(noted) = self.notes.get_mut(&key) {
+            noted.come(&observation.fact, id)?;
+            return Ok(());
+        }
+        let mut noted = Noted::new(alloc, &observation.fact)?;
         noted.come(&observation.fact, id)?;
         self.put(key, noted)?;
         Ok(())
@@ -176,9 +170,34 @@ impl Changes {
         let key = OrderedKey {
             key: observation.key.copy()?,
         };
-        let mut noted = self.take(alloc, &key, &observation.fact)?;
+        if let Some(noted) = self.notes.get_mut(&key) {
+            noted.go(id)?;
+            return Ok(());
+        }
+        let mut noted = Noted::new(alloc, &observation.fact)?;
         noted.go(id)?;
         self.put(key, noted)?;
+        Ok(())
+    }
+
+    /// Notes that the definition that came last has observed this, too, unless it was noted of the
+    /// key already.
+    fn come_once(
+        &mut self,
+        alloc: Global,
+        id: &DefinitionId,
+        observation: &Observation,
+        seen: &mut IndexSet<Key>,
+    ) -> Result<(), AllocError>
+        ensures { OnOk result ((coming going : List Reader) (before : List AnObservation)
+            → IsNew id.now coming → AreComing self.old seen.old.keys coming going id.now before
+            → AreComing self.new seen.new.keys coming going id.now (before ++ observation.now ∷ [])) }
+    {
+        if seen.contains(&observation.key) {
+            return Ok(());
+        }
+        self.note_come(alloc, id, observation)?;
+        seen.insert(observation.key.copy()?)?;
         Ok(())
     }
 
@@ -188,14 +207,14 @@ impl Changes {
         alloc: Global,
         id: &DefinitionId,
         observations: &[Observation],
+        seen: &mut IndexSet<Key>,
     ) -> Result<(), AllocError>
         ensures { OnOk result ((coming going : List Reader) (before : List AnObservation)
-            → IsNew id.now coming
-            → AreNotes self.old (with_reader coming id.now before) going
-            → AreNotes self.new (with_reader coming id.now (before ++ observations.now)) going) }
+            → IsNew id.now coming → AreComing self.old seen.old.keys coming going id.now before
+            → AreComing self.new seen.new.keys coming going id.now (before ++ observations.now)) }
     {
         for observation in observations {
-            self.note_come(alloc, id, observation)?;
+            self.come_once(alloc, id, observation, seen)?;
         }
         Ok(())
     }
@@ -211,10 +230,37 @@ impl Changes {
             → IsNew id.now coming
             → AreNotes self.new (with_reader coming id.now (flat reading.now)) going) }
     {
-        self.come_with(alloc, id, reading.own.record.get().observations())?;
+        let mut seen = IndexSet::new(alloc);
+        self.come_with(
+            alloc,
+            id,
+            reading.own.record.get().observations(),
+            &mut seen,
+        )?;
         for part in reading.parts.as_slice() {
-            self.come_with(alloc, id, part.seen().get().observations())?;
+            self.come_with(alloc, id, part.seen().get().observations(), &mut seen)?;
         }
+        Ok(())
+    }
+
+    /// Notes that the definition that went last had observed this, too, unless it was noted of the
+    /// key already.
+    fn go_once(
+        &mut self,
+        alloc: Global,
+        id: &DefinitionId,
+        observation: &Observation,
+        seen: &mut IndexSet<Key>,
+    ) -> Result<(), AllocError>
+        ensures { OnOk result ((coming going : List Reader) (before : List AnObservation)
+            → IsNew id.now going → AreGoing self.old seen.old.keys coming going id.now before
+            → AreGoing self.new seen.new.keys coming going id.now (before ++ observation.now ∷ [])) }
+    {
+        if seen.contains(&observation.key) {
+            return Ok(());
+        }
+        self.note_go(alloc, id, observation)?;
+        seen.insert(observation.key.copy()?)?;
         Ok(())
     }
 
@@ -224,14 +270,14 @@ impl Changes {
         alloc: Global,
         id: &DefinitionId,
         observations: &[Observation],
+        seen: &mut IndexSet<Key>,
     ) -> Result<(), AllocError>
         ensures { OnOk result ((coming going : List Reader) (before : List AnObservation)
-            → IsNew id.now going
-            → AreNotes self.old coming (with_reader going id.now before)
-            → AreNotes self.new coming (with_reader going id.now (before ++ observations.now))) }
+            → IsNew id.now going → AreGoing self.old seen.old.keys coming going id.now before
+            → AreGoing self.new seen.new.keys coming going id.now (before ++ observations.now)) }
     {
         for observation in observations {
-            self.note_go(alloc, id, observation)?;
+            self.go_once(alloc, id, observation, seen)?;
         }
         Ok(())
     }
@@ -247,9 +293,15 @@ impl Changes {
             → IsNew id.now going
             → AreNotes self.new coming (with_reader going id.now (flat reading.now))) }
     {
-        self.go_with(alloc, id, reading.own.record.get().observations())?;
+        let mut seen = IndexSet::new(alloc);
+        self.go_with(
+            alloc,
+            id,
+            reading.own.record.get().observations(),
+            &mut seen,
+        )?;
         for part in reading.parts.as_slice() {
-            self.go_with(alloc, id, part.seen().get().observations())?;
+            self.go_with(alloc, id, part.seen().get().observations(), &mut seen)?;
         }
         Ok(())
     }

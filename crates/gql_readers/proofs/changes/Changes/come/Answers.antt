@@ -1,20 +1,23 @@
 use Rattle.std.proofs.Common.{◌≡◌, ◌∙◌, ◌<◌, ◌++◌, [], List, append-nil, get_or, length, rules, subst, sym, take}
 use Rattle.std.proofs.lemmas.List.{take_all}
+use Rattle.gql_facts.specs.declared.key.Key.{Key}
 use Rattle.gql_reads.specs.Readings.{seen_in}
 use Rattle.gql_reads.specs.Records.{Kept}
 use Rattle.gql_reads.specs.declared.observation.Observation.{Observation}
-use Rattle.gql_readers.specs.Changes.{AreNotes}
-use Rattle.gql_readers.specs.Readers.{with_reader}
-use Rattle.gql_readers.proofs.Coming.{come_none, more_parts}
+use Rattle.gql_readers.specs.Merged.{AreComing, AreSeen}
+use Rattle.gql_readers.proofs.Coming.{come_none, more_parts, seen_none}
 use Rattle.gql_readers.proofs.changes.Changes.come.Goals as goal
 
 pub loop-part-init : goal.loop-part-init
 loop-part-init c = λ coming going are new.
     let own = c.args.reading.now.own.record in
+    let id = c.args.id.now in
     let seen : c.observations.result.now ≡ own = search rules in
-    let after = c.come_with.new.self in
-    subst (λ (zs : List Observation). AreNotes after (with_reader coming c.args.id.now zs) going) (seen ∙ sym (append-nil own))
-    (c.in_ok-come_with.ensures coming going [] new (come_none c.args.id.now coming c.args.self.now going are))
+    let none : c.new-seen.result.keys ≡ [] = search rules in
+    let begun : AreComing c.args.self.now c.new-seen.result.keys coming going id [] =
+    (come_none id coming c.args.self.now going are, subst (λ (ks : List Key). AreSeen ks []) (sym none) (seen_none [])) in
+    subst (λ (zs : List Observation). AreComing c.come_with.new.self c.come_with.new.seen.keys coming going id zs) (seen ∙ sym (append-nil own))
+    (c.in_ok-come_with.ensures coming going [] new begun)
 
 pub loop-part-preserved : goal.loop-part-preserved
 loop-part-preserved c = λ coming going are new.
@@ -25,15 +28,15 @@ loop-part-preserved c = λ coming going are new.
     let ps = c.args.reading.now.parts.items in
     let same : c.as_slice-part-items.result.now ≡ ps = c.as_slice-part-items.ensures.value in
     let seen : c.observations-in-loop-part.result.now ≡ p.seen = search rules in
-    let after = c.come_with-in-loop-part.new.self in
-    subst (λ (zs : List Observation). AreNotes after (with_reader coming id zs) going) (more_parts own ps i p
+    let after = c.come_with-in-loop-part.new in
+    subst (λ (zs : List Observation). AreComing after.self after.seen.keys coming going id zs) (more_parts own ps i p
     (subst (λ (zs : List Kept). i < length zs) same c.loop-part-test.true) (subst (λ (zs : List Kept). p ≡ get_or zs i p) same c.part-item.is))
-    (subst (λ (zs : List Observation). AreNotes after (with_reader coming id ((own ++ seen_in (take i ps)) ++ zs)) going) seen
+    (subst (λ (zs : List Observation). AreComing after.self after.seen.keys coming going id ((own ++ seen_in (take i ps)) ++ zs)) seen
     (c.in_ok-come_with-2.ensures coming going (own ++ seen_in (take i ps)) new (c.loop-part.invariant coming going are new)))
 
 pub returns : goal.returns
 returns c = λ coming going are new.
     let own = c.args.reading.now.own.record in
     let same : c.as_slice-part-items.result.now ≡ c.args.reading.now.parts.items = c.as_slice-part-items.ensures.value in
-    subst (λ (zs : List Kept). AreNotes c.loop-part.self (with_reader coming c.args.id.now (own ++ seen_in zs)) going) (subst (λ (zs : List Kept). take c.loop-part.part-index zs ≡ zs) same (take_all _ _ c.loop-part-test.false))
-    (c.loop-part.invariant coming going are new)
+    (subst (λ (zs : List Kept). AreComing c.loop-part.self c.loop-part.seen.keys coming going c.args.id.now (own ++ seen_in zs)) (subst (λ (zs : List Kept). take c.loop-part.part-index zs ≡ zs) same (take_all _ _ c.loop-part-test.false))
+    (c.loop-part.invariant coming going are new)).0

@@ -1,18 +1,22 @@
-use Rattle.std.proofs.Common.{◌≡◌, ◌∙◌, ap, subst}
+use Rattle.std.specs.Prelude.{is_some}
+use Rattle.std.proofs.Common.{◌≡◌, ◌∙◌, Some, ap, rules, subst, sym}
 use Rattle.gql_facts.specs.declared.key.Key.{Key}
-use Rattle.gql_readers.specs.Changes.{Noted, noted_of}
+use Rattle.gql_readers.specs.Changes.{Noted, Notes, noted_of}
 use Rattle.gql_readers.specs.Merged.{NotesAt, come_noted, noted_or}
-use Rattle.gql_readers.proofs.Noting.{put_back}
 use Rattle.gql_readers.proofs.changes.Changes.note_come.Goals as goal
 
-pub returns : goal.returns
-returns c =
+pub returns-in-Some : goal.returns-in-Some
+returns-in-Some c =
+    let w = c.come.new.self in
     let old = c.args.self.now in
-    let new = c.put.new.self in
+    let new = (c.get_mut.follows.lender w).entries in
     let fact = c.args.observation.now.fact in
-    let made = λ (n : Noted). come_noted n c.args.observation.now.fact c.args.id.now in
-    let is : c.come.new.self ≡ made (noted_or fact (noted_of old c.args.observation.now.key)) =
-    c.in_ok-come.ensures ∙ ap made (c.in_ok-noted.ensures.noted ∙ ap (λ k. noted_or fact (noted_of old k)) c.in_ok-copy.ensures) in
-    subst (λ (k : Key). NotesAt old new k (made (noted_or fact (noted_of old c.args.observation.now.key)))) c.in_ok-copy.ensures
+    let through = c.get_mut.follows.holds w in
+    let inside : noted_of c.self.inside.notes.entries c.in_ok-copy.field-0 ≡ Some c.in-Some.noted.now = search rules in
+    let here : noted_of old c.in_ok-copy.field-0 ≡ Some c.in-Some.noted.now = search rules in
+    let there : noted_of old c.args.observation.now.key ≡ Some c.in-Some.noted.now = subst (λ (j : Key). noted_of old j ≡ Some c.in-Some.noted.now) c.in_ok-copy.ensures here in
+    let is : w ≡ come_noted (noted_or fact (noted_of old c.args.observation.now.key)) fact c.args.id.now =
+    c.in_ok-come.ensures ∙ ap (λ o. come_noted (noted_or fact o) fact c.args.id.now) (sym there) in
+    subst (λ (j : Key). NotesAt old new j (come_noted (noted_or fact (noted_of old c.args.observation.now.key)) fact c.args.id.now)) c.in_ok-copy.ensures
     (subst (λ (n : Noted). NotesAt old new c.in_ok-copy.field-0 n) is
-    (put_back old c.take.new.self new c.in_ok-copy.field-0 c.come.new.self c.in_ok-noted.ensures.others c.in_ok-put.ensures))
+    (subst (λ (ns : Notes). NotesAt ns new c.in_ok-copy.field-0 w) c.self.view_is (through.3 (ap is_some inside)).0))
