@@ -16,7 +16,8 @@ use std::alloc::{AllocError, Global};
 
 /// How many of these sets are not known to be clean, if only the last may be.
 fn first_sets(sets: &[FlatSet<'_>], is_last_clean: bool) -> usize
-    ensures { ((result ≡ length sets.now) ⊎ ((is_last_clean ≡ true) × (result + 1 ≡ length sets.now))) }
+    ensures { (result ≡ length sets.now)
+        ⊎ ((is_last_clean ≡ true) × (result + 1 ≡ length sets.now)) }
 {
     if is_last_clean && !sets.is_empty() {
         sets.len() - 1
@@ -46,10 +47,10 @@ pub fn merge_faults<W: World>(
     Ok(faults)
 }
 
-/// The faults of a definition by V05 and V06, as `merge_faults` finds them, where some fragments are
-/// known to be clean. What is found of this definition and of the fragments that it reaches is
-/// added to these. No search compares two fragments that a clean one spreads both. Whether it
-/// succeeds or an allocation fails, all that were known to be clean still are.
+/// The faults of a definition by V05 and V06, as `merge_faults` finds them, if some fragments are
+/// known to be clean. If nothing clashes in the definition, it is added to these, and so are the
+/// fragments that it spreads. No search compares two fragments that a clean one spreads both.
+/// Whether it succeeds or an allocation fails, all that were known to be clean still are.
 pub fn merge_faults_with<W: World>(
     alloc: Global,
     world: &mut W,
