@@ -1,6 +1,7 @@
 //! The rules on the merging of fields (GraphQL specification, 5.3.2), over what a world answers.
 //!
-//! A function that adds to a list may have added a part of it if an allocation fails.
+//! A function that adds to a list may have added a part of it if an allocation fails. Several
+//! definitions are best checked with one `CleanFragments`: then each fragment is searched once.
 #![tactic(auto)]
 
 mod checking;

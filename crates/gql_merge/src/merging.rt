@@ -1,5 +1,5 @@
 //! The faults of a definition by the rules on the merging of fields.
-ghost use Rattle.std.specs.Prelude.{◌≡◌, ◌+◌, ◌⊎◌, IfOk, length, true};
+ghost use Rattle.std.specs.Prelude.{◌≡◌, ◌+◌, ◌⊎◌, ℕ, List, Contains, IfOk, length, true};
 ghost use Rattle.gql_facts.specs.Members.{Lists};
 ghost use Rattle.gql_facts.specs.Reads.{Reaches};
 ghost use Rattle.gql_merge.specs.Clean.{AreClean};
@@ -16,7 +16,8 @@ use std::alloc::{AllocError, Global};
 
 /// How many of these sets are not known to be clean, if only the last may be.
 fn first_sets(sets: &[FlatSet<'_>], is_last_clean: bool) -> usize
-    ensures { ((result ≡ length sets.now) ⊎ ((is_last_clean ≡ true) × (result + 1 ≡ length sets.now))) }
+    ensures { (result ≡ length sets.now)
+        ⊎ ((is_last_clean ≡ true) × (result + 1 ≡ length sets.now)) }
 {
     if is_last_clean && !sets.is_empty() {
         sets.len() - 1
@@ -46,10 +47,10 @@ pub fn merge_faults<W: World>(
     Ok(faults)
 }
 
-/// The faults of a definition by V05 and V06, as `merge_faults` finds them, where some fragments are
-/// known to be clean. What is found of this definition and of the fragments that it reaches is
-/// added to these. No search compares two fragments that a clean one spreads both. If an allocation
-/// fails, all that are known to be clean still are.
+/// The faults of a definition by V05 and V06, as `merge_faults` finds them, if some fragments are
+/// known to be clean. If nothing clashes in the definition, it is added to these, and so are the
+/// fragments that it spreads. No search compares two fragments that a clean one spreads both.
+/// Whether it succeeds or an allocation fails, all that were known to be clean still are.
 pub fn merge_faults_with<W: World>(
     alloc: Global,
     world: &mut W,
@@ -63,6 +64,7 @@ pub fn merge_faults_with<W: World>(
     ensures names { W.names world.new ≡ W.names world.old }
     ensures lent { W.lent world.new ≡ W.lent world.old }
     ensures clean { AreClean (W.facts world.old) clean.new }
+    ensures kept { (n : List ℕ) → Contains clean.old n → Contains clean.new n }
     ensures found { IfOk result (λ found.
         Lists found.items (IsMergeFault (W.facts world.old) definition.now)) }
 {

@@ -1,5 +1,5 @@
 //! A definition that is the fragment of its name.
-ghost use Rattle.std.specs.Prelude.{◌≡◌, ◌↔◌, IfOk, IsTrue, OnOk, true};
+ghost use Rattle.std.specs.Prelude.{◌≡◌, ◌↔◌, ℕ, List, Contains, IfOk, IsTrue, true};
 ghost use Rattle.gql_facts.specs.declared.fact.Fact.TheVariants as told;
 ghost use Rattle.gql_facts.specs.declared.key.Key.TheVariants as asked;
 ghost use Rattle.gql_merge.specs.Clean.{AreClean, IsClean};
@@ -84,6 +84,7 @@ pub fn add_own<W: World>(
     ensures names { W.names world.new ≡ W.names world.old }
     ensures lent { W.lent world.new ≡ W.lent world.old }
     ensures clean { AreClean (W.facts world.old) clean.new }
+    ensures kept { (n : List ℕ) → Contains clean.old n → Contains clean.new n }
 {
     if !is_clean {
         return Ok(());

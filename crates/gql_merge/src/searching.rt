@@ -1,5 +1,5 @@
 //! The search for faults over the sets of a definition and of the fragments that it reaches.
-ghost use Rattle.std.specs.Prelude.{◌≡◌, ◌<◌, ◌+◌, ◌⊎◌, ℕ, IfOk, OnOk, Contains, bytes_eq, length, true};
+ghost use Rattle.std.specs.Prelude.{◌≡◌, ◌<◌, ℕ, List, IfOk, Contains, bytes_eq, length, true};
 ghost use Rattle.std.specs.HashMap as hash;
 ghost use Rattle.gql_clashes.specs.Clashes.{SeedsOf};
 ghost use Rattle.gql_clashes.specs.Numbered.{IsClashPair, IsWhole, Lists, nodes_of};
@@ -171,6 +171,7 @@ pub fn search<'t, W: World>(
     ensures is_clean { IfOk result (λ found. found.is_clean ≡ true
         → IsClean (W.facts world.old) (sets_in (W.facts world.old) definition.now)) }
     ensures clean { AreClean (W.facts world.old) clean.new }
+    ensures kept { (n : List ℕ) → Contains clean.old n → Contains clean.new n }
 {
     let owner = owner_of(definition);
     let mut sets = own;

@@ -44,3 +44,9 @@ returns-in_err-add_own-2-clause-clean g c =
 pub returns-clause-clean : goal.returns-clause-clean
 returns-clause-clean g c =
     subst (λ (G : Facts). AreClean G c.add_own-2.new.clean) (c.search.ensures.facts ∙ c.is_known_clean.ensures.facts ∙ c.own_sets.ensures.facts) c.add_own-2.ensures.clean
+
+pub returns-in_err-add_own-2-clause-kept : goal.returns-in_err-add_own-2-clause-kept
+returns-in_err-add_own-2-clause-kept g c = λ n h. c.add_own-2.ensures.kept n (c.search.ensures.kept n h)
+
+pub returns-clause-kept : goal.returns-clause-kept
+returns-clause-kept g c = λ n h. c.add_own-2.ensures.kept n (c.search.ensures.kept n h)

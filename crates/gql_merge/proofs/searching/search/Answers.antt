@@ -77,3 +77,12 @@ returns-clause-found g c =
     c.numbered_sets.new.all.items c.in_ok-numbered.numbered c.in_ok-numbered.ensures c.args.first c.as_slice-2.result.now (c.as_slice-2.ensures.value ∙ c.in_ok-seeds.ensures) c.requires.first
     c.in_ok-pairs.pairs.items c.as_slice-5.result.now c.as_slice-4.result.now c.owner_of-owner.result c.in_ok-faults.faults.items
     c.in_ok-pairs.ensures c.as_slice-5.ensures.value c.as_slice-4.ensures.value c.owner_of-owner.ensures c.in_ok-faults.ensures
+
+pub returns-in_err-add_spread-clause-kept : goal.returns-in_err-add_spread-clause-kept
+returns-in_err-add_spread-clause-kept g c = c.add_spread.ensures.kept
+
+pub returns-in_err-faults-clause-kept : goal.returns-in_err-faults-clause-kept
+returns-in_err-faults-clause-kept g c = c.add_spread.ensures.kept
+
+pub returns-clause-kept : goal.returns-clause-kept
+returns-clause-kept g c = c.add_spread.ensures.kept
