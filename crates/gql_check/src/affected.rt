@@ -24,10 +24,7 @@ pub enum Against {
 }
 
 /// All definitions of the documents, in the order of their files and places.
-pub fn definitions_of(
-    alloc: Global,
-    registry: &Registry,
-) -> Result<Vec<&Definition>, AllocError> {
+pub fn definitions_of(alloc: Global, registry: &Registry) -> Result<Vec<&Definition>, AllocError> {
     let mut definitions = Vec::new(alloc);
     for (_, document) in registry.files().documents.entries().iter() {
         for definition in document.get().definitions.as_slice() {
@@ -45,15 +42,19 @@ fn order_to(definition: &Definition, id: &DefinitionId) -> Ordering {
 
 /// The index of a definition among these.
 fn index_of(definitions: &[&Definition], id: &DefinitionId) -> Option<usize> {
-    definitions.binary_search_by(|definition| order_to(definition, id)).ok()
+    definitions
+        .binary_search_by(|definition| order_to(definition, id))
+        .ok()
 }
 
 /// Whether a fragment is the one that its name means: the first one of that name.
 fn is_named(definitions: &[&Definition], at: usize, name: &Text) -> bool {
-    let first = definitions.iter().position(|definition| match &definition.tree {
-        Tree::Fragment(fragment) => fragment.get().name.text == *name,
-        _ => false,
-    });
+    let first = definitions
+        .iter()
+        .position(|definition| match &definition.tree {
+            Tree::Fragment(fragment) => fragment.get().name.text == *name,
+            _ => false,
+        });
     first == Some(at)
 }
 

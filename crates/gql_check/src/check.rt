@@ -52,7 +52,13 @@ fn put_files(
     let schema = folder.schema.as_slice();
     let documents = folder.documents.as_slice();
     add_new(files, FileSide::Schema, schema, &mut new, &mut indices)?;
-    add_new(files, FileSide::Documents, documents, &mut new, &mut indices)?;
+    add_new(
+        files,
+        FileSide::Documents,
+        documents,
+        &mut new,
+        &mut indices,
+    )?;
     match registry.put_all(new.as_slice(), meter) {
         Ok(_) => Ok(()),
         Err(fault) => Err(put_fault(indices.as_slice(), fault)),
@@ -203,11 +209,7 @@ fn add_operation(
 }
 
 /// The files given, each with its path below this folder.
-fn sources_of(
-    alloc: Global,
-    folder: &str,
-    files: &[GivenFile],
-) -> Result<Vec<Source>, AllocError> {
+fn sources_of(alloc: Global, folder: &str, files: &[GivenFile]) -> Result<Vec<Source>, AllocError> {
     let mut sources = Vec::new(alloc);
     for file in files {
         let label = format!(in alloc; "{folder}/{}", file.path)?;

@@ -1,6 +1,6 @@
 //! Which of the files given a place is in.
 
-use gql_ast::{DefinitionId, FileName, FilePlace, FileSide, Fault};
+use gql_ast::{DefinitionId, Fault, FileName, FilePlace, FileSide};
 use gql_findings::Spot;
 use gql_folder::{Folder, NamedFile};
 use std::alloc::{AllocError, Global};

@@ -103,7 +103,9 @@ pub fn refusal_text(
         }
         CheckFault::Twice { first, at } => {
             let (first, at) = (path_at(files, *first), path_at(files, *at));
-            format!(in alloc; "{folder}/{at} has the name of {folder}/{first}: a slash counts as a dot")
+            format!(in alloc;
+                "{folder}/{at} has the name of {folder}/{first}: a slash counts as a dot"
+            )
         }
         CheckFault::Misnamed { at } => {
             let path = path_at(files, *at);

@@ -40,7 +40,11 @@ pub fn unread(alloc: Global, path: &str, error: &io::Error) -> DiskFault {
     match error.kind() {
         io::ErrorKind::OutOfMemory => DiskFault::Memory,
         io::ErrorKind::NotFound => refused(alloc, path, "is missing"),
-        io::ErrorKind::PermissionDenied => refused(alloc, path, "cannot be read: permission denied"),
+        io::ErrorKind::PermissionDenied => refused(
+            alloc,
+            path,
+            "cannot be read: permission denied",
+        ),
         io::ErrorKind::InvalidFilename => refused(alloc, path, "has a name that is not UTF-8"),
         _ => refused(alloc, path, "cannot be read"),
     }

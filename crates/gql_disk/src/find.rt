@@ -68,12 +68,7 @@ fn read_file(
 }
 
 /// Takes what is at a path below the folder: reads a file, and notes a folder.
-fn take(
-    rt: &HostRuntime,
-    folder: &str,
-    path: String,
-    found: &mut Found,
-) -> Result<(), DiskFault> {
+fn take(rt: &HostRuntime, folder: &str, path: String, found: &mut Found) -> Result<(), DiskFault> {
     let whole = joined(rt, folder, path.as_str())?;
     let metadata = match fs::metadata(rt, whole.as_str()) {
         Ok(metadata) => metadata,
@@ -87,12 +82,7 @@ fn take(
 }
 
 /// Takes what is in a folder below the folder. Names that begin with a dot are left out.
-fn enter(
-    rt: &HostRuntime,
-    folder: &str,
-    inner: &str,
-    found: &mut Found,
-) -> Result<(), DiskFault> {
+fn enter(rt: &HostRuntime, folder: &str, inner: &str, found: &mut Found) -> Result<(), DiskFault> {
     let whole = joined(rt, folder, inner)?;
     let entries = match fs::read_dir(rt, whole.as_str()) {
         Ok(entries) => entries,
@@ -148,7 +138,10 @@ pub fn find_files(rt: &HostRuntime, folder: &str) -> Result<Vec<GivenFile>, Disk
     begin(rt, folder, &mut found)?;
     for _ in 0..MAX_ENTRIES {
         let Some(inner) = found.folders.pop() else {
-            let Found { mut files, folders: _ } = found;
+            let Found {
+                mut files,
+                folders: _,
+            } = found;
             files.sort_by(|a, b| a.path.as_str().cmp(b.path.as_str()))?;
             return Ok(files);
         };

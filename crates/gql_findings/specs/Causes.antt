@@ -33,11 +33,13 @@ rank_of c = (length c.members.items, slice_index c.members.items 0)
 abbrev pub rank_order : ℕ × ℕ → ℕ × ℕ → Ordering
 rank_order a b = ordering_then (nat_cmp b.0 a.0) (nat_cmp a.1 b.1)
 
--- These are the causes of the faults at these places of the list, in some order: the members of each
--- are those of the places, in their order, whose faults have the cause, and there are some; each place
--- that has a fault is a member of one; and no two causes are the same.
-pub record AreGrouped (findings : List Finding) (which : List ℕ) (causes : List Cause) : Type 0 where
-  pub members : All (λ c. c.members.items ≡ filter (has_cause findings (mark_of_cause c)) which) causes
+-- These are the causes of the faults at these places of the list, in some order: the members of
+-- each are those of the places, in their order, whose faults have the cause, and there are some;
+-- each place that has a fault is a member of one; and no two causes are the same.
+pub record AreGrouped (findings : List Finding) (which : List ℕ) (causes : List Cause)
+    : Type 0 where
+  pub members : All (λ c. c.members.items
+      ≡ filter (has_cause findings (mark_of_cause c)) which) causes
   pub some : All (λ c. 0 < length c.members.items) causes
   pub each : All (λ i. i < length findings
       → list_any (λ c. has_cause findings (mark_of_cause c) i) causes ≡ true) which

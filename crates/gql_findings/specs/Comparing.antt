@@ -1,5 +1,5 @@
--- What a comparison of two checks has: the faults that are brought and mended, and the operations that
--- are broken and healed.
+-- What a comparison of two checks has: the faults that are brought and mended, and the operations
+-- that are broken and healed.
 use Rattle.std.specs.Prelude.{ℕ, suc, List, [], ◌∷◌, Bool, false, ◌&&◌, ◌||◌, not, nat_le, nat_eq, bytes_eq, codes, count_by, filter, take, option_map, unwrap_or, slice_get, if◌then◌else◌}
 use Rattle.std.specs.List.{list_any, starts_with}
 use Rattle.gql_ast.specs.Rules.{name_of}
@@ -29,30 +29,32 @@ abbrev pub is_of_schema : Rule → Bool
 is_of_schema r = starts_with nat_eq (name_of r) (codes "S") || bytes_eq (name_of r) (codes "P01")
     || bytes_eq (name_of r) (codes "P02")
 
--- whether it is known of a fault if it is there still: while the schema has faults, documents are not
--- checked
+-- whether it is known of a fault if it is there still: while the schema has faults, documents are
+-- not checked
 abbrev pub is_known : Findings → Findings → ℕ → Bool
 is_known now base i = not now.schema_is_faulty
     || unwrap_or (option_map (λ f. is_of_schema f.rule) (slice_get base.findings.items i)) false
 
 -- The faults that are brought, by their places in the list of now: those that the base is not known
--- to have. Where the schema of the base has faults, its documents were not checked, and each fault of
--- a document is brought.
+-- to have. Where the schema of the base has faults, its documents were not checked, and each fault
+-- of a document is brought.
 abbrev pub brought : Findings → Findings → List ℕ
 brought now base = unpaired (fault_marks now) (fault_marks base)
 
--- The faults that are mended, by their places in the list of the base: those that are known to be gone.
--- While the schema of now has faults, no fault of a document is known to be gone.
+-- The faults that are mended, by their places in the list of the base: those that are known to be
+-- gone. While the schema of now has faults, no fault of a document is known to be gone.
 abbrev pub mended : Findings → Findings → List ℕ
 mended now base = filter (is_known now base) (unpaired (fault_marks base) (fault_marks now))
 
 -- whether an operation is there, and is served
 abbrev pub is_served : Findings → Mark → Bool
 is_served f mark =
-    list_any (same_mark mark) (operation_marks f) && not (list_any (same_mark mark) (affected_marks f))
+    list_any (same_mark mark) (operation_marks f)
+    && not (list_any (same_mark mark) (affected_marks f))
 
--- The operations that are affected here, and that are served there, by their places in the list here.
--- There are none where one of the two schemas has faults, since then nothing is known of operations.
+-- The operations that are affected here, and that are served there, by their places in the list
+-- here. There are none where one of the two schemas has faults, since then nothing is known of
+-- operations.
 abbrev pub newly_affected : Findings → Findings → List ℕ
 newly_affected here there =
     if here.schema_is_faulty || there.schema_is_faulty then []

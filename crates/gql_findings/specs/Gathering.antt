@@ -21,7 +21,8 @@ abbrev pub HasMembers : Cause → Type 0
 HasMembers c = 0 < length c.members.items
 
 -- a member is added to the causes whose marks pass the test, of which there is at most one
-pub record Gathers (test : Mark → Bool) (member : ℕ) (keys new_keys : List Key) (causes new : List Cause) : Type 0 where
+pub record Gathers (test : Mark → Bool) (member : ℕ) (keys new_keys : List Key)
+    (causes new : List Cause) : Type 0 where
   pub members : (m : Mark) → members_at m new
       ≡ members_at m causes ++ (if test m then member ∷ [] else [])
   pub agree : Agree new_keys new

@@ -52,17 +52,25 @@ same_mark_equal a b e =
     let paths = both _ _ lines.0 in
     let abouts = both _ _ paths.0 in
     let rules = both _ _ abouts.0 in
-    ap (λ x. make x a.rule a.about a.path a.line a.owner) ((unsigned_Decides a.kind b.kind).0 rules.0)
-    ∙ ap (λ x. make b.kind x a.about a.path a.line a.owner) ((bytes_eq-Decides a.rule b.rule).0 rules.1)
-    ∙ ap (λ x. make b.kind b.rule x a.path a.line a.owner) ((bytes_eq-Decides a.about b.about).0 abouts.1)
-    ∙ ap (λ x. make b.kind b.rule b.about x a.line a.owner) ((bytes_eq-Decides a.path b.path).0 paths.1)
-    ∙ ap (λ x. make b.kind b.rule b.about b.path x a.owner) ((bytes_eq-Decides a.line b.line).0 lines.1)
-    ∙ ap (λ x. make b.kind b.rule b.about b.path b.line x) ((bytes_eq-Decides a.owner b.owner).0 owners.1)
+    ap (λ x. make x a.rule a.about a.path a.line a.owner)
+    ((unsigned_Decides a.kind b.kind).0 rules.0)
+    ∙ ap (λ x. make b.kind x a.about a.path a.line a.owner)
+    ((bytes_eq-Decides a.rule b.rule).0 rules.1)
+    ∙ ap (λ x. make b.kind b.rule x a.path a.line a.owner)
+    ((bytes_eq-Decides a.about b.about).0 abouts.1)
+    ∙ ap (λ x. make b.kind b.rule b.about x a.line a.owner)
+    ((bytes_eq-Decides a.path b.path).0 paths.1)
+    ∙ ap (λ x. make b.kind b.rule b.about b.path x a.owner)
+    ((bytes_eq-Decides a.line b.line).0 lines.1)
+    ∙ ap (λ x. make b.kind b.rule b.about b.path b.line x)
+    ((bytes_eq-Decides a.owner b.owner).0 owners.1)
 
 -- what of a mark is hashed: all its texts
 abbrev pub texts_of : Mark → List (List ℕ)
-texts_of m = fed.str m.rule ++ fed.str m.about ++ fed.str m.path ++ fed.str m.line ++ fed.str m.owner
+texts_of m =
+    fed.str m.rule ++ fed.str m.about ++ fed.str m.path ++ fed.str m.line ++ fed.str m.owner
 
 -- equal keys are hashed alike
-pub same_key_hashes : (a b : Key) → same_key a b ≡ true → texts_of (mark_of a) ≡ texts_of (mark_of b)
+pub same_key_hashes : (a b : Key) → same_key a b ≡ true
+    → texts_of (mark_of a) ≡ texts_of (mark_of b)
 same_key_hashes a b e = ap texts_of (same_mark_equal (mark_of a) (mark_of b) e)

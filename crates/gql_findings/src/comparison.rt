@@ -10,14 +10,14 @@ use crate::served::newly_affected;
 use gql_ast::Rule;
 use std::alloc::{AllocError, Global};
 
-/// What a change does: the faults that it brings, and the operations that it breaks, by their places
-/// in the lists of now; the faults that it mends, and the operations that it heals, by their places
-/// in the lists of the base.
+/// What a change does: the faults that it brings, and the operations that it breaks, by their
+/// places in the lists of now; the faults that it mends, and the operations that it heals, by their
+/// places in the lists of the base.
 ///
 /// A fault of now is brought unless the base is known to have it. Where the schema of the base has
 /// faults, its documents were not checked, so that each fault of a document is brought. A fault of
-/// the base is mended if it is known to be gone: while the schema of now has faults, that is not known
-/// of faults of documents. While either schema has faults, no operation is broken or healed.
+/// the base is mended if it is known to be gone: while the schema of now has faults, that is not
+/// known of faults of documents. While either schema has faults, no operation is broken or healed.
 #[derive(Debug, Drop)]
 pub struct Comparison {
     pub brought: Vec<usize>,
@@ -54,7 +54,8 @@ fn known(
     base: &Findings,
     places: &[usize],
 ) -> Result<Vec<usize>, AllocError>
-    ensures { IfOk result (λ known. known.items ≡ filter (spec.is_known now.now base.now) places.now) }
+    ensures { IfOk result (λ known. known.items
+        ≡ filter (spec.is_known now.now base.now) places.now) }
 {
     let mut known = Vec::new(alloc);
     for place in places {

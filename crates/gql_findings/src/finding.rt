@@ -59,7 +59,8 @@ pub struct Affected {
 
 /// What a check of a folder finds: the files, their faults in the order of a report, all operations
 /// of the documents, and those of them that are not served. While the schema has a fault, documents
-/// are not checked: none of their faults is listed, no operation is served, and `affected` is empty.
+/// are not checked: none of their faults is listed, no operation is served, and `affected` is
+/// empty.
 #[derive(Drop)]
 pub struct Findings {
     pub sources: Vec<Source>,

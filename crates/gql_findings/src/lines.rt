@@ -1,4 +1,5 @@
-//! Where the lines of a text are: a line ends at LF, at CRLF and at CR, as in the places of gql_text.
+//! Where the lines of a text are: a line ends at LF, at CRLF and at CR, as in the places of
+//! gql_text.
 
 ghost use Rattle.std.specs.Prelude.{◌≡◌, ◌==◌, ◌≤◌, not, length, drop, IfOk};
 ghost use Rattle.std.specs.List.{prefix_len};

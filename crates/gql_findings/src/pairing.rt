@@ -25,7 +25,8 @@ fn counts<'a>(alloc: Global, keys: &[Key<'a>]) -> Result<HashMap<Key<'a>, usize>
 
 /// Takes one of the key's count, and says whether there was one.
 fn take_one<'a>(left: &mut HashMap<Key<'a>, usize>, key: &Key<'a>) -> Result<bool, AllocError>
-    ensures was { IfOk result (λ was. was ≡ nat_lt 0 (unwrap_or (get same_key left.old key.now) 0)) }
+    ensures was { IfOk result (λ was. was
+        ≡ nat_lt 0 (unwrap_or (get same_key left.old key.now) 0)) }
     ensures left { OnOk result ((q : TheKey) → unwrap_or (get same_key left.new q) 0
         ≡ unwrap_or (get same_key left.old q) 0 - (if same_key key.now q then 1 else 0)) }
 {

@@ -65,13 +65,13 @@ named_more side paths at name named old here fresh = record { each = each; all =
     distinct : (f g : NamedFile) → Contains (named ++ new ∷ []) f → Contains (named ++ new ∷ []) g → f.name ≡ g.name → f ≡ g
     distinct f g hf hg same = elim (Contains-push_cases named new f hf) [
       | inl in_f ↦ elim (Contains-push_cases named new g hg) [
-          | inl in_g ↦ old.distinct f g in_f in_g same
-          | inr is_g ↦ absurd (fresh f in_f (same ∙ sym (ap (λ (h : NamedFile). h.name) is_g)))
-        ]
+        | inl in_g ↦ old.distinct f g in_f in_g same
+        | inr is_g ↦ absurd (fresh f in_f (same ∙ sym (ap (λ (h : NamedFile). h.name) is_g)))
+      ]
       | inr is_f ↦ elim (Contains-push_cases named new g hg) [
-          | inl in_g ↦ absurd (fresh g in_g (sym same ∙ sym (ap (λ (h : NamedFile). h.name) is_f)))
-          | inr is_g ↦ sym is_f ∙ is_g
-        ]
+        | inl in_g ↦ absurd (fresh g in_g (sym same ∙ sym (ap (λ (h : NamedFile). h.name) is_f)))
+        | inr is_g ↦ sym is_f ∙ is_g
+      ]
     ]
 
 -- the files of a side, if the next path is none of it

@@ -20,10 +20,9 @@ Status: 0 no faults (with --base: none brought), 1 faults, 2 a file or the comma
 4 out of memory";
 
 fn base<'a>(alloc: Global) -> Arg<'a> {
-    Arg::new(alloc, "base")
-        .long("base")
-        .value_name("DIR")
-        .help("Compare with this folder: faults brought and mended, operations broken and healed")
+    Arg::new(alloc, "base").long("base").value_name("DIR").help(
+        "Compare with this folder: faults brought and mended, operations broken and healed",
+    )
 }
 
 fn format<'a>(alloc: Global) -> Arg<'a> {
@@ -70,7 +69,9 @@ fn flag<'a>(alloc: Global, name: &'a str, help: &'a str) -> Arg<'a> {
 }
 
 fn folder<'a>(alloc: Global) -> Arg<'a> {
-    Arg::new(alloc, "DIR").required(true).help("The folder of a team's files")
+    Arg::new(alloc, "DIR")
+        .required(true)
+        .help("The folder of a team's files")
 }
 
 fn server<'a>(alloc: Global) -> Arg<'a> {
@@ -105,7 +106,11 @@ fn push<'a>(alloc: Global) -> Result<Command<'a>, AllocError> {
         .after_help(AFTER_PUSH)
         .arg(folder(alloc))?
         .arg(server(alloc))?
-        .arg(flag(alloc, "all", "Put all files, those too that were pushed before"))?
+        .arg(flag(
+            alloc,
+            "all",
+            "Put all files, those too that were pushed before",
+        ))?
         .arg(state(alloc))?
         .arg(wait(alloc))?
         .arg(flag(alloc, "fail-on-faults", faults))?

@@ -106,10 +106,7 @@ fn folder_of(alloc: Global, matches: &ArgMatches<'_>) -> Result<String, AllocErr
 }
 
 /// The options of a check that clap found.
-pub fn check_options(
-    alloc: Global,
-    matches: &ArgMatches<'_>,
-) -> Result<CheckOptions, AllocError> {
+pub fn check_options(alloc: Global, matches: &ArgMatches<'_>) -> Result<CheckOptions, AllocError> {
     let folder = folder_of(alloc, matches)?;
     let format = match matches.get_str("format") {
         Some(word) => Format::of(word),

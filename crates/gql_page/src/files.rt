@@ -86,18 +86,18 @@ fn write_plain_line(out: &mut String, source: &Source, line: usize) -> Result<()
 
 /// A file on the page: its place in the list of sources, and the faults of each of its lines.
 #[derive(Clone, Copy)]
-struct Shown<'f> {
-    sources: &'f [Source],
-    source: &'f Source,
+struct Shown<'s, 'f> {
+    sources: &'s [Source],
+    source: &'s Source,
     number: usize,
-    buckets: &'f Buckets<'f>,
+    buckets: &'s Buckets<'f>,
 }
 
 /// Writes a line, and the faults that start in it.
 fn write_line(
     alloc: Global,
     out: &mut String,
-    shown: &Shown<'_>,
+    shown: &Shown<'_, '_>,
     line: usize,
 ) -> Result<(), AllocError> {
     let Some(faults) = shown.buckets.get(line) else {
@@ -125,7 +125,7 @@ fn write_line(
 fn write_piece(
     alloc: Global,
     out: &mut String,
-    shown: &Shown<'_>,
+    shown: &Shown<'_, '_>,
     piece: Piece,
 ) -> Result<(), AllocError> {
     if piece.is_folded {
@@ -146,12 +146,12 @@ fn write_piece(
 }
 
 /// Writes a file that has faults.
-fn write_file(
+fn write_file<'f>(
     alloc: Global,
     out: &mut String,
     sources: &[Source],
     number: usize,
-    faults: &[&Finding],
+    faults: &[&'f Finding],
 ) -> Result<(), AllocError> {
     let Some(source) = sources.get(number) else {
         return Ok(());

@@ -52,7 +52,7 @@ pub fn faults_by_line<'f>(
     count: usize,
     faults: &[&'f Finding],
 ) -> Result<Buckets<'f>, AllocError> {
-    let mut buckets = empty_buckets(alloc, count + 1)?;
+    let mut buckets = empty_buckets(alloc, count.saturating_add(1))?;
     for fault in faults {
         if let Some(spot) = fault.spots.first() {
             let line = if spot.line <= count { spot.line } else { 1 };

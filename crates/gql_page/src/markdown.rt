@@ -180,8 +180,8 @@ fn write_faults(
     write_text(out, "\n</details>\n")
 }
 
-/// Writes the operations: without a base those that are not served, else those that the change breaks
-/// and heals.
+/// Writes the operations: without a base those that are not served, else those that the change
+/// breaks and heals.
 fn write_states(alloc: Global, out: &mut String, check: &Check<'_>) -> Result<(), AllocError> {
     let places = broken(alloc, check)?;
     match &check.base {
@@ -194,8 +194,8 @@ fn write_states(alloc: Global, out: &mut String, check: &Check<'_>) -> Result<()
     }
 }
 
-/// The check as a summary for a pull request: the counts, the operations that are broken, the causes
-/// of the faults, and then, folded, each fault.
+/// The check as a summary for a pull request: the counts, the operations that are broken, the
+/// causes of the faults, and then, folded, each fault.
 pub fn as_markdown(alloc: Global, check: &Check<'_>) -> Result<Vec<u8>, AllocError> {
     let mut out = String::new(alloc);
     write_text(&mut out, "### GraphQL: ")?;

@@ -55,7 +55,9 @@ pub fn resources_of(alloc: Global, files: &[GivenFile]) -> Result<Vec<Resource>,
 
 /// The resource of a target among these.
 fn find_target<'r>(resources: &'r [Resource], target: &str) -> Option<&'r Resource> {
-    resources.iter().find(|resource| resource.target.as_str() == target)
+    resources
+        .iter()
+        .find(|resource| resource.target.as_str() == target)
 }
 
 /// Whether a resource was pushed as it is.

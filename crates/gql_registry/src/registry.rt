@@ -335,11 +335,7 @@ impl Registry {
     /// the report are made once for all of them. If a file is refused, none is put, and the fault
     /// says which one; the refusals of each, in this order: 212, 203, 202, 201 and 205.
     #[tactic(none)]
-    pub fn put_all(
-        &mut self,
-        files: &[NewFile<'_>],
-        meter: &mut Meter,
-    ) -> Result<Edited, PutFault>
+    pub fn put_all(&mut self, files: &[NewFile<'_>], meter: &mut Meter) -> Result<Edited, PutFault>
         ensures makes { MakesAll (state_of self.old) (map put_of files.now) result
             (state_of self.new) }
         ensures shelf { OnErr result (shelf_of self.new ≡ shelf_of self.old) }

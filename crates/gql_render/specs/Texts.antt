@@ -122,7 +122,8 @@ fault_changes_text now base =
 unfoldable pub operation_changes_text : Findings → Against → List ℕ
 operation_changes_text now base =
     codes ",\"broken\":" ++ operation_list_text now base.comparison.now.broken.items
-    ++ codes ",\"healed\":" ++ operation_list_text base.findings.now base.comparison.now.healed.items
+    ++ codes ",\"healed\":"
+    ++ operation_list_text base.findings.now base.comparison.now.healed.items
 
 -- what a change does; nothing without a base
 unfoldable pub changes_text : Findings → Option Against → List ℕ

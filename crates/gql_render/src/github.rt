@@ -97,8 +97,8 @@ fn write_broken(alloc: Global, out: &mut String, check: &Check<'_>) -> Result<()
     write_text(out, "\n")
 }
 
-/// The check as annotations: an error for each fault, and then at most one notice with the operations
-/// that are broken, and one that says what a schema with faults hides.
+/// The check as annotations: an error for each fault, and then at most one notice with the
+/// operations that are broken, and one that says what a schema with faults hides.
 pub fn as_github(alloc: Global, check: &Check<'_>) -> Result<Vec<u8>, AllocError> {
     let mut out = String::new(alloc);
     let places = shown(alloc, check)?;

@@ -40,7 +40,8 @@ fn write_place(
     sources: &[Source],
     spot: &Spot,
 ) -> Result<(), AllocError>
-    ensures { OnOk result (out.new.items ≡ out.old.items ++ spec.whole_place_text sources.now spot.now) }
+    ensures { OnOk result (out.new.items
+        ≡ out.old.items ++ spec.whole_place_text sources.now spot.now) }
 {
     write_bytes(out, b"{")?;
     write_place_members(alloc, out, sources, spot)?;
@@ -55,7 +56,8 @@ fn write_places(
     sources: &[Source],
     spots: &[Spot],
 ) -> Result<(), AllocError>
-    ensures { OnOk result (out.new.items ≡ out.old.items ++ spec.places_text sources.now spots.now) }
+    ensures { OnOk result (out.new.items
+        ≡ out.old.items ++ spec.places_text sources.now spots.now) }
 {
     let Some((first, others)) = spots.split_first() else {
         return Ok(());
@@ -156,7 +158,8 @@ fn write_where(
     sources: &[Source],
     finding: &Finding,
 ) -> Result<(), AllocError>
-    ensures { OnOk result (out.new.items ≡ out.old.items ++ spec.where_text sources.now finding.now) }
+    ensures { OnOk result (out.new.items
+        ≡ out.old.items ++ spec.where_text sources.now finding.now) }
 {
     write_bytes(out, b",\"places\":[")?;
     write_places(alloc, out, sources, finding.spots.as_slice())?;
@@ -173,7 +176,8 @@ fn write_fault(
     sources: &[Source],
     finding: &Finding,
 ) -> Result<(), AllocError>
-    ensures { OnOk result (out.new.items ≡ out.old.items ++ spec.fault_text sources.now finding.now) }
+    ensures { OnOk result (out.new.items
+        ≡ out.old.items ++ spec.fault_text sources.now finding.now) }
 {
     write_what(alloc, out, finding)?;
     write_where(alloc, out, sources, finding)
@@ -187,7 +191,8 @@ fn write_faults(
     sources: &[Source],
     faults: &[&Finding],
 ) -> Result<(), AllocError>
-    ensures { OnOk result (out.new.items ≡ out.old.items ++ spec.faults_text sources.now (map (λ f. f.now) faults.now)) }
+    ensures { OnOk result (out.new.items
+        ≡ out.old.items ++ spec.faults_text sources.now (map (λ f. f.now) faults.now)) }
 {
     let Some((first, others)) = faults.split_first() else {
         return Ok(());
@@ -242,7 +247,8 @@ fn write_operations(
     sources: &[Source],
     operations: &[&Affected],
 ) -> Result<(), AllocError>
-    ensures { OnOk result (out.new.items ≡ out.old.items ++ spec.operations_text sources.now (map (λ a. a.now) operations.now)) }
+    ensures { OnOk result (out.new.items
+        ≡ out.old.items ++ spec.operations_text sources.now (map (λ a. a.now) operations.now)) }
 {
     let Some((first, others)) = operations.split_first() else {
         return Ok(());
@@ -263,7 +269,8 @@ fn write_fault_list(
     findings: &Findings,
     places: &[usize],
 ) -> Result<(), AllocError>
-    ensures { OnOk result (out.new.items ≡ out.old.items ++ spec.fault_list_text findings.now places.now) }
+    ensures { OnOk result (out.new.items
+        ≡ out.old.items ++ spec.fault_list_text findings.now places.now) }
 {
     let faults = picked(alloc, findings.findings.as_slice(), places)?;
     write_bytes(out, b"[")?;
@@ -279,7 +286,8 @@ fn write_operation_list(
     findings: &Findings,
     places: &[usize],
 ) -> Result<(), AllocError>
-    ensures { OnOk result (out.new.items ≡ out.old.items ++ spec.operation_list_text findings.now places.now) }
+    ensures { OnOk result (out.new.items
+        ≡ out.old.items ++ spec.operation_list_text findings.now places.now) }
 {
     let operations = picked(alloc, findings.affected.as_slice(), places)?;
     write_bytes(out, b"[")?;

@@ -192,7 +192,8 @@ fn write_operation_note(
     write_note(alloc, out, text.as_str())
 }
 
-/// Writes the notes of the run: the operations that are broken, and what a schema with faults hides.
+/// Writes the notes of the run: the operations that are broken, and what a schema with faults
+/// hides.
 fn write_notes(alloc: Global, out: &mut Vec<u8>, check: &Check<'_>) -> Result<(), AllocError> {
     let places = broken(alloc, check)?;
     let operations = picked(alloc, check.now.affected.as_slice(), places.as_slice())?;

@@ -5,7 +5,7 @@ use crate::phrases::{
     hidden, write_affected, write_counts, write_rule, write_sentence, write_spot,
 };
 use crate::write::write_text;
-use gql_findings::{Affected, Finding, Findings, Source, Spot, line_at, label_at};
+use gql_findings::{Affected, Finding, Findings, Source, Spot, label_at, line_at};
 use std::alloc::{AllocError, Global};
 use unicode_width::UnicodeWidthChar;
 
@@ -201,8 +201,8 @@ fn write_changes(
     write_operations(out, base.findings, healed, "operations that this heals:\n")
 }
 
-/// The check as a compiler prints it: each fault with its line and a caret, the counts, and what the
-/// change does to operations.
+/// The check as a compiler prints it: each fault with its line and a caret, the counts, and what
+/// the change does to operations.
 pub fn as_text(alloc: Global, check: &Check<'_>, colours: bool) -> Result<Vec<u8>, AllocError> {
     let paint = paint_of(colours);
     let mut out = String::new(alloc);

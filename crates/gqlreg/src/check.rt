@@ -2,10 +2,10 @@
 
 use crate::failure::{Failure, report, unwritten};
 use gql_check::{CheckFault, check_files, refusal_annotation, refusal_text};
-use gql_folder_command::{CheckOptions, Format};
 use gql_disk::find_files;
-use gql_folder::GivenFile;
 use gql_findings::{Comparison, Findings, compare};
+use gql_folder::GivenFile;
+use gql_folder_command::{CheckOptions, Format};
 use gql_page::as_html;
 use gql_render::{Against, Check, as_github, as_json, as_markdown, as_sarif, as_text};
 use std::alloc::AllocError;

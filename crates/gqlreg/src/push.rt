@@ -3,9 +3,9 @@
 use crate::check::checked;
 use crate::connection::{Connection, NoAnswer};
 use crate::failure::{Failure, report, unwritten};
-use gql_folder::GivenFile;
 use gql_disk::find_files;
 use gql_findings::Findings;
+use gql_folder::GivenFile;
 use gql_folder_command::{Format, PushOptions};
 use gql_push::{
     Edit, PushState, Reply, Resource, plan, read_state, resources_of, write_edit, write_report,
@@ -163,7 +163,15 @@ fn make_batch(
     for edit in edits {
         let resources = pushed.resources.as_slice();
         let files = pushed.files.as_slice();
-        write_edit(rt.alloc(), &mut requests, host, edit, resources, files, revision)?;
+        write_edit(
+            rt.alloc(),
+            &mut requests,
+            host,
+            edit,
+            resources,
+            files,
+            revision,
+        )?;
         revision = revision.saturating_add(1);
     }
     connection.send(requests.as_slice())?;
@@ -227,7 +235,11 @@ fn summary(
     let files = if made == 1 { "file" } else { "files" };
     let noun = if faults == 1 { "fault" } else { "faults" };
     let broken = findings.affected.len();
-    let operations = if broken == 1 { "operation is" } else { "operations are" };
+    let operations = if broken == 1 {
+        "operation is"
+    } else {
+        "operations are"
+    };
     format!(in rt.alloc();
         "{made} {files} put or removed: revision {revision}, {faults} {noun}, {broken} {operations} not served\n"
     )
@@ -263,7 +275,14 @@ fn push(rt: &HostRuntime, options: &PushOptions) -> Result<u8, Failure> {
     let all = options.all || options.force;
     let edits = plan(rt.alloc(), resources.as_slice(), before.as_slice(), all)?;
     let pushed = Pushed { files, resources };
-    make_all(rt, &mut connection, options, &pushed, edits.as_slice(), &mut progress)?;
+    make_all(
+        rt,
+        &mut connection,
+        options,
+        &pushed,
+        edits.as_slice(),
+        &mut progress,
+    )?;
     keep(rt, options, pushed.resources, progress.revision)?;
     let text = summary(rt, options, &findings, &progress)?;
     match rt.print(text) {

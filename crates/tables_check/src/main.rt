@@ -1,0 +1,30 @@
+//! Compares what checks are rendered as with what tables expect, and how checks are compared and faults
+//! put together. An argument is the file of a table, which says at its head how it is written; or
+//! `FILE:LINE,LINE..`, to compare only the answers to the questions at these lines. Answers that
+//! differ are printed, each with its file and line.
+#![tactic(auto)]
+
+mod facts;
+mod formats;
+mod places;
+mod questions;
+mod rules;
+
+use anyhow::{Result, bail};
+use questions::CheckRow;
+use std::env;
+use table_rows::Table;
+
+fn main(rt: HostRuntime) -> Result<()> {
+    let mut table: Table<CheckRow> = Table::new(rt.alloc());
+    for word in env::args(&rt)?.skip(1) {
+        table.read_file(&rt, word.as_str())?;
+    }
+    eprintln!(rt; "{} answers", table.tally.answers)?;
+    if !table.tally.is_as_expected() {
+        println!(rt; "{}", table.tally.differences)?;
+        bail!("some lines of the tables are not as they should be");
+    }
+    println!(rt; "all answers as expected")?;
+    Ok(())
+}
