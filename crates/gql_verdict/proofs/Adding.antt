@@ -1,8 +1,7 @@
 -- One element more in a loop that adds to a list, over values that are borrowed.
-use Rattle.std.specs.Prelude.{◌≡◌, ◌<◌, ◌+◌, ◌||◌, ℕ, List, [], ◌∷◌, ◌++◌, refl, bytes_eq, count_by, flat_map, fold, is_some, length, map, nat_lt, take, Bool, true, false, cond, Option, Some, None}
+use Rattle.std.specs.Prelude.{◌≡◌, ◌<◌, ◌+◌, ◌||◌, ℕ, List, [], ◌∷◌, ◌++◌, refl, bytes_eq, count_by, flat_map, fold, length, map, nat_lt, take, Bool, true, false, cond}
 use Rattle.std.specs.Cmp.Lexicographic.{same_text}
-use Rattle.std.specs.Option.{option_copied}
-use Rattle.std.proofs.Common.{ap, sym, ◌∙◌, inl, inr, get_or, append_assoc, Bor}
+use Rattle.std.proofs.Common.{ap, sym, ◌∙◌, inl, inr, get_or, append_assoc}
 use Rattle.std.proofs.lemmas.List.{take_more, map-append}
 use Rattle.std.proofs.lemmas.List.Folds.{list_any-append}
 use Rattle.std.proofs.lemmas.List.Sums.{count_by_more_no, count_by_more_yes}

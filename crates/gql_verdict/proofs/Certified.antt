@@ -1,14 +1,12 @@
 -- What a world recorded of what a definition reads, with the faults, makes a verdict.
-use Rattle.std.specs.Prelude.{◌≡◌, ◌⊎◌, List, ◌++◌, map, Contains}
-use Rattle.std.proofs.Common.{ap, sym, ◌∙◌, subst, inl, inr}
+use Rattle.std.specs.Prelude.{◌≡◌, ◌⊎◌, List, ◌++◌}
+use Rattle.std.proofs.Common.{sym, ◌∙◌, subst, inl, inr}
 use Rattle.std.proofs.lemmas.List.Elements.{Contains-append_left, Contains-append_right, Contains-append_cases}
 use Rattle.gql_ast.specs.declared.definition.Definition.{Definition}
 use Rattle.gql_ast.specs.declared.fault.Fault.{Fault}
-use Rattle.gql_facts.specs.ListMembers.{Contains-map}
 use Rattle.gql_facts.specs.Members.{Lists}
 use Rattle.gql_facts.specs.Reads.{Agree, Reads}
 use Rattle.gql_facts.specs.Worlds.{Facts}
-use Rattle.gql_facts.specs.declared.key.Key.{Key}
 use Rattle.gql_merge.proofs.View as merging
 use Rattle.gql_merge.specs.MergeFaults.{IsMergeFault}
 use Rattle.gql_rules.specs.LocalFaults.{IsFault}

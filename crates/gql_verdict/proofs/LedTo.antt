@@ -3,7 +3,7 @@ use Rattle.std.proofs.Common.{◌≡◌, ◌⊎◌, ◌<◌, inl, inr, ℕ, zero
 use Rattle.std.specs.List.{AllPairs, AllZip}
 use Rattle.std.specs.declared.cmp.Ordering.TheVariants.{Less}
 use Rattle.std.proofs.lemmas.List.{drop_more, get_or_default, length-take-le, map-append, take-append-drop}
-use Rattle.std.proofs.lemmas.List.Elements.{Contains-get_or, Contains-append_left, Contains-append_right, Contains-push_cases}
+use Rattle.std.proofs.lemmas.List.Elements.{Contains-get_or, Contains-append_left, Contains-append_right}
 use Rattle.std.proofs.lemmas.List.Kept.{AllPairs-cons}
 use Rattle.gql_ast.specs.Trees.{id_of}
 use Rattle.gql_ast.specs.declared.definition.Definition.{Definition}
@@ -31,7 +31,7 @@ use Rattle.gql_verdict.specs.Verdicts.{Judgement}
 use Rattle.gql_verdict.specs.declared.slot.Slot.{Slot}
 use Rattle.gql_verdict.specs.declared.slot.Slot.TheVariants.{At, Here}
 use Rattle.gql_verdict.proofs.Marking.{same_index}
-use Rattle.gql_verdict.proofs.Ordered.{apart, index_of, kept_at, same_verdict}
+use Rattle.gql_verdict.proofs.Ordered.{apart, index_of, kept_at}
 use Rattle.gql_verdict.proofs.Refreshed.{IsServed, resolved, served}
 use Rattle.gql_verdict.proofs.Seen.{take_next}
 

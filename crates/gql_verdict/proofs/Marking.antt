@@ -1,22 +1,21 @@
 -- Marks of the kept verdicts that an edit has broken.
-use Rattle.std.proofs.Common.{◌≡◌, ◌≢◌, ◌⊎◌, ◌<◌, ◌+◌, inl, inr, ℕ, zero, suc, List, [], ◌∷◌, Bool, true, false, length, map, take, get_or, refl, ap, sym, subst, ◌∙◌, Contains, arith, find, bytes_eq, is_some, Some, None, Option}
+use Rattle.std.proofs.Common.{◌≡◌, ◌≢◌, ◌⊎◌, ◌<◌, inl, inr, ℕ, zero, suc, List, [], ◌∷◌, Bool, true, false, length, map, get_or, refl, ap, sym, subst, ◌∙◌, Contains, arith, find, bytes_eq, is_some, Some, None, Option}
 use Rattle.std.proofs.Math.ListN.{set}
-use Rattle.std.proofs.lemmas.List.{get_or-map, get_or_default, get_or-set_other, get_or-set_same, length-map}
+use Rattle.std.proofs.lemmas.List.{get_or-map, get_or-set_other, get_or-set_same, length-map}
 use Rattle.std.specs.Cmp.Lexicographic.{same_text}
 use Rattle.gql_ast.specs.Trees.{id_of}
 use Rattle.gql_ast.specs.declared.definition.DefinitionId.{DefinitionId}
-use Rattle.gql_facts.specs.ListMembers.{Contains-nil, Contains-here, Contains-cases, Contains-map, either, found_in}
+use Rattle.gql_facts.specs.ListMembers.{Contains-nil, Contains-here, Contains-cases, Contains-map, found_in}
 use Rattle.gql_facts.specs.Worlds.{Facts}
 use Rattle.gql_facts.specs.declared.key.Key.{Key}
 use Rattle.gql_facts.specs.declared.key.Key.TheVariants as key
-use Rattle.gql_readers.specs.Indexes.{IsIndexOf, Reading}
+use Rattle.gql_readers.specs.Indexes.{Reading}
 use Rattle.gql_readers.specs.Readers.{Reader, observes}
 use Rattle.gql_readers.proofs.Editing.{one_entry}
 use Rattle.gql_readers.proofs.Reading.{observes_from, observes_has, reads_from, reads_has}
 use Rattle.gql_reads.proofs.Members.{Contains-map_from}
 use Rattle.gql_reads.specs.Observations.{IsBroken}
-use Rattle.gql_reads.specs.declared.observation.Observation.{Observation}
-use Rattle.gql_verdict.specs.Marks.{AreBroken, AreMarked, AreMarks, IsCompared, IsFragmentCompared, IsMarked, IsShelved, KeepMarks, OnlyMarks}
+use Rattle.gql_verdict.specs.Marks.{AreBroken, AreMarked, IsCompared, IsMarked, IsShelved, KeepMarks, OnlyMarks}
 use Rattle.gql_verdict.specs.Readings.{reader_of, readers}
 use Rattle.gql_verdict.specs.Slots.{IsAt, IsInOrder, verdicts}
 use Rattle.gql_verdict.specs.TouchedFacts.{HoldWhere, touches}
@@ -25,7 +24,7 @@ use Rattle.gql_verdict.specs.declared.slot.Slot.{Slot}
 use Rattle.gql_verdict.specs.declared.slot.Slot.TheVariants.{At, Here}
 use Rattle.gql_verdict.specs.declared.touched.FileEdit.{FileEdit}
 use Rattle.gql_verdict.specs.declared.touched.Touched.{Touched}
-use Rattle.gql_verdict.specs.declared.touched.Touched.TheVariants.{All, File}
+use Rattle.gql_verdict.specs.declared.touched.Touched.TheVariants.{File}
 use Rattle.gql_verdict.proofs.Ordered.{kept_at, same_definition, same_verdict, def_at}
 
 -- ---- indices

@@ -1,10 +1,9 @@
 -- Definitions that are picked from a list in file order: no two of them have the same file and offset.
-use Rattle.std.specs.Prelude.{◌≡◌, ◌≢◌, ◌+◌, ◌<◌, ℕ, List, [], ◌∷◌, ◌++◌, length, Contains}
+use Rattle.std.specs.Prelude.{◌≡◌, ◌+◌, List, [], ◌∷◌, ◌++◌, length, Contains}
 use Rattle.std.specs.List.{AllPairs}
 use Rattle.std.proofs.Common.{refl, append-nil, sym, ◌∙◌, subst, inl, inr, arith, get_or, length-append}
 use Rattle.std.proofs.lemmas.List.{get_or_append_left, get_or_push}
-use Rattle.std.proofs.lemmas.List.Elements.{Contains-append_left, Contains-append_right, Contains-push, Contains-push_cases}
-use Rattle.gql_ast.specs.Trees.{id_of}
+use Rattle.std.proofs.lemmas.List.Elements.{Contains-append_left, Contains-push, Contains-push_cases}
 use Rattle.gql_ast.specs.declared.definition.Definition.{Definition}
 use Rattle.gql_facts.specs.ListMembers.{Contains-nil}
 use Rattle.gql_ast.specs.declared.definition.DefinitionId.{DefinitionId}

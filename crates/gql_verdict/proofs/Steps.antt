@@ -1,5 +1,5 @@
 -- One more definition, kept or examined.
-use Rattle.std.proofs.Common.{◌≡◌, ℕ, ◌+◌, ◌<◌, ◌⊎◌, inl, inr, List, [], ◌∷◌, ◌++◌, length, map, take, drop, get_or, sym, ◌∙◌, ap, subst, refl, Contains, append_assoc, append-nil, IsTrue, ◌↔◌, Bool, true, false, None, MatchBool}
+use Rattle.std.proofs.Common.{◌≡◌, ℕ, ◌+◌, ◌<◌, ◌⊎◌, inl, inr, List, [], ◌∷◌, ◌++◌, length, map, take, drop, get_or, sym, ◌∙◌, ap, subst, refl, Contains, append_assoc, append-nil, Bool, true, false, None}
 use Rattle.std.specs.List.{AllZip}
 use Rattle.std.proofs.lemmas.List.{take-append-drop, map-append}
 use Rattle.std.proofs.lemmas.List.Elements.{Contains-push_cases}
@@ -7,8 +7,6 @@ use Rattle.gql_ast.specs.Trees.{id_of}
 use Rattle.gql_ast.specs.declared.definition.Definition.{Definition}
 use Rattle.gql_ast.specs.declared.definition.DefinitionId.{DefinitionId}
 use Rattle.gql_facts.specs.Worlds.{Facts}
-use Rattle.gql_facts.specs.declared.fact.Fact.{Fact}
-use Rattle.gql_reads.specs.declared.observation.Observation.{Observation}
 use Rattle.gql_facts.specs.ListMembers.{Contains-nil, Contains-here, Contains-cases, either}
 use Rattle.gql_reads.specs.Observations.{Hold, IsBroken}
 use Rattle.gql_verdict.specs.Verdicts.{Judgement}

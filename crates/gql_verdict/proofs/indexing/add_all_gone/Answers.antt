@@ -1,4 +1,4 @@
-use Rattle.std.proofs.Common.{◌≡◌, ◌<◌, ◌+◌, [], Bool, ℕ, false, get_or, length, subst, sym, take, List}
+use Rattle.std.proofs.Common.{◌≡◌, ◌<◌, Bool, ℕ, false, get_or, length, subst, sym, take, List}
 use Rattle.std.proofs.lemmas.List.{get_or_default}
 use Rattle.gql_readers.specs.Changes.{AreNotes}
 use Rattle.gql_readers.specs.Readers.{Reader}

@@ -1,4 +1,4 @@
-use Rattle.std.proofs.Common.{◌≡◌, ◌+◌, [], subst, take, List}
+use Rattle.std.proofs.Common.{[], subst, take, List}
 use Rattle.std.proofs.lemmas.List.{take_all}
 use Rattle.gql_readers.specs.Changes.{AreNotes}
 use Rattle.gql_readers.specs.Readers.{Reader}

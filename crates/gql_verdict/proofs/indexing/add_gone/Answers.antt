@@ -2,7 +2,6 @@ use Rattle.std.proofs.Common.{◌≡◌, ◌++◌, ◌∷◌, [], ◌∙◌, ap,
 use Rattle.gql_ast.specs.Trees.{id_of}
 use Rattle.gql_ast.specs.declared.definition.DefinitionId.{DefinitionId}
 use Rattle.gql_readers.specs.Changes.{AreNotes, IsNew}
-use Rattle.gql_readers.specs.Readers.{Reader}
 use Rattle.gql_reads.specs.declared.observation.Observation.{Observation}
 use Rattle.gql_verdict.proofs.LedTo.{went_one}
 use Rattle.gql_verdict.proofs.indexing.add_gone.Goals as goal

@@ -1,4 +1,4 @@
-use Rattle.std.proofs.Common.{◌≡◌, ap, subst, sym, List, Bool, map}
+use Rattle.std.proofs.Common.{subst, sym, List, Bool, map}
 use Rattle.gql_readers.specs.Changes.{AreNotes}
 use Rattle.gql_readers.specs.Readers.{InReadingOrder}
 use Rattle.gql_verdict.specs.Marks.{gone}

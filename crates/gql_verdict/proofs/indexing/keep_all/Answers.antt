@@ -1,4 +1,4 @@
-use Rattle.std.proofs.Common.{◌≡◌, ◌∙◌, [], ◌∷◌, ◌++◌, ◌+◌, subst, sym, take, List, length, ℕ, refl}
+use Rattle.std.proofs.Common.{◌∙◌, [], ◌∷◌, ◌++◌, subst, sym, take, List, length, ℕ, refl}
 use Rattle.std.proofs.lemmas.List.{take_all}
 use Rattle.gql_verdict.specs.Marks.{AreKept}
 use Rattle.gql_verdict.specs.declared.slot.Slot.{Slot}

@@ -1,4 +1,4 @@
-use Rattle.std.proofs.Common.{◌≡◌, ◌∙◌, [], ap, refl, subst, sym, length, List, Bool, ℕ}
+use Rattle.std.proofs.Common.{◌∙◌, [], ap, refl, subst, sym, length, List, Bool, ℕ}
 use Rattle.std.proofs.lemmas.List.{with_items_is}
 use Rattle.gql_facts.specs.ListMembers.{Contains-nil}
 use Rattle.gql_verdict.specs.Marks.{AreKept, IsMarked}

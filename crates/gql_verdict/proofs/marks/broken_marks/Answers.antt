@@ -1,4 +1,4 @@
-use Rattle.std.proofs.Common.{◌≡◌, ◌∙◌, subst, sym, List, Bool}
+use Rattle.std.proofs.Common.{◌∙◌, subst, sym, List, Bool}
 use Rattle.std.proofs.lemmas.List.{with_items_is}
 use Rattle.gql_verdict.specs.Marks.{AreMarks}
 use Rattle.gql_verdict.proofs.marks.broken_marks.Goals as goal

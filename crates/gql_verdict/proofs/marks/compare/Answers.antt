@@ -1,4 +1,4 @@
-use Rattle.std.proofs.Common.{◌≡◌, inr, subst, List}
+use Rattle.std.proofs.Common.{inr, subst, List}
 use Rattle.gql_ast.specs.declared.definition.DefinitionId.{DefinitionId}
 use Rattle.gql_verdict.specs.Marks.{AreMarked, OnlyMarks}
 use Rattle.gql_verdict.proofs.Marking.{broken_more}

@@ -1,4 +1,4 @@
-use Rattle.std.proofs.Common.{◌≡◌, ◌∙◌, inl, inr, subst, sym, List, Contains}
+use Rattle.std.proofs.Common.{◌∙◌, inl, inr, subst, sym, List, Contains}
 use Rattle.std.proofs.lemmas.List.{take_all}
 use Rattle.gql_facts.specs.Worlds.{Facts}
 use Rattle.gql_readers.specs.Indexes.{Reading}

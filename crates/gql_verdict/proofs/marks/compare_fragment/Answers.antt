@@ -1,4 +1,4 @@
-use Rattle.std.proofs.Common.{◌≡◌, ◌∙◌, ap, subst, sym, List, Bool, Contains}
+use Rattle.std.proofs.Common.{◌≡◌, ◌∙◌, ap, subst, sym, List, Bool}
 use Rattle.gql_facts.specs.declared.key.Key.{Key}
 use Rattle.gql_facts.specs.declared.key.Key.TheVariants as key
 use Rattle.gql_verdict.specs.Marks.{IsCompared}

@@ -1,4 +1,4 @@
-use Rattle.std.proofs.Common.{◌≡◌, ◌∙◌, ℕ, inl, inr, subst, sym, List, bytes_eq, is_some, Contains}
+use Rattle.std.proofs.Common.{◌∙◌, ℕ, inl, inr, subst, sym, List, bytes_eq, is_some, Contains}
 use Rattle.std.proofs.lemmas.List.{take_all}
 use Rattle.std.specs.HashMap as hash
 use Rattle.gql_facts.specs.Worlds.{Facts}

@@ -1,4 +1,4 @@
-use Rattle.std.proofs.Common.{◌<◌, length, subst, sym}
+use Rattle.std.proofs.Common.{◌<◌, subst, sym}
 use Rattle.gql_verdict.proofs.Marking.{marked_here, marked_none, only_here}
 use Rattle.gql_verdict.proofs.marks.mark.Goals as goal
 

@@ -1,4 +1,4 @@
-use Rattle.std.proofs.Common.{◌≡◌, ◌∷◌, [], ◌+◌, inl, inr, take, subst, sym, List, Contains, arith}
+use Rattle.std.proofs.Common.{◌∷◌, [], ◌+◌, inl, inr, take, subst, sym, List, Contains, arith}
 use Rattle.std.proofs.lemmas.List.{take_all}
 use Rattle.gql_ast.specs.Trees.{id_of}
 use Rattle.gql_ast.specs.declared.definition.DefinitionId.{DefinitionId}

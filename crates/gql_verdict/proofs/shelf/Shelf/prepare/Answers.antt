@@ -3,12 +3,10 @@ use Rattle.std.specs.List.{AllZip}
 use Rattle.gql_facts.specs.Worlds.{Facts}
 use Rattle.gql_readers.specs.Indexes.{IsIndexOf}
 use Rattle.gql_verdict.specs.Definitions.{all_definitions}
-use Rattle.gql_verdict.specs.Marks.{AreMarks}
 use Rattle.gql_verdict.specs.Plans.{IsStep}
 use Rattle.gql_verdict.specs.Readings.{readers}
 use Rattle.gql_verdict.specs.Shelves.{IsWork}
 use Rattle.gql_verdict.specs.Slots.{resolve, verdicts}
-use Rattle.gql_verdict.specs.TouchedFacts.{IsKnown}
 use Rattle.gql_verdict.specs.Verdicts.{Judgement}
 use Rattle.gql_verdict.specs.declared.slot.Slot.{Slot}
 use Rattle.gql_verdict.specs.declared.slot.Slot.TheVariants.{Here}
@@ -57,3 +55,6 @@ returns-clause-planned g c =
       index = subst (λ (ss : List Slot). IsIndexOf c.in_ok-index.index (readers (verdicts (map (resolve ss) c.in_ok-steps.steps.items)))) kept
           (subst (λ (ss : List Slot). IsIndexOf c.in_ok-index.index (readers (verdicts (map (resolve c.as_slice-kept.result.now) ss)))) c.as_slice-2.ensures.value c.in_ok-index.ensures);
     }
+
+pub plan-requires-clause-holds : goal.plan-requires-clause-holds
+plan-requires-clause-holds g c = c.new-shared.ensures (g.W.World.facts c.broken_marks.new.world)

@@ -1,4 +1,4 @@
-use Rattle.std.proofs.Common.{◌≡◌, ◌∙◌, ap}
+use Rattle.std.proofs.Common.{◌∙◌, ap}
 use Rattle.gql_verdict.specs.Readings.{readers}
 use Rattle.gql_verdict.specs.Shelves.{readers_of}
 use Rattle.gql_verdict.specs.Slots.{verdicts}
