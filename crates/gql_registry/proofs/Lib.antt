@@ -10,6 +10,5 @@ pub mod OneEdit
 pub mod OneReport
 pub mod PlacedFiles
 pub mod Reports
-mod Loaded
 pub mod Working
 pub mod SameSchema

@@ -5,7 +5,6 @@ pub mod Keeping
 pub mod State
 pub mod Edits
 pub mod Works
-pub mod Loading
 pub mod Calls
 pub mod Calling
 pub mod Prepared

@@ -7,14 +7,10 @@ mod change;
 mod index;
 mod kept;
 pub mod laws;
-mod loading;
-mod reading;
 mod refusal;
 mod registry;
 mod report;
 mod sides;
 
-pub use loading::{NewFile, PutFault};
-pub use reading::{MAX_FILE_BYTES, MAX_FILES};
 pub use refusal::Refusal;
-pub use registry::{Edited, Prepared, Registry, Reply};
+pub use registry::{Edited, MAX_FILE_BYTES, MAX_FILES, Prepared, Registry, Reply};

@@ -1,21 +1,30 @@
 //! The registry: its edits, and runs of stored operations.
-ghost use Rattle.std.specs.Prelude.{◌≡◌, ◌<◌, ℕ, Option};
+ghost use Rattle.std.specs.Prelude.{◌≡◌, ◌||◌, ◌<◌, ℕ, Option, IfErr, IfOk, IsUtf8, is_some, nat_lt, length};
 ghost use Rattle.std.specs.Option.{option_copied};
+ghost use Rattle.gql_ast.specs.FileMaps.{file_named};
+ghost use Rattle.gql_bodies.specs.DataBodies.{IsDataText};
+ghost use Rattle.gql_registry.specs.Checks.{IsBadData, IsRead, IsUnread};
 ghost use Rattle.serde_json.specs.View.{view};
 
 use crate::calling::Ran;
 use crate::change::Change;
 use crate::kept::Kept;
-use crate::loading::{NewFile, PutFault, load};
-use crate::reading::{has_room, read_data, read_file};
 use crate::refusal::Refusal;
-use crate::sides::files_on;
-use gql_ast::{Fault, FileName, FileSide, Files};
+use crate::sides::{files_on, parse_on};
+use gql_ast::{Document, Fault, FileMap, FileName, FileSide, Shared};
+use gql_bodies::{DataFault, data_in};
 use gql_parse_sdl::{one_answer, one_document_answer};
 use gql_stored::{Additions, StoredData};
-use gql_verdict::{Meter, Shelf, Touched};
+use gql_verdict::{Meter, Shelf};
 use serde_json::{Map, Value};
 use std::alloc::{AllocError, Global};
+use std::str;
+
+/// The greatest number of bytes of a file.
+pub const MAX_FILE_BYTES: usize = 65_536;
+
+/// How many files of a kind there may be.
+pub const MAX_FILES: usize = 256;
 
 /// The answer to an accepted edit: the new revision, and how many faults the report has now.
 #[derive(Clone, Copy, Debug, PartialEq, Eq)]
@@ -68,8 +77,50 @@ impl Drop for Registry {
     }
 }
 
+/// Whether a file of that name has room.
+fn has_room(files: &FileMap<Shared<Document>>, name: &FileName) -> bool
+    ensures { result ≡ (is_some (file_named files.now name.now) || nat_lt (length files.now) 256) }
+{
+    files.has(name) || files.len() < MAX_FILES
+}
+
+/// Reads bytes as a file of a side. The refusals are 203, 202 and 201, in this order.
+fn read_file(
+    alloc: Global,
+    side: FileSide,
+    name: &FileName,
+    bytes: &[u8],
+) -> Result<Document, Refusal>
+    ensures read { IfOk result (IsRead side name.now bytes.now) }
+    ensures err { IfErr result (IsUnread side name.now bytes.now) }
+{
+    if bytes.len() > MAX_FILE_BYTES {
+        return Err(Refusal::TooLong);
+    }
+    let Ok(text) = str::from_utf8(bytes) else {
+        return Err(Refusal::NotText);
+    };
+    let document = parse_on(alloc, side, name.copy(), text)?;
+    Ok(document)
+}
+
+/// Reads bytes as data. The refusals are 202 and 207, in this order.
+fn read_data(alloc: Global, bytes: &[u8]) -> Result<Value, Refusal>
+    ensures read { IfOk result (λ v. IsUtf8 bytes.now × IsDataText bytes.now (view v)) }
+    ensures err { IfErr result (IsBadData bytes.now) }
+{
+    let Ok(text) = str::from_utf8(bytes) else {
+        return Err(Refusal::NotText);
+    };
+    match data_in(alloc, text) {
+        Ok(data) => Ok(data),
+        Err(DataFault::Refused) => Err(Refusal::BadData),
+        Err(DataFault::Memory) => Err(Refusal::Memory),
+    }
+}
+
 impl Registry {
-    ghost use Rattle.std.specs.Prelude.{◌≡◌, ◌+◌, ◌<◌, IfErr, IfOk, OnErr, OnOk, length, map};
+    ghost use Rattle.std.specs.Prelude.{◌≡◌, ◌+◌, ◌<◌, IfErr, IfOk, OnErr, OnOk, length};
     ghost use Rattle.gql_ast.specs.declared.fault.FileSide.TheVariants as side;
     ghost use Rattle.gql_registry.specs.Checks.{IsInTime};
     ghost use Rattle.gql_registry.specs.Edits.{Edit, IsFirstRefusal, Makes, Reports};
@@ -78,7 +129,6 @@ impl Registry {
     ghost use Rattle.gql_registry.specs.Prepared.{IsPreparedFor, added_by, answer_of, body_of, prepared_of};
     ghost use Rattle.gql_registry.specs.Changes.{IsChangeBy, IsChangeOf, IsRefusedBy};
     ghost use Rattle.gql_registry.specs.Keeping.{IsShelfOf, IsWorkOn};
-    ghost use Rattle.gql_registry.specs.Loading.{IsIdle, MakesAll, put_of};
     ghost use Rattle.gql_registry.specs.Report as spec;
     ghost use Rattle.gql_registry.specs.State.{state_of, shelf_of, empty, next, with_effects};
     ghost use Rattle.gql_registry.specs.Works.{Works};
@@ -102,13 +152,6 @@ impl Registry {
         ensures { result ≡ (state_of self.now).revision }
     {
         self.revision
-    }
-
-    /// The files that are present.
-    pub fn files(&self) -> &Files
-        ensures { result.now ≡ (state_of self.now).files }
-    {
-        self.kept.files()
     }
 
     /// The verdicts, one for each definition of the document files that are present. Each holds.
@@ -328,31 +371,6 @@ impl Registry {
             meter.old meter.new }
     {
         self.remove(FileSide::Documents, name, expected, meter)
-    }
-
-    /// Puts files at once, and returns what the last edit returns where they are put one after the
-    /// other: the revision then, and how many faults the report has. The schema, the verdicts and
-    /// the report are made once for all of them. If a file is refused, none is put, and the fault
-    /// says which one; the refusals of each, in this order: 212, 203, 202, 201 and 205.
-    #[tactic(none)]
-    pub fn put_all(&mut self, files: &[NewFile<'_>], meter: &mut Meter) -> Result<Edited, PutFault>
-        ensures makes { MakesAll (state_of self.old) (map put_of files.now) result
-            (state_of self.new) }
-        ensures shelf { OnErr result (shelf_of self.new ≡ shelf_of self.old) }
-        ensures work { IfOk result (λ _. IsWorkOn (state_of self.new).files (shelf_of self.old)
-            meter.old meter.new) }
-        ensures idle { IfErr result (λ fault. IsIdle fault meter.old meter.new) }
-    {
-        let loaded = load(self.alloc, self.kept.files(), self.revision, files)?;
-        let revision = loaded.revision;
-        let change = Change {
-            files: loaded.files,
-            touched: Touched::All,
-            schema: None,
-        };
-        let faults = self.kept.take(self.alloc, change, meter)?;
-        self.revision = revision;
-        Ok(Edited { revision, faults })
     }
 
     /// Puts bytes as the data that operations are executed on, in place of the data before, and
