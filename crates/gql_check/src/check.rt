@@ -1,101 +1,15 @@
 //! A check of the files of a folder.
 
-use crate::affected::{Against, against_each, definitions_of};
-use crate::fault::{CheckFault, file_fault, put_fault};
+use crate::affected::{Against, against_each, index_of};
+use crate::fault::CheckFault;
 use crate::places::{Places, owner_id};
-use gql_ast::{Definition, DefinitionId, Fault, FilePlace, FileSide, Operation, Text, Tree};
+use crate::reading::{read_data, read_files};
+use crate::report::{Report, definitions_of, report_of};
+use gql_ast::{Definition, Fault, FilePlace, FileSide, Operation, Text, Tree};
 use gql_findings::{Affected, Finding, Findings, OperationAt, Owner, OwnerAt, Source};
-use gql_folder::{Folder, GivenFile, NamedFile, read_folder};
-use gql_registry::{NewFile, Registry};
-use gql_verdict::Meter;
+use gql_folder::{GivenFile, read_folder};
 use std::alloc::{AllocError, Global};
 use std::str;
-
-/// The registry of files, and where its files are among those given.
-#[derive(Drop)]
-pub struct Checked {
-    pub registry: Registry,
-    pub folder: Folder,
-}
-
-/// Adds the files of a side to those that are put, and their indices.
-fn add_new<'f>(
-    files: &'f [GivenFile],
-    side: FileSide,
-    named: &[NamedFile],
-    new: &mut Vec<NewFile<'f>>,
-    indices: &mut Vec<usize>,
-) -> Result<(), AllocError> {
-    for file in named {
-        if let Some(given) = files.get(file.at) {
-            new.push(NewFile {
-                side,
-                name: file.name.copy(),
-                bytes: given.bytes.as_slice(),
-            })?;
-            indices.push(file.at)?;
-        }
-    }
-    Ok(())
-}
-
-/// Puts the files of a folder, all at once.
-fn put_files(
-    alloc: Global,
-    registry: &mut Registry,
-    folder: &Folder,
-    files: &[GivenFile],
-    meter: &mut Meter,
-) -> Result<(), CheckFault> {
-    let mut new = Vec::new(alloc);
-    let mut indices = Vec::new(alloc);
-    let schema = folder.schema.as_slice();
-    let documents = folder.documents.as_slice();
-    add_new(files, FileSide::Schema, schema, &mut new, &mut indices)?;
-    add_new(
-        files,
-        FileSide::Documents,
-        documents,
-        &mut new,
-        &mut indices,
-    )?;
-    match registry.put_all(new.as_slice(), meter) {
-        Ok(_) => Ok(()),
-        Err(fault) => Err(put_fault(indices.as_slice(), fault)),
-    }
-}
-
-/// Puts the data of a folder, if it has some.
-fn put_data(
-    registry: &mut Registry,
-    folder: &Folder,
-    files: &[GivenFile],
-    meter: &mut Meter,
-) -> Result<(), CheckFault> {
-    let Some(at) = folder.data else {
-        return Ok(());
-    };
-    let Some(given) = files.get(at) else {
-        return Ok(());
-    };
-    match registry.put_data(given.bytes.as_slice(), None, meter) {
-        Ok(_) => Ok(()),
-        Err(refusal) => Err(file_fault(at, refusal)),
-    }
-}
-
-/// The registry of these files.
-pub fn registry_of(alloc: Global, files: &[GivenFile]) -> Result<Checked, CheckFault> {
-    let folder = read_folder(alloc, files)?;
-    if folder.schema.is_empty() && folder.documents.is_empty() && folder.data.is_none() {
-        return Err(CheckFault::Empty);
-    }
-    let mut registry = Registry::new(alloc);
-    let mut meter = Meter::new(alloc);
-    put_files(alloc, &mut registry, &folder, files, &mut meter)?;
-    put_data(&mut registry, &folder, files, &mut meter)?;
-    Ok(Checked { registry, folder })
-}
 
 /// The name of an operation, if it has one.
 fn name_of(operation: &Operation) -> Result<Option<Text>, AllocError> {
@@ -131,17 +45,19 @@ fn place_of(definition: &Definition) -> FilePlace {
 
 /// The definition that owns a fault, and where it begins.
 fn owner_at(
-    registry: &Registry,
+    definitions: &[&Definition],
     places: &Places,
     fault: &Fault,
 ) -> Result<Option<OwnerAt>, AllocError> {
     let Some(id) = owner_id(fault) else {
         return Ok(None);
     };
-    let Some(verdict) = registry.shelf().get(&id) else {
+    let Some(at) = index_of(definitions, &id) else {
         return Ok(None);
     };
-    let definition = verdict.def();
+    let Some(definition) = definitions.get(at) else {
+        return Ok(None);
+    };
     match owner_of(definition)? {
         Some(owner) => Ok(Some(OwnerAt {
             owner,
@@ -154,7 +70,7 @@ fn owner_at(
 /// The faults of a report.
 fn findings_of(
     alloc: Global,
-    registry: &Registry,
+    definitions: &[&Definition],
     places: &Places,
     faults: &[Fault],
 ) -> Result<Vec<Finding>, AllocError> {
@@ -168,7 +84,7 @@ fn findings_of(
             rule: fault.rule,
             about: fault.about.copy()?,
             spots,
-            owner: owner_at(registry, places, fault)?,
+            owner: owner_at(definitions, places, fault)?,
         })?;
     }
     Ok(findings)
@@ -223,34 +139,47 @@ fn sources_of(alloc: Global, folder: &str, files: &[GivenFile]) -> Result<Vec<So
     Ok(sources)
 }
 
-/// Whether a report has faults of the schema, which have no owner.
-fn is_schema_faulty(faults: &[Fault]) -> bool {
-    faults.iter().any(|fault| fault.owner.is_none())
-}
-
-/// What a check of these files of a folder finds.
-pub fn check_files(
+/// What is found in files, by their report.
+fn found_in(
     alloc: Global,
-    folder: &str,
-    files: &[GivenFile],
-) -> Result<Findings, CheckFault> {
-    let checked = registry_of(alloc, files)?;
-    let registry = &checked.registry;
-    let places = Places::new(alloc, &checked.folder)?;
-    let faults = registry.report()?;
-    let definitions = definitions_of(alloc, registry)?;
-    let against = against_each(alloc, registry, definitions.as_slice(), faults.as_slice())?;
+    definitions: &[&Definition],
+    places: &Places,
+    report: &Report,
+    sources: Vec<Source>,
+) -> Result<Findings, AllocError> {
+    let faults = report.faults.as_slice();
+    let against = against_each(alloc, definitions, report.verdicts.as_slice(), faults)?;
     let mut operations = Vec::new(alloc);
     let mut affected = Vec::new(alloc);
     for (definition, against) in definitions.iter().zip(against.iter()) {
-        add_operation(&places, definition, against, &mut operations, &mut affected)?;
+        add_operation(places, definition, against, &mut operations, &mut affected)?;
     }
-    let findings = findings_of(alloc, registry, &places, faults.as_slice())?;
+    let findings = findings_of(alloc, definitions, places, faults)?;
     Ok(Findings {
+        sources,
         findings,
         operations,
         affected,
-        schema_is_faulty: is_schema_faulty(faults.as_slice()),
-        sources: sources_of(alloc, folder, files)?,
+        schema_is_faulty: report.schema_is_faulty,
     })
+}
+
+/// What a check of these files of a folder finds: what a registry that has just these files reports.
+pub fn check_files(
+    alloc: Global,
+    folder: &str,
+    given: &[GivenFile],
+) -> Result<Findings, CheckFault> {
+    let named = read_folder(alloc, given)?;
+    if named.schema.is_empty() && named.documents.is_empty() && named.data.is_none() {
+        return Err(CheckFault::Empty);
+    }
+    let files = read_files(alloc, &named, given)?;
+    read_data(alloc, &named, given)?;
+    let places = Places::new(alloc, &named)?;
+    let definitions = definitions_of(alloc, &files)?;
+    let report = report_of(alloc, &files, definitions.as_slice())?;
+    let sources = sources_of(alloc, folder, given)?;
+    let found = found_in(alloc, definitions.as_slice(), &places, &report, sources)?;
+    Ok(found)
 }

@@ -3,7 +3,6 @@
 use gql_ast::FileSide;
 use gql_folder::FolderFault;
 use gql_grammar::SyntaxRefusal;
-use gql_registry::{PutFault, Refusal};
 use gql_text::Place;
 use std::alloc::{AllocError, AllocFailed};
 use thiserror::Error;
@@ -88,39 +87,12 @@ fn syntax_reason(number: SyntaxRefusal) -> &'static str {
     }
 }
 
-/// The fault of a file that a registry refuses.
-pub fn file_fault(file: usize, refusal: Refusal) -> CheckFault {
-    let (number, reason) = match refusal {
-        Refusal::Memory => return CheckFault::Memory,
-        Refusal::Syntax { number, place } => {
-            return CheckFault::Refused(FileFault {
-                file,
-                place: Some(place),
-                number: 201,
-                reason: syntax_reason(number),
-            });
-        }
-        Refusal::NotText => (202, "the file is not UTF-8"),
-        Refusal::TooLong => (203, "the file has more than 65,536 bytes"),
-        Refusal::FilesFull => (205, "there are more than 256 files of this kind"),
-        Refusal::BadData => (207, "data is not accepted"),
-        _ => (212, "the registry takes no more edits"),
-    };
+/// The fault of a file that cannot be parsed.
+pub fn syntax_fault(file: usize, number: SyntaxRefusal, place: Place) -> CheckFault {
     CheckFault::Refused(FileFault {
         file,
-        place: None,
-        number,
-        reason,
+        place: Some(place),
+        number: 201,
+        reason: syntax_reason(number),
     })
-}
-
-/// The fault of files that a registry refuses; the index of each is that of the file given.
-pub fn put_fault(files: &[usize], fault: PutFault) -> CheckFault {
-    match fault {
-        PutFault::Memory => CheckFault::Memory,
-        PutFault::Refused { at, refusal } => {
-            let file = files.get(at).copied().unwrap_or(0);
-            file_fault(file, refusal)
-        }
-    }
 }

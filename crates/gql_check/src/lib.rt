@@ -1,12 +1,14 @@
-//! Checks the files of a folder: all at once, as a registry that they are put into.
+//! Checks the files of a folder, all at once, as a registry that has just these files would.
 #![tactic(auto)]
 
 mod affected;
 mod check;
 mod fault;
 mod places;
+mod reading;
 mod refusal_text;
+mod report;
 
-pub use check::{Checked, check_files, registry_of};
+pub use check::check_files;
 pub use fault::{CheckFault, FileFault};
 pub use refusal_text::{refusal_annotation, refusal_text};
