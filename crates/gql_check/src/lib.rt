@@ -6,9 +6,9 @@ mod check;
 mod fault;
 mod places;
 mod reading;
-mod refusal_text;
 mod report;
+mod words;
 
 pub use check::check_files;
 pub use fault::{CheckFault, FileFault};
-pub use refusal_text::{refusal_annotation, refusal_text};
+pub use words::{refusal_annotation, refusal_text};
