@@ -219,8 +219,9 @@ fn measure_case(rt: &HostRuntime, facts: &SchemaFacts, case: Case) -> Result<()>
         return Ok(());
     };
     let walk = walk_reads(rt.alloc(), &mut world, operation)?;
+    let members = walk.members.as_slice();
     let start = Instant::now(rt)?;
-    let faults = merge_faults(rt.alloc(), &mut world, operation, walk.members.as_slice())?;
+    let faults = merge_faults(rt.alloc(), &mut world, operation, members)?;
     let taken = micros(start.elapsed(rt)?);
     let count = case.count;
     let title = title(case.form);

@@ -21,10 +21,10 @@ pub fn rendered(alloc: Global, check: &Check<'_>, format: &str) -> Option<String
 }
 
 /// The check in a format, against a base if one is given.
-pub fn rendered_against(
+pub fn rendered_against<'c>(
     alloc: Global,
-    now: &Findings,
-    base: &Option<Findings>,
+    now: &'c Findings,
+    base: &'c Option<Findings>,
     format: &str,
 ) -> Option<String> {
     let Some(base) = base else {
@@ -62,14 +62,13 @@ fn numbers(alloc: Global, numbers: &[usize]) -> Result<String, AllocError> {
 /// healed.
 pub fn changes(alloc: Global, now: &Findings, base: &Findings, which: &str) -> Option<String> {
     let comparison = compare(alloc, now, base).ok()?;
-    let places = match which {
-        "brought" => comparison.brought.as_slice(),
-        "mended" => comparison.mended.as_slice(),
-        "broken" => comparison.broken.as_slice(),
-        "healed" => comparison.healed.as_slice(),
-        _ => return None,
-    };
-    numbers(alloc, places).ok()
+    match which {
+        "brought" => numbers(alloc, comparison.brought.as_slice()).ok(),
+        "mended" => numbers(alloc, comparison.mended.as_slice()).ok(),
+        "broken" => numbers(alloc, comparison.broken.as_slice()).ok(),
+        "healed" => numbers(alloc, comparison.healed.as_slice()).ok(),
+        _ => None,
+    }
 }
 
 /// A cause, as `V04 name: 0 2`.

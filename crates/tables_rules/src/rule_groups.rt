@@ -25,7 +25,9 @@ fn faults_by(
     rules: Rules,
     definition: &Definition,
 ) -> Option<Vec<Fault>> {
-    let walk = walk_reads(alloc, world, definition).ok()?;
+    let Ok(walk) = walk_reads(alloc, world, definition) else {
+        return None;
+    };
     let members = walk.members.as_slice();
     match rules {
         Rules::Local => local_faults(alloc, world, definition, members).ok(),
