@@ -191,11 +191,8 @@ fn make_all(
     edits: &[Edit],
     progress: &mut Progress,
 ) -> Result<(), Failure> {
-    let mut at = 0;
-    while at < edits.len() {
-        let end = at.saturating_add(BATCH).min(edits.len());
-        make_batch(rt, connection, options, pushed, &edits[at..end], progress)?;
-        at = end;
+    for batch in edits.chunks(BATCH) {
+        make_batch(rt, connection, options, pushed, batch, progress)?;
     }
     Ok(())
 }
