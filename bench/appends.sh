@@ -10,4 +10,5 @@ here=$(cd "$(dirname "$0")" && pwd)
 command -v python3 > /dev/null || { echo "appends.sh needs python3" >&2; exit 2; }
 program=${GQLREG:-$("$here/../tools/program.sh" gqlreg)}
 [ -x "$program" ] || { echo "no program gqlreg: $program" >&2; exit 2; }
+echo "mutations add to a list, for some ten seconds" >&2
 exec python3 "$here/appends.py" "${1:-50000}" "$program" ${BEFORE:+"$BEFORE"}

@@ -10,4 +10,5 @@ here=$(cd "$(dirname "$0")" && pwd)
 command -v python3 > /dev/null || { echo "connections.sh needs python3" >&2; exit 2; }
 program=${GQLREG:-$("$here/../tools/program.sh" gqlreg)}
 [ -x "$program" ] || { echo "no program gqlreg: $program" >&2; exit 2; }
+echo "connections are tried, for some five seconds" >&2
 exec python3 "$here/connections.py" "$program"

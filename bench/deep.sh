@@ -13,4 +13,5 @@ command -v python3 > /dev/null || { echo "deep.sh needs python3" >&2; exit 2; }
 program=${GQLREG:-$("$here/../tools/program.sh" gqlreg)}
 [ -x "$program" ] || { echo "no program gqlreg: $program" >&2; exit 2; }
 ulimit -s 8192
+echo "deep data are tried: a minute or two, and for fragments the square of the levels that they read" >&2
 exec python3 "$here/deep.py" "${1:-100000}" "${2:-100000}" "$program"

@@ -8,6 +8,7 @@ GQLREG=${GQLREG:-$("$here/../tools/program.sh" gqlreg)}
 place=$(mktemp -d)
 server=
 trap '[ -z "$server" ] || kill "$server" 2> /dev/null; rm -rf "$place"' EXIT
+echo "checks and pushes are timed, for some ten seconds" >&2
 python3 "$here/folder.py" "$place"
 port=$((20000 + $$ % 20000))
 

@@ -17,4 +17,5 @@ here=$(cd "$(dirname "$0")" && pwd)
 command -v python3 > /dev/null || { echo "service.sh needs python3" >&2; exit 2; }
 program=${GQLREG:-$("$here/../tools/program.sh" gqlreg)}
 [ -x "$program" ] || { echo "no program gqlreg: $program" >&2; exit 2; }
+echo "the service is measured, for a minute or two; a line for each figure" >&2
 exec python3 "$here/service.py" "$program" "$@"

@@ -10,6 +10,7 @@ here=$(cd "$(dirname "$0")" && pwd)
 command -v python3 > /dev/null || { echo "swollen.sh needs python3" >&2; exit 2; }
 [ -x /usr/bin/time ] || { echo "swollen.sh needs GNU time, at /usr/bin/time" >&2; exit 2; }
 [ $# -gt 0 ] || set -- "$("$here/../tools/program.sh" gqlreg)"
+echo "swollen input is tried, for a minute for each program; a line for each kind" >&2
 work=$(mktemp -d)
 trap 'rm -rf "$work"' EXIT
 while read -r kind count; do

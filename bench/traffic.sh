@@ -16,4 +16,5 @@ here=$(cd "$(dirname "$0")" && pwd)
 command -v python3 > /dev/null || { echo "traffic.sh needs python3" >&2; exit 2; }
 program=${GQLREG:-$("$here/../tools/program.sh" gqlreg)}
 [ -x "$program" ] || { echo "no program gqlreg: $program" >&2; exit 2; }
+echo "traffic begins, for a few minutes, at most ${2:-900} seconds" >&2
 exec python3 "$here/traffic.py" "$program" "${1:-36000}" "${2:-900}" "${SEED:-1}"

@@ -19,6 +19,7 @@ if [ "${1:-}" = --changed ]; then
 else
     crates=${*:-$(for folder in edits/*/; do basename "$folder"; done)}
 fi
+echo "wrong bodies are tried in a copy, for one to twelve minutes a crate:$(echo " $crates" | tr "\n" " ")" >&2
 copy=$(mktemp -d)
 trap 'rm -rf "$copy"' EXIT
 trap 'exit 1' INT TERM

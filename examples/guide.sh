@@ -14,6 +14,7 @@ write=0
 port=${1:-8080}
 program=${GQLREG:-$("$top/tools/program.sh" gqlreg)}
 [ -x "$program" ] || { echo "no program gqlreg: $program" >&2; exit 2; }
+echo "the commands of docs/GUIDE.md are run, for some twenty seconds" >&2
 room=$(mktemp -d)
 server=
 trap '[ -z "$server" ] || kill "$server" 2> /dev/null; rm -rf "$room"' EXIT

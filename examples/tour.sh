@@ -1,7 +1,7 @@
 #!/bin/sh
 # A tour of the registry with curl, against a server on an empty registry: examples/tour.sh [PORT],
 # by default 8080. Start the server in another terminal by examples/serve.sh. The tour prints each
-# request and its answer, and compares what it printed with examples/tour.txt. It makes sixteen
+# request and its answer, and compares what it printed with examples/tour.txt. It makes seventeen
 # connections.
 set -eu
 folder=$(cd "$(dirname "$0")" && pwd)
@@ -46,6 +46,10 @@ type User { id: ID! }'
     ask GET /report
 }
 
+if ! curl -s -o /dev/null "$at/report"; then
+    echo "tour.sh: no server answers at $at: start it in another terminal, by examples/serve.sh" >&2
+    exit 2
+fi
 printed=$(tour)
 printf '%s\n' "$printed"
 if printf '%s\n' "$printed" | cmp -s - "$folder/tour.txt"; then

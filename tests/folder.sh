@@ -1,61 +1,9 @@
 #!/bin/sh
-# Tests of `gqlreg check` and `gqlreg push`: tests/folder.sh. The last line is `N passed, M failed`.
-# GQLREG names the program; else it is that of this repository, which is built without proof if it is
-# not there (tools/program.sh).
-set -u
-LC_ALL=C
-export LC_ALL
+# Tests of `gqlreg check` and `gqlreg push`: tests/folder.sh. They take some ten seconds. The last line
+# is `N passed, M failed`.
 here=$(cd "$(dirname "$0")" && pwd)
-GQLREG=${GQLREG:-$("$here/../tools/program.sh" gqlreg)}
-export GQLREG
-[ -x "$GQLREG" ] || { echo "no program gqlreg: $GQLREG" >&2; exit 2; }
-NO_COLOR=1
-export NO_COLOR
-place=$(mktemp -d)
-server_pid=
-trap '[ -z "$server_pid" ] || kill "$server_pid" 2> /dev/null; rm -rf "$place"' EXIT
-cd "$place" || exit 2
-ln -s "$GQLREG" gqlreg
-gqlreg=$place/gqlreg
-passed=0
-failed=0
+. "$here/common.sh"
 echo "the tests of folders run, in some ten seconds" >&2
-
-# try NAME STATUS COMMAND..: runs a command, whose output has to be that of the standard input
-try() {
-    name=$1 wanted=$2
-    shift 2
-    cat > "$place/expected"
-    "$@" > "$place/printed" 2>&1
-    got=$?
-    if [ "$got" = "$wanted" ] && cmp -s "$place/expected" "$place/printed"; then
-        passed=$((passed + 1))
-    else
-        failed=$((failed + 1))
-        printf '%s: status %s, expected %s\n' "$name" "$got" "$wanted"
-        diff "$place/expected" "$place/printed"
-    fi
-}
-
-# has NAME STATUS PATTERN COMMAND..: runs a command, whose output has to have a line of this pattern
-has() {
-    name=$1 wanted=$2 pattern=$3
-    shift 3
-    "$@" > "$place/printed" 2>&1
-    got=$?
-    cp "$place/printed" "$place/printed-before"
-    if [ "$got" = "$wanted" ] && grep -q -- "$pattern" "$place/printed"; then
-        passed=$((passed + 1))
-    else
-        failed=$((failed + 1))
-        printf '%s: status %s, expected %s and a line %s\n' "$name" "$got" "$wanted" "$pattern"
-        cat "$place/printed"
-    fi
-}
-
-mkdir -p team/schema team/documents
-printf 'type Query { user(id: ID!): User }\ntype User { id: ID! name: String }\n' > team/schema/users.graphql
-printf 'query Profile($id: ID!) {\n  user(id: $id) { id ...Shown }\n}\n\nfragment Shown on User { name }\n' > team/documents/profile.graphql
 
 # ---- the command line
 
@@ -287,6 +235,14 @@ try 'it is written as text' 1 grep '"<&"' page.html < /dev/null
 rm changed/documents/html.graphql
 if command -v python3 > /dev/null 2>&1; then
     "$gqlreg" check changed --base team --format json > page.json
+    "$gqlreg" check changed --base team --format sarif > page.sarif
+    try 'SARIF is SARIF' 0 python3 "$here/sarif.py" page.sarif <<'TEXT'
+1 results, 0 mistakes
+TEXT
+    "$gqlreg" check changed --format sarif > page.sarif
+    try 'SARIF without a base' 0 python3 "$here/sarif.py" page.sarif <<'TEXT'
+1 results, 0 mistakes
+TEXT
     has 'JSON is JSON' 0 '^1 1 0$' python3 -c 'import json; j = json.load(open("page.json")); print(len(j["brought"]), len(j["broken"]), len(j["mended"]))'
 fi
 

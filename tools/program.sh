@@ -56,7 +56,7 @@ fi
 echo "the program $crate is built without proof, in one to three minutes" >&2
 # the tables take seconds however they are optimised, and at level 1 they are built sooner
 case $crate in
-    tables_*) level=1 ;;
+    tables_* | refused_growths) level=1 ;;
     *) level=3 ;;
 esac
 # a source that changes meanwhile is newer than the program

@@ -11,6 +11,9 @@ const MAX_FILE_BYTES: u64 = 65_536;
 /// The greatest number of bytes of the data.
 const MAX_DATA_BYTES: u64 = 262_144;
 
+/// The greatest number of bytes of a manifest.
+const MAX_MANIFEST_BYTES: u64 = 67_108_864;
+
 /// How many folders are entered, and how many files and folders there may be in one.
 const MAX_ENTRIES: usize = 100_000;
 
@@ -149,4 +152,19 @@ pub fn find_files(rt: &HostRuntime, folder: &str) -> Result<Vec<GivenFile>, Disk
     }
     let reason = "has too many folders, or a link that leads back to itself";
     Err(refused(rt.alloc(), folder, reason))
+}
+
+/// The bytes of a manifest of persisted operations.
+pub fn read_manifest(rt: &HostRuntime, path: &str) -> Result<Vec<u8>, DiskFault> {
+    match fs::metadata(rt, path) {
+        Ok(metadata) if metadata.is_dir() => Err(refused(rt.alloc(), path, "is a folder")),
+        Ok(metadata) if metadata.len() > MAX_MANIFEST_BYTES => {
+            Err(refused(rt.alloc(), path, "has more than 64 MiB"))
+        }
+        Ok(_) => match fs::read(rt, path) {
+            Ok(bytes) => Ok(bytes),
+            Err(error) => Err(unread(rt.alloc(), path, &error)),
+        },
+        Err(error) => Err(unread(rt.alloc(), path, &error)),
+    }
 }

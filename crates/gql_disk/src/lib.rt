@@ -5,4 +5,4 @@ mod fault;
 mod find;
 
 pub use fault::DiskFault;
-pub use find::find_files;
+pub use find::{find_files, read_manifest};

@@ -25,6 +25,31 @@ pub enum Edit {
     EmptyData,
 }
 
+impl Resource {
+    /// An equal resource.
+    fn copy(&self) -> Result<Resource, AllocError> {
+        Ok(Resource {
+            target: self.target.clone()?,
+            sum: self.sum.clone()?,
+            file: self.file,
+        })
+    }
+}
+
+impl Edit {
+    /// The target that the edit changes, where the resources of the push are these.
+    pub fn target<'e>(&'e self, resources: &'e [Resource]) -> &'e str {
+        match self {
+            Edit::Put(at) => match resources.get(*at) {
+                Some(resource) => resource.target.as_str(),
+                None => "",
+            },
+            Edit::Remove(target) => target.as_str(),
+            Edit::EmptyData => "data",
+        }
+    }
+}
+
 /// The target of the file at a path below a folder, if it is one of a registry.
 fn target_of(alloc: Global, path: &str) -> Result<Option<String>, AllocError> {
     match role_of(path) {
@@ -92,4 +117,32 @@ pub fn plan(
         }
     }
     Ok(edits)
+}
+
+/// Whether one of these edits changes this target.
+fn is_edited(edits: &[Edit], resources: &[Resource], target: &str) -> bool {
+    edits.iter().any(|edit| edit.target(resources) == target)
+}
+
+/// What is pushed once these edits of a push were made, if `pushed` was pushed before.
+pub fn pushed_after(
+    alloc: Global,
+    resources: &[Resource],
+    pushed: &[Resource],
+    made: &[Edit],
+) -> Result<Vec<Resource>, AllocError> {
+    let mut after = Vec::new(alloc);
+    for before in pushed {
+        if !is_edited(made, resources, before.target.as_str()) {
+            after.push(before.copy()?)?;
+        }
+    }
+    for edit in made {
+        if let Edit::Put(at) = edit {
+            if let Some(resource) = resources.get(*at) {
+                after.push(resource.copy()?)?;
+            }
+        }
+    }
+    Ok(after)
 }

@@ -5,6 +5,7 @@ pub mod FilesByName
 pub mod FirstRefusals
 pub mod HoldsAfter
 pub mod Knowing
+pub mod Loads
 pub mod Mapped
 pub mod OneEdit
 pub mod OneReport

@@ -112,7 +112,7 @@ module _ (one : OneReading) where
       let high : rank q ≤ rank r = y.first r x.fails in
       same_refusal s expected e r q x.fails y.fails (omega arith)
 
-  one_left : (s t u : State) (e : Edit) → Leaves s e t → Leaves s e u → t ≡ u
+  pub one_left : (s t u : State) (e : Edit) → Leaves s e t → Leaves s e u → t ≡ u
   one_left s t u (put side name bytes) x y = x.2 ∙ ap (λ d. next s (with_put side s.files name d)) (one.document side name bytes x.0 y.0 x.1 y.1) ∙ sym y.2
   one_left s t u (remove side name) x y = x ∙ sym y
   one_left s t u (put_data bytes) x y = x.2 ∙ ap (next_data s) (some_same x.0 y.0 (sym x.1.0 ∙ y.1.0)) ∙ sym y.2

@@ -9,6 +9,7 @@ use Rattle.gql_ast.specs.declared.fault.FileSide.{FileSide}
 use Rattle.gql_ast.specs.declared.files.Files.{Files}
 use Rattle.gql_registry.specs.Calls.{Answers, CallOutcome}
 use Rattle.gql_registry.specs.Edits.{Edit, put, remove, EditsFile, Leaves, Makes}
+use Rattle.gql_registry.specs.Loading.{MakesAll}
 use Rattle.gql_registry.specs.Report.{IsReport}
 use Rattle.gql_registry.specs.Sides.{IsFileOn, files_on}
 use Rattle.gql_registry.specs.State.{State}
@@ -32,6 +33,11 @@ abbrev pub OneAnswer : Type 0
 OneAnswer = (files : Files) (stored : Data) (name : Option (List ℕ)) (variables : Data)
     (r q : Result CallOutcome Refusal) → Answers files stored name variables r
     → Answers files stored name variables q → (r ≡ Err Memory → ⊥) → (q ≡ Err Memory → ⊥) → r ≡ q
+
+-- edits that are accepted in turn leave at most one state, so that putting many at once leaves the
+-- one that putting them one by one leaves
+abbrev pub OneLoad : Type 0
+OneLoad = (s t u : State) (edits : List Edit) → MakesAll s edits t → MakesAll s edits u → t ≡ u
 
 -- files have at most one report
 abbrev pub OneReport : Type 0

@@ -5,6 +5,8 @@ pub mod Keeping
 pub mod State
 pub mod Edits
 pub mod Works
+pub mod Loading
+pub mod Working
 pub mod Calls
 pub mod Calling
 pub mod Prepared

@@ -1,5 +1,5 @@
 //! Files, with a verdict on each definition of the document files.
-ghost use Rattle.std.specs.Prelude.{◌≡◌, IfOk, IfSome, OnOk, OnErr};
+ghost use Rattle.std.specs.Prelude.{◌≡◌, ◌↔◌, IfOk, IfSome, IsTrue, OnOk, OnErr};
 ghost use Rattle.std.specs.Option.{option_copied};
 ghost use Rattle.serde_json.specs.View.{view};
 ghost use Rattle.gql_registry.specs.Calls.{Answers};
@@ -9,7 +9,8 @@ ghost use Rattle.gql_registry.specs.Keeping.{AreFactsOf, AreSchemaFaults, IsPlan
 ghost use Rattle.gql_registry.specs.Keeping.{IsIndexOf, IsKnownBefore, IsKnownOf, IsSideOf, IsWorkOn};
 ghost use Rattle.gql_registry.specs.Keeping.{nothing_kept};
 ghost use Rattle.gql_registry.specs.Plans.{IsPlannedFor};
-ghost use Rattle.gql_registry.specs.Report.{IsReport};
+ghost use Rattle.gql_ast.specs.declared.files.Files.{Files as TheFiles};
+ghost use Rattle.gql_registry.specs.Report.{IsReport, IsSound};
 ghost use Rattle.gql_facts.specs.Facts as facts;
 ghost use Rattle.gql_registry.specs.Sides as spec;
 ghost use Rattle.gql_verdict.specs.FileOrder.{AreFilesPlaced};
@@ -152,6 +153,14 @@ fn known_then(
     })
 }
 
+/// Whether a schema with these faults has none.
+fn has_none(faults: &[Fault]) -> bool
+    ensures { (files : TheFiles) → AreSchemaFaults files faults.now
+        → IsTrue result ↔ IsSound files }
+{
+    faults.is_empty()
+}
+
 /// The report of files that are present.
 fn present_report(
     alloc: Global,
@@ -275,6 +284,17 @@ impl Kept {
         let side = schema_side(alloc, &self.files)?;
         let report = present_report(alloc, &self.shelf, side.faults.as_slice(), &self.files)?;
         Ok(report)
+    }
+
+    /// Whether the schema of the files has no faults.
+    pub fn is_sound(&self, alloc: Global) -> Result<bool, AllocError>
+        ensures { IfOk result (λ is. IsTrue is ↔ IsSound self.now.files) }
+    {
+        if let Some(known) = &self.known {
+            return Ok(has_none(known.schema.get().faults.as_slice()));
+        }
+        let side = schema_side(alloc, &self.files)?;
+        Ok(has_none(side.faults.as_slice()))
     }
 
     /// How many faults the report has.

@@ -1,5 +1,5 @@
 //! Laws of the registry's report and edits. The functions do nothing: what they ensure is the law.
-ghost use Rattle.gql_registry.specs.Laws.{HoldsAfter, OneAnswer, OneEdit, OneReport};
+ghost use Rattle.gql_registry.specs.Laws.{HoldsAfter, OneAnswer, OneEdit, OneLoad, OneReport};
 
 /// Files have at most one report. Unless an allocation fails, an edit has at most one answer and
 /// leaves at most one state, and a call has at most one answer.
@@ -12,6 +12,15 @@ pub fn one_outcome()
     gql_parse_sdl::one_document_answer();
     gql_report::laws::one_order();
     gql_exec::laws::one_response();
+}
+
+/// Edits that are accepted in turn leave at most one state: putting many at once leaves the one that
+/// putting them one by one leaves.
+pub fn one_load()
+    ensures { OneLoad }
+{
+    gql_parse_sdl::one_answer();
+    gql_parse_sdl::one_document_answer();
 }
 
 /// After an accepted edit, a name of a side holds the document that was put under it, nothing if

@@ -7,10 +7,15 @@ mod change;
 mod index;
 mod kept;
 pub mod laws;
+mod loading;
+mod present;
+mod reading;
 mod refusal;
 mod registry;
 mod report;
 mod sides;
 
-pub use refusal::Refusal;
-pub use registry::{Edited, MAX_FILE_BYTES, MAX_FILES, Prepared, Registry, Reply};
+pub use loading::{GivenPut, PutRefusal};
+pub use reading::{MAX_FILE_BYTES, MAX_FILES};
+pub use refusal::{Refusal, syntax_message};
+pub use registry::{Edited, Prepared, Registry, Reply};

@@ -1,6 +1,7 @@
 //! Why the registry refuses a call.
 
 ghost use Rattle.std.specs.Prelude.{◌≡◌};
+ghost use Rattle.gql_registry.specs.Refusals as spec;
 ghost use Rattle.gql_registry.specs.Refusals.{refusal_of};
 ghost use Rattle.gql_registry.specs.declared.refusal.Refusal.TheVariants.{Memory};
 
@@ -78,5 +79,21 @@ impl From<SyntaxFault> for Refusal {
             SyntaxFault::At { number, place } => Refusal::Syntax { number, place },
             SyntaxFault::Memory => Refusal::Memory,
         }
+    }
+}
+
+/// Why a text is not a file of its side, in words.
+pub fn syntax_message(number: SyntaxRefusal) -> &'static str
+    ensures { result.now ≡ spec.syntax_message number }
+{
+    match number {
+        SyntaxRefusal::BadCharacter => "syntax: bad character",
+        SyntaxRefusal::BadNumber => "syntax: bad number",
+        SyntaxRefusal::UnfinishedText => "syntax: unfinished text",
+        SyntaxRefusal::BadEscape => "syntax: bad escape",
+        SyntaxRefusal::LoneSurrogate => "syntax: lone surrogate",
+        SyntaxRefusal::TooLong => "syntax: too long",
+        SyntaxRefusal::Unexpected => "syntax: unexpected token",
+        SyntaxRefusal::TooDeep => "syntax: too deep",
     }
 }

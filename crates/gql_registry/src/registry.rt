@@ -1,30 +1,20 @@
 //! The registry: its edits, and runs of stored operations.
-ghost use Rattle.std.specs.Prelude.{◌≡◌, ◌||◌, ◌<◌, ℕ, Option, IfErr, IfOk, IsUtf8, is_some, nat_lt, length};
+ghost use Rattle.std.specs.Prelude.{◌≡◌};
 ghost use Rattle.std.specs.Option.{option_copied};
-ghost use Rattle.gql_ast.specs.FileMaps.{file_named};
-ghost use Rattle.gql_bodies.specs.DataBodies.{IsDataText};
-ghost use Rattle.gql_registry.specs.Checks.{IsBadData, IsRead, IsUnread};
 ghost use Rattle.serde_json.specs.View.{view};
 
 use crate::calling::Ran;
 use crate::change::Change;
 use crate::kept::Kept;
+use crate::reading::{has_room, read_data, read_file};
 use crate::refusal::Refusal;
-use crate::sides::{files_on, parse_on};
-use gql_ast::{Document, Fault, FileMap, FileName, FileSide, Shared};
-use gql_bodies::{DataFault, data_in};
+use crate::sides::files_on;
+use gql_ast::{FileName, FileSide};
 use gql_parse_sdl::{one_answer, one_document_answer};
 use gql_stored::{Additions, StoredData};
-use gql_verdict::{Meter, Shelf};
+use gql_verdict::Meter;
 use serde_json::{Map, Value};
 use std::alloc::{AllocError, Global};
-use std::str;
-
-/// The greatest number of bytes of a file.
-pub const MAX_FILE_BYTES: usize = 65_536;
-
-/// How many files of a kind there may be.
-pub const MAX_FILES: usize = 256;
 
 /// The answer to an accepted edit: the new revision, and how many faults the report has now.
 #[derive(Clone, Copy, Debug, PartialEq, Eq)]
@@ -60,10 +50,10 @@ impl Prepared {
 /// The files that services and clients have put, a verdict on each definition of the document
 /// files, the data that operations are executed on, and how many edits were accepted.
 pub struct Registry {
-    alloc: Global,
-    kept: Kept,
-    stored: StoredData,
-    revision: u64,
+    pub(crate) alloc: Global,
+    pub(crate) kept: Kept,
+    pub(crate) stored: StoredData,
+    pub(crate) revision: u64,
 }
 
 impl Drop for Registry {
@@ -77,48 +67,6 @@ impl Drop for Registry {
     }
 }
 
-/// Whether a file of that name has room.
-fn has_room(files: &FileMap<Shared<Document>>, name: &FileName) -> bool
-    ensures { result ≡ (is_some (file_named files.now name.now) || nat_lt (length files.now) 256) }
-{
-    files.has(name) || files.len() < MAX_FILES
-}
-
-/// Reads bytes as a file of a side. The refusals are 203, 202 and 201, in this order.
-fn read_file(
-    alloc: Global,
-    side: FileSide,
-    name: &FileName,
-    bytes: &[u8],
-) -> Result<Document, Refusal>
-    ensures read { IfOk result (IsRead side name.now bytes.now) }
-    ensures err { IfErr result (IsUnread side name.now bytes.now) }
-{
-    if bytes.len() > MAX_FILE_BYTES {
-        return Err(Refusal::TooLong);
-    }
-    let Ok(text) = str::from_utf8(bytes) else {
-        return Err(Refusal::NotText);
-    };
-    let document = parse_on(alloc, side, name.copy(), text)?;
-    Ok(document)
-}
-
-/// Reads bytes as data. The refusals are 202 and 207, in this order.
-fn read_data(alloc: Global, bytes: &[u8]) -> Result<Value, Refusal>
-    ensures read { IfOk result (λ v. IsUtf8 bytes.now × IsDataText bytes.now (view v)) }
-    ensures err { IfErr result (IsBadData bytes.now) }
-{
-    let Ok(text) = str::from_utf8(bytes) else {
-        return Err(Refusal::NotText);
-    };
-    match data_in(alloc, text) {
-        Ok(data) => Ok(data),
-        Err(DataFault::Refused) => Err(Refusal::BadData),
-        Err(DataFault::Memory) => Err(Refusal::Memory),
-    }
-}
-
 impl Registry {
     ghost use Rattle.std.specs.Prelude.{◌≡◌, ◌+◌, ◌<◌, IfErr, IfOk, OnErr, OnOk, length};
     ghost use Rattle.gql_ast.specs.declared.fault.FileSide.TheVariants as side;
@@ -128,8 +76,7 @@ impl Registry {
     ghost use Rattle.gql_registry.specs.Calls.{Answers, CallResult, effects_in, text_of};
     ghost use Rattle.gql_registry.specs.Prepared.{IsPreparedFor, added_by, answer_of, body_of, prepared_of};
     ghost use Rattle.gql_registry.specs.Changes.{IsChangeBy, IsChangeOf, IsRefusedBy};
-    ghost use Rattle.gql_registry.specs.Keeping.{IsShelfOf, IsWorkOn};
-    ghost use Rattle.gql_registry.specs.Report as spec;
+    ghost use Rattle.gql_registry.specs.Keeping.{IsWorkOn};
     ghost use Rattle.gql_registry.specs.State.{state_of, shelf_of, empty, next, with_effects};
     ghost use Rattle.gql_registry.specs.Works.{Works};
     ghost use Rattle.std.specs.Prelude.{[]};
@@ -152,23 +99,6 @@ impl Registry {
         ensures { result ≡ (state_of self.now).revision }
     {
         self.revision
-    }
-
-    /// The verdicts, one for each definition of the document files that are present. Each holds.
-    pub fn shelf(&self) -> &Shelf
-        ensures shelf { result.now ≡ shelf_of self.now }
-        ensures current { IsShelfOf (state_of self.now).files (shelf_of self.now) }
-    {
-        self.kept.shelf()
-    }
-
-    /// The faults of the files that are present: all of them and no others, each once, by first
-    /// place (none first), rule, second place, owner and text. If the schema has faults, these
-    /// alone are reported.
-    pub fn report(&self) -> Result<Vec<Fault>, AllocError>
-        ensures { IfOk result (λ faults. spec.IsReport (state_of self.now).files faults.items) }
-    {
-        self.kept.report(self.alloc)
     }
 
     /// The revision after the present one, for an edit that expects this revision. The refusals are

@@ -1,5 +1,5 @@
 //! The two sides of files: what is read as a file of a side, and an edit of it.
-ghost use Rattle.std.specs.Prelude.{◌≡◌, ℕ, List, IfErr, IfOk, IfSome};
+ghost use Rattle.std.specs.Prelude.{◌≡◌, ℕ, List, IfErr, IfOk, IfSome, OnOk};
 ghost use Rattle.std.specs.Prelude.{Err};
 ghost use Rattle.gql_grammar.specs.declared.fault.SyntaxFault.TheVariants.{At};
 ghost use Rattle.gql_grammar.specs.declared.fault.SyntaxRefusal.{SyntaxRefusal as TheRefusal};
@@ -42,6 +42,23 @@ pub fn parse_on(
     }
 }
 
+/// Puts a file on a side, in place of any of its name. If an allocation fails, nothing is changed.
+pub fn put_on(
+    alloc: Global,
+    files: &mut Files,
+    side: FileSide,
+    name: FileName,
+    document: Document,
+) -> Result<(), AllocError>
+    ensures { OnOk result (files.new ≡ spec.with_put side files.old name document) }
+{
+    let document = Shared::new(alloc, document)?;
+    match side {
+        FileSide::Schema => files.schema.put(name, document),
+        FileSide::Documents => files.documents.put(name, document),
+    }
+}
+
 /// The files with this one, in place of any of its name.
 pub fn with_put(
     alloc: Global,
@@ -52,12 +69,8 @@ pub fn with_put(
 ) -> Result<Files, AllocError>
     ensures { IfOk result (λ changed. changed ≡ spec.with_put side files.now name document) }
 {
-    let document = Shared::new(alloc, document)?;
     let mut changed = files.copy()?;
-    match side {
-        FileSide::Schema => changed.schema.put(name, document)?,
-        FileSide::Documents => changed.documents.put(name, document)?,
-    }
+    put_on(alloc, &mut changed, side, name, document)?;
     Ok(changed)
 }
 

@@ -2,11 +2,12 @@
 //! function writes in time linear in what it writes, and fails only where memory is out.
 #![tactic(auto)]
 
+pub mod caret;
 pub mod check;
 pub mod escapes;
 mod github;
 mod json_report;
-mod json_write;
+pub mod json_write;
 pub mod phrases;
 pub mod picking;
 mod sarif;

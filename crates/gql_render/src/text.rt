@@ -1,5 +1,6 @@
 //! A check as a compiler prints it, for a terminal.
 
+use crate::caret::write_padding;
 use crate::check::{Against, Check, shown};
 use crate::phrases::{
     hidden, write_affected, write_counts, write_rule, write_sentence, write_spot,
@@ -7,7 +8,6 @@ use crate::phrases::{
 use crate::write::write_text;
 use gql_findings::{Affected, Finding, Findings, Source, Spot, label_at, line_at};
 use std::alloc::{AllocError, Global};
-use unicode_width::UnicodeWidthChar;
 
 /// The bytes that begin and end bold and red text; empty for no colours.
 #[derive(Clone, Copy)]
@@ -31,25 +31,6 @@ fn paint_of(colours: bool) -> Paint {
             plain: "",
         }
     }
-}
-
-/// Writes blanks as wide as a character; a tab stays a tab.
-fn write_blank(out: &mut String, character: char) -> Result<(), AllocError> {
-    if character == '\t' {
-        return write_text(out, "\t");
-    }
-    for _column in 0..character.width().unwrap_or(0) {
-        write_text(out, " ")?;
-    }
-    Ok(())
-}
-
-/// Writes blanks as wide as the characters of a line before a column.
-fn write_padding(out: &mut String, line: &str, column: usize) -> Result<(), AllocError> {
-    for character in line.chars().take(column.saturating_sub(1)) {
-        write_blank(out, character)?;
-    }
-    Ok(())
 }
 
 /// Writes the line of a place, and below it a caret at the place.

@@ -2,7 +2,7 @@ use Rattle.std.proofs.Common.{◌≡◌, rules, refl, subst}
 use Rattle.gql_bodies.specs.DataBodies.{IsDataText}
 use Rattle.serde_json.specs.Data.{Data}
 use Rattle.gql_registry.proofs.FirstRefusals.{first_data_not_text, first_bad_data}
-use Rattle.gql_registry.proofs.registry.read_data.Goals as goal
+use Rattle.gql_registry.proofs.reading.read_data.Goals as goal
 
 pub returns-in_default-clause-err : goal.returns-in_default-clause-err
 returns-in_default-clause-err c = λ s expected t.

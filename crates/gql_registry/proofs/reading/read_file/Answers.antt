@@ -2,7 +2,7 @@ use Rattle.std.proofs.Common.{rules, refl, ap, Err}
 use Rattle.gql_registry.proofs.FirstRefusals.{first_too_long, first_not_text, first_syntax}
 use Rattle.gql_registry.proofs.Working.{err_of}
 use Rattle.gql_registry.specs.Checks.{IsUnread}
-use Rattle.gql_registry.proofs.registry.read_file.Goals as goal
+use Rattle.gql_registry.proofs.reading.read_file.Goals as goal
 
 pub returns-then-bytes-gt-MAX_FILE_BYTES-clause-err : goal.returns-then-bytes-gt-MAX_FILE_BYTES-clause-err
 returns-then-bytes-gt-MAX_FILE_BYTES-clause-err c = λ s expected t.

@@ -1,0 +1,107 @@
+//! An example of a validator over the crates alone: the schema and the document on standard input,
+//! with a line `---` between them, and the faults that the document has by the schema.
+#![tactic(auto)]
+
+use anyhow::Result;
+use gql_ast::{Definition, Document, Fault, FileName, Files, Shared};
+use gql_facts::{Fragments, Present, SchemaFacts, World};
+use gql_grammar::SyntaxFault;
+use gql_parse_sdl::{parse_any, parse_sdl};
+use gql_reads::NoParts;
+use gql_report::in_order;
+use gql_schema_rules::schema_faults;
+use gql_types::assemble;
+use gql_verdict::{Meter, SharedWork, examine, name_faults};
+use std::alloc::{AllocError, Global};
+use std::io;
+
+/// Puts a schema file and a document file.
+fn put_both(
+    alloc: Global,
+    files: &mut Files,
+    schema: (FileName, Document),
+    document: (FileName, Document),
+) -> Result<(), AllocError> {
+    files.schema.put(schema.0, Shared::new(alloc, schema.1)?)?;
+    files
+        .documents
+        .put(document.0, Shared::new(alloc, document.1)?)
+}
+
+/// The files of a schema and of a document.
+fn files_of(alloc: Global, schema: &str, document: &str) -> Result<Files, SyntaxFault> {
+    let mut files = Files::new(alloc);
+    let (Some(name), Some(client)) = (FileName::read("schema"), FileName::read("client")) else {
+        return Ok(files);
+    };
+    let schema = parse_sdl(alloc, name.copy(), schema)?;
+    let document = parse_any(alloc, client.copy(), document)?;
+    match put_both(alloc, &mut files, (name, schema), (client, document)) {
+        Ok(()) => Ok(files),
+        Err(_) => Err(SyntaxFault::Memory),
+    }
+}
+
+/// Adds the faults of a definition.
+fn add_faults<W: World>(
+    alloc: Global,
+    world: &mut W,
+    definition: &Definition,
+    faults: &mut Vec<Fault>,
+) -> Result<(), AllocError> {
+    // One `SharedWork` for all definitions of a world saves work on fragments that they share.
+    let mut shared = SharedWork::new(alloc);
+    let mut meter = Meter::new(alloc);
+    let kept = NoParts {};
+    let verdict = examine(alloc, world, definition, &kept, &mut shared, &mut meter)?;
+    for fault in verdict.faults() {
+        faults.push(fault.copy(alloc)?)?;
+    }
+    Ok(())
+}
+
+/// The faults of the files: those of the schema, or if it has none, those of names and of each
+/// definition.
+fn faults_of(alloc: Global, files: &Files) -> Result<Vec<Fault>, AllocError> {
+    let schema = assemble(alloc, files)?;
+    let of_schema = schema_faults(alloc, files, &schema)?;
+    if !of_schema.is_empty() {
+        return in_order(alloc, of_schema);
+    }
+    let facts = SchemaFacts::new(alloc, &schema)?;
+    let fragments = Fragments::new(alloc, &files.documents)?;
+    let mut world = Present::new(&facts, &fragments);
+    let mut faults = name_faults(alloc, files)?;
+    for (_, document) in files.documents.entries().iter() {
+        for definition in document.get().definitions.as_slice() {
+            add_faults(alloc, &mut world, definition, &mut faults)?;
+        }
+    }
+    in_order(alloc, faults)
+}
+
+fn main(rt: HostRuntime) -> Result<()> {
+    let text = io::read_to_string(rt.alloc(), rt.stdin())?;
+    let (schema, document) = text.split_once("\n---\n").unwrap_or((text.as_str(), ""));
+    let files = match files_of(rt.alloc(), schema, document) {
+        Ok(files) => files,
+        Err(SyntaxFault::At { number, place }) => {
+            let (number, line, column) = (number.number(), place.line, place.column);
+            println!(rt; "refused: {number} at {line}:{column}")?;
+            return Ok(());
+        }
+        Err(SyntaxFault::Memory) => {
+            println!(rt; "out of memory")?;
+            return Ok(());
+        }
+    };
+    for fault in faults_of(rt.alloc(), &files)?.as_slice() {
+        print!(rt; "{} {}", fault.rule.name(), fault.about.as_str())?;
+        for spot in fault.places.as_slice() {
+            let (line, column) = (spot.place.line, spot.place.column);
+            print!(rt; " {} {line}:{column}", spot.file.as_str())?;
+        }
+        println!(rt)?;
+    }
+    Ok(())
+}

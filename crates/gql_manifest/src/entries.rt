@@ -1,0 +1,79 @@
+//! The operations of a manifest, with their ids.
+
+use crate::fault::ManifestFault;
+use serde_json::{Map, Value};
+use std::alloc::{AllocError, Global};
+
+/// An operation of a manifest: its id, and its text with the fragments that it brings with it.
+#[derive(Drop)]
+pub struct Entry<'m> {
+    pub id: &'m str,
+    pub body: &'m str,
+}
+
+/// The text of a member of an operation.
+fn member<'m>(operation: &'m Value, name: &str) -> Option<&'m str> {
+    match operation.get(name) {
+        Some(value) => value.as_str(),
+        None => None,
+    }
+}
+
+/// The entry of an operation of Apollo's form: an object with a text `body`, and with an `id` or a
+/// `name`.
+fn listed_entry(operation: &Value) -> Option<Entry<'_>> {
+    let body = member(operation, "body")?;
+    let id = match member(operation, "id") {
+        Some(id) => id,
+        None => member(operation, "name")?,
+    };
+    Some(Entry { id, body })
+}
+
+/// The entries of a list of operations, Apollo's form. None if one is no operation.
+fn listed<'m>(
+    alloc: Global,
+    operations: &'m [Value],
+) -> Result<Option<Vec<Entry<'m>>>, AllocError> {
+    let mut entries = Vec::new(alloc);
+    for operation in operations {
+        match listed_entry(operation) {
+            Some(entry) => entries.push(entry)?,
+            None => return Ok(None),
+        }
+    }
+    Ok(Some(entries))
+}
+
+/// The entries of an object of texts by their ids, Relay's form. None if one is no text.
+fn mapped<'m>(
+    alloc: Global,
+    texts: &'m Map<String, Value>,
+) -> Result<Option<Vec<Entry<'m>>>, AllocError> {
+    let mut entries = Vec::new(alloc);
+    for (id, text) in texts.iter() {
+        match text.as_str() {
+            Some(body) => entries.push(Entry {
+                id: id.as_str(),
+                body,
+            })?,
+            None => return Ok(None),
+        }
+    }
+    Ok(Some(entries))
+}
+
+/// The entries of a manifest: those of its list `operations`, or if it has none its texts by ids.
+pub fn entries_of<'m>(alloc: Global, manifest: &'m Value) -> Result<Vec<Entry<'m>>, ManifestFault> {
+    let Some(members) = manifest.as_object() else {
+        return Err(ManifestFault::NoManifest);
+    };
+    let found = match manifest.get("operations") {
+        Some(Value::Array(operations)) => listed(alloc, operations.as_slice())?,
+        _ => mapped(alloc, members)?,
+    };
+    match found {
+        Some(entries) => Ok(entries),
+        None => Err(ManifestFault::NoManifest),
+    }
+}

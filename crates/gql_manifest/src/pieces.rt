@@ -1,0 +1,103 @@
+//! The definitions of a text, each with the part of the text that it is.
+
+use crate::entries::Entry;
+use crate::fault::ManifestFault;
+use gql_ast::{Document, FileName, Tree};
+use gql_grammar::SyntaxFault;
+use gql_parse_sdl::parse_any;
+use gql_text::{Token, lex};
+use std::alloc::{AllocError, Global};
+
+/// A definition of a text, and its bytes: from its first token to the next definition.
+#[derive(Drop)]
+pub struct Piece<'t> {
+    pub tree: Tree,
+    pub bytes: &'t [u8],
+    /// The tokens of the definition, with a blank between each two: two definitions with the same
+    /// tokens mean the same.
+    pub tokens: String,
+}
+
+/// The fault of a text that is refused.
+fn refused(alloc: Global, id: &str, fault: SyntaxFault) -> ManifestFault {
+    let SyntaxFault::At { number, place } = fault else {
+        return ManifestFault::Memory;
+    };
+    match String::from_str(alloc, id) {
+        Ok(id) => ManifestFault::Refused {
+            id,
+            line: place.line,
+            column: place.column,
+            number: number.number(),
+        },
+        Err(_) => ManifestFault::Memory,
+    }
+}
+
+/// The tree of a text.
+fn parsed(alloc: Global, entry: &Entry<'_>) -> Result<Document, ManifestFault> {
+    let Some(name) = FileName::read("manifest") else {
+        return Err(ManifestFault::NoManifest);
+    };
+    match parse_any(alloc, name, entry.body) {
+        Ok(document) => Ok(document),
+        Err(fault) => Err(refused(alloc, entry.id, fault)),
+    }
+}
+
+/// The tokens of a part of a text, with a blank between each two.
+fn joined(
+    alloc: Global,
+    tokens: &[Token<'_>],
+    start: usize,
+    end: usize,
+) -> Result<String, AllocError> {
+    let first = tokens.partition_point(|token| token.place.offset < start);
+    let past = tokens.partition_point(|token| token.place.offset < end);
+    let mut text = String::new(alloc);
+    if let Some(part) = tokens.get(first..past) {
+        for token in part {
+            text.push_str(token.text)?;
+            text.push(' ')?;
+        }
+    }
+    Ok(text)
+}
+
+/// The bytes of a part of a text, without blanks at its end.
+fn part_of(text: &str, start: usize, end: usize) -> &[u8] {
+    match text.get(start..end) {
+        Some(part) => part.trim_end().as_bytes(),
+        None => "".as_bytes(),
+    }
+}
+
+/// Where the definition after each of these begins, and at last the length of the text.
+fn ends_of(alloc: Global, document: &Document, length: usize) -> Result<Vec<usize>, AllocError> {
+    let mut ends = Vec::new(alloc);
+    for definition in document.definitions.as_slice().iter().skip(1) {
+        ends.push(definition.tree.place().offset)?;
+    }
+    ends.push(length)?;
+    Ok(ends)
+}
+
+/// The definitions of an operation's text, in their order.
+pub fn pieces_of<'t>(alloc: Global, entry: &Entry<'t>) -> Result<Vec<Piece<'t>>, ManifestFault> {
+    let document = parsed(alloc, entry)?;
+    let body = entry.body;
+    let Ok(tokens) = lex(alloc, body) else {
+        return Err(ManifestFault::Memory);
+    };
+    let ends = ends_of(alloc, &document, body.len())?;
+    let mut pieces = Vec::new(alloc);
+    for (definition, end) in document.definitions.as_slice().iter().zip(ends.iter()) {
+        let start = definition.tree.place().offset;
+        pieces.push(Piece {
+            tree: definition.tree.copy()?,
+            bytes: part_of(body, start, *end),
+            tokens: joined(alloc, tokens.as_slice(), start, *end)?,
+        })?;
+    }
+    Ok(pieces)
+}

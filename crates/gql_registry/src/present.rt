@@ -1,0 +1,48 @@
+//! What is present in a registry: its files, the verdicts and the report.
+ghost use Rattle.std.specs.Prelude.{◌≡◌, ◌↔◌, IfOk, IsTrue};
+ghost use Rattle.gql_registry.specs.Keeping.{IsShelfOf};
+ghost use Rattle.gql_registry.specs.Report as spec;
+ghost use Rattle.gql_registry.specs.State.{state_of, shelf_of};
+
+use crate::registry::Registry;
+use gql_ast::{Fault, Files};
+use gql_verdict::Shelf;
+use std::alloc::AllocError;
+
+impl Registry {
+    ghost use Rattle.std.specs.Prelude.{◌≡◌, ◌↔◌, IfOk, IsTrue};
+    ghost use Rattle.gql_registry.specs.Keeping.{IsShelfOf};
+    ghost use Rattle.gql_registry.specs.Report as spec;
+    ghost use Rattle.gql_registry.specs.State.{state_of, shelf_of};
+
+    /// The files that are present.
+    pub fn files(&self) -> &Files
+        ensures { result.now ≡ (state_of self.now).files }
+    {
+        self.kept.files()
+    }
+
+    /// The verdicts, one for each definition of the document files that are present. Each holds.
+    pub fn shelf(&self) -> &Shelf
+        ensures shelf { result.now ≡ shelf_of self.now }
+        ensures current { IsShelfOf (state_of self.now).files (shelf_of self.now) }
+    {
+        self.kept.shelf()
+    }
+
+    /// The faults of the files that are present: all of them and no others, each once, by first
+    /// place (none first), rule, second place, owner and text. If the schema has faults, these
+    /// alone are reported.
+    pub fn report(&self) -> Result<Vec<Fault>, AllocError>
+        ensures { IfOk result (λ faults. spec.IsReport (state_of self.now).files faults.items) }
+    {
+        self.kept.report(self.alloc)
+    }
+
+    /// Whether the schema of the files that are present has no faults.
+    pub fn is_sound(&self) -> Result<bool, AllocError>
+        ensures { IfOk result (λ is. IsTrue is ↔ spec.IsSound (state_of self.now).files) }
+    {
+        self.kept.is_sound(self.alloc)
+    }
+}

@@ -1,0 +1,62 @@
+//! Bytes that are put, read as a file of a side or as data.
+ghost use Rattle.std.specs.Prelude.{◌≡◌, ◌||◌, IfErr, IfOk, IsUtf8, is_some, nat_lt, length};
+ghost use Rattle.gql_ast.specs.FileMaps.{file_named};
+ghost use Rattle.gql_bodies.specs.DataBodies.{IsDataText};
+ghost use Rattle.gql_registry.specs.Checks.{IsBadData, IsRead, IsUnread};
+ghost use Rattle.serde_json.specs.View.{view};
+
+use crate::refusal::Refusal;
+use crate::sides::parse_on;
+use gql_ast::{Document, FileMap, FileName, FileSide, Shared};
+use gql_bodies::{DataFault, data_in};
+use serde_json::Value;
+use std::alloc::Global;
+use std::str;
+
+/// The greatest number of bytes of a file.
+pub const MAX_FILE_BYTES: usize = 65_536;
+
+/// How many files of a kind there may be.
+pub const MAX_FILES: usize = 256;
+
+/// Whether a file of that name has room.
+pub fn has_room(files: &FileMap<Shared<Document>>, name: &FileName) -> bool
+    ensures { result ≡ (is_some (file_named files.now name.now) || nat_lt (length files.now) 256) }
+{
+    files.has(name) || files.len() < MAX_FILES
+}
+
+/// Reads bytes as a file of a side. The refusals are 203, 202 and 201, in this order.
+pub fn read_file(
+    alloc: Global,
+    side: FileSide,
+    name: &FileName,
+    bytes: &[u8],
+) -> Result<Document, Refusal>
+    ensures read { IfOk result (IsRead side name.now bytes.now) }
+    ensures err { IfErr result (IsUnread side name.now bytes.now) }
+{
+    if bytes.len() > MAX_FILE_BYTES {
+        return Err(Refusal::TooLong);
+    }
+    let Ok(text) = str::from_utf8(bytes) else {
+        return Err(Refusal::NotText);
+    };
+    let document = parse_on(alloc, side, name.copy(), text)?;
+    Ok(document)
+}
+
+/// Reads bytes as data. The refusals are 202 and 207, in this order.
+pub fn read_data(alloc: Global, bytes: &[u8]) -> Result<Value, Refusal>
+    ensures read { IfOk result (λ v. IsUtf8 bytes.now × IsDataText bytes.now (view v)) }
+    ensures err { IfErr result (IsBadData bytes.now) }
+{
+    let Ok(text) = str::from_utf8(bytes) else {
+        return Err(Refusal::NotText);
+    };
+    match data_in(alloc, text) {
+        Ok(data) => Ok(data),
+        Err(DataFault::Refused) => Err(Refusal::BadData),
+        Err(DataFault::Memory) => Err(Refusal::Memory),
+    }
+}

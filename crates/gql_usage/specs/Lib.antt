@@ -1,0 +1,4 @@
+pub mod Subjects
+pub mod Questions
+pub mod Readers
+pub mod Unread

@@ -1,0 +1,184 @@
+//! Who reads a part of a schema, as lines for a terminal.
+
+use crate::label::Paths;
+use crate::question::Part;
+use crate::reader::{Reader, place_of};
+use crate::unread::{Unread, UnreadPart};
+use gql_ast::{FilePlace, Text, Tree};
+use gql_render::phrases::{write_count, write_operation};
+use gql_render::write::{write_number, write_text};
+use std::alloc::{AllocError, Global};
+
+/// The words for a kind of part.
+pub fn part_word(part: Part) -> &'static str {
+    match part {
+        Part::Type => "type",
+        Part::Field => "field",
+        Part::InputField => "input field",
+        Part::EnumValue => "enum value",
+        Part::Directive => "directive",
+    }
+}
+
+/// What readers of a part read with it, if the part is not read by itself.
+fn read_with(part: Part) -> &'static str {
+    match part {
+        Part::InputField => "Readers of an input object read all its fields.\n",
+        Part::EnumValue => "Readers of an enum read all its values.\n",
+        Part::Type | Part::Field | Part::Directive => "",
+    }
+}
+
+/// Writes a place, as `shop/documents/home.graphql:5:26`.
+fn write_place(out: &mut String, paths: &Paths, place: &FilePlace) -> Result<(), AllocError> {
+    write_text(out, paths.path_of(place))?;
+    write_text(out, ":")?;
+    write_number(out, place.place.line)?;
+    write_text(out, ":")?;
+    write_number(out, place.place.column)
+}
+
+/// Writes the kind and the name of a definition, as `query Home`.
+fn write_definition(out: &mut String, tree: &Tree) -> Result<(), AllocError> {
+    match tree {
+        Tree::Operation(operation) => {
+            let operation = operation.get();
+            match &operation.name {
+                Some(name) => write_operation(out, operation.kind, &Some(name.text.copy()?)),
+                None => write_operation(out, operation.kind, &None),
+            }
+        }
+        Tree::Fragment(fragment) => {
+            write_text(out, "fragment ")?;
+            write_text(out, fragment.get().name.as_str())
+        }
+        _ => write_text(out, "definition"),
+    }
+}
+
+/// Writes names with commas between them.
+fn write_names(out: &mut String, names: &[Text]) -> Result<(), AllocError> {
+    let Some((first, others)) = names.split_first() else {
+        return Ok(());
+    };
+    write_text(out, first.as_str())?;
+    for name in others {
+        write_text(out, ", ")?;
+        write_text(out, name.as_str())?;
+    }
+    Ok(())
+}
+
+/// Writes the fragments through which a definition reads a part, if there are some.
+fn write_through(out: &mut String, reader: &Reader) -> Result<(), AllocError> {
+    if reader.through.is_empty() {
+        return Ok(());
+    }
+    write_text(
+        out,
+        if reader.by_itself {
+            ", and by "
+        } else {
+            ", by "
+        },
+    )?;
+    write_text(
+        out,
+        if reader.through.len() == 1 {
+            "fragment "
+        } else {
+            "fragments "
+        },
+    )?;
+    write_names(out, reader.through.as_slice())
+}
+
+/// Writes the line of a reader.
+fn write_reader(out: &mut String, paths: &Paths, reader: &Reader) -> Result<(), AllocError> {
+    write_text(out, "  ")?;
+    write_place(out, paths, &place_of(&reader.definition))?;
+    write_text(out, ": ")?;
+    write_definition(out, &reader.definition.tree)?;
+    write_through(out, reader)?;
+    write_text(out, "\n")
+}
+
+/// How many of these are fragments.
+fn fragments_in(readers: &[Reader]) -> usize {
+    readers
+        .iter()
+        .filter(|reader| matches!(reader.definition.tree, Tree::Fragment(_)))
+        .count()
+}
+
+/// Writes how many operations and fragments read a part.
+fn write_readers(out: &mut String, readers: &[Reader]) -> Result<(), AllocError> {
+    let fragments = fragments_in(readers);
+    write_count(out, readers.len().saturating_sub(fragments), "operation")?;
+    write_text(out, " and ")?;
+    write_count(out, fragments, "fragment")
+}
+
+/// Who reads a part of a schema: a line that counts them, and a line for each.
+pub fn usage_as_text(
+    alloc: Global,
+    word: &str,
+    part: Part,
+    readers: &[Reader],
+    paths: &Paths,
+) -> Result<String, AllocError> {
+    let mut out = String::new(alloc);
+    write_text(&mut out, part_word(part))?;
+    write_text(&mut out, " ")?;
+    write_text(&mut out, word)?;
+    if readers.is_empty() {
+        write_text(&mut out, " is read by no stored operation\n")?;
+    } else {
+        write_text(&mut out, " is read by ")?;
+        write_readers(&mut out, readers)?;
+        write_text(&mut out, "\n")?;
+    }
+    for reader in readers {
+        write_reader(&mut out, paths, reader)?;
+    }
+    write_text(&mut out, read_with(part))?;
+    Ok(out)
+}
+
+/// Writes the name of a part that nobody reads.
+fn write_unread_part(out: &mut String, part: &UnreadPart) -> Result<(), AllocError> {
+    match part {
+        UnreadPart::Type(name) => {
+            write_text(out, "type ")?;
+            write_text(out, name.as_str())
+        }
+        UnreadPart::Field { of_type, name } => {
+            write_text(out, "field ")?;
+            write_text(out, of_type.as_str())?;
+            write_text(out, ".")?;
+            write_text(out, name.as_str())
+        }
+        UnreadPart::Directive(name) => {
+            write_text(out, "directive @")?;
+            write_text(out, name.as_str())
+        }
+    }
+}
+
+/// The parts of a schema that nobody reads: a line for each, and a line that counts them.
+pub fn unread_as_text(
+    alloc: Global,
+    unread: &[Unread],
+    paths: &Paths,
+) -> Result<String, AllocError> {
+    let mut out = String::new(alloc);
+    for part in unread {
+        write_place(&mut out, paths, &part.place)?;
+        write_text(&mut out, ": ")?;
+        write_unread_part(&mut out, &part.part)?;
+        write_text(&mut out, "\n")?;
+    }
+    write_count(&mut out, unread.len(), "part")?;
+    write_text(&mut out, " of the schema read by no stored operation\n")?;
+    Ok(out)
+}
