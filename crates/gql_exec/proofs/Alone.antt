@@ -23,19 +23,19 @@ use Rattle.serde_json.specs.Data as json
 use Rattle.serde_json.specs.Data.{Data}
 use Rattle.serde_json.specs.Find.{get}
 use Rattle.serde_json.specs.View.{items_of}
-use Rattle.gql_exec.specs.Execution.{Appending, each_root, effect_of, effects_of, execute_root, mutation_answer, root_value, under_name, Arguments, given, refused, Object, stored, described, answering, by_source, list_reply, on_answer, on_node, Below, Fields, no_fields, field, Plan, plan, PlannedField, Site, Types, among, answer, answered, complete, each, execute, executed, fault, items_from, is_null, leaf, members_of, of_kind, on_abstract, on_list, on_object, placed, value_of}
+use Rattle.gql_steps.specs.Execution.{Appending, each_root, effect_of, effects_of, execute_root, mutation_answer, root_value, under_name, Arguments, given, refused, Object, stored, described, answering, by_source, list_reply, on_answer, on_node, Below, Fields, no_fields, field, Plan, plan, PlannedField, Site, Types, among, answer, answered, complete, each, execute, executed, fault, items_from, is_null, leaf, members_of, of_kind, on_abstract, on_list, on_object, placed, value_of}
 use Rattle.gql_stored.specs.Effects.{list_named}
-use Rattle.gql_exec.specs.declared.planning.Source.{Source}
-use Rattle.gql_exec.specs.declared.planning.Source.TheVariants as source
-use Rattle.gql_exec.specs.Leaves.{as_enum, scalar_value}
-use Rattle.gql_exec.specs.Plans.{Basis, FieldOf, field_of, ArePlanned, IsPlan, IsPlanned, defined, is_met, is_met_by, planned, types_of}
-use Rattle.gql_exec.specs.Replies.{Path, index, key, Reply, all, counted, mapped, returns, settled}
-use Rattle.gql_exec.specs.Requests.{Executes, Request, answer_for, basis_of, Response, initial_value, request_error, response_of, variable_at}
-use Rattle.gql_exec.specs.Requests as requests
-use Rattle.gql_exec.specs.Resolution.{list_of, resolved}
-use Rattle.gql_exec.proofs.Executing.{among_is, met_itself, met_possible, met_self}
-use Rattle.gql_exec.proofs.Ending.{first_same, path_same, value_same}
-use Rattle.gql_exec.proofs.Grouped.{same_first, same_some}
+use Rattle.gql_steps.specs.declared.planning.Source.{Source}
+use Rattle.gql_steps.specs.declared.planning.Source.TheVariants as source
+use Rattle.gql_steps.specs.Leaves.{as_enum, scalar_value}
+use Rattle.gql_steps.specs.Plans.{Basis, FieldOf, field_of, ArePlanned, IsPlan, IsPlanned, defined, is_met, is_met_by, planned, types_of}
+use Rattle.gql_steps.specs.Replies.{Path, index, key, Reply, all, counted, mapped, returns, settled}
+use Rattle.gql_steps.specs.Requests.{Executes, Request, answer_for, basis_of, Response, initial_value, request_error, response_of, variable_at}
+use Rattle.gql_steps.specs.Requests as requests
+use Rattle.gql_steps.specs.Resolution.{list_of, resolved}
+use Rattle.gql_steps.proofs.Executing.{among_is, met_itself, met_possible, met_self}
+use Rattle.gql_steps.proofs.Ending.{first_same, path_same, value_same}
+use Rattle.gql_steps.proofs.Grouped.{same_first, same_some}
 
 -- ---- values, where two agree on what is below
 

@@ -9,29 +9,29 @@ use Rattle.serde_json.specs.Data as json
 use Rattle.serde_json.specs.Data.{Data}
 use Rattle.serde_json.specs.View.{view}
 use Rattle.gql_stored.specs.Effects.{Effect, list_named}
-use Rattle.gql_exec.specs.Execution.{Appending, Arguments, given, refused, Fields, no_fields, field, Object, Plan, plan, PlannedField, Site, Types, added, added_by, complete, each_root, effect_of, effects_of, execute_root, members_of, mutation_answer, placed, root_value, value_of}
-use Rattle.gql_exec.specs.Outcomes.{segment_of}
-use Rattle.gql_exec.specs.Parts.{Part, after_comma, all, counted, followed_by, numbered, plain, raise, settled, within}
-use Rattle.gql_exec.specs.Plans.{Basis, IsPlan, is_met, types_of}
-use Rattle.gql_exec.specs.Replies.{Path, key, Reply}
-use Rattle.gql_exec.specs.Replies as reply
-use Rattle.gql_exec.specs.Requests.{most_values}
+use Rattle.gql_steps.specs.Execution.{Appending, Arguments, given, refused, Fields, no_fields, field, Object, Plan, plan, PlannedField, Site, Types, added, added_by, complete, each_root, effect_of, effects_of, execute_root, members_of, mutation_answer, placed, root_value, value_of}
+use Rattle.gql_steps.specs.Outcomes.{segment_of}
+use Rattle.gql_steps.specs.Parts.{Part, after_comma, all, counted, followed_by, numbered, plain, raise, settled, within}
+use Rattle.gql_steps.specs.Plans.{Basis, IsPlan, is_met, types_of}
+use Rattle.gql_steps.specs.Replies.{Path, key, Reply}
+use Rattle.gql_steps.specs.Replies as reply
+use Rattle.gql_steps.specs.Requests.{most_values}
 use Rattle.gql_exec.specs.RootParts.{IsAddition, Root, added_content, added_field, effect_in, effects_in, root_called, root_field, root_part}
-use Rattle.gql_exec.specs.States.{Done, Executes, path_of}
-use Rattle.gql_exec.specs.Tables.{Has, Pair, StandFor, StandsFor, called_of, fields_at, pairs_of, planned_of}
-use Rattle.gql_exec.specs.Texts.{member_text, texted, value_part}
-use Rattle.gql_exec.specs.ValueParts.{field_part, placed_part, site_of}
-use Rattle.gql_exec.specs.declared.ended.Ended.{Ended}
+use Rattle.gql_steps.specs.States.{Done, Executes, path_of}
+use Rattle.gql_steps.specs.Tables.{Has, Pair, StandFor, StandsFor, called_of, fields_at, pairs_of, planned_of}
+use Rattle.gql_steps.specs.Texts.{member_text, texted, value_part}
+use Rattle.gql_steps.specs.ValueParts.{field_part, placed_part, site_of}
+use Rattle.gql_steps.specs.declared.ended.Ended.{Ended}
 use Rattle.gql_exec.specs.declared.mutation.Addition.{Addition}
-use Rattle.gql_exec.specs.declared.planning.FieldPlan.{FieldPlan}
-use Rattle.gql_exec.specs.declared.refusal.ExecRefusal.{ExecRefusal}
-use Rattle.gql_exec.specs.declared.refusal.ExecRefusal.TheVariants.{TooHeavy}
-use Rattle.gql_exec.specs.declared.run.Run.{Run}
-use Rattle.gql_exec.specs.declared.table.Table.{Table}
-use Rattle.gql_exec.proofs.Completing.{numbered-map, numbered-same}
-use Rattle.gql_exec.proofs.Executing.{entry_stands}
-use Rattle.gql_exec.proofs.Texting as texting
-use Rattle.gql_exec.proofs.Texting.{labelled, placed_is}
+use Rattle.gql_steps.specs.declared.planning.FieldPlan.{FieldPlan}
+use Rattle.gql_steps.specs.declared.refusal.ExecRefusal.{ExecRefusal}
+use Rattle.gql_steps.specs.declared.refusal.ExecRefusal.TheVariants.{TooHeavy}
+use Rattle.gql_steps.specs.declared.run.Run.{Run}
+use Rattle.gql_steps.specs.declared.table.Table.{Table}
+use Rattle.gql_steps.proofs.Completing.{numbered-map, numbered-same}
+use Rattle.gql_steps.proofs.Executing.{entry_stands}
+use Rattle.gql_steps.proofs.Texting as texting
+use Rattle.gql_steps.proofs.Texting.{labelled, placed_is}
 
 -- ---- the reply of a mutation, as a part
 

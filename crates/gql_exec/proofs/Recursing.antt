@@ -15,28 +15,28 @@ use Rattle.serde_json.specs.Data.{Data}
 use Rattle.serde_json.specs.Find.{as_null}
 use Rattle.serde_json.specs.View.{items_of, view}
 use Rattle.serde_json.specs.declared.value.Value.{Value}
-use Rattle.gql_exec.specs.Execution.{Fields, Object, Plan, plan, PlannedField, Site, Types, among, answering, by_source, complete, described, execute, is_null, of_kind, on_answer, on_list, stored, value_of}
-use Rattle.gql_exec.specs.Execution as execution
-use Rattle.gql_exec.specs.Parts.{Part, caught, plain, raise}
-use Rattle.gql_exec.specs.Plans.{Basis, IsPlan, defined, is_met, is_met_by, is_possible_by, possible_in, types_of}
-use Rattle.gql_exec.specs.Replies.{Path}
-use Rattle.gql_exec.specs.Resolution.{resolved}
-use Rattle.gql_exec.specs.States.{Executes, Follows, path_of}
-use Rattle.gql_exec.specs.Tables.{Has, IsRight, StandFor, StandsFor, called_of, fields_at, pairs_of, planned_of}
-use Rattle.gql_exec.specs.Texts.{value_part}
-use Rattle.gql_exec.specs.ValueParts.{Does, IsAbstract, IsAsked, Keeps, answer_part, called_part, source_part, item_at, list_part, object_part, placed_part, site_of}
-use Rattle.gql_exec.specs.declared.ended.Ended.{Ended}
-use Rattle.gql_exec.specs.declared.planning.Called.TheVariants as called
-use Rattle.gql_exec.specs.declared.planning.FieldPlan.{FieldPlan}
-use Rattle.gql_exec.specs.declared.planning.Source.TheVariants as source
-use Rattle.gql_exec.specs.declared.refusal.ExecRefusal.{ExecRefusal}
-use Rattle.gql_exec.specs.declared.run.Run.{Run}
-use Rattle.gql_exec.specs.declared.site.Site.{Site as FieldSite}
-use Rattle.gql_exec.specs.declared.table.Table.{Table}
-use Rattle.gql_exec.proofs.Completing.{items_at, list_is, object_is, present_list, present_named}
-use Rattle.gql_exec.proofs.Entries.{grows_same, grows_twice}
-use Rattle.gql_exec.proofs.Grouped.{paired}
-use Rattle.gql_exec.proofs.Executing.{as_part}
+use Rattle.gql_steps.specs.Execution.{Fields, Object, Plan, plan, PlannedField, Site, Types, among, answering, by_source, complete, described, execute, is_null, of_kind, on_answer, on_list, stored, value_of}
+use Rattle.gql_steps.specs.Execution as execution
+use Rattle.gql_steps.specs.Parts.{Part, caught, plain, raise}
+use Rattle.gql_steps.specs.Plans.{Basis, IsPlan, defined, is_met, is_met_by, is_possible_by, possible_in, types_of}
+use Rattle.gql_steps.specs.Replies.{Path}
+use Rattle.gql_steps.specs.Resolution.{resolved}
+use Rattle.gql_steps.specs.States.{Executes, Follows, path_of}
+use Rattle.gql_steps.specs.Tables.{Has, IsRight, StandFor, StandsFor, called_of, fields_at, pairs_of, planned_of}
+use Rattle.gql_steps.specs.Texts.{value_part}
+use Rattle.gql_steps.specs.ValueParts.{Does, IsAbstract, IsAsked, Keeps, answer_part, called_part, source_part, item_at, list_part, object_part, placed_part, site_of}
+use Rattle.gql_steps.specs.declared.ended.Ended.{Ended}
+use Rattle.gql_steps.specs.declared.planning.Called.TheVariants as called
+use Rattle.gql_steps.specs.declared.planning.FieldPlan.{FieldPlan}
+use Rattle.gql_steps.specs.declared.planning.Source.TheVariants as source
+use Rattle.gql_steps.specs.declared.refusal.ExecRefusal.{ExecRefusal}
+use Rattle.gql_steps.specs.declared.run.Run.{Run}
+use Rattle.gql_steps.specs.declared.site.Site.{Site as FieldSite}
+use Rattle.gql_steps.specs.declared.table.Table.{Table}
+use Rattle.gql_steps.proofs.Completing.{items_at, list_is, object_is, present_list, present_named}
+use Rattle.gql_steps.proofs.Entries.{grows_same, grows_twice}
+use Rattle.gql_steps.proofs.Grouped.{paired}
+use Rattle.gql_steps.proofs.Executing.{as_part}
 
 module _ (g : Basis) (here : FieldSite) (xs : List FileSelection) (result : Result Ended ExecRefusal) (s u : Run) where
   pub at_named : (t : Written) (n : List ℕ) (d : Data) → t ≡ named n → is_null d ≡ false

@@ -13,8 +13,8 @@ use Rattle.gql_collect.specs.Unfolding.{nothing}
 use Rattle.gql_facts.specs.ListMembers.{Contains-here, Contains-there}
 use Rattle.gql_inputs.specs.InputTypes.{name_in}
 use Rattle.serde_json.specs.Data.{Data}
-use Rattle.gql_exec.specs.Execution.{Plan, plan, Fields, no_fields, field, PlannedField}
-use Rattle.gql_exec.specs.Plans.{Basis, FieldOf, IsPlan, ArePlanned, IsPlanned, planned, defined, field_of, field_of_nodes}
+use Rattle.gql_steps.specs.Execution.{Plan, plan, Fields, no_fields, field, PlannedField}
+use Rattle.gql_steps.specs.Plans.{Basis, FieldOf, IsPlan, ArePlanned, IsPlanned, planned, defined, field_of, field_of_nodes}
 
 module _ (g : Basis)
     (arguments : (definitions : List InputValueDefinition) (given : List Argument) → (o : Outcome Data) × ArgumentsCome g.given.schema definitions given g.given.values o)

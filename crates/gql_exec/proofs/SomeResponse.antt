@@ -18,11 +18,11 @@ use Rattle.gql_types.specs.Schemas.{kind_named, root_of}
 use Rattle.gql_types.specs.declared.kind.TypeKind.TheVariants as kind
 use Rattle.gql_types.specs.declared.roots.Root.{Root}
 use Rattle.serde_json.specs.Data.{Data}
-use Rattle.gql_exec.specs.Execution.{Plan}
+use Rattle.gql_steps.specs.Execution.{Plan}
 use Rattle.gql_exec.specs.Laws.{SomeResponse}
-use Rattle.gql_exec.specs.Plans.{IsPlan}
+use Rattle.gql_steps.specs.Plans.{IsPlan}
 use Rattle.gql_exec.proofs.SomePlan.{some_plan}
-use Rattle.gql_exec.specs.Requests.{Request, Response, basis_of, Executes, executed, refused, request_error, variable_at}
+use Rattle.gql_steps.specs.Requests.{Request, Response, basis_of, Executes, executed, refused, request_error, variable_at}
 
 -- the first variable of a name
 found : (ds : List VariableDefinition) (v : VariableDefinition) → Contains ds v → (w : VariableDefinition) × (find (λ (x : VariableDefinition). bytes_eq v.name.text x.name.text) ds ≡ Some w)

@@ -2,20 +2,20 @@
 use Rattle.std.proofs.Common.{◌≡◌, ℕ, ◌<◌, List, [], map, true, Ok, Err, ap, subst, arith}
 use Rattle.gql_collect.specs.Nodes.{FileSelection}
 use Rattle.serde_json.specs.Data.{Data}
-use Rattle.gql_exec.specs.Execution.{Plan, PlannedField, answer, execute, stored}
-use Rattle.gql_exec.specs.Outcomes.{segment_of}
-use Rattle.gql_exec.specs.Plans.{Basis, IsPlan, is_met, types_of}
-use Rattle.gql_exec.specs.Requests.{most_values}
-use Rattle.gql_exec.specs.States.{Done, Executes, path_of}
-use Rattle.gql_exec.specs.Tables.{Has, StandFor, fields_at}
-use Rattle.gql_exec.specs.Texts.{value_part}
-use Rattle.gql_exec.specs.ValueParts.{object_part}
-use Rattle.gql_exec.specs.declared.ended.Ended.{Ended}
-use Rattle.gql_exec.specs.declared.refusal.ExecRefusal.{ExecRefusal}
-use Rattle.gql_exec.specs.declared.refusal.ExecRefusal.TheVariants.{TooHeavy}
-use Rattle.gql_exec.specs.declared.run.Run.{Run}
-use Rattle.gql_exec.specs.declared.table.Table.{Table}
-use Rattle.gql_exec.proofs.Executing.{on_entry}
+use Rattle.gql_steps.specs.Execution.{Plan, PlannedField, answer, execute, stored}
+use Rattle.gql_steps.specs.Outcomes.{segment_of}
+use Rattle.gql_steps.specs.Plans.{Basis, IsPlan, is_met, types_of}
+use Rattle.gql_steps.specs.Requests.{most_values}
+use Rattle.gql_steps.specs.States.{Done, Executes, path_of}
+use Rattle.gql_steps.specs.Tables.{Has, StandFor, fields_at}
+use Rattle.gql_steps.specs.Texts.{value_part}
+use Rattle.gql_steps.specs.ValueParts.{object_part}
+use Rattle.gql_steps.specs.declared.ended.Ended.{Ended}
+use Rattle.gql_steps.specs.declared.refusal.ExecRefusal.{ExecRefusal}
+use Rattle.gql_steps.specs.declared.refusal.ExecRefusal.TheVariants.{TooHeavy}
+use Rattle.gql_steps.specs.declared.run.Run.{Run}
+use Rattle.gql_steps.specs.declared.table.Table.{Table}
+use Rattle.gql_steps.proofs.Executing.{on_entry}
 
 -- ---- selection sets on the initial value
 

@@ -2,7 +2,7 @@
 use Rattle.std.specs.Prelude.{◌≡◌, Some}
 use Rattle.gql_coerce.specs.Defaults.{HasNoCycle}
 use Rattle.gql_collect.specs.Spreads.{NoCycles}
-use Rattle.gql_exec.specs.Requests.{Executes, Request, Response}
+use Rattle.gql_steps.specs.Requests.{Executes, Request, Response}
 use Rattle.gql_types.specs.Schemas.{kind_named, root_of}
 use Rattle.gql_types.specs.declared.kind.TypeKind.TheVariants as kind
 use Rattle.gql_types.specs.declared.roots.Root.{Root}

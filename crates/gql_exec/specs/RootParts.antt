@@ -7,18 +7,18 @@ use Rattle.serde_json.specs.Data.{Data}
 use Rattle.serde_json.specs.View.{view}
 use Rattle.gql_stored.specs.Effects.{Effect}
 use Rattle.gql_stored.specs.Rooms.{effect_of as seen_effect}
-use Rattle.gql_exec.specs.Execution.{Appending, Object, PlannedField, Plan, Types, added, effect_of, given, refused, root_value}
-use Rattle.gql_exec.specs.Objects.{object_of}
-use Rattle.gql_exec.specs.Parts.{Part, after_comma, all, counted, followed_by, numbered, plain, settled, within}
-use Rattle.gql_exec.specs.Plans.{Basis}
-use Rattle.gql_exec.specs.Replies.{Path, key}
-use Rattle.gql_exec.specs.Tables.{called_of}
-use Rattle.gql_exec.specs.Texts.{value_part}
-use Rattle.gql_exec.specs.ValueParts.{placed_part, site_of}
+use Rattle.gql_steps.specs.Execution.{Appending, Object, PlannedField, Plan, Types, added, effect_of, given, refused, root_value}
+use Rattle.gql_steps.specs.Objects.{object_of}
+use Rattle.gql_steps.specs.Parts.{Part, after_comma, all, counted, followed_by, numbered, plain, settled, within}
+use Rattle.gql_steps.specs.Plans.{Basis}
+use Rattle.gql_steps.specs.Replies.{Path, key}
+use Rattle.gql_steps.specs.Tables.{called_of}
+use Rattle.gql_steps.specs.Texts.{value_part}
+use Rattle.gql_steps.specs.ValueParts.{placed_part, site_of}
 use Rattle.gql_exec.specs.declared.mutation.Addition.{Addition}
 use Rattle.gql_exec.specs.declared.mutation.Root.{Root as TheRoot}
 use Rattle.gql_stored.specs.declared.effect.Effect.{Effect as TheEffect}
-use Rattle.gql_exec.specs.declared.planning.FieldPlan.{FieldPlan}
+use Rattle.gql_steps.specs.declared.planning.FieldPlan.{FieldPlan}
 
 -- what root fields of a mutation are executed on: the lists to which they append, by name, the
 -- data, and the initial value

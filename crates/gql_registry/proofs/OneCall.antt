@@ -6,7 +6,7 @@ use Rattle.gql_ast.specs.declared.executable.Operation.{Operation}
 use Rattle.gql_ast.specs.declared.fault.Fault.{Fault}
 use Rattle.gql_ast.specs.declared.files.Files.{Files}
 use Rattle.gql_exec.specs.Laws.{OneResponse}
-use Rattle.gql_exec.specs.Requests.{Executes, Response, most_values, request_of}
+use Rattle.gql_steps.specs.Requests.{Executes, Response, most_values, request_of}
 use Rattle.gql_facts.specs.ListMembers.{Contains-here}
 use Rattle.gql_operations.specs.Chosen.{chosen}
 use Rattle.gql_report.specs.Laws.{OneOrder}

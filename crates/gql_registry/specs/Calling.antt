@@ -5,7 +5,7 @@ use Rattle.gql_ast.specs.declared.definition.Definition.{Definition}
 use Rattle.gql_ast.specs.declared.definition.Tree.TheVariants as tree
 use Rattle.gql_ast.specs.declared.executable.Operation.{Operation}
 use Rattle.gql_ast.specs.declared.files.Files.{Files}
-use Rattle.gql_exec.specs.Requests.{Executes, Response, most_values, request_of}
+use Rattle.gql_steps.specs.Requests.{Executes, Response, most_values, request_of}
 use Rattle.gql_registry.specs.Calls.{outcome_of}
 use Rattle.gql_registry.specs.Prepared as prepared
 use Rattle.gql_registry.specs.declared.calling.Ran.{Ran}

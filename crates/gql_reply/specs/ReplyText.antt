@@ -6,8 +6,8 @@ use Rattle.serde_json.specs.Data as json
 use Rattle.serde_json.specs.Data.{Data, item, no_items, Members, member, no_members}
 use Rattle.serde_json.specs.View.{items_of}
 use Rattle.serde_json.specs.Written.{compact_text}
-use Rattle.gql_exec.specs.Outcomes.{AnError, AnOutcome}
-use Rattle.gql_exec.specs.Replies.{Segment, key, index, Path}
+use Rattle.gql_steps.specs.Outcomes.{AnError, AnOutcome}
+use Rattle.gql_steps.specs.Replies.{Segment, key, index, Path}
 
 -- ---- errors (7.1.2)
 

@@ -3,7 +3,7 @@ ghost use Rattle.std.specs.Prelude.{◌≡◌, ◌++◌, ◌∷◌, [], codes, f
 ghost use Rattle.json.specs.Print.{quoted};
 ghost use Rattle.serde_json.specs.View.{items_of};
 ghost use Rattle.serde_json.specs.Written.{comma_if, compact_text, items_text, members_text};
-ghost use Rattle.gql_exec.specs.Outcomes.{error_of, path_of, segment_of};
+ghost use Rattle.gql_steps.specs.Outcomes.{error_of, path_of, segment_of};
 ghost use Rattle.gql_reply.specs.ReplyText as spec;
 
 use gql_exec::{ResponseError, Step, write_string, write_unsigned};

@@ -1,6 +1,6 @@
 //! The text of an answer.
 ghost use Rattle.std.specs.Prelude.{◌≡◌, ◌++◌, map, option_map, IfOk, OnOk};
-ghost use Rattle.gql_exec.specs.Outcomes.{error_of, outcome_of};
+ghost use Rattle.gql_steps.specs.Outcomes.{error_of, outcome_of};
 ghost use Rattle.gql_reply.specs.ReplyText as spec;
 
 use crate::errors::write_errors;

@@ -5,7 +5,7 @@ use Rattle.gql_ast.specs.declared.definition.Tree.TheVariants as tree
 use Rattle.gql_ast.specs.declared.executable.Operation.{Operation}
 use Rattle.gql_ast.specs.declared.fault.Fault.{Fault}
 use Rattle.gql_ast.specs.declared.files.Files.{Files}
-use Rattle.gql_exec.specs.Requests.{Executes, Response, request_of}
+use Rattle.gql_steps.specs.Requests.{Executes, Response, request_of}
 use Rattle.gql_facts.specs.Facts.{fact_of}
 use Rattle.gql_sound.specs.Laws.{IsSound}
 use Rattle.gql_serving.specs.Owned.{IsOwned}

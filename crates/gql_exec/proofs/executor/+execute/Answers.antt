@@ -10,31 +10,31 @@ use Rattle.serde_json.specs.declared.value.Value.{Value}
 use Rattle.gql_inputs.specs.InputTypes.{is_non_null, name_in}
 use Rattle.gql_types.specs.Schemas.{kind_named}
 use Rattle.gql_types.specs.Written.{written, written_named, written_list, written_non_null, listed, named}
-use Rattle.gql_exec.specs.Direct.{data_of}
-use Rattle.gql_exec.specs.Execution.{plan, PlannedField, among, no_fields, complete, execute, of_kind, on_abstract, on_object, stored}
-use Rattle.gql_exec.specs.LeafParts.{leaf_at}
-use Rattle.gql_exec.specs.Leaves.{as_enum, as_scalar}
-use Rattle.gql_exec.specs.Objects.{basis, object_of}
-use Rattle.gql_exec.specs.Parts.{Part, all, numbered, plain, raise, settled}
-use Rattle.gql_exec.specs.Plans.{IsPlan, possible_in, types_of, values_in}
-use Rattle.gql_exec.specs.Replies.{Path, key}
-use Rattle.gql_exec.specs.States.{Done, Follows, path_of}
-use Rattle.gql_exec.specs.Tables.{InTable, below_at, fields_at}
-use Rattle.gql_exec.specs.Texts.{value_part}
-use Rattle.gql_exec.specs.ValueParts.{IsAsked, IsOf, source_part, called_part, content_of_item, content_part, field_part, fields_part, item_part, items_from, items_in, items_part, member_part, placed_part, resolved_in, site_of}
-use Rattle.gql_exec.specs.declared.ended.Ended.TheVariants.{Written, Bubbled}
-use Rattle.gql_exec.specs.declared.outcome.Step.TheVariants as step
-use Rattle.gql_exec.specs.declared.planning.FieldPlan.{FieldPlan}
-use Rattle.gql_exec.specs.declared.run.Run.{Run}
-use Rattle.gql_exec.specs.declared.site.Site.{Site as FieldSite}
-use Rattle.gql_exec.specs.declared.table.Slot.{Slot}
-use Rattle.gql_exec.proofs.Completing.{abstract_kind, direct_item, has_items, kind_abstract, kind_enum, kind_object, kind_other, kind_scalar}
-use Rattle.gql_exec.proofs.Doing.{at-field, caught-cut, caught-written, counted-executes, executes-after, loop-more, loop-stops, stepped, stopped, within-done, wrote}
-use Rattle.gql_exec.proofs.Entries.{at_slot, below_still, fields_still, grows_same, in_still, no_shorter}
-use Rattle.gql_exec.proofs.Executing.{among_is, as_many, as_part, called_stored, keeps_direct, keeps_same, keeps_twice, met_abstract, name_of_items, on_entry, placed_nullable, source_stored, stand_at}
-use Rattle.gql_exec.proofs.Listing.{kept_items}
+use Rattle.gql_steps.specs.Direct.{data_of}
+use Rattle.gql_steps.specs.Execution.{plan, PlannedField, among, no_fields, complete, execute, of_kind, on_abstract, on_object, stored}
+use Rattle.gql_steps.specs.LeafParts.{leaf_at}
+use Rattle.gql_steps.specs.Leaves.{as_enum, as_scalar}
+use Rattle.gql_steps.specs.Objects.{basis, object_of}
+use Rattle.gql_steps.specs.Parts.{Part, all, numbered, plain, raise, settled}
+use Rattle.gql_steps.specs.Plans.{IsPlan, possible_in, types_of, values_in}
+use Rattle.gql_steps.specs.Replies.{Path, key}
+use Rattle.gql_steps.specs.States.{Done, Follows, path_of}
+use Rattle.gql_steps.specs.Tables.{InTable, below_at, fields_at}
+use Rattle.gql_steps.specs.Texts.{value_part}
+use Rattle.gql_steps.specs.ValueParts.{IsAsked, IsOf, source_part, called_part, content_of_item, content_part, field_part, fields_part, item_part, items_from, items_in, items_part, member_part, placed_part, resolved_in, site_of}
+use Rattle.gql_steps.specs.declared.ended.Ended.TheVariants.{Written, Bubbled}
+use Rattle.gql_steps.specs.declared.outcome.Step.TheVariants as step
+use Rattle.gql_steps.specs.declared.planning.FieldPlan.{FieldPlan}
+use Rattle.gql_steps.specs.declared.run.Run.{Run}
+use Rattle.gql_steps.specs.declared.site.Site.{Site as FieldSite}
+use Rattle.gql_steps.specs.declared.table.Slot.{Slot}
+use Rattle.gql_steps.proofs.Completing.{abstract_kind, direct_item, has_items, kind_abstract, kind_enum, kind_object, kind_other, kind_scalar}
+use Rattle.gql_steps.proofs.Doing.{at-field, caught-cut, caught-written, counted-executes, executes-after, loop-more, loop-stops, stepped, stopped, within-done, wrote}
+use Rattle.gql_steps.proofs.Entries.{at_slot, below_still, fields_still, grows_same, in_still, no_shorter}
+use Rattle.gql_steps.proofs.Executing.{among_is, as_many, as_part, called_stored, keeps_direct, keeps_same, keeps_twice, met_abstract, name_of_items, on_entry, placed_nullable, source_stored, stand_at}
+use Rattle.gql_steps.proofs.Listing.{kept_items}
 use Rattle.gql_exec.proofs.Recursing.{at_array, at_items, at_list, at_named}
-use Rattle.gql_exec.proofs.Resolving.{is_array}
+use Rattle.gql_steps.proofs.Resolving.{is_array}
 use Rattle.gql_exec.proofs.executor.+execute.Goals as goal
 
 pub complete-returns-then-is_null-clause-keeps : goal.complete-returns-then-is_null-clause-keeps

@@ -2,13 +2,13 @@ use Rattle.std.proofs.Common.{◌≡◌, ◌≤◌, ◌+◌, ◌*◌, List, take
 use Rattle.gql_inputs.specs.InputTypes.{name_in}
 use Rattle.gql_types.specs.Written.{written}
 use Rattle.serde_json.specs.View.{view}
-use Rattle.gql_exec.specs.Execution.{Plan, stored}
-use Rattle.gql_exec.specs.Objects.{basis}
-use Rattle.gql_exec.specs.Parts.{all, numbered}
-use Rattle.gql_exec.specs.Plans.{types_of}
-use Rattle.gql_exec.specs.States.{Done, path_of}
-use Rattle.gql_exec.specs.Tables.{Pair, StandFor, below_at, fields_at}
-use Rattle.gql_exec.specs.ValueParts.{IsAsked, Keeps, field_part, item_part, items_in, site_of}
+use Rattle.gql_steps.specs.Execution.{Plan, stored}
+use Rattle.gql_steps.specs.Objects.{basis}
+use Rattle.gql_steps.specs.Parts.{all, numbered}
+use Rattle.gql_steps.specs.Plans.{types_of}
+use Rattle.gql_steps.specs.States.{Done, path_of}
+use Rattle.gql_steps.specs.Tables.{Pair, StandFor, below_at, fields_at}
+use Rattle.gql_steps.specs.ValueParts.{IsAsked, Keeps, field_part, item_part, items_in, site_of}
 use Rattle.gql_exec.proofs.executor.+execute.Given as goal
 
 abbrev pub decreases-execute_field : goal.decreases-execute_field

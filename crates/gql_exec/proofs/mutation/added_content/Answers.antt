@@ -1,16 +1,16 @@
 use Rattle.std.proofs.Common.{◌≡◌, ◌++◌, ◌∷◌, [], false, sym, ap, subst, refl, rules}
 use Rattle.serde_json.specs.View.{view}
-use Rattle.gql_exec.specs.Execution.{PlannedField, added}
-use Rattle.gql_exec.specs.Objects.{basis}
-use Rattle.gql_exec.specs.Parts.{Part, settled}
-use Rattle.gql_exec.specs.Plans.{types_of}
-use Rattle.gql_exec.specs.Replies.{Path, key}
-use Rattle.gql_exec.specs.States.{Done, path_of}
-use Rattle.gql_exec.specs.Texts.{value_part}
-use Rattle.gql_exec.specs.ValueParts.{placed_part, site_of}
-use Rattle.gql_exec.specs.declared.outcome.Step.TheVariants as step
-use Rattle.gql_exec.specs.declared.run.Run.{Run}
-use Rattle.gql_exec.proofs.Doing.{at-field, stepped}
+use Rattle.gql_steps.specs.Execution.{PlannedField, added}
+use Rattle.gql_steps.specs.Objects.{basis}
+use Rattle.gql_steps.specs.Parts.{Part, settled}
+use Rattle.gql_steps.specs.Plans.{types_of}
+use Rattle.gql_steps.specs.Replies.{Path, key}
+use Rattle.gql_steps.specs.States.{Done, path_of}
+use Rattle.gql_steps.specs.Texts.{value_part}
+use Rattle.gql_steps.specs.ValueParts.{placed_part, site_of}
+use Rattle.gql_steps.specs.declared.outcome.Step.TheVariants as step
+use Rattle.gql_steps.specs.declared.run.Run.{Run}
+use Rattle.gql_steps.proofs.Doing.{at-field, stepped}
 use Rattle.gql_exec.proofs.mutation.added_content.Goals as goal
 
 pub returns-clause-does : goal.returns-clause-does

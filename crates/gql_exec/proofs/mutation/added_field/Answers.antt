@@ -1,12 +1,12 @@
 use Rattle.std.proofs.Common.{◌≡◌, ◌++◌, codes, subst, ◌∙◌}
 use Rattle.json.specs.Print.{quoted}
 use Rattle.serde_json.specs.View.{view}
-use Rattle.gql_exec.specs.Objects.{basis}
-use Rattle.gql_exec.specs.Parts.{plain}
-use Rattle.gql_exec.specs.Plans.{types_of}
+use Rattle.gql_steps.specs.Objects.{basis}
+use Rattle.gql_steps.specs.Parts.{plain}
+use Rattle.gql_steps.specs.Plans.{types_of}
 use Rattle.gql_exec.specs.RootParts.{added_content, added_member}
-use Rattle.gql_exec.specs.States.{Follows}
-use Rattle.gql_exec.proofs.Doing.{counted-executes, executes-after, wrote}
+use Rattle.gql_steps.specs.States.{Follows}
+use Rattle.gql_steps.proofs.Doing.{counted-executes, executes-after, wrote}
 use Rattle.gql_exec.proofs.mutation.added_field.Goals as goal
 
 pub returns-clause-does : goal.returns-clause-does

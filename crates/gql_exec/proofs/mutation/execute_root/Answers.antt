@@ -1,8 +1,8 @@
 use Rattle.std.proofs.Common.{codes}
-use Rattle.gql_exec.specs.Objects.{basis}
-use Rattle.gql_exec.specs.Plans.{types_of}
+use Rattle.gql_steps.specs.Objects.{basis}
+use Rattle.gql_steps.specs.Plans.{types_of}
 use Rattle.gql_exec.specs.RootParts.{root_fields, root_of}
-use Rattle.gql_exec.proofs.Doing.{within-done}
+use Rattle.gql_steps.proofs.Doing.{within-done}
 use Rattle.gql_exec.proofs.mutation.execute_root.Goals as goal
 
 pub returns-clause-does : goal.returns-clause-does

@@ -1,10 +1,10 @@
 use Rattle.serde_json.specs.View.{view}
-use Rattle.gql_exec.specs.Objects.{basis, object_of}
-use Rattle.gql_exec.specs.Plans.{types_of}
+use Rattle.gql_steps.specs.Objects.{basis, object_of}
+use Rattle.gql_steps.specs.Plans.{types_of}
 use Rattle.gql_exec.specs.RootParts.{root_field, root_of}
-use Rattle.gql_exec.specs.States.{path_of}
-use Rattle.gql_exec.specs.ValueParts.{field_part}
-use Rattle.gql_exec.proofs.Executing.{as_part}
+use Rattle.gql_steps.specs.States.{path_of}
+use Rattle.gql_steps.specs.ValueParts.{field_part}
+use Rattle.gql_steps.proofs.Executing.{as_part}
 use Rattle.gql_exec.proofs.Mutating.{root_reads}
 use Rattle.gql_exec.proofs.mutation.root_field.Goals as goal
 

@@ -1,16 +1,16 @@
 use Rattle.std.proofs.Common.{◌≡◌, ◌<◌, ◌++◌, [], List, Vec, Global, length, get_or, take, sym, ap, subst, ◌∙◌, arith, append_assoc, append-nil, rules}
 use Rattle.std.proofs.lemmas.List.{take_all}
-use Rattle.gql_exec.specs.Objects.{basis}
-use Rattle.gql_exec.specs.Parts.{all, numbered}
-use Rattle.gql_exec.specs.Plans.{types_of}
+use Rattle.gql_steps.specs.Objects.{basis}
+use Rattle.gql_steps.specs.Parts.{all, numbered}
+use Rattle.gql_steps.specs.Plans.{types_of}
 use Rattle.gql_exec.specs.RootParts.{effect_in, effects_in, root_field, root_fields, root_of, seen}
-use Rattle.gql_exec.specs.States.{Done, path_of}
-use Rattle.gql_exec.specs.Tables.{InTable, Pair, StandFor, fields_at}
-use Rattle.gql_exec.specs.declared.planning.FieldPlan.{FieldPlan}
-use Rattle.gql_exec.specs.declared.table.Slot.{Slot}
-use Rattle.gql_exec.proofs.Doing.{loop-more, loop-stops, stopped}
-use Rattle.gql_exec.proofs.Entries.{at_slot, fields_still, grows_same, no_shorter}
-use Rattle.gql_exec.proofs.Executing.{as_many, keeps_twice, stand_at}
+use Rattle.gql_steps.specs.States.{Done, path_of}
+use Rattle.gql_steps.specs.Tables.{InTable, Pair, StandFor, fields_at}
+use Rattle.gql_steps.specs.declared.planning.FieldPlan.{FieldPlan}
+use Rattle.gql_steps.specs.declared.table.Slot.{Slot}
+use Rattle.gql_steps.proofs.Doing.{loop-more, loop-stops, stopped}
+use Rattle.gql_steps.proofs.Entries.{at_slot, fields_still, grows_same, no_shorter}
+use Rattle.gql_steps.proofs.Executing.{as_many, keeps_twice, stand_at}
 use Rattle.gql_exec.proofs.Mutating.{effects_more}
 use Rattle.gql_exec.proofs.mutation.root_fields.Goals as goal
 

@@ -1,11 +1,11 @@
 use Rattle.std.proofs.Common.{◌≡◌, ◌++◌, List, take, length}
-use Rattle.gql_exec.specs.Objects.{basis}
-use Rattle.gql_exec.specs.Parts.{all, numbered}
-use Rattle.gql_exec.specs.Plans.{types_of}
+use Rattle.gql_steps.specs.Objects.{basis}
+use Rattle.gql_steps.specs.Parts.{all, numbered}
+use Rattle.gql_steps.specs.Plans.{types_of}
 use Rattle.gql_exec.specs.RootParts.{effects_in, root_field, root_of, seen}
-use Rattle.gql_exec.specs.States.{Done, path_of}
-use Rattle.gql_exec.specs.Tables.{Pair, StandFor, fields_at}
-use Rattle.gql_exec.specs.ValueParts.{Keeps}
+use Rattle.gql_steps.specs.States.{Done, path_of}
+use Rattle.gql_steps.specs.Tables.{Pair, StandFor, fields_at}
+use Rattle.gql_steps.specs.ValueParts.{Keeps}
 use Rattle.gql_exec.proofs.mutation.root_fields.Given as goal
 
 abbrev pub invariant-loop-i : goal.invariant-loop-i

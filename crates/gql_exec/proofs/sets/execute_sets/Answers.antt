@@ -1,17 +1,17 @@
 use Rattle.std.proofs.Common.{◌≡◌, ◌<◌, [], ◌∙◌, false, true, refl, sym, ap, subst}
 use Rattle.gql_collect.specs.Borrowed.{all_selections}
 use Rattle.serde_json.specs.View.{view}
-use Rattle.gql_exec.specs.Execution.{Plan, answer, answered, execute, stored}
-use Rattle.gql_exec.specs.Objects.{basis}
-use Rattle.gql_exec.specs.Outcomes.{outcome_of}
-use Rattle.gql_exec.specs.Plans.{IsPlan, is_met, types_of}
-use Rattle.gql_exec.specs.Requests.{most_values}
+use Rattle.gql_steps.specs.Execution.{Plan, answer, answered, execute, stored}
+use Rattle.gql_steps.specs.Objects.{basis}
+use Rattle.gql_steps.specs.Outcomes.{outcome_of}
+use Rattle.gql_steps.specs.Plans.{IsPlan, is_met, types_of}
+use Rattle.gql_steps.specs.Requests.{most_values}
 use Rattle.gql_exec.specs.RootParts.{seen}
-use Rattle.gql_exec.specs.Runs.{Finishes, IsOutcomeOf}
-use Rattle.gql_exec.specs.declared.refusal.ExecRefusal.TheVariants.{Memory, TooHeavy}
-use Rattle.gql_exec.specs.declared.run.Run.{Run}
-use Rattle.gql_exec.proofs.Ending.{err_is, err_then, ok_then}
-use Rattle.gql_exec.proofs.Entries.{right_none}
+use Rattle.gql_steps.specs.Runs.{Finishes, IsOutcomeOf}
+use Rattle.gql_steps.specs.declared.refusal.ExecRefusal.TheVariants.{Memory, TooHeavy}
+use Rattle.gql_steps.specs.declared.run.Run.{Run}
+use Rattle.gql_steps.proofs.Ending.{err_is, err_then, ok_then}
+use Rattle.gql_steps.proofs.Entries.{right_none}
 use Rattle.gql_exec.proofs.Starting.{sets_done, sets_heavy}
 use Rattle.gql_exec.proofs.sets.execute_sets.Goals as goal
 

@@ -1,8 +1,8 @@
 use Rattle.std.proofs.Common.{◌≡◌, subst, sym}
-use Rattle.gql_exec.specs.Outcomes.{outcome_of}
+use Rattle.gql_steps.specs.Outcomes.{outcome_of}
 use Rattle.gql_exec.specs.RootParts.{seen}
-use Rattle.gql_exec.specs.Runs.{Finishes, came_to}
-use Rattle.gql_exec.proofs.Ending.{finished_cut, finished_written, ok_then}
+use Rattle.gql_steps.specs.Runs.{Finishes, came_to}
+use Rattle.gql_steps.proofs.Ending.{finished_cut, finished_written, ok_then}
 use Rattle.gql_exec.proofs.sets.finish.Goals as goal
 
 pub returns-in-Written-clause-outcome : goal.returns-in-Written-clause-outcome

@@ -1,17 +1,17 @@
 use Rattle.std.proofs.Common.{◌≡◌, ◌<◌, ◌++◌, [], ◌∙◌, false, true, refl, sym, ap, subst}
 use Rattle.gql_collect.specs.Borrowed.{all_selections}
-use Rattle.gql_exec.specs.Execution.{Plan, answered, execute_root, mutation_answer}
-use Rattle.gql_exec.specs.Objects.{basis}
-use Rattle.gql_exec.specs.Outcomes.{outcome_of}
-use Rattle.gql_exec.specs.Plans.{IsPlan, is_met, types_of}
-use Rattle.gql_exec.specs.Requests.{most_values}
+use Rattle.gql_steps.specs.Execution.{Plan, answered, execute_root, mutation_answer}
+use Rattle.gql_steps.specs.Objects.{basis}
+use Rattle.gql_steps.specs.Outcomes.{outcome_of}
+use Rattle.gql_steps.specs.Plans.{IsPlan, is_met, types_of}
+use Rattle.gql_steps.specs.Requests.{most_values}
 use Rattle.gql_exec.specs.RootParts.{effects_in, root_of, seen}
-use Rattle.gql_exec.specs.Runs.{Finishes, IsOutcomeOf}
-use Rattle.gql_exec.specs.declared.refusal.ExecRefusal.TheVariants.{TooHeavy}
-use Rattle.gql_exec.specs.declared.run.Run.{Run}
+use Rattle.gql_steps.specs.Runs.{Finishes, IsOutcomeOf}
+use Rattle.gql_steps.specs.declared.refusal.ExecRefusal.TheVariants.{TooHeavy}
+use Rattle.gql_steps.specs.declared.run.Run.{Run}
 use Rattle.gql_types.specs.Schemas.{append_of}
 use Rattle.serde_json.specs.View.{view}
-use Rattle.gql_exec.proofs.Ending.{err_is, ok_then}
+use Rattle.gql_steps.proofs.Ending.{err_is, ok_then}
 use Rattle.gql_exec.proofs.Mutating.{added_are, root_done, root_heavy}
 use Rattle.gql_exec.proofs.sets.mutate_sets.Goals as goal
 

@@ -1,9 +1,9 @@
 use Rattle.std.proofs.Common.{map, refl}
 use Rattle.std.specs.Vec.Iter.{into_iter_items}
-use Rattle.gql_exec.specs.Requests as requests
-use Rattle.gql_exec.specs.States as states
-use Rattle.gql_exec.specs.declared.run.FieldError.{FieldError}
-use Rattle.gql_exec.proofs.Ending.{next_error}
+use Rattle.gql_steps.specs.Requests as requests
+use Rattle.gql_steps.specs.States as states
+use Rattle.gql_steps.specs.declared.run.FieldError.{FieldError}
+use Rattle.gql_steps.proofs.Ending.{next_error}
 use Rattle.gql_exec.proofs.sets.response_errors.Goals as goal
 
 pub loop-error-preserved : goal.loop-error-preserved

@@ -1,9 +1,9 @@
 use Rattle.std.proofs.Common.{◌≡◌, ◌++◌, map}
 use Rattle.std.specs.Vec.Iter.{into_iter_items}
-use Rattle.gql_exec.specs.Outcomes.{error_of}
-use Rattle.gql_exec.specs.Requests as requests
-use Rattle.gql_exec.specs.States as states
-use Rattle.gql_exec.specs.declared.run.FieldError.{FieldError}
+use Rattle.gql_steps.specs.Outcomes.{error_of}
+use Rattle.gql_steps.specs.Requests as requests
+use Rattle.gql_steps.specs.States as states
+use Rattle.gql_steps.specs.declared.run.FieldError.{FieldError}
 use Rattle.gql_exec.proofs.sets.response_errors.Given as goal
 
 abbrev pub invariant-loop-error : goal.invariant-loop-error

@@ -3,11 +3,11 @@ use Rattle.gql_ast.specs.declared.definition.Tree.{Tree}
 use Rattle.gql_ast.specs.declared.definition.Tree.TheVariants as tree
 use Rattle.gql_ast.specs.declared.executable.Operation.{Operation}
 use Rattle.serde_json.specs.View.{view}
-use Rattle.gql_exec.specs.Outcomes.{outcome_of}
-use Rattle.gql_exec.specs.Requests.{IsOutcome, IsTooHeavy, Request}
-use Rattle.gql_exec.specs.Runs.{request}
-use Rattle.gql_exec.specs.declared.refusal.ExecRefusal.TheVariants.{TooHeavy}
-use Rattle.gql_exec.proofs.Ending.{by_files, err_then, ok_then}
+use Rattle.gql_steps.specs.Outcomes.{outcome_of}
+use Rattle.gql_steps.specs.Requests.{IsOutcome, IsTooHeavy, Request}
+use Rattle.gql_steps.specs.Runs.{request}
+use Rattle.gql_steps.specs.declared.refusal.ExecRefusal.TheVariants.{TooHeavy}
+use Rattle.gql_steps.proofs.Ending.{by_files, err_then, ok_then}
 use Rattle.gql_exec.proofs.whole.execute.Goals as goal
 
 -- the operation of a tree

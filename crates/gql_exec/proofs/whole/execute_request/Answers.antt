@@ -2,12 +2,12 @@ use Rattle.std.proofs.Common.{◌≡◌, ◌<◌, ◌≤◌, subst, sym}
 use Rattle.gql_coerce.specs.Comes as comes
 use Rattle.gql_coerce.specs.Requests.{VariablesCome}
 use Rattle.serde_json.specs.View.{view}
-use Rattle.gql_exec.specs.Plans.{Basis}
-use Rattle.gql_exec.specs.Outcomes.{outcome_of}
-use Rattle.gql_exec.specs.Requests.{basis_of, IsOutcome, IsTooHeavy, Request, most_values}
-use Rattle.gql_exec.specs.Runs.{Answering, IsOutcomeOf, IsRefused, request}
-use Rattle.gql_exec.specs.declared.refusal.ExecRefusal.TheVariants.{TooHeavy}
-use Rattle.gql_exec.proofs.Ending.{answers, answers_refused, err_then, ok_then}
+use Rattle.gql_steps.specs.Plans.{Basis}
+use Rattle.gql_steps.specs.Outcomes.{outcome_of}
+use Rattle.gql_steps.specs.Requests.{basis_of, IsOutcome, IsTooHeavy, Request, most_values}
+use Rattle.gql_steps.specs.Runs.{Answering, IsOutcomeOf, IsRefused, request}
+use Rattle.gql_steps.specs.declared.refusal.ExecRefusal.TheVariants.{TooHeavy}
+use Rattle.gql_steps.proofs.Ending.{answers, answers_refused, err_then, ok_then}
 use Rattle.gql_exec.proofs.whole.execute_request.Goals as goal
 
 pub returns-in-Ok-clause-outcome : goal.returns-in-Ok-clause-outcome

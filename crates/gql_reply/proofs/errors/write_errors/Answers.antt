@@ -1,7 +1,7 @@
 use Rattle.std.proofs.Common.{◌++◌, map, false, rules}
 use Rattle.serde_json.specs.View.{items_of}
 use Rattle.serde_json.specs.Written.{items_text}
-use Rattle.gql_exec.specs.Outcomes.{error_of}
+use Rattle.gql_steps.specs.Outcomes.{error_of}
 use Rattle.gql_reply.specs.ReplyText as spec
 use Rattle.gql_reply.proofs.Items.{item_step}
 use Rattle.gql_reply.proofs.errors.write_errors.Goals as goal

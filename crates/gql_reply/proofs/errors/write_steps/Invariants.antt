@@ -1,7 +1,7 @@
 use Rattle.std.proofs.Common.{◌≡◌, ◌++◌, drop, map, false}
 use Rattle.serde_json.specs.View.{items_of}
 use Rattle.serde_json.specs.Written.{items_text}
-use Rattle.gql_exec.specs.Outcomes.{path_of}
+use Rattle.gql_steps.specs.Outcomes.{path_of}
 use Rattle.gql_reply.specs.ReplyText as spec
 use Rattle.gql_reply.proofs.errors.write_steps.Given as goal
 

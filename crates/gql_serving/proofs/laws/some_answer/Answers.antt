@@ -1,4 +1,4 @@
-use Rattle.gql_exec.specs.Requests.{request_of}
+use Rattle.gql_steps.specs.Requests.{request_of}
 use Rattle.gql_serving.proofs.Reaching.{acyclic}
 use Rattle.gql_serving.proofs.Roots.{has_root}
 use Rattle.gql_serving.proofs.laws.some_answer.Goals as goal

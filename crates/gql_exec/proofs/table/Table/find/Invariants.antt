@@ -1,4 +1,0 @@
-use Rattle.gql_exec.proofs.table.Table.find.Given as goal
-
-abbrev pub decreases-loop-next : goal.decreases-loop-next
-decreases-loop-next l = l.next

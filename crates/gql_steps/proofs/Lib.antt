@@ -1,0 +1,16 @@
+pub mod Alike
+pub mod Completing
+pub mod Directly
+pub mod Doing
+pub mod Ending
+pub mod Entries
+pub mod Enums
+pub mod Escapes
+pub mod Executing
+pub mod Grouped
+pub mod Leaving
+pub mod Listing
+pub mod Parts
+pub mod Resolving
+pub mod Texting
+pub mod Writing

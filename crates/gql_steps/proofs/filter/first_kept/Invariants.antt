@@ -1,0 +1,8 @@
+use Rattle.std.proofs.Common.{◌≡◌, drop, find, map}
+use Rattle.serde_json.specs.View.{members_view, view}
+use Rattle.gql_steps.specs.Resolution.{meets}
+use Rattle.gql_steps.proofs.filter.first_kept.Given as goal
+
+abbrev pub invariant-loop-item : goal.invariant-loop-item
+invariant-loop-item l = find (meets (members_view l.arguments.entries)) (map view l.items)
+    ≡ find (meets (members_view l.arguments.entries)) (map view (drop l.item-index l.items))
