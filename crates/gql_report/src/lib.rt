@@ -5,5 +5,6 @@ pub mod laws;
 mod order;
 mod ranked;
 mod report;
+mod rough;
 
 pub use report::in_order;
