@@ -7,4 +7,5 @@ mod ranked;
 mod report;
 mod rough;
 
+pub use order::place_cmp;
 pub use report::in_order;

@@ -28,7 +28,8 @@ fn spot_cmp(place: &FilePlace, other: &FilePlace) -> Ordering
     offsets.then(lines.then(columns))
 }
 
-fn place_cmp(place: &FilePlace, other: &FilePlace) -> Ordering
+/// The order of two places: schema files before documents, then by file and offset.
+pub fn place_cmp(place: &FilePlace, other: &FilePlace) -> Ordering
     ensures { result ≡ spec.place_order place.now other.now }
 {
     match side_number(place.side).cmp(&side_number(other.side)) {
