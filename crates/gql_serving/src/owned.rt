@@ -1,18 +1,21 @@
 //! The faults that an operation answers for.
 
-ghost use Rattle.std.specs.Prelude.{◌≡◌, ◌↔◌, List, IsTrue, IfOk};
+ghost use Rattle.std.specs.Prelude.{◌≡◌, ◌↔◌, IsTrue, IfOk};
 ghost use Rattle.std.specs.HashSet.{contains};
 ghost use Rattle.std.specs.List.{list_any};
 ghost use Rattle.gql_serving.specs.Owned.{IsOwned, Picks, fragment_owner};
 ghost use Rattle.gql_serving.specs.OwnedAmong.{IsOwnedAmong, owner_places};
-ghost use Rattle.gql_ast.specs.declared.fault.FilePlace.{FilePlace as ThePlace};
 ghost use Rattle.gql_serving.specs.Owners.{AreAt, AreOwnersOf, same_place};
 
 use crate::owner::Owners;
 use gql_ast::{Definition, Fault, FilePlace, FileSide, Shared};
 use gql_facts::{FragmentFact, World, walk_reads};
+use gql_report::place_cmp;
 use gql_rules::owner_of;
 use std::alloc::{AllocError, Global};
+
+/// The most places that are compared one by one.
+const FEW: usize = 4;
 
 /// Where a fragment starts.
 fn place_of(member: &FragmentFact) -> FilePlace
@@ -53,14 +56,38 @@ fn is_any_among(places: &[FilePlace], owners: &Owners) -> bool
     false
 }
 
-/// Whether the owner of a fault is one of these.
-fn is_owned(fault: &Fault, owners: &Owners) -> bool
-    ensures { (places : List ThePlace) → AreAt places owners.now
-        → IsTrue result ↔ IsOwnedAmong places fault.now }
+/// Whether a place is one of these.
+fn is_listed(place: &FilePlace, places: &[FilePlace]) -> bool
+    ensures { result ≡ list_any (same_place place.now) places.now }
+{
+    for other in places {
+        if place_cmp(place, other).is_eq() {
+            return true;
+        }
+    }
+    false
+}
+
+/// Whether a place is one of these, at which these owners are. Few places are compared with it; many
+/// are looked up.
+fn is_among(place: &FilePlace, places: &[FilePlace], owners: &Owners) -> bool
+    ensures { AreAt places.now owners.now → result ≡ list_any (same_place place.now) places.now }
+{
+    if places.len() <= FEW {
+        is_listed(place, places)
+    } else {
+        owners.has(place)
+    }
+}
+
+/// Whether the owner of a fault is at one of these places, at which these owners are.
+fn is_owned(fault: &Fault, places: &[FilePlace], owners: &Owners) -> bool
+    ensures { AreAt places.now owners.now
+        → IsTrue result ↔ IsOwnedAmong places.now fault.now }
 {
     match &fault.owner {
         None => false,
-        Some(owner) => owners.has(owner),
+        Some(owner) => is_among(owner, places, owners),
     }
 }
 
@@ -75,7 +102,7 @@ fn picked(
     let owners = Owners::at(alloc, places)?;
     let mut owned = Vec::new(alloc);
     for fault in faults {
-        if is_owned(fault.get(), &owners) {
+        if is_owned(fault.get(), places, &owners) {
             owned.push(fault.clone()?)?;
         }
     }

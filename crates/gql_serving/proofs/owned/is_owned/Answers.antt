@@ -1,9 +1,8 @@
-use Rattle.std.proofs.Common.{◌∙◌}
 use Rattle.gql_serving.proofs.Owning.{owned_if, unowned}
 use Rattle.gql_serving.proofs.owned.is_owned.Goals as goal
 
 pub returns-in-None : goal.returns-in-None
-returns-in-None c = λ places at. unowned places c.args.fault.now c.in-None.is
+returns-in-None c = λ at. unowned c.args.places.now c.args.fault.now c.in-None.is
 
 pub returns-in-Some : goal.returns-in-Some
-returns-in-Some c = λ places at. owned_if places c.args.fault.now c.in-Some.owner c.has.result c.in-Some.is (c.has.ensures ∙ at c.in-Some.owner)
+returns-in-Some c = λ at. owned_if c.args.places.now c.args.fault.now c.in-Some.owner c.is_among.result c.in-Some.is (c.is_among.ensures at)

@@ -10,7 +10,7 @@ loop-fault-init c = none_picked (IsOwnedAmong c.args.places.now) [] c.new-owned.
 pub loop-fault-preserved : goal.loop-fault-preserved
 loop-fault-preserved c =
     let P = IsOwnedAmong c.args.places.now in
-    let is = subst (λ f. IsTrue c.is_owned.result ↔ IsOwnedAmong c.args.places.now f) c.get.ensures (c.is_owned.ensures c.args.places.now c.in_ok-owners.ensures) in
+    let is = subst (λ f. IsTrue c.is_owned.result ↔ IsOwnedAmong c.args.places.now f) c.get.ensures (c.is_owned.ensures c.in_ok-owners.ensures) in
     elim c.if-is_owned.branch [
       | then-is_owned+in_ok-clone+in_ok-push w ↦
           one_picked P c.args.faults.now c.loop-fault.fault-index c.fault-item.result c.is_owned.result c.loop-fault.owned.items c.if-is_owned.owned.items
