@@ -87,10 +87,33 @@ def interfaces(count):
         request("PUT", "/schema/x", "extend type T implements " + "&".join(["I"] * count))]
 
 
+def clashing(count):
+    """An operation with so many fields of one response name, and as many others of that name: the
+    square of it are faults."""
+    return [document("d", "query Clashing { %s}" % ("a:x " * count + "a:y " * count))]
+
+
+def faults(count):
+    """That operation. An edit of another file then makes the report anew."""
+    return clashing(count) + [document("e", "query Clean { x }")]
+
+
+def beside(count):
+    """Runs of an operation beside 320,356 faults of another one."""
+    return faults(566) + [request("POST", "/run", '{"operationName":"Clean"}')] * count
+
+
+def faulty(count):
+    """Runs of an operation with one fault beside 320,356 of another one."""
+    return faults(566) + [document("f", "query Faulty { z }")] + [
+        request("POST", "/run", '{"operationName":"Faulty"}')] * count
+
+
 KINDS = {
     "chain": chain, "aliases": aliases, "names": names, "spreads": spreads, "lower": lower,
     "equal": equal, "interfaces": interfaces, "schema_edits": schema_edits,
-    "document_edits": document_edits, "moved": moved,
+    "document_edits": document_edits, "moved": moved, "clashing": clashing, "faults": faults,
+    "beside": beside, "faulty": faulty,
 }
 
 if __name__ == "__main__":

@@ -2,7 +2,7 @@
 # What swollen input costs: bench/swollen.sh [PROGRAM..]. It gives documents with thousands of fields
 # and fragments, and many edits, to `gqlreg pipe`, and prints for each the processor seconds and the
 # most memory in MB of each program. With two programs, as one of now and one of before, each line has
-# both. It takes a minute for each program. It needs python3 and GNU time.
+# both. It takes a minute or two for each program. It needs python3 and GNU time.
 # By default the program is that of this repository, which is built without proof if it is not there
 # (tools/program.sh).
 set -eu
@@ -40,4 +40,10 @@ document_edits 0
 document_edits 1000
 moved 0
 moved 20
+clashing 800
+faults 800
+beside 0
+beside 100
+faulty 0
+faulty 20
 KINDS

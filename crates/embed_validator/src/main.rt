@@ -11,7 +11,7 @@ use gql_reads::NoParts;
 use gql_report::in_order;
 use gql_schema_rules::schema_faults;
 use gql_types::assemble;
-use gql_verdict::{Meter, SharedWork, examine, name_faults};
+use gql_verdict::{Meter, SharedWork, examine, name_faults, shared_faults};
 use std::alloc::{AllocError, Global};
 use std::io;
 
@@ -47,7 +47,7 @@ fn add_faults<W: World>(
     alloc: Global,
     world: &mut W,
     definition: &Definition,
-    faults: &mut Vec<Fault>,
+    faults: &mut Vec<Shared<Fault>>,
 ) -> Result<(), AllocError> {
     // One `SharedWork` for all definitions of a world saves work on fragments that they share.
     let mut shared = SharedWork::new(alloc);
@@ -55,23 +55,23 @@ fn add_faults<W: World>(
     let kept = NoParts {};
     let verdict = examine(alloc, world, definition, &kept, &mut shared, &mut meter)?;
     for fault in verdict.faults() {
-        faults.push(fault.copy(alloc)?)?;
+        faults.push(fault.clone()?)?;
     }
     Ok(())
 }
 
 /// The faults of the files: those of the schema, or if it has none, those of names and of each
 /// definition.
-fn faults_of(alloc: Global, files: &Files) -> Result<Vec<Fault>, AllocError> {
+fn faults_of(alloc: Global, files: &Files) -> Result<Vec<Shared<Fault>>, AllocError> {
     let schema = assemble(alloc, files)?;
     let of_schema = schema_faults(alloc, files, &schema)?;
     if !of_schema.is_empty() {
-        return in_order(alloc, of_schema);
+        return in_order(alloc, shared_faults(alloc, of_schema)?);
     }
     let facts = SchemaFacts::new(alloc, &schema)?;
     let fragments = Fragments::new(alloc, &files.documents)?;
     let mut world = Present::new(&facts, &fragments);
-    let mut faults = name_faults(alloc, files)?;
+    let mut faults = shared_faults(alloc, name_faults(alloc, files)?)?;
     for (_, document) in files.documents.entries().iter() {
         for definition in document.get().definitions.as_slice() {
             add_faults(alloc, &mut world, definition, &mut faults)?;
@@ -96,6 +96,7 @@ fn main(rt: HostRuntime) -> Result<()> {
         }
     };
     for fault in faults_of(rt.alloc(), &files)?.as_slice() {
+        let fault = fault.get();
         print!(rt; "{} {}", fault.rule.name(), fault.about.as_str())?;
         for spot in fault.places.as_slice() {
             let (line, column) = (spot.place.line, spot.place.column);

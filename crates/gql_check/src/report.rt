@@ -3,13 +3,13 @@
 //! those of the verdicts, in the order of reports.
 ghost use Rattle.std.specs.Prelude.{◌≡◌};
 
-use gql_ast::{Definition, Fault, Files};
+use gql_ast::{Definition, Fault, Files, Shared};
 use gql_facts::{Fragments, Present, SchemaFacts, World};
 use gql_reads::NoParts;
 use gql_report::in_order;
 use gql_schema_rules::schema_faults;
 use gql_types::assemble;
-use gql_verdict::{Meter, SharedWork, Verdict, examine, name_faults};
+use gql_verdict::{Meter, SharedWork, Verdict, examine, name_faults, shared_faults};
 use std::alloc::{AllocError, Global};
 
 /// The report of files. The verdicts are those on the definitions, in their order.
@@ -50,18 +50,23 @@ fn verdicts_of<W: World>(
     Ok(verdicts)
 }
 
-/// Adds copies of the faults of verdicts.
-fn add_faults(
-    alloc: Global,
-    verdicts: &[Verdict],
-    faults: &mut Vec<Fault>,
-) -> Result<(), AllocError> {
+/// Adds the faults of verdicts, which are shared.
+fn add_faults(verdicts: &[Verdict], faults: &mut Vec<Shared<Fault>>) -> Result<(), AllocError> {
     for verdict in verdicts {
         for fault in verdict.faults() {
-            faults.push(fault.copy(alloc)?)?;
+            faults.push(fault.clone()?)?;
         }
     }
     Ok(())
+}
+
+/// Copies of faults.
+fn copies(alloc: Global, faults: &[Shared<Fault>]) -> Result<Vec<Fault>, AllocError> {
+    let mut copied = Vec::new(alloc);
+    for fault in faults {
+        copied.push(fault.get().copy(alloc)?)?;
+    }
+    Ok(copied)
 }
 
 /// The report of files, and the verdicts on these definitions, which are theirs.
@@ -78,13 +83,13 @@ pub fn report_of(
     let verdicts = verdicts_of(alloc, &mut world, definitions)?;
     let schema_is_faulty = !of_schema.is_empty();
     let faults = if schema_is_faulty {
-        of_schema
+        shared_faults(alloc, of_schema)?
     } else {
-        let mut faults = name_faults(alloc, files)?;
-        add_faults(alloc, verdicts.as_slice(), &mut faults)?;
+        let mut faults = shared_faults(alloc, name_faults(alloc, files)?)?;
+        add_faults(verdicts.as_slice(), &mut faults)?;
         faults
     };
-    let faults = in_order(alloc, faults)?;
+    let faults = copies(alloc, in_order(alloc, faults)?.as_slice())?;
     Ok(Report {
         faults,
         verdicts,

@@ -4,7 +4,7 @@ ghost use Rattle.gql_http.specs.Answers.{error_text, located_text, syntax_text, 
 
 use crate::report_body::write_faults;
 use crate::write::{write_bytes, write_number, write_string};
-use gql_ast::Fault;
+use gql_ast::{Fault, Shared};
 use gql_grammar::SyntaxRefusal;
 use gql_text::Place;
 use std::alloc::{AllocError, Global};
@@ -91,7 +91,7 @@ pub fn stale_body(alloc: Global, revision: u64) -> Result<Vec<u8>, AllocError>
 
 /// A faulty operation, with its faults.
 #[tactic(auto, unfolding(crate::specs::Answers::faulty_text))]
-pub fn faulty_body(alloc: Global, faults: &[Fault]) -> Result<Vec<u8>, AllocError>
+pub fn faulty_body(alloc: Global, faults: &[Shared<Fault>]) -> Result<Vec<u8>, AllocError>
     ensures { IfOk result (λ body. body.items ≡ faulty_text faults.now) }
 {
     let mut out = Vec::new(alloc);

@@ -4,7 +4,7 @@ ghost use Rattle.gql_http.specs.Json.{what_text, where_text, fault_text, faults_
 
 use crate::places::{write_owner, write_places};
 use crate::write::{write_bytes, write_number, write_string};
-use gql_ast::Fault;
+use gql_ast::{Fault, Shared};
 use std::alloc::{AllocError, Global};
 
 #[tactic(auto, unfolding(crate::specs::Json::what_text))]
@@ -41,23 +41,31 @@ fn write_fault(alloc: Global, out: &mut Vec<u8>, fault: &Fault) -> Result<(), Al
 
 /// Writes faults with commas between them.
 #[tactic(auto, unfolding(crate::specs::Json::faults_text))]
-pub fn write_faults(alloc: Global, out: &mut Vec<u8>, faults: &[Fault]) -> Result<(), AllocError>
+pub fn write_faults(
+    alloc: Global,
+    out: &mut Vec<u8>,
+    faults: &[Shared<Fault>],
+) -> Result<(), AllocError>
     ensures { OnOk result (out.new.items ≡ out.old.items ++ faults_text faults.now) }
 {
     let Some((first, rest)) = faults.split_first() else {
         return Ok(());
     };
-    write_fault(alloc, out, first)?;
+    write_fault(alloc, out, first.get())?;
     for fault in rest {
         write_bytes(out, b",")?;
-        write_fault(alloc, out, fault)?;
+        write_fault(alloc, out, fault.get())?;
     }
     Ok(())
 }
 
 /// The body of a report.
 #[tactic(auto, unfolding(crate::specs::Json::report_text))]
-pub fn report_body(alloc: Global, revision: u64, faults: &[Fault]) -> Result<Vec<u8>, AllocError>
+pub fn report_body(
+    alloc: Global,
+    revision: u64,
+    faults: &[Shared<Fault>],
+) -> Result<Vec<u8>, AllocError>
     ensures { IfOk result (λ body. body.items ≡ report_text revision faults.now) }
 {
     let mut out = Vec::new(alloc);

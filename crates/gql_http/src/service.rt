@@ -35,7 +35,7 @@ fn report_answer(alloc: Global, registry: &Registry) -> Result<Answer, AllocErro
         × IsReport (state_of registry.now).files faults
         × (answer_said a ≡ report_said (state_of registry.now).revision faults)) }
 {
-    let faults = registry.report()?;
+    let faults = registry.shared_report()?;
     Ok(Answer {
         status: StatusCode::OK,
         allow: None,

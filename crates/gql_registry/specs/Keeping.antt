@@ -14,6 +14,7 @@ use Rattle.gql_registry.specs.Report.{IsReport}
 use Rattle.gql_registry.specs.declared.index.DocumentIndex.{DocumentIndex}
 use Rattle.gql_registry.specs.declared.report.Known.{Known}
 use Rattle.gql_registry.specs.declared.report.SchemaSide.{SchemaSide}
+use Rattle.gql_serving.specs.Owners.{AreOwnersOf}
 use Rattle.gql_types.specs.Schemas.{schema_of}
 use Rattle.gql_verdict.specs.Definitions.{all_definitions}
 use Rattle.gql_verdict.specs.FileOrder.{AreFilesPlaced}
@@ -77,6 +78,7 @@ pub record IsKnownOf (files : Files) (known : Known) : Type 0 where
   pub schema : IsSideOf files known.schema
   pub index : IsIndexOf files known.index
   pub report : IsReport files known.report.items
+  pub owners : AreOwnersOf known.report.items known.owners
 
 -- what is known and the verdicts are those of the files, and the definitions of the files are in
 -- order

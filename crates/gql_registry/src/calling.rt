@@ -9,8 +9,8 @@ ghost use Rattle.gql_registry.specs.Prepared.{ran_of};
 ghost use Rattle.serde_json.specs.View.{view};
 
 use crate::refusal::Refusal;
-use crate::report::{Known, copies};
-use gql_ast::{Definition, Fault, Items};
+use crate::report::{Known, sharing};
+use gql_ast::{Definition, Fault, Items, Shared};
 use gql_exec::{Effect, ExecRefusal, execute};
 use gql_facts::Present;
 use gql_reply::reply_text;
@@ -30,16 +30,22 @@ fn faults_against(
     alloc: Global,
     known: &Known,
     definition: &Definition,
-) -> Result<Vec<Fault>, AllocError>
+) -> Result<Vec<Shared<Fault>>, AllocError>
     ensures { IfOk result (λ faults. (files : TheFiles) → IsKnownOf files known.now
         → AreAgainst files definition.now faults.items) }
 {
     let schema = known.schema.get();
     if !schema.faults.as_slice().is_empty() {
-        return copies(alloc, known.report.as_slice());
+        return sharing(alloc, known.report.as_slice());
     }
     let mut world = Present::new(&schema.facts, &known.index.fragments);
-    let faults = owned_faults(alloc, &mut world, definition, known.report.as_slice())?;
+    let faults = owned_faults(
+        alloc,
+        &mut world,
+        definition,
+        known.report.as_slice(),
+        &known.owners,
+    )?;
     Ok(faults)
 }
 

@@ -19,9 +19,10 @@ use crate::calling::{Ran, answer_call};
 use crate::change::{Change, change_by_put, change_by_removal};
 use crate::index::{DocumentIndex, document_index};
 use crate::refusal::Refusal;
-use crate::report::{Known, SchemaSide, copies, documents_report, schema_report, schema_side};
+use crate::report::{Known, SchemaSide, documents_report, schema_report, schema_side, sharing};
 use gql_ast::{Document, Fault, FileName, FileSide, Files, Shared};
 use gql_facts::{Fragments, Present, SchemaFacts};
+use gql_serving::Owners;
 use gql_verdict::{Meter, Prepared, Shelf, Touched};
 use serde_json::Value;
 use std::alloc::{AllocError, Global};
@@ -114,9 +115,9 @@ fn prepared_report(
     alloc: Global,
     shelf: &Shelf,
     verdicts: &Prepared,
-    schema_faults: &[Fault],
+    schema_faults: &[Shared<Fault>],
     files: &Files,
-) -> Result<Vec<Fault>, AllocError>
+) -> Result<Vec<Shared<Fault>>, AllocError>
     requires planned { IsPlanFor files.now shelf.now verdicts.now }
     requires schema { AreSchemaFaults files.now schema_faults.now }
     ensures { IfOk result (λ report. IsReport files.now report.items) }
@@ -146,15 +147,17 @@ fn known_then(
 {
     let faults = schema.get().faults.as_slice();
     let report = prepared_report(alloc, shelf, verdicts, faults, files)?;
+    let owners = Owners::new(alloc, report.as_slice())?;
     Ok(Known {
         schema,
         index,
         report,
+        owners,
     })
 }
 
 /// Whether a schema with these faults has none.
-fn has_none(faults: &[Fault]) -> bool
+fn has_none(faults: &[Shared<Fault>]) -> bool
     ensures { (files : TheFiles) → AreSchemaFaults files faults.now
         → IsTrue result ↔ IsSound files }
 {
@@ -165,9 +168,9 @@ fn has_none(faults: &[Fault]) -> bool
 fn present_report(
     alloc: Global,
     shelf: &Shelf,
-    schema_faults: &[Fault],
+    schema_faults: &[Shared<Fault>],
     files: &Files,
-) -> Result<Vec<Fault>, AllocError>
+) -> Result<Vec<Shared<Fault>>, AllocError>
     requires shelf { IsShelfOf files.now shelf.now }
     requires schema { AreSchemaFaults files.now schema_faults.now }
     ensures { IfOk result (λ report. IsReport files.now report.items) }
@@ -190,10 +193,12 @@ fn known_of(alloc: Global, shelf: &Shelf, files: &Files) -> Result<Known, AllocE
     let report = present_report(alloc, shelf, schema.faults.as_slice(), files)?;
     let index = document_index(alloc, files)?;
     let schema = Shared::new(alloc, schema)?;
+    let owners = Owners::new(alloc, report.as_slice())?;
     Ok(Known {
         schema,
         index,
         report,
+        owners,
     })
 }
 
@@ -274,12 +279,12 @@ impl Kept {
         &self.shelf
     }
 
-    /// The report of the files.
-    pub fn report(&self, alloc: Global) -> Result<Vec<Fault>, AllocError>
+    /// The report of the files, which shares the faults with what is kept.
+    pub fn report(&self, alloc: Global) -> Result<Vec<Shared<Fault>>, AllocError>
         ensures { IfOk result (λ report. IsReport self.now.files report.items) }
     {
         if let Some(known) = &self.known {
-            return copies(alloc, known.report.as_slice());
+            return sharing(alloc, known.report.as_slice());
         }
         let side = schema_side(alloc, &self.files)?;
         let report = present_report(alloc, &self.shelf, side.faults.as_slice(), &self.files)?;

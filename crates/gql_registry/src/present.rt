@@ -5,7 +5,8 @@ ghost use Rattle.gql_registry.specs.Report as spec;
 ghost use Rattle.gql_registry.specs.State.{state_of, shelf_of};
 
 use crate::registry::Registry;
-use gql_ast::{Fault, Files};
+use crate::report::copies;
+use gql_ast::{Fault, Files, Shared};
 use gql_verdict::Shelf;
 use std::alloc::AllocError;
 
@@ -34,6 +35,16 @@ impl Registry {
     /// place (none first), rule, second place, owner and text. If the schema has faults, these
     /// alone are reported.
     pub fn report(&self) -> Result<Vec<Fault>, AllocError>
+        ensures { IfOk result (λ faults. spec.IsReport (state_of self.now).files faults.items) }
+    {
+        let report = self.kept.report(self.alloc)?;
+        let copied = copies(self.alloc, report.as_slice())?;
+        Ok(copied)
+    }
+
+    /// The same report as `report` returns, which shares its faults with the registry: none is
+    /// copied.
+    pub fn shared_report(&self) -> Result<Vec<Shared<Fault>>, AllocError>
         ensures { IfOk result (λ faults. spec.IsReport (state_of self.now).files faults.items) }
     {
         self.kept.report(self.alloc)

@@ -5,14 +5,15 @@ ghost use Rattle.gql_registry.specs.Refusals as spec;
 ghost use Rattle.gql_registry.specs.Refusals.{refusal_of};
 ghost use Rattle.gql_registry.specs.declared.refusal.Refusal.TheVariants.{Memory};
 
-use gql_ast::{Fault, Items};
+use gql_ast::{Fault, Items, Shared};
 use gql_grammar::{SyntaxFault, SyntaxRefusal};
 use gql_text::Place;
 use std::alloc::{AllocError, AllocFailed};
+use std::fmt;
 use thiserror::Error;
 
 /// Why the registry refuses. Each has a number that users see. A refused call changes nothing.
-#[derive(Debug, Drop, Error)]
+#[derive(Drop, Error)]
 pub enum Refusal {
     /// 201: the file is not a document of its kind; why, and where.
     #[error("syntax")]
@@ -40,7 +41,7 @@ pub enum Refusal {
     NoOperation,
     /// 209: the schema, the operation or a fragment that it reaches has faults, which are these.
     #[error("operation is faulty")]
-    Faulty { faults: Items<Fault> },
+    Faulty { faults: Items<Shared<Fault>> },
     /// 210: the answer has more than 100,000 values.
     #[error("answer is too large")]
     TooLarge,
@@ -50,6 +51,12 @@ pub enum Refusal {
     /// 212: there is no revision after the present one.
     #[error("revisions are spent")]
     Spent,
+}
+
+impl fmt::Debug for Refusal {
+    fn fmt<W: fmt::Write>(&self, f: &mut fmt::Formatter<W>) -> fmt::Result {
+        fmt::Display::fmt(self, f)
+    }
 }
 
 impl From<AllocError> for Refusal {

@@ -11,8 +11,9 @@ use gql_facts::SchemaFacts;
 use gql_intro::{IntroSchema, intro_schema};
 use gql_report::in_order;
 use gql_schema_rules::schema_faults;
+use gql_serving::Owners;
 use gql_types::{Schema, assemble};
-use gql_verdict::name_faults;
+use gql_verdict::{name_faults, shared_faults};
 use std::alloc::{AllocError, Global};
 
 /// The schema files as one schema, with its facts, what introspection makes of it, and its faults.
@@ -21,16 +22,17 @@ pub struct SchemaSide {
     pub schema: Schema,
     pub facts: SchemaFacts,
     pub made: IntroSchema,
-    pub faults: Vec<Fault>,
+    pub faults: Vec<Shared<Fault>>,
 }
 
-/// What is known of files: their schema, the definitions of the document files by their names, and
-/// the report.
+/// What is known of files: their schema, the definitions of the document files by their names, the
+/// report, and the owners of its faults.
 #[derive(Drop)]
 pub struct Known {
     pub schema: Shared<SchemaSide>,
     pub index: DocumentIndex,
-    pub report: Vec<Fault>,
+    pub report: Vec<Shared<Fault>>,
+    pub owners: Owners,
 }
 
 /// Puts the schema of the schema files together.
@@ -38,7 +40,8 @@ pub fn schema_side(alloc: Global, files: &Files) -> Result<SchemaSide, AllocErro
     ensures { IfOk result (IsSideOf files.now) }
 {
     let schema = assemble(alloc, files)?;
-    let faults = schema_faults(alloc, files, &schema)?;
+    let found = schema_faults(alloc, files, &schema)?;
+    let faults = shared_faults(alloc, found)?;
     let facts = SchemaFacts::new(alloc, &schema)?;
     let made = intro_schema(alloc, files, &schema)?;
     Ok(SchemaSide {
@@ -50,24 +53,38 @@ pub fn schema_side(alloc: Global, files: &Files) -> Result<SchemaSide, AllocErro
 }
 
 /// Copies of faults.
-pub fn copies(alloc: Global, faults: &[Fault]) -> Result<Vec<Fault>, AllocError>
+pub fn copies(alloc: Global, faults: &[Shared<Fault>]) -> Result<Vec<Fault>, AllocError>
     ensures { IfOk result (λ copied. copied.items ≡ faults.now) }
 {
     let mut copied = Vec::new(alloc);
     for fault in faults {
-        copied.push(fault.copy(alloc)?)?;
+        copied.push(fault.get().copy(alloc)?)?;
     }
     Ok(copied)
 }
 
+/// The same faults, which both lists share.
+pub fn sharing(alloc: Global, faults: &[Shared<Fault>]) -> Result<Vec<Shared<Fault>>, AllocError>
+    ensures { IfOk result (λ shared. shared.items ≡ faults.now) }
+{
+    let mut shared = Vec::new(alloc);
+    for fault in faults {
+        shared.push(fault.clone()?)?;
+    }
+    Ok(shared)
+}
+
 /// The report if the schema has faults, which are these.
-pub fn schema_report(alloc: Global, faults: &[Fault]) -> Result<Vec<Fault>, AllocError>
+pub fn schema_report(
+    alloc: Global,
+    faults: &[Shared<Fault>],
+) -> Result<Vec<Shared<Fault>>, AllocError>
     requires { faults.now ≢ [] }
     ensures { IfOk result (λ report. (files : TheFiles) → AreSchemaFaults files faults.now
         → IsReport files report.items) }
 {
-    let copied = copies(alloc, faults)?;
-    let report = in_order(alloc, copied)?;
+    let shared = sharing(alloc, faults)?;
+    let report = in_order(alloc, shared)?;
     Ok(report)
 }
 
@@ -75,14 +92,15 @@ pub fn schema_report(alloc: Global, faults: &[Fault]) -> Result<Vec<Fault>, Allo
 pub fn documents_report(
     alloc: Global,
     files: &Files,
-    of_definitions: Vec<Fault>,
-) -> Result<Vec<Fault>, AllocError>
+    of_definitions: Vec<Shared<Fault>>,
+) -> Result<Vec<Shared<Fault>>, AllocError>
     requires sound { IsSound files.now }
     requires faults { Lists of_definitions.items (IsDefinitionFault files.now) }
     ensures { IfOk result (λ report. IsReport files.now report.items) }
 {
     let mut of_definitions = of_definitions;
-    let mut faults = name_faults(alloc, files)?;
+    let of_names = name_faults(alloc, files)?;
+    let mut faults = shared_faults(alloc, of_names)?;
     faults.append(&mut of_definitions)?;
     let report = in_order(alloc, faults)?;
     Ok(report)

@@ -28,7 +28,8 @@ one_side Documents Documents e = refl
 one_text : (s t : List ℕ) → slice_cmp nat_cmp s t ≡ Equal → s ≡ t
 one_text s t e = slice_cmp-IsAntisymmetric nat_cmp-IsAntisymmetric s t e
 
-one_place : (p q : FilePlace) → place_order p q ≡ Equal → p ≡ q
+-- the order of places ties no two
+pub one_place : (p q : FilePlace) → place_order p q ≡ Equal → p ≡ q
 one_place p q e =
     let a = both (nat_cmp (side_number p.side) (side_number q.side)) _ e in
     let b = both (slice_cmp nat_cmp p.file q.file) _ a.1 in

@@ -1,5 +1,5 @@
 pub mod Apart
 pub mod Members
 pub mod OneList
-pub mod Putting
+pub mod Ordered
 pub mod RuleNames

@@ -5,5 +5,7 @@ pub mod laws;
 mod order;
 mod ranked;
 mod report;
+mod rough;
 
+pub use order::place_cmp;
 pub use report::in_order;

@@ -4,6 +4,7 @@ ghost use Rattle.std.specs.Prelude.{◌≡◌, take, drop};
 ghost use Rattle.std.specs.Option.{option_cmp};
 ghost use Rattle.std.specs.Cmp.Lexicographic.{slice_cmp};
 ghost use Rattle.gql_report.specs.Order as spec;
+ghost use Rattle.gql_report.specs.OrderParts as parts;
 
 use gql_ast::{Fault, FilePlace, FileSide};
 use std::cmp::Ordering;
@@ -17,24 +18,37 @@ fn side_number(side: FileSide) -> u8
     }
 }
 
-fn place_cmp(place: &FilePlace, other: &FilePlace) -> Ordering
-    ensures { result ≡ spec.place_order place.now other.now }
+/// The order within a file.
+fn spot_cmp(place: &FilePlace, other: &FilePlace) -> Ordering
+    ensures { result ≡ parts.spot_order place.now other.now }
 {
-    let sides = side_number(place.side).cmp(&side_number(other.side));
-    let files = place.file.cmp(&other.file);
     let offsets = place.place.offset.cmp(&other.place.offset);
     let lines = place.place.line.cmp(&other.place.line);
     let columns = place.place.column.cmp(&other.place.column);
-    sides.then(files.then(offsets.then(lines.then(columns))))
+    offsets.then(lines.then(columns))
+}
+
+/// The order of two places: schema files before documents, then by file and offset.
+pub fn place_cmp(place: &FilePlace, other: &FilePlace) -> Ordering
+    ensures { result ≡ spec.place_order place.now other.now }
+{
+    match side_number(place.side).cmp(&side_number(other.side)) {
+        Ordering::Equal => match place.file.cmp(&other.file) {
+            Ordering::Equal => spot_cmp(place, other),
+            files => files,
+        },
+        sides => sides,
+    }
 }
 
 fn places_cmp(places: &[FilePlace], others: &[FilePlace]) -> Ordering
     ensures { result ≡ slice_cmp spec.place_order places.now others.now }
 {
     match (places.split_first(), others.split_first()) {
-        (Some((place, places)), Some((other, others))) => {
-            place_cmp(place, other).then(places_cmp(places, others))
-        }
+        (Some((place, places)), Some((other, others))) => match place_cmp(place, other) {
+            Ordering::Equal => places_cmp(places, others),
+            first => first,
+        },
         (Some(_), None) => Ordering::Greater,
         (None, Some(_)) => Ordering::Less,
         (None, None) => Ordering::Equal,
@@ -67,16 +81,34 @@ fn first_and_rest(places: &[FilePlace]) -> (&[FilePlace], &[FilePlace])
     }
 }
 
-/// The order of two faults in a report.
+/// The order of two faults of one first place and one rule, by their later places, owners and
+/// texts.
+fn later_cmp(fault: &Fault, other: &Fault) -> Ordering
+    ensures { result ≡ parts.later_order fault.now other.now }
+{
+    let (_, places) = first_and_rest(fault.places.as_slice());
+    let (_, others) = first_and_rest(other.places.as_slice());
+    match places_cmp(places, others) {
+        Ordering::Equal => match owner_cmp(&fault.owner, &other.owner) {
+            Ordering::Equal => fault.about.cmp(&other.about),
+            owners => owners,
+        },
+        places => places,
+    }
+}
+
+/// The order of two faults in a report. What comes later in the order is compared only where all
+/// before it is equal.
 pub fn fault_cmp(fault: &Fault, other: &Fault) -> Ordering
     ensures { result ≡ spec.fault_order fault.now other.now }
 {
-    let (first, rest) = first_and_rest(fault.places.as_slice());
-    let (other_first, other_rest) = first_and_rest(other.places.as_slice());
-    let firsts = places_cmp(first, other_first);
-    let rules = fault.rule.name().cmp(other.rule.name());
-    let rests = places_cmp(rest, other_rest);
-    let owners = owner_cmp(&fault.owner, &other.owner);
-    let texts = fault.about.cmp(&other.about);
-    firsts.then(rules.then(rests.then(owners.then(texts))))
+    let (first, _) = first_and_rest(fault.places.as_slice());
+    let (other_first, _) = first_and_rest(other.places.as_slice());
+    match places_cmp(first, other_first) {
+        Ordering::Equal => match fault.rule.name().cmp(other.rule.name()) {
+            Ordering::Equal => later_cmp(fault, other),
+            rules => rules,
+        },
+        firsts => firsts,
+    }
 }

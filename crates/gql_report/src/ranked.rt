@@ -7,14 +7,16 @@ ghost use Rattle.gql_report.specs.Order.{fault_order};
 ghost use Rattle.gql_report.specs.Total.{fault_order_total};
 
 use crate::order::fault_cmp;
-use gql_ast::Fault;
+use crate::rough::Rough;
+use gql_ast::{Fault, Shared};
 use std::cmp::Ordering;
 use std::marker::Model;
 
 /// A fault, compared by the order of reports. Contracts see the fault.
 #[derive(Drop)]
 pub struct Ranked {
-    pub fault: Fault,
+    pub fault: Shared<Fault>,
+    pub rough: Rough,
 }
 
 impl Model for Ranked {
@@ -63,6 +65,6 @@ impl Ord for Ranked {
     ghost matches_eq = { λ a b. refl };
 
     fn cmp(&self, other: &Ranked) -> Ordering {
-        fault_cmp(&self.fault, &other.fault)
+        fault_cmp(self.fault.get(), other.fault.get())
     }
 }

@@ -4,3 +4,4 @@ pub mod Reaching
 pub mod BuiltIns
 pub mod Roots
 pub mod Owning
+pub mod Places

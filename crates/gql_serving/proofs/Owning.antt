@@ -1,37 +1,45 @@
 -- Which faults are picked, where the fragments that a definition reaches are known.
-use Rattle.std.proofs.Common.{◌≡◌, ◌↔◌, ◌+◌, ◌<◌, ℕ, List, [], ◌∷◌, ◌++◌, Bool, true, false, Some, length, get_or, take, refl, ap, sym, ◌∙◌, subst, IsTrue, Result, Ok, Err, IfOk}
+use Rattle.std.proofs.Common.{◌≡◌, ◌↔◌, ◌+◌, ◌<◌, ℕ, List, [], ◌∷◌, ◌++◌, Bool, true, false, Option, Some, None, length, get_or, take, map, refl, ap, sym, ◌∙◌, subst, inl, inr, Contains, IsTrue, Result, Ok, Err, IfOk}
+use Rattle.std.specs.Prelude.{◌||◌}
+use Rattle.std.specs.List.{list_any}
 use Rattle.std.proofs.lemmas.List.{take_more}
-use Rattle.gql_text.specs.declared.place.Place.{Place}
-use Rattle.gql_ast.specs.Trees as trees
+use Rattle.std.proofs.lemmas.Map.Views.{Contains-from_any, list_any-from_Contains}
 use Rattle.gql_ast.specs.declared.definition.Definition.{Definition}
 use Rattle.gql_ast.specs.declared.fault.Fault.{Fault}
 use Rattle.gql_ast.specs.declared.fault.FilePlace.{FilePlace}
-use Rattle.gql_ast.specs.declared.fault.FileSide.TheVariants.{Documents}
-use Rattle.gql_facts.specs.ListMembers.{some_same}
+use Rattle.gql_facts.specs.ListMembers.{Contains-cases, Contains-here, Contains-map, Contains-nil, Contains-there, some_same}
 use Rattle.gql_facts.specs.Members.{Lists}
 use Rattle.gql_facts.specs.Reads.{Reaches}
 use Rattle.gql_facts.specs.Worlds.{Facts}
 use Rattle.gql_facts.specs.declared.fact.FragmentFact.{FragmentFact}
 use Rattle.gql_rules.specs.LocalFaults.{owner_of}
 use Rattle.gql_serving.specs.Owned as owned
-use Rattle.gql_serving.specs.Owned.{IsOwned, Picks, none, picked, left_out}
-use Rattle.gql_serving.specs.OwnedAmong as among
-use Rattle.gql_serving.specs.OwnedAmong.{IsOwnedAmong, IsOwnerAmong}
+use Rattle.gql_serving.specs.Owned.{IsOwned, Picks, fragment_owner, none, picked, left_out}
+use Rattle.gql_serving.specs.OwnedAmong.{IsOwnedAmong, owner_places}
+use Rattle.gql_serving.specs.Owners.{is_owner, owned_at, same_place}
+use Rattle.gql_serving.specs.SamePlaces.{same_place_equal, same_place_equiv}
+use Rattle.gql_serving.proofs.Listed.{Contains-map_from}
 
 -- ---- the two ways to say who owns a fault
 
 module _ (facts : Facts) (d : Definition) (members : List FragmentFact) (lists : Lists members (Reaches facts d)) where
-  is_reached : (f : Fault) → IsOwnedAmong d members f → IsOwned facts d f
-  is_reached f (among.by_operation e) = owned.by_operation e
-  is_reached f (among.by_fragment e owner) =
-      owned.by_fragment (lists.sound owner.fragment owner.there) (e ∙ ap Some owner.is)
+  is_reached : (f : Fault) → IsOwnedAmong (owner_places d members) f → IsOwned facts d f
+  is_reached f h = elim (Contains-cases h.owner (owner_of d) (map fragment_owner members) h.there) [
+    | inl e ↦ owned.by_operation (h.is ∙ ap Some e)
+    | inr t ↦ let g = Contains-map_from fragment_owner members h.owner t in
+        owned.by_fragment (lists.sound g.0 g.1) (h.is ∙ ap Some (sym g.2))
+  ]
 
-  is_listed : (f : Fault) → IsOwned facts d f → IsOwnedAmong d members f
-  is_listed f (owned.by_operation e) = among.by_operation e
-  is_listed f (owned.by_fragment {g} r e) =
-      among.by_fragment e (record { fragment = g; there = lists.complete g r; is = refl })
+  is_listed : (f : Fault) → IsOwned facts d f → IsOwnedAmong (owner_places d members) f
+  is_listed f (owned.by_operation e) =
+      record { owner = owner_of d; is = e; there = Contains-here (owner_of d) (map fragment_owner members) }
+  is_listed f (owned.by_fragment {g} r e) = record {
+    owner = fragment_owner g;
+    is = e;
+    there = Contains-there (fragment_owner g) (owner_of d) (map fragment_owner members) (Contains-map fragment_owner members g (lists.complete g r));
+  }
 
-  pub all_reached : (fs gs : List Fault) → Picks (IsOwnedAmong d members) fs gs → Picks (IsOwned facts d) fs gs
+  pub all_reached : (fs gs : List Fault) → Picks (IsOwnedAmong (owner_places d members)) fs gs → Picks (IsOwned facts d) fs gs
   all_reached fs gs none = none
   all_reached fs gs (picked {f = f} {fs = ys} {gs = zs} o p) = picked (is_reached f o) (all_reached ys zs p)
   all_reached fs gs (left_out {f = f} {fs = ys} {gs = zs} o p) = left_out (λ i. o (is_listed f i)) (all_reached ys zs p)
@@ -41,29 +49,16 @@ pub ok_then : {A E : Type 0} (result : Result A E) (P Q : A → Type 0) → ((a 
 ok_then (Ok a) P Q f h = f a h
 ok_then (Err e) P Q f h = tt
 
--- ---- one owner is compared
-
--- a place where no definition starts is that of a fragment, if of any
-pub by_member : (d : Definition) (members : List FragmentFact) (f : Fault) (owner : FilePlace) (at : Place)
-    (is_at is_among : Bool) → f.owner ≡ Some owner → at ≡ trees.place_of d.tree → is_at ≡ false
-    → (IsTrue is_at ↔ (owner ≡ record { side = Documents; file = d.file; place = at }))
-    → (IsTrue is_among ↔ IsOwnerAmong members owner)
-    → IsTrue is_among ↔ IsOwnedAmong d members f
-by_member d members f owner at is_at is_among e p no' test known = (λ h. among.by_fragment e (known.0 h), back) where
-  same : (other : FilePlace) → f.owner ≡ Some other → other ≡ owner
-  same other i = some_same other owner (sym i ∙ e)
-
-  back : IsOwnedAmong d members f → IsTrue is_among
-  back (among.by_operation i) = cc (sym no' ∙ test.1 (sym (same (owner_of d) i)
-      ∙ ap (λ q. record { side = Documents; file = d.file; place = q }) (sym p)))
-  back (among.by_fragment {owner = other} i o) = known.1 (subst (λ q. IsOwnerAmong members q) (same other i) o)
-
 -- ---- one fault more
 
 module _ (P : Fault → Type 0) where
   pub none_picked : (fs gs : List Fault) → length fs ≡ 0 → gs ≡ [] → Picks P fs gs
   none_picked [] gs e is = rw is none
   none_picked (f ∷ fs) gs e is = cc e
+
+  pub none_of : (fs gs : List Fault) → ((f : Fault) → Contains fs f → P f → ⊥) → gs ≡ [] → Picks P fs gs
+  none_of [] gs no_one is = rw is none
+  none_of (f ∷ fs) gs no_one is = left_out (no_one f (Contains-here f fs)) (none_of fs gs (λ g there. no_one g (Contains-there g f fs there)) is)
 
   picked_at : (fs gs : List Fault) (f : Fault) → P f → Picks P fs gs → Picks P (fs ++ f ∷ []) (gs ++ f ∷ [])
   picked_at fs gs f o none = picked o none
@@ -84,3 +79,47 @@ module _ (P : Fault → Type 0) where
       → (IsTrue test ↔ P f) → test ≡ false → new ≡ old → Picks P (take i fs) old → Picks P (take (i + 1) fs) new
   one_left_out fs i f test old new within item is e after before =
       rw (take_more fs i f within, sym item, after) (left_out_at (take i fs) old f (λ p. cc (sym e ∙ is.1 p)) before)
+
+-- ---- faults whose owner is at one of these places
+
+-- the place of the owner is among these
+pub owned_if : (places : List FilePlace) (f : Fault) (owner : FilePlace) (found : Bool) → f.owner ≡ Some owner
+    → found ≡ list_any (same_place owner) places → IsTrue found ↔ IsOwnedAmong places f
+owned_if places f owner found is test = (to, back)
+  where
+    to : IsTrue found → IsOwnedAmong places f
+    to h = record { owner = owner; is = is; there = Contains-from_any same_place_equal owner places (sym test ∙ h) }
+
+    back : IsOwnedAmong places f → IsTrue found
+    back h = test ∙ list_any-from_Contains same_place_equiv owner places
+        (subst (λ p. Contains places p) (some_same h.owner owner (sym h.is ∙ is)) h.there)
+
+-- a fault without an owner is not owned
+pub unowned : (places : List FilePlace) (f : Fault) → f.owner ≡ None → IsTrue false ↔ IsOwnedAmong places f
+unowned places f absent = (λ h. cc h, λ h. let bad : ◌≡◌ {A = Option FilePlace} None (Some h.owner) = sym absent ∙ h.is in cc bad)
+
+by_first : (a b : Bool) → a ≡ true → a || b ≡ true
+by_first true b e = refl
+by_first false b e = cc e
+
+by_rest : (a b : Bool) → b ≡ true → a || b ≡ true
+by_rest true b e = refl
+by_rest false b e = e
+
+-- an element passes the test
+any_of : {A : Type 0} (test : A → Bool) (xs : List A) (x : A) → Contains xs x → test x ≡ true → list_any test xs ≡ true
+any_of test [] x h e = absurd (Contains-nil x h)
+any_of test (y ∷ ys) x h e = elim (Contains-cases x y ys h) [
+  | inl q ↦ by_first (test y) (list_any test ys) (ap test (sym q) ∙ e)
+  | inr t ↦ by_rest (test y) (list_any test ys) (any_of test ys x t e)
+]
+
+-- where none of these places is that of an owner, no fault is owned
+pub none_owned : (places : List FilePlace) (faults : List Fault) (test : FilePlace → Bool)
+    → ((p : FilePlace) → test p ≡ list_any (is_owner p) faults) → list_any test places ≡ false
+    → (f : Fault) → Contains faults f → IsOwnedAmong places f → ⊥
+none_owned places faults test owners none_there f there h =
+    let own : is_owner h.owner f ≡ true = ap (owned_at h.owner) h.is ∙ same_place_equiv.refl h.owner in
+    let hit : test h.owner ≡ true = owners h.owner ∙ any_of (is_owner h.owner) faults f there own in
+    let bad : true ≡ false = sym (any_of test places h.owner h.there hit) ∙ none_there in
+    cc bad

@@ -1,3 +1,5 @@
 pub mod Owned
 pub mod OwnedAmong
+pub mod Owners
+pub mod SamePlaces
 pub mod Laws

@@ -3,5 +3,7 @@
 
 pub mod laws;
 mod owned;
+mod owner;
 
 pub use owned::owned_faults;
+pub use owner::Owners;

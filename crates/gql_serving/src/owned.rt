@@ -1,88 +1,138 @@
 //! The faults that an operation answers for.
 
 ghost use Rattle.std.specs.Prelude.{◌≡◌, ◌↔◌, IsTrue, IfOk};
-ghost use Rattle.gql_ast.specs.declared.fault.FileSide.TheVariants.{Documents};
-ghost use Rattle.gql_rules.specs.LocalFaults.{owner_of};
-ghost use Rattle.gql_serving.specs.Owned.{IsOwned, Picks};
-ghost use Rattle.gql_serving.specs.OwnedAmong.{IsOwnedAmong, IsOwnerAmong};
+ghost use Rattle.std.specs.HashSet.{contains};
+ghost use Rattle.std.specs.List.{list_any};
+ghost use Rattle.gql_serving.specs.Owned.{IsOwned, Picks, fragment_owner};
+ghost use Rattle.gql_serving.specs.OwnedAmong.{IsOwnedAmong, owner_places};
+ghost use Rattle.gql_serving.specs.Owners.{AreAt, AreOwnersOf, same_place};
 
-use gql_ast::{Definition, Fault, FileName, FilePlace, FileSide, Same};
+use crate::owner::Owners;
+use gql_ast::{Definition, Fault, FilePlace, FileSide, Shared};
 use gql_facts::{FragmentFact, World, walk_reads};
-use gql_text::Place;
+use gql_report::place_cmp;
+use gql_rules::owner_of;
 use std::alloc::{AllocError, Global};
 
-/// Whether a place is this one of a document file.
-fn is_at(place: &FilePlace, file: &FileName, at: &Place) -> bool
-    ensures { IsTrue result ↔ (place.now ≡ record {
-      side = Documents;
-      file = file.now;
-      place = at.now;
-    }) }
+/// The most places that are compared one by one.
+const FEW: usize = 4;
+
+/// Where a fragment starts.
+fn place_of(member: &FragmentFact) -> FilePlace
+    ensures { result ≡ fragment_owner member.now }
 {
-    place.side == FileSide::Documents && place.file.same(file) && place.place.same(at)
+    FilePlace {
+        side: FileSide::Documents,
+        file: member.file.copy(),
+        place: member.fragment.get().place,
+    }
 }
 
-/// Whether one of these fragments is at a place.
-fn is_among(owner: &FilePlace, members: &[FragmentFact]) -> bool
-    ensures { IsTrue result ↔ IsOwnerAmong members.now owner.now }
+/// Where a definition starts, and where each of these fragments does.
+fn places_of(
+    alloc: Global,
+    definition: &Definition,
+    members: &[FragmentFact],
+) -> Result<Vec<FilePlace>, AllocError>
+    ensures { IfOk result (λ places. places.items ≡ owner_places definition.now members.now) }
 {
+    let mut places = Vec::new(alloc);
+    places.push(owner_of(definition))?;
     for member in members {
-        if is_at(owner, &member.file, &member.fragment.get().place) {
+        places.push(place_of(member))?;
+    }
+    Ok(places)
+}
+
+/// Whether the owner at one of these places is among these owners.
+fn is_any_among(places: &[FilePlace], owners: &Owners) -> bool
+    ensures { result ≡ list_any (contains same_place owners.now.places) places.now }
+{
+    for place in places {
+        if owners.has(place) {
             return true;
         }
     }
     false
 }
 
-/// Whether a definition that reaches these fragments, or one of them, owns a fault.
-fn is_owned(fault: &Fault, definition: &Definition, members: &[FragmentFact]) -> bool
-    ensures { IsTrue result ↔ IsOwnedAmong definition.now members.now fault.now }
+/// Whether a place is one of these.
+fn is_listed(place: &FilePlace, places: &[FilePlace]) -> bool
+    ensures { result ≡ list_any (same_place place.now) places.now }
 {
-    match &fault.owner {
-        None => false,
-        Some(owner) => {
-            is_at(owner, &definition.file, &definition.tree.place()) || is_among(owner, members)
+    for other in places {
+        if place_cmp(place, other).is_eq() {
+            return true;
         }
+    }
+    false
+}
+
+/// Whether a place is one of these, at which these owners are. Few places are compared with it; many
+/// are looked up.
+fn is_among(place: &FilePlace, places: &[FilePlace], owners: &Owners) -> bool
+    ensures { AreAt places.now owners.now → result ≡ list_any (same_place place.now) places.now }
+{
+    if places.len() <= FEW {
+        is_listed(place, places)
+    } else {
+        owners.has(place)
     }
 }
 
-/// Those of these faults that a definition, or one of the fragments that it reaches, owns.
+/// Whether the owner of a fault is at one of these places, at which these owners are.
+fn is_owned(fault: &Fault, places: &[FilePlace], owners: &Owners) -> bool
+    ensures { AreAt places.now owners.now
+        → IsTrue result ↔ IsOwnedAmong places.now fault.now }
+{
+    match &fault.owner {
+        None => false,
+        Some(owner) => is_among(owner, places, owners),
+    }
+}
+
+/// Those of these faults that are owned by what starts at one of these places.
 fn picked(
     alloc: Global,
-    definition: &Definition,
-    members: &[FragmentFact],
-    faults: &[Fault],
-) -> Result<Vec<Fault>, AllocError>
-    ensures { IfOk result (λ owned.
-        Picks (IsOwnedAmong definition.now members.now) faults.now owned.items) }
+    places: &[FilePlace],
+    faults: &[Shared<Fault>],
+) -> Result<Vec<Shared<Fault>>, AllocError>
+    ensures { IfOk result (λ owned. Picks (IsOwnedAmong places.now) faults.now owned.items) }
 {
+    let owners = Owners::at(alloc, places)?;
     let mut owned = Vec::new(alloc);
     for fault in faults {
-        if is_owned(fault, definition, members) {
-            owned.push(fault.copy(alloc)?)?;
+        if is_owned(fault.get(), places, &owners) {
+            owned.push(fault.clone()?)?;
         }
     }
     Ok(owned)
 }
 
 /// Those of these faults that an operation answers for, in their order: the faults that it owns,
-/// and those that the fragments own that it reaches. If there are no faults, the world is not
-/// called.
+/// and those that the fragments own that it reaches. Where it owns none of them, and no fragment
+/// does that it reaches, the faults are not visited: `owners` are asked, which are theirs. If there
+/// are no faults, the world is not called.
 pub fn owned_faults<W: World>(
     alloc: Global,
     world: &mut W,
     definition: &Definition,
-    faults: &[Fault],
-) -> Result<Vec<Fault>, AllocError>
+    faults: &[Shared<Fault>],
+    owners: &Owners,
+) -> Result<Vec<Shared<Fault>>, AllocError>
     ensures facts { W.facts world.new ≡ W.facts world.old }
     ensures names { W.names world.new ≡ W.names world.old }
     ensures lent { W.lent world.new ≡ W.lent world.old }
-    ensures owned { IfOk result (λ owned.
-        Picks (IsOwned (W.facts world.old) definition.now) faults.now owned.items) }
+    ensures owned { IfOk result (λ owned. AreOwnersOf faults.now owners.now
+        → Picks (IsOwned (W.facts world.old) definition.now) faults.now owned.items) }
 {
     if faults.is_empty() {
         return Ok(Vec::new(alloc));
     }
     let walk = walk_reads(alloc, world, definition)?;
-    picked(alloc, definition, walk.members.as_slice(), faults)
+    let places = places_of(alloc, definition, walk.members.as_slice())?;
+    if !is_any_among(places.as_slice(), owners) {
+        return Ok(Vec::new(alloc));
+    }
+    picked(alloc, places.as_slice(), faults)
 }

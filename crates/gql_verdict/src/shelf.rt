@@ -19,30 +19,30 @@ use crate::shared_work::SharedWork;
 use crate::slot::{Slot, fill, find, resolved};
 use crate::touched::Touched;
 use crate::verdict::Verdict;
-use gql_ast::{DefinitionId, Fault, Files};
+use gql_ast::{DefinitionId, Fault, Files, Shared};
 use gql_facts::{FragmentFact, Key, World};
 use gql_readers::Index;
 use gql_reads::{KeptParts, Part};
 use std::alloc::{AllocError, Global};
 use std::marker::Model;
 
-/// Adds copies of faults.
-fn add_all(alloc: Global, faults: &[Fault], found: &mut Vec<Fault>) -> Result<(), AllocError>
+/// Adds faults, which are shared.
+fn add_all(faults: &[Shared<Fault>], found: &mut Vec<Shared<Fault>>) -> Result<(), AllocError>
     ensures { OnOk result (found.new.items ≡ found.old.items ++ faults.now) }
 {
     for fault in faults {
-        found.push(fault.copy(alloc)?)?;
+        found.push(fault.clone()?)?;
     }
     Ok(())
 }
 
-/// Adds copies of the faults of a verdict.
-fn add_slot(alloc: Global, slot: &Slot, found: &mut Vec<Fault>) -> Result<(), AllocError>
+/// Adds the faults of a verdict, which are shared.
+fn add_slot(slot: &Slot, found: &mut Vec<Shared<Fault>>) -> Result<(), AllocError>
     ensures found { OnOk result (found.new.items ≡ found.old.items ++ slot_faults slot.now) }
     ensures certificate { IsSlotCertified slot.now }
 {
     match slot {
-        Slot::Here(verdict) => add_all(alloc, verdict.faults(), found),
+        Slot::Here(verdict) => add_all(verdict.faults(), found),
         Slot::At(_) => Ok(()),
     }
 }
@@ -180,12 +180,13 @@ impl Shelf {
         Ok(Prepared { steps, index })
     }
 
-    /// The faults of the verdicts that will be on the shelf once it is current.
+    /// The faults of the verdicts that will be on the shelf once it is current. The list shares
+    /// them with the verdicts.
     pub fn prepared_faults(
         &self,
         alloc: Global,
         prepared: &Prepared,
-    ) -> Result<Vec<Fault>, AllocError>
+    ) -> Result<Vec<Shared<Fault>>, AllocError>
         ensures { IfOk result (λ found. (facts : Facts) (definitions : List Definition)
             → IsPlanned facts definitions self.now prepared.now
             → Lists found.items (IsFaultOfAny facts definitions)) }
@@ -193,7 +194,7 @@ impl Shelf {
         let kept = self.slots.as_slice();
         let mut found = Vec::new(alloc);
         for step in prepared.steps.as_slice() {
-            add_slot(alloc, resolved(kept, step), &mut found)?;
+            add_slot(resolved(kept, step), &mut found)?;
         }
         Ok(found)
     }
@@ -260,8 +261,8 @@ impl Shelf {
         self.index.readers(key)
     }
 
-    /// The faults of all verdicts.
-    pub fn faults(&self, alloc: Global) -> Result<Vec<Fault>, AllocError>
+    /// The faults of all verdicts. The list shares them with the verdicts.
+    pub fn faults(&self, alloc: Global) -> Result<Vec<Shared<Fault>>, AllocError>
         ensures value { IfOk result (λ found.
             found.items ≡ flat_map (λ v. v.faults) self.now) }
         ensures current { IfOk result (λ found. (facts : Facts) (definitions : List Definition)
@@ -270,7 +271,7 @@ impl Shelf {
     {
         let mut found = Vec::new(alloc);
         for slot in self.slots.as_slice() {
-            add_slot(alloc, slot, &mut found)?;
+            add_slot(slot, &mut found)?;
         }
         Ok(found)
     }

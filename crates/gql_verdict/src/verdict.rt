@@ -12,7 +12,8 @@ ghost use Rattle.gql_verdict.specs.Verdicts.{IsCertificate, Judges};
 
 use crate::meter::Meter;
 use crate::shared_work::SharedWork;
-use gql_ast::{Definition, Fault, Same};
+use crate::sharing::{share_into, shared_faults};
+use gql_ast::{Definition, Fault, Same, Shared};
 use gql_facts::{FragmentFact, World};
 use gql_merge::{CleanFragments, merge_faults_with};
 use gql_reads::{KeptParts, Part, Reading, reads_of};
@@ -25,7 +26,7 @@ use std::marker::Model;
 /// answers, the faults are the same. Only `examine` makes one.
 pub struct Verdict {
     def: Definition,
-    faults: Vec<Fault>,
+    faults: Vec<Shared<Fault>>,
     reading: Reading,
 }
 
@@ -76,7 +77,7 @@ impl Verdict {
     }
 
     /// The faults of the definition.
-    pub fn faults(&self) -> &[Fault]
+    pub fn faults(&self) -> &[Shared<Fault>]
         ensures value { result.now ≡ self.now.faults }
         ensures certificate { IsCertificate self.now.def self.now.faults self.now.observations }
     {
@@ -112,7 +113,7 @@ fn faults_in<W: World>(
     definition: &Definition,
     members: &[FragmentFact],
     clean: &mut CleanFragments,
-) -> Result<Vec<Fault>, AllocError>
+) -> Result<Vec<Shared<Fault>>, AllocError>
     requires clean { AreClean (W.facts world.old) clean.old }
     requires members { Lists members.now (Reaches (W.facts world.old) definition.now) }
     ensures facts { W.facts world.new ≡ W.facts world.old }
@@ -122,11 +123,12 @@ fn faults_in<W: World>(
     ensures faults { IfOk result (λ found.
         Lists found.items (IsFaultIn (W.facts world.old) definition.now)) }
 {
-    let mut faults = local_faults(alloc, world, definition, members)?;
-    let mut of_variables = variable_faults(alloc, world, definition, members)?;
-    faults.append(&mut of_variables)?;
-    let mut of_merging = merge_faults_with(alloc, world, definition, members, clean)?;
-    faults.append(&mut of_merging)?;
+    let of_nodes = local_faults(alloc, world, definition, members)?;
+    let mut faults = shared_faults(alloc, of_nodes)?;
+    let of_variables = variable_faults(alloc, world, definition, members)?;
+    share_into(alloc, of_variables, &mut faults)?;
+    let of_merging = merge_faults_with(alloc, world, definition, members, clean)?;
+    share_into(alloc, of_merging, &mut faults)?;
     Ok(faults)
 }
 

@@ -1,5 +1,5 @@
 //! Faults as texts.
-use gql_ast::{Fault, FilePlace};
+use gql_ast::{Fault, FilePlace, Shared};
 use std::alloc::{AllocError, Global};
 
 /// Adds a place, after a word.
@@ -34,9 +34,13 @@ fn add_fault(alloc: Global, fault: &Fault, text: &mut String) -> Result<(), Allo
 }
 
 /// Adds the faults of a list.
-pub fn add_faults(alloc: Global, faults: &[Fault], text: &mut String) -> Result<(), AllocError> {
+pub fn add_faults(
+    alloc: Global,
+    faults: &[Shared<Fault>],
+    text: &mut String,
+) -> Result<(), AllocError> {
     for fault in faults {
-        add_fault(alloc, fault, text)?;
+        add_fault(alloc, fault.get(), text)?;
     }
     Ok(())
 }

@@ -93,7 +93,7 @@ impl State {
             keys: Vec::new(alloc),
             facts: Vec::new(alloc),
         };
-        let report = registry.report().ok()?;
+        let report = registry.shared_report().ok()?;
         add_faults(alloc, report.as_slice(), &mut state.text).ok()?;
         for step in steps {
             if let Step::Put { side, name, text } = step {

@@ -3,19 +3,19 @@ ghost use Rattle.gql_verdict.specs.FileOrder.{AreFilesPlaced};
 
 use crate::document_files::document_files;
 use crate::faults::written_faults;
-use gql_ast::{Fault, Files};
+use gql_ast::{Fault, Files, Shared};
 use gql_facts::{Fragments, Present, SchemaFacts};
 use gql_report::in_order;
 use gql_schema_rules::schema_faults;
 use gql_types::{Schema, assemble};
-use gql_verdict::{Meter, Shelf, name_faults};
+use gql_verdict::{Meter, Shelf, name_faults, shared_faults};
 use std::alloc::{AllocError, Global};
 use table_rows::join;
 
 /// The faults of schema files.
-fn faults_of_schema(alloc: Global, files: &Files) -> Result<Vec<Fault>, AllocError> {
+fn faults_of_schema(alloc: Global, files: &Files) -> Result<Vec<Shared<Fault>>, AllocError> {
     let schema = assemble(alloc, files)?;
-    let faults = schema_faults(alloc, files, &schema)?;
+    let faults = shared_faults(alloc, schema_faults(alloc, files, &schema)?)?;
     Ok(faults)
 }
 
@@ -41,11 +41,11 @@ fn faults_of_document(
     schema: &Schema,
     shelf: &mut Shelf,
     text: &str,
-) -> Option<Vec<Fault>> {
+) -> Option<Vec<Shared<Fault>>> {
     let files = document_files(alloc, text)?;
     let mut meter = Meter::new(alloc);
     refresh(alloc, schema, &files, shelf, &mut meter)?;
-    let mut faults = name_faults(alloc, &files).ok()?;
+    let mut faults = shared_faults(alloc, name_faults(alloc, &files).ok()?).ok()?;
     let mut of_definitions = shelf.faults(alloc).ok()?;
     faults.append(&mut of_definitions).ok()?;
     Some(faults)

@@ -9,6 +9,7 @@ use gql_report::in_order;
 use gql_rules::local_faults;
 use gql_types::Schema;
 use gql_vars::variable_faults;
+use gql_verdict::shared_faults;
 use std::alloc::Global;
 
 /// The rules that a question is about.
@@ -66,6 +67,6 @@ pub fn operations_answer(
     let mut world = Present::new(&facts, &fragments);
     let document = documents.get(&FileName::read("d")?)?.get();
     let faults = all_faults(alloc, &mut world, rules, document)?;
-    let report = in_order(alloc, faults).ok()?;
+    let report = in_order(alloc, shared_faults(alloc, faults).ok()?).ok()?;
     written_faults(alloc, report.as_slice()).ok()
 }

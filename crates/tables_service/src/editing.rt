@@ -137,7 +137,7 @@ impl Editing {
             "verdict" => self.verdict(rest),
             "readers" => self.readers(rest),
             "report" => {
-                let faults = self.registry.report().ok()?;
+                let faults = self.registry.shared_report().ok()?;
                 written_faults(self.alloc, faults.as_slice()).ok()
             }
             _ => None,

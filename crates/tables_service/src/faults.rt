@@ -1,5 +1,5 @@
 //! Faults as the table writes them.
-use gql_ast::{Fault, FilePlace};
+use gql_ast::{Fault, FilePlace, Shared};
 use std::alloc::{AllocError, Global};
 use table_rows::join;
 
@@ -29,7 +29,7 @@ fn written_fault(alloc: Global, fault: &Fault) -> Result<String, AllocError> {
 
 /// The faults, joined by semicolons, or `no faults`. Each is written from its copy, which has to be
 /// the same.
-pub fn written_faults(alloc: Global, faults: &[Fault]) -> Result<String, AllocError> {
+pub fn written_faults(alloc: Global, faults: &[Shared<Fault>]) -> Result<String, AllocError> {
     if faults.is_empty() {
         return String::from_str(alloc, "no faults");
     }
@@ -37,7 +37,7 @@ pub fn written_faults(alloc: Global, faults: &[Fault]) -> Result<String, AllocEr
     let mut before = "";
     for fault in faults {
         written.push_str(before)?;
-        let copy = fault.copy(alloc)?;
+        let copy = fault.get().copy(alloc)?;
         written.push_str(written_fault(alloc, &copy)?.as_str())?;
         before = "; ";
     }

@@ -76,7 +76,7 @@ impl RowFiles {
         if question == "runs" {
             return only_run(self.alloc, &mut self.registry);
         }
-        let faults = self.registry.report().ok()?;
+        let faults = self.registry.shared_report().ok()?;
         written_faults(self.alloc, faults.as_slice()).ok()
     }
 }

@@ -1,6 +1,9 @@
-use Rattle.std.proofs.Common.{rules}
+use Rattle.std.proofs.Common.{◌∙◌, rules}
 use Rattle.gql_registry.proofs.Reports.{of_documents}
 use Rattle.gql_registry.proofs.report.documents_report.Goals as goal
+
+pub returns-in_err-of_names : goal.returns-in_err-of_names
+returns-in_err-of_names c = search rules
 
 pub returns-in_err-faults : goal.returns-in_err-faults
 returns-in_err-faults c = search rules
@@ -14,5 +17,5 @@ returns-in_err-report c = search rules
 pub returns : goal.returns
 returns c = (
   c.in_ok-report.ensures.ordered,
-  of_documents c.args.files.now _ _ _ _ c.requires.sound c.in_ok-faults.ensures c.requires.faults c.in_ok-append.ensures.items c.in_ok-report.ensures.members,
+  of_documents c.args.files.now _ _ _ _ c.requires.sound (c.in_ok-faults.ensures ∙ c.in_ok-of_names.ensures) c.requires.faults c.in_ok-append.ensures.items c.in_ok-report.ensures.members,
 )

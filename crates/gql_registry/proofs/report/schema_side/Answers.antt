@@ -1,7 +1,7 @@
-use Rattle.std.proofs.Common.{◌∙◌, rules, ap}
+use Rattle.std.proofs.Common.{◌∙◌, rules, ap, sym, subst}
 use Rattle.gql_facts.specs.Tables.{tables_of}
 use Rattle.gql_intro.specs.Made.{made_of}
-use Rattle.gql_registry.specs.Keeping.{IsSideOf}
+use Rattle.gql_registry.specs.Keeping.{AreSchemaFaults, IsSideOf}
 use Rattle.gql_registry.proofs.Mapped.{ok_of_error}
 use Rattle.gql_registry.proofs.report.schema_side.Goals as goal
 
@@ -10,6 +10,9 @@ schema_faults-requires c = c.in_ok-schema.ensures
 
 pub returns-in_err-schema : goal.returns-in_err-schema
 returns-in_err-schema c = search rules
+
+pub returns-in_err-found : goal.returns-in_err-found
+returns-in_err-found c = search rules
 
 pub returns-in_err-faults : goal.returns-in_err-faults
 returns-in_err-faults c = search rules
@@ -25,5 +28,6 @@ returns c = record {
   schema = c.in_ok-schema.ensures;
   facts = c.in_ok-facts.ensures ∙ ap tables_of c.in_ok-schema.ensures;
   made = c.in_ok-made.ensures ∙ ap (made_of c.args.files.now) c.in_ok-schema.ensures;
-  faults = record { sound = c.in_ok-faults.ensures.sound; complete = c.in_ok-faults.ensures.complete };
+  faults = subst (AreSchemaFaults c.args.files.now) (sym c.in_ok-faults.ensures)
+      (record { sound = c.in_ok-found.ensures.sound; complete = c.in_ok-found.ensures.complete });
 }

@@ -1,6 +1,8 @@
-use Rattle.gql_serving.proofs.Owning.{by_member}
+use Rattle.gql_serving.proofs.Owning.{owned_if, unowned}
 use Rattle.gql_serving.proofs.owned.is_owned.Goals as goal
 
-pub returns-else-is_at : goal.returns-else-is_at
-returns-else-is_at c = by_member c.args.definition.now c.args.members.now c.args.fault.now c.in-Some.owner c.place.result
-    c.is_at.result c.is_among.result c.in-Some.is c.place.ensures c.if-is_at.false c.is_at.ensures c.is_among.ensures
+pub returns-in-None : goal.returns-in-None
+returns-in-None c = λ at. unowned c.args.places.now c.args.fault.now c.in-None.is
+
+pub returns-in-Some : goal.returns-in-Some
+returns-in-Some c = λ at. owned_if c.args.places.now c.args.fault.now c.in-Some.owner c.is_among.result c.in-Some.is (c.is_among.ensures at)

@@ -4,4 +4,4 @@ use Rattle.gql_serving.specs.OwnedAmong.{IsOwnedAmong}
 use Rattle.gql_serving.proofs.owned.picked.Given as goal
 
 abbrev pub invariant-loop-fault : goal.invariant-loop-fault
-invariant-loop-fault l = Picks (IsOwnedAmong l.definition l.members) (take l.fault-index l.faults) l.owned.items
+invariant-loop-fault l = Picks (IsOwnedAmong l.places) (take l.fault-index l.faults) l.owned.items

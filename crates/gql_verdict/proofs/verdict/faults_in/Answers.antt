@@ -1,5 +1,5 @@
 use Rattle.std.specs.Prelude.{◌⊎◌}
-use Rattle.std.proofs.Common.{◌∙◌, subst}
+use Rattle.std.proofs.Common.{◌∙◌, sym, subst}
 use Rattle.gql_facts.specs.Members.{Lists}
 use Rattle.gql_merge.specs.MergeFaults.{IsMergeFault}
 use Rattle.gql_rules.specs.LocalFaults.{IsFault}
@@ -11,7 +11,8 @@ pub returns-clause-faults : goal.returns-clause-faults
 returns-clause-faults g c =
     let F = g.W.World.facts c.args.world.now in
     let d = c.args.definition.now in
+    let of_nodes = subst (λ l. Lists l (IsFault F d)) (sym c.in_ok-faults.ensures) c.in_ok-of_nodes.ensures.found in
     let of_variables = subst (λ f. Lists c.in_ok-of_variables.of_variables.items (IsVariableFault f d)) c.local_faults.ensures.facts c.in_ok-of_variables.ensures.found in
     let of_merging = subst (λ f. Lists c.in_ok-of_merging.of_merging.items (IsMergeFault f d)) (c.variable_faults.ensures.facts ∙ c.local_faults.ensures.facts) c.in_ok-of_merging.ensures.found in
-    let both = Lists-append _ _ _ c.in_ok-faults.ensures.found of_variables c.in_ok-append.ensures.items in
-    by_all F d _ (Lists-append {P = λ f. IsFault F d f ⊎ IsVariableFault F d f} _ _ _ both of_merging c.in_ok-append-2.ensures.items)
+    let both = Lists-append _ _ _ of_nodes of_variables c.in_ok-share_into.ensures in
+    by_all F d _ (Lists-append {P = λ f. IsFault F d f ⊎ IsVariableFault F d f} _ _ _ both of_merging c.in_ok-share_into-2.ensures)

@@ -8,9 +8,9 @@ use Rattle.gql_registry.proofs.kept.Kept.report.Goals as goal
 pub returns-in-Some : goal.returns-in-Some
 returns-in-Some c =
     let known = subst (λ o. IfSome o (IsKnownOf c.self.inside.files)) c.in-Some.is c.self.invariant.known in
-    ok_map c.copies.result (λ (v : Vec Fault Global). v.items ≡ c.as_slice.result.now) (λ (v : Vec Fault Global). IsReport c.args.self.now.files v.items)
+    ok_map c.sharing.result (λ (v : Vec Fault Global). v.items ≡ c.as_slice.result.now) (λ (v : Vec Fault Global). IsReport c.args.self.now.files v.items)
     (λ v is. subst (λ (k : Keeping). IsReport k.files v.items) c.self.view_is (subst (IsReport c.self.inside.files) (sym (is ∙ c.as_slice.ensures.value)) known.report))
-    c.copies.ensures
+    c.sharing.ensures
 
 pub present_report-requires-clause-shelf : goal.present_report-requires-clause-shelf
 present_report-requires-clause-shelf c = c.self.invariant.current
