@@ -8,7 +8,13 @@ mod fault;
 mod files;
 mod fragments;
 mod gathered;
+mod joined;
+mod origin;
 mod pieces;
+mod words;
 
 pub use fault::{ManifestFault, fault_text};
-pub use files::{FromManifest, files_of};
+pub use files::{FromManifests, GivenManifest, MadeFile, files_of};
+pub use joined::add_files;
+pub use origin::Origin;
+pub use words::made_text;
