@@ -67,10 +67,10 @@ fn check<'a>(alloc: Global) -> Result<Command<'a>, AllocError> {
 /// The end of the help of `push`.
 const AFTER_PUSH: &str = "\
 The folder is checked first, and nothing is put where a file is refused. Then the files that differ
-from the last push are put, and those that are gone are removed. FILE keeps what was pushed; it is
-DIR/.gqlreg-push if none is given. Each edit expects the revision that the one before it left, so that
-no edit of somebody else is lost: where there was one since the last push, nothing is put. A push that
-stops keeps what it has put, and the next one goes on.
+from the last push are put, and those that are gone are removed. What was pushed is kept in a file:
+DIR/.gqlreg-push, unless --state gives another. Each edit expects the revision that the one before
+it left, so that no edit of somebody else is lost: where there was one since the last push, nothing
+is put. A push that stops keeps what it has put, and the next one goes on.
 
 Status: 0 all is put, 1 there are faults (with --fail-on-faults), 2 a file or the command line is
 refused, 3 somebody else has edited the registry, 4 out of memory, 5 no server";
@@ -141,8 +141,8 @@ depends on it: by themselves, or by a fragment that they use.
 Readers of an enum read all its values, and readers of an input object all its fields. Who reads an
 interface or a union reads the objects of it. While the schema has faults, there is no answer.
 
-Status: 0 answered, 1 the schema has faults, 2 a file or the command line is refused, or the schema has
-no such part, 4 out of memory";
+Status: 0 answered, 1 the schema has faults, 2 a file or the command line is refused, or the schema
+has no such part, 4 out of memory";
 
 fn part<'a>(alloc: Global) -> Result<Arg<'a>, AllocError> {
     Arg::new(alloc, "PART")

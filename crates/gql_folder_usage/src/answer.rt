@@ -19,8 +19,8 @@ pub enum AnswerFormat {
     Json,
 }
 
-/// Which operations and fragments of these files of a folder read the part of its schema that a word
-/// names.
+/// Which operations and fragments of these files of a folder read the part of its schema that a
+/// word names.
 pub fn readers_in(
     alloc: Global,
     folder: &str,
@@ -36,14 +36,12 @@ pub fn readers_in(
     };
     let readers = readers_of(alloc, loaded.registry.shelf(), &question.key)?;
     let (part, readers) = (question.part, readers.as_slice());
-    Ok(
-        match format {
-            AnswerFormat::Text => {
-                usage_as_text(alloc, word, part, readers, &loaded.paths)?.into_bytes()
-            }
-            AnswerFormat::Json => usage_as_json(alloc, word, part, readers, &loaded.paths)?,
-        },
-    )
+    Ok(match format {
+        AnswerFormat::Text => {
+            usage_as_text(alloc, word, part, readers, &loaded.paths)?.into_bytes()
+        }
+        AnswerFormat::Json => usage_as_json(alloc, word, part, readers, &loaded.paths)?,
+    })
 }
 
 /// Which parts of the schema of these files of a folder no operation or fragment of them reads.
@@ -56,10 +54,8 @@ pub fn unread_in(
     let loaded = load_folder(alloc, folder, given)?;
     let unread = unread_parts(alloc, &loaded.schema, loaded.registry.shelf())?;
     let unread = unread.as_slice();
-    Ok(
-        match format {
-            AnswerFormat::Text => unread_as_text(alloc, unread, &loaded.paths)?.into_bytes(),
-            AnswerFormat::Json => unread_as_json(alloc, unread, &loaded.paths)?,
-        },
-    )
+    Ok(match format {
+        AnswerFormat::Text => unread_as_text(alloc, unread, &loaded.paths)?.into_bytes(),
+        AnswerFormat::Json => unread_as_json(alloc, unread, &loaded.paths)?,
+    })
 }

@@ -1,5 +1,5 @@
-//! Who reads a part of the schema of a folder, and which parts nobody reads: answers as text or JSON
-//! for the files of a folder. Registries stay inside this crate.
+//! Who reads a part of the schema of a folder, and which parts nobody reads: answers as text or
+//! JSON for the files of a folder. Registries stay inside this crate.
 #![tactic(auto)]
 
 mod answer;

@@ -27,11 +27,7 @@ fn test_schema(registry: &Registry) -> Result<(), UsageFault> {
 }
 
 /// What is known of the files of a folder, if its schema has no fault.
-pub fn load_folder(
-    alloc: Global,
-    folder: &str,
-    given: &[GivenFile],
-) -> Result<Loaded, UsageFault> {
+pub fn load_folder(alloc: Global, folder: &str, given: &[GivenFile]) -> Result<Loaded, UsageFault> {
     let named = match read_folder(alloc, given) {
         Ok(named) => named,
         Err(fault) => return Err(UsageFault::from(CheckFault::from(fault))),

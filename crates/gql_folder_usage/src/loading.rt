@@ -45,7 +45,12 @@ fn puts_of<'g>(
         files: Vec::new(alloc),
     };
     add_side(FileSide::Schema, folder.schema.as_slice(), given, &mut puts)?;
-    add_side(FileSide::Documents, folder.documents.as_slice(), given, &mut puts)?;
+    add_side(
+        FileSide::Documents,
+        folder.documents.as_slice(),
+        given,
+        &mut puts,
+    )?;
     if let Some(at) = folder.data {
         if let Some(found) = given.get(at) {
             puts.puts.push(GivenPut::Data {
@@ -75,11 +80,7 @@ fn fault_of(file: usize, refusal: &Refusal) -> CheckFault {
 }
 
 /// A registry that has these files, which are those of a folder.
-pub fn load(
-    alloc: Global,
-    folder: &Folder,
-    given: &[GivenFile],
-) -> Result<Registry, CheckFault> {
+pub fn load(alloc: Global, folder: &Folder, given: &[GivenFile]) -> Result<Registry, CheckFault> {
     if folder.schema.is_empty() && folder.documents.is_empty() && folder.data.is_none() {
         return Err(CheckFault::Empty);
     }

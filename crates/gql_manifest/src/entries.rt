@@ -62,8 +62,8 @@ fn mapped<'m>(
     Ok(Some(entries))
 }
 
-/// The entries of a manifest: those of its list `operations`, or if it has none its texts by ids. None
-/// if it has neither form.
+/// The entries of a manifest: those of its list `operations`, or if it has none its texts by ids.
+/// None if it has neither form.
 pub fn entries_of<'m>(
     alloc: Global,
     manifest: &'m Value,

@@ -49,8 +49,8 @@ pub enum ManifestFault {
         first: Origin,
         at: Origin,
     },
-    /// A file of the folder, at this path, has the name of one that is made, at the path `made`, from
-    /// what `source` says.
+    /// A file of the folder, at this path, has the name of one that is made, at the path `made`,
+    /// from what `source` says.
     #[error("a file has the name of one that is made")]
     Clash {
         path: String,

@@ -17,9 +17,7 @@ fn have_one_name(one: &str, other: &str) -> bool {
 
 /// The file among these, which a folder has, that has the name of one that is made.
 fn clash_with<'f>(files: &'f [GivenFile], made: &MadeFile) -> Option<&'f GivenFile> {
-    files
-        .iter()
-        .find(|file| have_one_name(file.path.as_str(), made.file.path.as_str()))
+    files.iter().find(|file| have_one_name(file.path.as_str(), made.file.path.as_str()))
 }
 
 /// The fault of a file of this folder that has the name of one that is made.

@@ -1,6 +1,6 @@
 //! Manifests of persisted operations: the operations and fragments of a client, as its build wrote
-//! them, made into the files of a folder. Each operation is a file of its own; a fragment that several
-//! operations bring with them is kept once.
+//! them, made into the files of a folder. Each operation is a file of its own; a fragment that
+//! several operations bring with them is kept once.
 #![tactic(auto)]
 
 mod entries;

@@ -4,12 +4,7 @@ use crate::files::FromManifests;
 use std::alloc::{AllocError, Global};
 
 /// Adds a number of things, as `1 operation` or `3 operations`.
-fn add_count(
-    alloc: Global,
-    out: &mut String,
-    count: usize,
-    noun: &str,
-) -> Result<(), AllocError> {
+fn add_count(alloc: Global, out: &mut String, count: usize, noun: &str) -> Result<(), AllocError> {
     let text = format!(in alloc; "{count} {noun}")?;
     out.push_str(text.as_str())?;
     if count != 1 {

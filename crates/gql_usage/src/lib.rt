@@ -1,5 +1,5 @@
-//! Who reads a part of a schema: the stored operations and fragments whose verdicts depend on it. And
-//! which parts nobody reads.
+//! Who reads a part of a schema: the stored operations and fragments whose verdicts depend on it.
+//! And which parts nobody reads.
 #![tactic(auto)]
 
 mod json_usage;

@@ -3,7 +3,9 @@
 use crate::failure::Failure;
 use gql_disk::{find_files, read_manifest};
 use gql_folder::GivenFile;
-use gql_manifest::{FromManifests, GivenManifest, ManifestFault, add_files, fault_text, files_of, made_text};
+use gql_manifest::{
+    FromManifests, GivenManifest, ManifestFault, add_files, fault_text, files_of, made_text,
+};
 
 /// The files that a command is given, and what manifests are made into, in words.
 #[derive(Drop)]
@@ -38,11 +40,7 @@ fn made_of(rt: &HostRuntime, paths: &[String]) -> Result<FromManifests, Failure>
 }
 
 /// The files of a folder, with those that the manifests at these paths are made into.
-pub fn given_files(
-    rt: &HostRuntime,
-    folder: &str,
-    manifests: &[String],
-) -> Result<Given, Failure> {
+pub fn given_files(rt: &HostRuntime, folder: &str, manifests: &[String]) -> Result<Given, Failure> {
     let mut files = find_files(rt, folder)?;
     if manifests.is_empty() {
         return Ok(Given { files, made: None });

@@ -1,6 +1,6 @@
-//! `gqlreg check` checks the files of a folder, `gqlreg usage` says who reads a part of its schema, and
-//! `gqlreg push` puts the files into a registry. `gqlreg pipe` answers the requests of standard input on
-//! standard output, `gqlreg serve` those of connections.
+//! `gqlreg check` checks the files of a folder, `gqlreg usage` says who reads a part of its schema,
+//! and `gqlreg push` puts the files into a registry. `gqlreg pipe` answers the requests of standard
+//! input on standard output, `gqlreg serve` those of connections.
 #![tactic(auto)]
 
 mod check;

@@ -18,8 +18,8 @@ use std::alloc::AllocError;
 /// How many requests are sent before their answers are read.
 const BATCH: usize = 16;
 
-/// A push: the files of a folder, their resources, the resources that were pushed before, and the edits
-/// that are to be made.
+/// A push: the files of a folder, their resources, the resources that were pushed before, and the
+/// edits that are to be made.
 #[derive(Drop)]
 struct Push {
     files: Vec<GivenFile>,
@@ -157,7 +157,8 @@ fn make_batch(
     Ok(())
 }
 
-/// Keeps what was put so far, if something was: should the push stop, the next one goes on from there.
+/// Keeps what was put so far, if something was: should the push stop, the next one goes on from
+/// there.
 fn keep_made(
     rt: &HostRuntime,
     options: &PushOptions,
