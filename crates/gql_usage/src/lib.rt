@@ -2,6 +2,7 @@
 //! And which parts nobody reads.
 #![tactic(auto)]
 
+mod answered;
 mod json_usage;
 mod label;
 mod question;
