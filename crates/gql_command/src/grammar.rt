@@ -12,6 +12,7 @@ use std::alloc::{AllocError, Global};
 const AFTER_HELP: &str = "\
 Folders, each with a --help of its own:
   gqlreg check DIR        checks the schema and the operations of a folder
+  gqlreg usage DIR PART   says who reads a part of the schema of a folder
   gqlreg push DIR         puts the files of a folder into a registry
 
 Requests:

@@ -1,7 +1,9 @@
 //! What the words of a command line ask for, if they are those of a command on a folder.
 
 use crate::grammar::grammar;
-use crate::options::{CheckOptions, PushOptions, check_options, push_options};
+use crate::options::{
+    CheckOptions, PushOptions, UsageOptions, check_options, push_options, usage_options,
+};
 use clap::ArgMatches;
 use clap::error::ErrorKind;
 use std::alloc::{AllocError, Global};
@@ -11,6 +13,7 @@ use std::alloc::{AllocError, Global};
 pub enum FolderCommand {
     Check(CheckOptions),
     Push(PushOptions),
+    Usage(UsageOptions),
 }
 
 /// Why a command line gives no command on a folder, with the text to print.
@@ -34,7 +37,7 @@ impl From<AllocError> for FolderCommandFault {
 /// folder.
 pub fn is_folder_command(words: &[String]) -> bool {
     match words.get(1) {
-        Some(word) => matches!(word.as_str(), "check" | "push"),
+        Some(word) => matches!(word.as_str(), "check" | "push" | "usage"),
         None => false,
     }
 }
@@ -66,8 +69,11 @@ fn command_of(
     if let Some(matches) = matches.subcommand_matches("check") {
         return Ok(FolderCommand::Check(check_options(alloc, matches)?));
     }
-    match matches.subcommand_matches("push") {
-        Some(matches) => Ok(FolderCommand::Push(push_options(alloc, matches)?)),
+    if let Some(matches) = matches.subcommand_matches("push") {
+        return Ok(FolderCommand::Push(push_options(alloc, matches)?));
+    }
+    match matches.subcommand_matches("usage") {
+        Some(matches) => Ok(FolderCommand::Usage(usage_options(alloc, matches)?)),
         None => Err(FolderCommandFault::Refused(String::new(alloc))),
     }
 }

@@ -1,6 +1,6 @@
 //! The grammar of the command lines of commands on a folder, as a command of clap.
 
-use crate::options::FORMATS;
+use crate::options::{FORMATS, USAGE_FORMATS};
 use clap::{Arg, ArgAction, Command, value_parser};
 use std::alloc::{AllocError, Global};
 
@@ -12,6 +12,10 @@ DIR has the files of a team:
   DIR/data.json     the data that operations are run on, if there is one
 Folders may be in these folders: documents/web/home.graphql is the file web.home. Names have 1 to 64
 letters, digits, `_`, `.` and `-`; those that begin with a dot are left out.
+
+A manifest of persisted operations is Apollo's, or Relay's map of texts. Each operation of it is a
+document of its own, and the fragments are in another. With --base its operations are those of both
+folders.
 
 No faults means that the stored operations are valid. It does not mean that calls answer as before:
 values of variables and types of answers are not checked.
@@ -33,6 +37,14 @@ fn format<'a>(alloc: Global) -> Arg<'a> {
         .help("How the check is written; text if left out")
 }
 
+fn manifest<'a>(alloc: Global) -> Arg<'a> {
+    Arg::new(alloc, "manifest")
+        .long("manifest")
+        .value_name("FILE")
+        .action(ArgAction::Append)
+        .help("Add the operations of this manifest, each as a document; may be given again")
+}
+
 fn output<'a>(alloc: Global) -> Arg<'a> {
     Arg::new(alloc, "output")
         .long("output")
@@ -47,6 +59,7 @@ fn check<'a>(alloc: Global) -> Result<Command<'a>, AllocError> {
         .after_help(AFTER_CHECK)
         .arg(folder(alloc))?
         .arg(base(alloc))?
+        .arg(manifest(alloc))?
         .arg(format(alloc))?
         .arg(output(alloc))
 }
@@ -54,9 +67,10 @@ fn check<'a>(alloc: Global) -> Result<Command<'a>, AllocError> {
 /// The end of the help of `push`.
 const AFTER_PUSH: &str = "\
 The folder is checked first, and nothing is put where a file is refused. Then the files that differ
-from the last push are put, and those that are gone are removed. FILE keeps what was pushed; it is
-DIR/.gqlreg-push if none is given. Each edit expects the revision that the one before it left, so that
-no edit of somebody else is lost: where there was one since the last push, nothing is put.
+from the last push are put, and those that are gone are removed. What was pushed is kept in a file:
+DIR/.gqlreg-push, unless --state gives another. Each edit expects the revision that the one before
+it left, so that no edit of somebody else is lost: where there was one since the last push, nothing
+is put. A push that stops keeps what it has put, and the next one goes on.
 
 Status: 0 all is put, 1 there are faults (with --fail-on-faults), 2 a file or the command line is
 refused, 3 somebody else has edited the registry, 4 out of memory, 5 no server";
@@ -106,6 +120,7 @@ fn push<'a>(alloc: Global) -> Result<Command<'a>, AllocError> {
         .after_help(AFTER_PUSH)
         .arg(folder(alloc))?
         .arg(server(alloc))?
+        .arg(manifest(alloc))?
         .arg(flag(
             alloc,
             "all",
@@ -117,10 +132,51 @@ fn push<'a>(alloc: Global) -> Result<Command<'a>, AllocError> {
         .arg(flag(alloc, "force", force))
 }
 
+/// The end of the help of `usage`.
+const AFTER_USAGE: &str = "\
+PART is a field, as Product.price, a type, a value of an enum, as Status.OPEN, a field of an input
+object, or a directive, as @beta. It is read by the stored operations and fragments whose validity
+depends on it: by themselves, or by a fragment that they use.
+
+Readers of an enum read all its values, and readers of an input object all its fields. Who reads an
+interface or a union reads the objects of it. While the schema has faults, there is no answer.
+
+Status: 0 answered, 1 the schema has faults, 2 a file or the command line is refused, or the schema
+has no such part, 4 out of memory";
+
+fn part<'a>(alloc: Global) -> Result<Arg<'a>, AllocError> {
+    Arg::new(alloc, "PART")
+        .help("The part of the schema: TYPE.FIELD, TYPE, ENUM.VALUE or @DIRECTIVE")
+        .required_unless_present("unused")?
+        .conflicts_with("unused")
+}
+
+fn usage_format<'a>(alloc: Global) -> Arg<'a> {
+    Arg::new(alloc, "format")
+        .long("format")
+        .value_name("FORMAT")
+        .value_parser(USAGE_FORMATS.as_slice())
+        .help("How the answer is written; text if left out")
+}
+
+/// The command `usage`.
+fn usage<'a>(alloc: Global) -> Result<Command<'a>, AllocError> {
+    let unused = "List the parts of the schema that no stored operation reads";
+    Command::new(alloc, "usage")
+        .about("Says which stored operations and fragments read a part of the schema")
+        .after_help(AFTER_USAGE)
+        .arg(folder(alloc))?
+        .arg(part(alloc)?)?
+        .arg(flag(alloc, "unused", unused))?
+        .arg(manifest(alloc))?
+        .arg(usage_format(alloc))
+}
+
 /// The grammar of the commands on a folder.
 pub fn grammar<'a>(alloc: Global) -> Result<Command<'a>, AllocError> {
     Command::new(alloc, "gqlreg")
         .subcommand_required(true)
         .subcommand(check(alloc)?)?
-        .subcommand(push(alloc)?)
+        .subcommand(push(alloc)?)?
+        .subcommand(usage(alloc)?)
 }

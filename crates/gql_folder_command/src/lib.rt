@@ -1,4 +1,4 @@
-//! The command lines of `gqlreg check` and `gqlreg push`: what their words ask for.
+//! The command lines of `gqlreg check`, `gqlreg push` and `gqlreg usage`: what their words ask for.
 #![tactic(auto)]
 
 mod command;
@@ -6,4 +6,4 @@ mod grammar;
 mod options;
 
 pub use command::{FolderCommand, FolderCommandFault, is_folder_command, read_folder_command};
-pub use options::{CheckOptions, Format, PushOptions};
+pub use options::{CheckOptions, Format, PushOptions, UsageFormat, UsageOptions, UsageQuestion};

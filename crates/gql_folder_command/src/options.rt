@@ -44,6 +44,8 @@ pub struct CheckOptions {
     pub folder: String,
     /// The folder that it is compared with.
     pub base: Option<String>,
+    /// The manifests whose operations are checked with those of the folder.
+    pub manifests: Vec<String>,
     /// How the check is written.
     pub format: Format,
     /// The file that it is written to; standard output if there is none.
@@ -62,11 +64,28 @@ fn text_of(
     }
 }
 
+/// The texts of an option that may be given more than once.
+fn texts_of(
+    alloc: Global,
+    matches: &ArgMatches<'_>,
+    option: &str,
+) -> Result<Vec<String>, AllocError> {
+    let mut texts = Vec::new(alloc);
+    if let Some(given) = matches.get_strs(option) {
+        for text in given {
+            texts.push(String::from_str(alloc, text)?)?;
+        }
+    }
+    Ok(texts)
+}
+
 /// What a push reads, and where it puts what it reads.
 #[derive(Debug, Drop)]
 pub struct PushOptions {
     /// The folder that is pushed.
     pub folder: String,
+    /// The manifests whose operations are pushed with those of the folder.
+    pub manifests: Vec<String>,
     /// The server: its host and its port.
     pub server: String,
     /// Whether all files are put, those that were pushed before too.
@@ -85,6 +104,7 @@ pub struct PushOptions {
 pub fn push_options(alloc: Global, matches: &ArgMatches<'_>) -> Result<PushOptions, AllocError> {
     Ok(PushOptions {
         folder: folder_of(alloc, matches)?,
+        manifests: texts_of(alloc, matches, "manifest")?,
         server: match text_of(alloc, matches, "to")? {
             Some(server) => server,
             None => String::from_str(alloc, "127.0.0.1:8080")?,
@@ -115,7 +135,60 @@ pub fn check_options(alloc: Global, matches: &ArgMatches<'_>) -> Result<CheckOpt
     Ok(CheckOptions {
         folder,
         base: text_of(alloc, matches, "base")?,
+        manifests: texts_of(alloc, matches, "manifest")?,
         format,
         output: text_of(alloc, matches, "output")?,
+    })
+}
+
+/// How an answer about the use of a schema is written.
+#[derive(Clone, Copy, Debug, PartialEq, Eq)]
+pub enum UsageFormat {
+    /// Lines for a terminal.
+    Text,
+    /// One JSON value.
+    Json,
+}
+
+/// The words of the formats of an answer about the use of a schema, in the order of `UsageFormat`.
+pub const USAGE_FORMATS: [&str; 2] = ["text", "json"];
+
+/// What is asked about the use of a schema.
+#[derive(Debug, Drop)]
+pub enum UsageQuestion {
+    /// Who reads the part of the schema that this word names.
+    ReadersOf(String),
+    /// Which parts of the schema nobody reads.
+    Unread,
+}
+
+/// What is asked about the use of a schema, of which folder, and how the answer is written.
+#[derive(Debug, Drop)]
+pub struct UsageOptions {
+    /// The folder whose schema it is.
+    pub folder: String,
+    /// The manifests whose operations count with those of the folder.
+    pub manifests: Vec<String>,
+    /// What is asked.
+    pub question: UsageQuestion,
+    /// How the answer is written.
+    pub format: UsageFormat,
+}
+
+/// The options of a question about the use of a schema that clap found.
+pub fn usage_options(alloc: Global, matches: &ArgMatches<'_>) -> Result<UsageOptions, AllocError> {
+    let question = match text_of(alloc, matches, "PART")? {
+        Some(part) => UsageQuestion::ReadersOf(part),
+        None => UsageQuestion::Unread,
+    };
+    let format = match matches.get_str("format") {
+        Some("json") => UsageFormat::Json,
+        _ => UsageFormat::Text,
+    };
+    Ok(UsageOptions {
+        folder: folder_of(alloc, matches)?,
+        manifests: texts_of(alloc, matches, "manifest")?,
+        question,
+        format,
     })
 }

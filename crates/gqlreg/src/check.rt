@@ -1,8 +1,9 @@
 //! `gqlreg check`: what a check of a folder finds, written in a format.
 
 use crate::failure::{Failure, report, unwritten};
+use crate::folder::{given_files, tell_made};
+use crate::progress::tell_long_check;
 use gql_check::{CheckFault, check_files, refusal_annotation, refusal_text};
-use gql_disk::find_files;
 use gql_findings::{Comparison, Findings, compare};
 use gql_folder::GivenFile;
 use gql_folder_command::{CheckOptions, Format};
@@ -12,14 +13,27 @@ use std::alloc::AllocError;
 use std::io::{IsTerminal, Write};
 use std::{env, fs};
 
-/// What a check of a folder on disk finds.
-fn findings_in(rt: &HostRuntime, folder: &str, format: Format) -> Result<Findings, Failure> {
-    let files = find_files(rt, folder)?;
-    checked(rt, folder, files.as_slice(), format)
+/// What a check of the folder finds. Says what manifests are made into, if there are some.
+fn findings_now(rt: &HostRuntime, options: &CheckOptions) -> Result<Findings, Failure> {
+    let folder = options.folder.as_str();
+    let given = given_files(rt, folder, options.manifests.as_slice())?;
+    tell_made(rt, &given);
+    tell_long_check(rt, given.files.as_slice());
+    checked(rt, folder, given.files.as_slice(), options.format)
+}
+
+/// What a check of the base finds, whose operations are also those of the manifests.
+fn findings_before(
+    rt: &HostRuntime,
+    folder: &str,
+    options: &CheckOptions,
+) -> Result<Findings, Failure> {
+    let given = given_files(rt, folder, options.manifests.as_slice())?;
+    checked(rt, folder, given.files.as_slice(), options.format)
 }
 
 /// The failure of files that are not checked. For annotations, it is one of them, too.
-fn refused(
+pub fn refusal(
     rt: &HostRuntime,
     folder: &str,
     files: &[GivenFile],
@@ -44,7 +58,7 @@ pub fn checked(
     match check_files(rt.alloc(), folder, files) {
         Ok(findings) => Ok(findings),
         Err(CheckFault::Memory) => Err(Failure::Memory),
-        Err(fault) => Err(refused(rt, folder, files, format, &fault)?),
+        Err(fault) => Err(refusal(rt, folder, files, format, &fault)?),
     }
 }
 
@@ -95,9 +109,9 @@ fn status_of(now: &Findings, comparison: &Option<Comparison>) -> u8 {
 
 /// Checks a folder, and writes what is found.
 fn check(rt: &HostRuntime, options: &CheckOptions) -> Result<u8, Failure> {
-    let now = findings_in(rt, options.folder.as_str(), options.format)?;
+    let now = findings_now(rt, options)?;
     let base = match &options.base {
-        Some(folder) => Some(findings_in(rt, folder.as_str(), options.format)?),
+        Some(folder) => Some(findings_before(rt, folder.as_str(), options)?),
         None => None,
     };
     let comparison = match &base {

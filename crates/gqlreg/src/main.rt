@@ -1,11 +1,16 @@
-//! `gqlreg check` checks the files of a folder, `gqlreg push` puts them into a registry. `gqlreg pipe` answers the requests of standard input on standard output, `gqlreg serve` those of
-//! connections.
+//! `gqlreg check` checks the files of a folder, `gqlreg usage` says who reads a part of its schema,
+//! and `gqlreg push` puts the files into a registry. `gqlreg pipe` answers the requests of standard
+//! input on standard output, `gqlreg serve` those of connections.
 #![tactic(auto)]
 
 mod check;
 mod connection;
 mod failure;
+mod folder;
+mod progress;
 mod push;
+mod state;
+mod usage;
 
 ghost use Rattle.std.specs.Prelude.{◌≡◌, ◌≤◌, None};
 ghost use Rattle.gql_http.specs.Hubs.{rests_of};
@@ -13,6 +18,7 @@ ghost use Rattle.gql_server.specs.Together.{AreClosed};
 
 use crate::check::run_check;
 use crate::push::run_push;
+use crate::usage::run_usage;
 use gql_command::{Command, CommandFault, read_command};
 use gql_folder_command::{
     FolderCommand, FolderCommandFault, is_folder_command, read_folder_command,
@@ -125,6 +131,7 @@ fn run_on_folder(rt: &HostRuntime, words: &[String]) -> u8 {
     match read_folder_command(rt.alloc(), words) {
         Ok(FolderCommand::Check(options)) => run_check(rt, &options),
         Ok(FolderCommand::Push(options)) => run_push(rt, &options),
+        Ok(FolderCommand::Usage(options)) => run_usage(rt, &options),
         Err(FolderCommandFault::Help(text)) => print_text(rt, text),
         Err(FolderCommandFault::Refused(text)) => {
             let _ = rt.eprintln(text);

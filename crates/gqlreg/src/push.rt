@@ -2,25 +2,30 @@
 
 use crate::check::checked;
 use crate::connection::{Connection, NoAnswer};
-use crate::failure::{Failure, report, unwritten};
-use gql_disk::find_files;
+use crate::failure::{Failure, report};
+use crate::folder::{given_files, tell_made};
+use crate::progress::Counter;
+use crate::state::{keep, last_push};
 use gql_findings::Findings;
 use gql_folder::GivenFile;
 use gql_folder_command::{Format, PushOptions};
 use gql_push::{
-    Edit, PushState, Reply, Resource, plan, read_state, resources_of, write_edit, write_report,
+    Edit, PushState, Reply, Resource, plan, pushed_after, resources_of, to_put_again, write_edit,
+    write_report,
 };
 use std::alloc::AllocError;
-use std::fs;
 
 /// How many requests are sent before their answers are read.
 const BATCH: usize = 16;
 
-/// What is pushed: the files of a folder, and their resources.
+/// A push: the files of a folder, their resources, the resources that were pushed before, and the
+/// edits that are to be made.
 #[derive(Drop)]
-struct Pushed {
+struct Push {
     files: Vec<GivenFile>,
     resources: Vec<Resource>,
+    before: Vec<Resource>,
+    edits: Vec<Edit>,
 }
 
 /// How far a push came: the revision, how many faults the registry has, and how many edits were
@@ -38,29 +43,6 @@ impl From<NoAnswer> for Failure {
             NoAnswer::NoServer => Failure::NoServer,
             NoAnswer::Memory => Failure::Memory,
         }
-    }
-}
-
-/// The path of the file that keeps what was pushed.
-fn state_path(rt: &HostRuntime, options: &PushOptions) -> Result<String, AllocError> {
-    match &options.state {
-        Some(path) => path.clone(),
-        None => {
-            let folder = options.folder.as_str();
-            format!(in rt.alloc(); "{folder}/.gqlreg-push")
-        }
-    }
-}
-
-/// What was pushed last to the server. Nothing if no file keeps it, or if it was another server.
-fn last_push(rt: &HostRuntime, options: &PushOptions) -> Result<Option<PushState>, Failure> {
-    let path = state_path(rt, options)?;
-    let Ok(text) = fs::read_to_string(rt, path.as_str()) else {
-        return Ok(None);
-    };
-    match read_state(rt.alloc(), text.as_str())? {
-        Some(state) if state.server == options.server => Ok(Some(state)),
-        _ => Ok(None),
     }
 }
 
@@ -114,7 +96,7 @@ fn test_revision(
 /// Notes an answer. An `Err` if the edit was not made.
 fn note(
     rt: &HostRuntime,
-    pushed: &Pushed,
+    push: &Push,
     folder: &str,
     edit: &Edit,
     reply: Reply,
@@ -131,14 +113,7 @@ fn note(
             "the registry is at revision {revision}: somebody else edits it. The push stops here"
         )?)),
         Reply::Refused { number, message } => {
-            let target = match edit {
-                Edit::Put(at) => match pushed.resources.get(*at) {
-                    Some(resource) => resource.target.as_str(),
-                    None => "",
-                },
-                Edit::Remove(target) => target.as_str(),
-                Edit::EmptyData => "data",
-            };
+            let target = edit.target(push.resources.as_slice());
             let message = message.as_str();
             Err(Failure::Refused(format!(in rt.alloc();
                 "{folder}: {target} is refused: {message} ({number})"
@@ -153,7 +128,7 @@ fn make_batch(
     rt: &HostRuntime,
     connection: &mut Connection,
     options: &PushOptions,
-    pushed: &Pushed,
+    push: &Push,
     edits: &[Edit],
     progress: &mut Progress,
 ) -> Result<(), Failure> {
@@ -161,8 +136,8 @@ fn make_batch(
     let mut requests = Vec::new(rt.alloc());
     let mut revision = progress.revision;
     for edit in edits {
-        let resources = pushed.resources.as_slice();
-        let files = pushed.files.as_slice();
+        let resources = push.resources.as_slice();
+        let files = push.files.as_slice();
         write_edit(
             rt.alloc(),
             &mut requests,
@@ -177,43 +152,50 @@ fn make_batch(
     connection.send(requests.as_slice())?;
     for edit in edits {
         let reply = connection.reply(rt)?;
-        note(rt, pushed, options.folder.as_str(), edit, reply, progress)?;
+        note(rt, push, options.folder.as_str(), edit, reply, progress)?;
     }
     Ok(())
 }
 
-/// Makes all edits.
+/// Keeps what was put so far, if something was: should the push stop, the next one goes on from
+/// there.
+fn keep_made(
+    rt: &HostRuntime,
+    options: &PushOptions,
+    push: &Push,
+    progress: &Progress,
+) -> Result<(), Failure> {
+    match push.edits.get(..progress.made) {
+        Some(made) if !made.is_empty() => {
+            let (resources, before) = (push.resources.as_slice(), push.before.as_slice());
+            let after = pushed_after(rt.alloc(), resources, before, made)?;
+            keep(rt, options, after, progress.revision)
+        }
+        _ => Ok(()),
+    }
+}
+
+/// Makes all edits, and keeps what is put as it goes on.
 fn make_all(
     rt: &HostRuntime,
     connection: &mut Connection,
     options: &PushOptions,
-    pushed: &Pushed,
-    edits: &[Edit],
+    push: &Push,
     progress: &mut Progress,
 ) -> Result<(), Failure> {
-    for batch in edits.chunks(BATCH) {
-        make_batch(rt, connection, options, pushed, batch, progress)?;
+    let mut counter = Counter::new(rt);
+    for batch in push.edits.chunks(BATCH) {
+        let made = make_batch(rt, connection, options, push, batch, progress);
+        let kept = keep_made(rt, options, push, progress);
+        counter.show(rt, progress.made, push.edits.len());
+        if made.is_err() {
+            counter.end(rt);
+            return made;
+        }
+        kept?;
     }
+    counter.end(rt);
     Ok(())
-}
-
-/// Keeps what is pushed, for the next push.
-fn keep(
-    rt: &HostRuntime,
-    options: &PushOptions,
-    resources: Vec<Resource>,
-    revision: u64,
-) -> Result<(), Failure> {
-    let state = PushState {
-        server: options.server.clone()?,
-        revision,
-        pushed: resources,
-    };
-    let path = state_path(rt, options)?;
-    match fs::write(rt, path.as_str(), state.text(rt.alloc())?) {
-        Ok(()) => Ok(()),
-        Err(_) => Err(unwritten(rt, path.as_str())),
-    }
 }
 
 /// What a push did, in words.
@@ -242,20 +224,54 @@ fn summary(
     )
 }
 
-/// Pushes the files of a folder, and returns the status.
-fn push(rt: &HostRuntime, options: &PushOptions) -> Result<u8, Failure> {
-    let files = find_files(rt, options.folder.as_str())?;
-    let findings = checked(rt, options.folder.as_str(), files.as_slice(), Format::Text)?;
-    if options.fail_on_faults && !findings.findings.is_empty() {
-        let count = findings.findings.len();
-        let folder = options.folder.as_str();
-        let text = format!(in rt.alloc();
-            "{folder} has {count} faults, which gqlreg check shows: nothing is put\n"
-        )?;
-        let _ = rt.eprint(text);
-        return Ok(1);
-    }
+/// What a push of these files has to do, if this was pushed last.
+fn planned(
+    rt: &HostRuntime,
+    options: &PushOptions,
+    files: Vec<GivenFile>,
+    last: Option<PushState>,
+) -> Result<Push, AllocError> {
+    let all = options.all || options.force;
+    let before = match last {
+        Some(last) if all => to_put_again(rt.alloc(), last.pushed.as_slice())?,
+        Some(last) => last.pushed,
+        None => Vec::new(rt.alloc()),
+    };
     let resources = resources_of(rt.alloc(), files.as_slice())?;
+    let edits = plan(rt.alloc(), resources.as_slice(), before.as_slice(), all)?;
+    Ok(Push {
+        files,
+        resources,
+        before,
+        edits,
+    })
+}
+
+/// Whether nothing is to be put, since the folder has faults. Says so.
+fn stops_at_faults(
+    rt: &HostRuntime,
+    options: &PushOptions,
+    findings: &Findings,
+) -> Result<bool, AllocError> {
+    if !options.fail_on_faults || findings.findings.is_empty() {
+        return Ok(false);
+    }
+    let count = findings.findings.len();
+    let folder = options.folder.as_str();
+    let text = format!(in rt.alloc();
+        "{folder} has {count} faults, which gqlreg check shows: nothing is put\n"
+    )?;
+    let _ = rt.eprint(text);
+    Ok(true)
+}
+
+/// Puts the files of a folder, whose check found this, and returns the status.
+fn put_all(
+    rt: &HostRuntime,
+    options: &PushOptions,
+    files: Vec<GivenFile>,
+    findings: &Findings,
+) -> Result<u8, Failure> {
     let mut last = last_push(rt, options)?;
     let mut connection = Connection::open(rt, options.server.as_str(), options.wait)?;
     let mut progress = present(rt, &mut connection, options)?;
@@ -264,28 +280,26 @@ fn push(rt: &HostRuntime, options: &PushOptions) -> Result<u8, Failure> {
         last = None;
     }
     test_revision(rt, options, &last, progress.revision)?;
-    let none = Vec::new(rt.alloc());
-    let before = match &last {
-        Some(last) => &last.pushed,
-        None => &none,
-    };
-    let all = options.all || options.force;
-    let edits = plan(rt.alloc(), resources.as_slice(), before.as_slice(), all)?;
-    let pushed = Pushed { files, resources };
-    make_all(
-        rt,
-        &mut connection,
-        options,
-        &pushed,
-        edits.as_slice(),
-        &mut progress,
-    )?;
-    keep(rt, options, pushed.resources, progress.revision)?;
-    let text = summary(rt, options, &findings, &progress)?;
+    let push = planned(rt, options, files, last)?;
+    make_all(rt, &mut connection, options, &push, &mut progress)?;
+    keep(rt, options, push.resources, progress.revision)?;
+    let text = summary(rt, options, findings, &progress)?;
     match rt.print(text) {
         Ok(()) => Ok(0),
         Err(_) => Ok(1),
     }
+}
+
+/// Pushes the files of a folder, and returns the status.
+fn push(rt: &HostRuntime, options: &PushOptions) -> Result<u8, Failure> {
+    let folder = options.folder.as_str();
+    let given = given_files(rt, folder, options.manifests.as_slice())?;
+    tell_made(rt, &given);
+    let findings = checked(rt, folder, given.files.as_slice(), Format::Text)?;
+    if stops_at_faults(rt, options, &findings)? {
+        return Ok(1);
+    }
+    put_all(rt, options, given.files, &findings)
 }
 
 /// Runs a push, and returns the status.

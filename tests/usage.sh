@@ -1,0 +1,379 @@
+#!/bin/sh
+# Tests of `gqlreg usage`, of manifests of persisted operations, and of a push that stops midway:
+# tests/usage.sh. They take some ten seconds. The last line is `N passed, M failed`.
+here=$(cd "$(dirname "$0")" && pwd)
+. "$here/common.sh"
+echo "the tests of usage and manifests run, in some ten seconds" >&2
+
+mkdir -p store/schema store/documents/web
+cat > store/schema/store.graphql <<'TEXT'
+type Query {
+  product(id: ID!): Product
+  search(filter: Filter): [Item!]!
+  version: String
+}
+
+interface Item {
+  id: ID!
+  title: String
+}
+
+type Product implements Item {
+  id: ID!
+  title: String
+  price(in: Currency = EUR): Int
+  maker: Maker
+}
+
+type Bundle implements Item {
+  id: ID!
+  title: String
+  size: Int
+}
+
+type Maker {
+  id: ID!
+  name: String
+}
+
+union Thing = Product | Maker
+
+enum Currency {
+  EUR
+  USD
+}
+
+enum Colour {
+  RED
+}
+
+input Filter {
+  text: String
+  range: Range
+}
+
+input Range {
+  from: Int
+}
+
+scalar Weight
+
+directive @beta on FIELD
+
+directive @old on FIELD
+TEXT
+cat > store/documents/web/product.graphql <<'TEXT'
+query Product($id: ID!) {
+  product(id: $id) {
+    ...Card
+    price(in: USD)
+  }
+}
+
+fragment Card on Product {
+  id
+  title @beta
+}
+TEXT
+cat > store/documents/web/search.graphql <<'TEXT'
+query Search($filter: Filter) {
+  search(filter: $filter) {
+    id
+  }
+}
+TEXT
+
+# ---- the command line
+
+has 'help of usage' 0 '^Says which stored operations and fragments read a part' "$gqlreg" usage --help
+has 'all commands' 0 '^  gqlreg usage DIR PART' "$gqlreg" --help
+has 'without a part' 2 '<PART>' "$gqlreg" usage store
+has 'without a folder' 2 '<DIR>' "$gqlreg" usage
+has 'a part and --unused' 2 'cannot be used with' "$gqlreg" usage store Product --unused
+has 'two parts' 2 "unexpected argument 'Maker'" "$gqlreg" usage store Product Maker
+has 'another format' 2 "invalid value 'sarif'" "$gqlreg" usage store Product --format sarif
+has 'no folder' 2 'nowhere is missing' "$gqlreg" usage nowhere Product
+mkdir empty
+has 'no files' 2 'empty has no files' "$gqlreg" usage empty Product
+
+# ---- who reads it
+
+try 'a field, read by itself' 0 "$gqlreg" usage store Product.price <<'TEXT'
+field Product.price is read by 1 operation and 0 fragments
+  store/documents/web/product.graphql:1:1: query Product
+TEXT
+try 'a field, read by a fragment' 0 "$gqlreg" usage store Product.title <<'TEXT'
+field Product.title is read by 1 operation and 1 fragment
+  store/documents/web/product.graphql:1:1: query Product, by fragment Card
+  store/documents/web/product.graphql:8:1: fragment Card
+TEXT
+try 'a type, read in both ways' 0 "$gqlreg" usage store Product <<'TEXT'
+type Product is read by 1 operation and 1 fragment
+  store/documents/web/product.graphql:1:1: query Product, and by fragment Card
+  store/documents/web/product.graphql:8:1: fragment Card
+TEXT
+try 'a field of a root' 0 "$gqlreg" usage store Query.search <<'TEXT'
+field Query.search is read by 1 operation and 0 fragments
+  store/documents/web/search.graphql:1:1: query Search
+TEXT
+try 'the same field of an interface' 0 "$gqlreg" usage store Item.id <<'TEXT'
+field Item.id is read by 1 operation and 0 fragments
+  store/documents/web/search.graphql:1:1: query Search
+TEXT
+try 'a field that nobody reads' 0 "$gqlreg" usage store Product.maker <<'TEXT'
+field Product.maker is read by no stored operation
+TEXT
+try 'a value of an enum' 0 "$gqlreg" usage store Currency.EUR <<'TEXT'
+enum value Currency.EUR is read by 1 operation and 0 fragments
+  store/documents/web/product.graphql:1:1: query Product
+Readers of an enum read all its values.
+TEXT
+try 'a value that nobody reads' 0 "$gqlreg" usage store Colour.RED <<'TEXT'
+enum value Colour.RED is read by no stored operation
+Readers of an enum read all its values.
+TEXT
+try 'a field of an input object in another' 0 "$gqlreg" usage store Range.from <<'TEXT'
+input field Range.from is read by 1 operation and 0 fragments
+  store/documents/web/search.graphql:1:1: query Search
+Readers of an input object read all its fields.
+TEXT
+try 'a directive' 0 "$gqlreg" usage store @beta <<'TEXT'
+directive @beta is read by 1 operation and 1 fragment
+  store/documents/web/product.graphql:1:1: query Product, by fragment Card
+  store/documents/web/product.graphql:8:1: fragment Card
+TEXT
+try 'a directive that nobody reads' 0 "$gqlreg" usage store @old <<'TEXT'
+directive @old is read by no stored operation
+TEXT
+try 'an object of an interface' 0 "$gqlreg" usage store Bundle <<'TEXT'
+type Bundle is read by no stored operation
+TEXT
+try 'readers as JSON' 0 "$gqlreg" usage store Product.title --format json <<'TEXT'
+{"part":"Product.title","kind":"field","readers":[{"kind":"query","name":"Product","path":"store/documents/web/product.graphql","line":1,"column":1,"by_itself":false,"through":["Card"]},{"kind":"fragment","name":"Card","path":"store/documents/web/product.graphql","line":8,"column":1,"by_itself":true,"through":[]}]}
+TEXT
+try 'no readers as JSON' 0 "$gqlreg" usage store @old --format json <<'TEXT'
+{"part":"@old","kind":"directive","readers":[]}
+TEXT
+printf '{ version }\n' > store/documents/one.graphql
+try 'an operation without a name' 0 "$gqlreg" usage store Query.version --format json <<'TEXT'
+{"part":"Query.version","kind":"field","readers":[{"kind":"query","name":null,"path":"store/documents/one.graphql","line":1,"column":1,"by_itself":true,"through":[]}]}
+TEXT
+rm store/documents/one.graphql
+printf 'query Faulty { product(id: 1) { gone price } }\n' > store/documents/faulty.graphql
+try 'an operation with faults' 0 "$gqlreg" usage store Product.price <<'TEXT'
+field Product.price is read by 2 operations and 0 fragments
+  store/documents/faulty.graphql:1:1: query Faulty
+  store/documents/web/product.graphql:1:1: query Product
+TEXT
+rm store/documents/faulty.graphql
+
+# ---- what nobody reads
+
+try 'what nobody reads' 0 "$gqlreg" usage store --unused <<'TEXT'
+store/schema/store.graphql:4:3: field Query.version
+store/schema/store.graphql:9:3: field Item.title
+store/schema/store.graphql:16:3: field Product.maker
+store/schema/store.graphql:21:3: field Bundle.title
+store/schema/store.graphql:22:3: field Bundle.size
+store/schema/store.graphql:25:6: type Maker
+store/schema/store.graphql:30:7: type Thing
+store/schema/store.graphql:37:6: type Colour
+store/schema/store.graphql:50:8: type Weight
+store/schema/store.graphql:54:12: directive @old
+10 parts of the schema read by no stored operation
+TEXT
+mkdir -p small/schema small/documents
+printf 'type Query { a: Int b: Int }\n' > small/schema/s.graphql
+printf 'query A { a }\n' > small/documents/a.graphql
+try 'what nobody reads, as JSON' 0 "$gqlreg" usage small --unused --format json <<'TEXT'
+{"unread":[{"kind":"field","type":"Query","name":"b","path":"small/schema/s.graphql","line":1,"column":21}]}
+TEXT
+printf 'query A { a b }\n' > small/documents/a.graphql
+try 'all is read' 0 "$gqlreg" usage small --unused <<'TEXT'
+0 parts of the schema read by no stored operation
+TEXT
+
+# ---- no answer
+
+try 'no such type' 2 "$gqlreg" usage store Shop <<'TEXT'
+the schema of store has no type `Shop`
+TEXT
+try 'a field of no type' 2 "$gqlreg" usage store Shop.id <<'TEXT'
+the schema of store has no type `Shop`
+TEXT
+try 'no such field' 2 "$gqlreg" usage store Product.weight <<'TEXT'
+type `Product` of store has no field `weight`
+TEXT
+try 'no such value' 2 "$gqlreg" usage store Currency.GBP <<'TEXT'
+type `Currency` of store has no value `GBP`
+TEXT
+try 'no such field of an input object' 2 "$gqlreg" usage store Filter.size <<'TEXT'
+type `Filter` of store has no field `size`
+TEXT
+try 'a field of a scalar' 2 "$gqlreg" usage store Weight.grams <<'TEXT'
+type `Weight` of store has no member `grams`
+TEXT
+try 'no such directive' 2 "$gqlreg" usage store @gone <<'TEXT'
+the schema of store has no directive `@gone`
+TEXT
+try 'a field of a field' 2 "$gqlreg" usage store Product.maker.name <<'TEXT'
+type `Product` of store has no field `maker.name`
+TEXT
+mkdir -p torn/schema
+printf 'type Query { a: Strin b: In }\n' > torn/schema/s.graphql
+try 'a schema with faults' 1 "$gqlreg" usage torn Query.a <<'TEXT'
+the schema of torn has 2 faults, which gqlreg check shows: until then it is not said who reads what
+TEXT
+has 'what nobody reads of it' 1 'the schema of torn has 2 faults' "$gqlreg" usage torn --unused
+printf 'type {\n' > torn/schema/s.graphql
+try 'a file that is refused' 2 "$gqlreg" usage torn Query.a <<'TEXT'
+torn/schema/s.graphql:1:6: syntax: unexpected token (201)
+  type {
+       ^
+TEXT
+printf 'type Query { a: Int } # \377\n' > torn/schema/s.graphql
+try 'a file that is not UTF-8' 2 "$gqlreg" usage torn Query.a <<'TEXT'
+torn/schema/s.graphql: the file is not UTF-8 (202)
+TEXT
+printf 'type Query { a: Int }\n' > torn/schema/s.graphql
+printf '[]\n' > torn/data.json
+try 'data that are refused' 2 "$gqlreg" usage torn Query.a <<'TEXT'
+torn/data.json: data is not accepted (207)
+TEXT
+
+# ---- manifests
+
+cat > apollo.json <<'TEXT'
+{"format": "apollo-persisted-query-manifest", "version": 1, "operations": [
+  {"id": "1a", "name": "Home", "type": "query",
+   "body": "query Home {\n  product(id: 1) { ...Line price }\n}\nfragment Line on Product { id title }"},
+  {"id": "2b", "name": "Top", "type": "query",
+   "body": "fragment Line on Product {\n  id, title # the same\n}\nquery Top { product(id: 2) { ...Line } }"}
+]}
+TEXT
+try 'a manifest of Apollo' 0 "$gqlreg" check store --manifest apollo.json <<'TEXT'
+manifests: 2 operations and 1 fragment, as documents/Home.graphql, documents/Top.graphql, documents/shared-fragments.graphql
+0 faults in 6 files
+TEXT
+printf '%s\n' '{"9f": "query Last { version }", "8e": "query Feed { search { id size: title } }"}' > relay.json
+try 'a manifest of Relay' 0 "$gqlreg" check store --manifest relay.json <<'TEXT'
+manifests: 2 operations and 0 fragments, as documents/Feed.graphql, documents/Last.graphql
+0 faults in 5 files
+TEXT
+try 'both' 0 "$gqlreg" check store --manifest apollo.json --manifest relay.json <<'TEXT'
+manifests: 4 operations and 1 fragment, as documents/Home.graphql, documents/Top.graphql, documents/Feed.graphql, documents/Last.graphql, documents/shared-fragments.graphql
+0 faults in 8 files
+TEXT
+try 'who reads it of a manifest' 0 "$gqlreg" usage store Product.title --manifest apollo.json <<'TEXT'
+manifests: 2 operations and 1 fragment, as documents/Home.graphql, documents/Top.graphql, documents/shared-fragments.graphql
+field Product.title is read by 3 operations and 2 fragments
+  store/documents/Home.graphql:1:1: query Home, by fragment Line
+  store/documents/Top.graphql:1:1: query Top, by fragment Line
+  store/documents/shared-fragments.graphql:1:1: fragment Line
+  store/documents/web/product.graphql:1:1: query Product, by fragment Card
+  store/documents/web/product.graphql:8:1: fragment Card
+TEXT
+cp -r store renamed
+sed -i 's/price(in/cost(in/' renamed/schema/store.graphql
+sed -i '/price/d' renamed/documents/web/product.graphql
+try 'what a change breaks of a manifest' 1 "$gqlreg" check renamed --base store --manifest apollo.json <<'TEXT'
+manifests: 2 operations and 1 fragment, as documents/Home.graphql, documents/Top.graphql, documents/shared-fragments.graphql
+renamed/documents/Home.graphql:2:28: V04 `price`: Field Selections: the parent type has no field of this name. (in query Home)
+    product(id: 1) { ...Line price }
+                             ^
+1 fault brought, 0 faults mended
+operations that this breaks:
+  renamed/documents/Home.graphql: query Home
+TEXT
+
+# refused NAME TEXT-OF-MANIFEST LINE: a manifest that is refused, with this line
+refused() {
+    printf '%s\n' "$2" > bad.json
+    printf '%s\n' "$3" > line
+    try "$1" 2 "$gqlreg" check store --manifest bad.json < line
+}
+refused 'not JSON' '{"1": ' 'bad.json is not JSON'
+refused 'a list' '[]' 'bad.json is no manifest: it has neither `operations` nor an object of texts'
+refused 'numbers for texts' '{"1": 1}' 'bad.json is no manifest: it has neither `operations` nor an object of texts'
+refused 'operations without texts' '{"operations": [{"id": "1"}]}' 'bad.json is no manifest: it has neither `operations` nor an object of texts'
+refused 'a text that is refused' '{"7": "query Q {\n  version )\n}"}' 'bad.json: operation 7, line 2, column 11: not accepted (111)'
+refused 'an operation without a name' '{"7": "{ version }"}' 'bad.json: operation 7 has no name'
+refused 'a type' '{"7": "type T { a: Int }"}' 'bad.json: operation 7 has a definition that is neither an operation nor a fragment'
+refused 'one name twice' '{"7": "query Q { version }", "8": "query Q { version }"}' 'bad.json: operation 8 has the name Q, as operation 7 of bad.json'
+refused 'fragments that differ' '{"7": "query A { ...F } fragment F on Query { version }", "8": "query B { ...F } fragment F on Query { v: version }"}' 'bad.json: operation 8: fragment F differs from that of operation 7 of bad.json'
+printf '%s\n' '{"7": "query Home { version }"}' > bad.json
+try 'one name in two manifests' 2 "$gqlreg" check store --manifest apollo.json --manifest bad.json <<'TEXT'
+bad.json: operation 7 has the name Home, as operation 1a of apollo.json
+TEXT
+cp store/documents/web/search.graphql store/documents/Home.gql
+try 'the name of a file of the folder' 2 "$gqlreg" check store --manifest apollo.json <<'TEXT'
+store/documents/Home.gql has the name of documents/Home.graphql, which is made of operation 1a of apollo.json
+TEXT
+rm store/documents/Home.gql
+printf 'query Home { version }\n' > store/documents/shared-fragments.graphql
+try 'the name of the file of fragments' 2 "$gqlreg" check store --manifest apollo.json <<'TEXT'
+store/documents/shared-fragments.graphql has the name of documents/shared-fragments.graphql, which is made of the fragments of manifests
+TEXT
+rm store/documents/shared-fragments.graphql
+printf 'fragment Line on Product { id }\n' > store/documents/line.graphql
+has 'a fragment of the folder, too' 1 '^store/documents/line.graphql:1:10: V11 `Line`' "$gqlreg" check store --manifest apollo.json
+rm store/documents/line.graphql
+has 'no manifest' 2 'nowhere.json is missing' "$gqlreg" check store --manifest nowhere.json
+has 'a folder for a manifest' 2 'store is a folder' "$gqlreg" check store --manifest store
+printf '%s\n' '{}' > bad.json
+try 'a manifest without operations' 0 "$gqlreg" check store --manifest bad.json <<'TEXT'
+manifests: 0 operations and 0 fragments
+0 faults in 3 files
+TEXT
+
+# ---- pushes
+
+port=$((20000 + $$ % 20000))
+to=127.0.0.1:$port
+"$GQLREG" serve --port "$port" --connections 10000 > "$place/served" 2>&1 &
+server_pid=$!
+for _ in 1 2 3 4 5 6 7 8 9 10 11 12 13 14 15; do
+    if grep -q listening "$place/served" 2> /dev/null; then break; fi
+    sleep 0.2
+done
+try 'push with a manifest' 0 "$gqlreg" push store --to "$to" --manifest apollo.json <<'TEXT'
+manifests: 2 operations and 1 fragment, as documents/Home.graphql, documents/Top.graphql, documents/shared-fragments.graphql
+6 files put or removed: revision 6, 0 faults, 0 operations are not served
+TEXT
+try 'push of what changed in it' 0 "$gqlreg" push store --to "$to" --manifest relay.json <<'TEXT'
+manifests: 2 operations and 0 fragments, as documents/Feed.graphql, documents/Last.graphql
+5 files put or removed: revision 11, 0 faults, 0 operations are not served
+TEXT
+# 251 documents of somebody else, so that there is room for one more
+mkdir -p other/documents
+n=0
+while [ $n -lt 251 ]; do
+    printf 'query Other%s { version }\n' $n > other/documents/o$n.graphql
+    n=$((n + 1))
+done
+has 'documents of somebody else' 0 '^251 files put or removed: revision 262' "$gqlreg" push other --to "$to" --all
+mkdir -p part/schema part/documents
+printf 'query PartA { version }\n' > part/documents/a.graphql
+printf 'query PartB { version }\n' > part/documents/b.graphql
+printf 'extend type Query { part: Int }\n' > part/schema/part.graphql
+try 'a push that stops' 2 "$gqlreg" push part --to "$to" --all <<'TEXT'
+part: documents/b is refused: too many files (205)
+TEXT
+try 'what it has put' 0 sed -n '2,3p; s/^[0-9a-f]\{64\} //p' part/.gqlreg-push <<TEXT
+server $to
+revision 263
+documents/a
+TEXT
+try 'the next push knows its own work' 2 "$gqlreg" push part --to "$to" <<'TEXT'
+part: documents/b is refused: too many files (205)
+TEXT
+rm part/documents/b.graphql
+try 'and goes on' 0 "$gqlreg" push part --to "$to" <<'TEXT'
+1 file put or removed: revision 264, 0 faults, 0 operations are not served
+TEXT
+try 'to its end' 0 "$gqlreg" push part --to "$to" <<TEXT
+nothing to push: $to is at revision 264
+TEXT
+
+printf '%s passed, %s failed\n' "$passed" "$failed"
+[ "$failed" = 0 ]
