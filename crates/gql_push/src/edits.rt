@@ -119,6 +119,22 @@ pub fn plan(
     Ok(edits)
 }
 
+/// The sum of a resource that is to be put again, whatever was pushed: no file has it.
+const NO_SUM: &str = "-";
+
+/// The resources that were pushed, as resources whose files are all to be put again.
+pub fn to_put_again(alloc: Global, pushed: &[Resource]) -> Result<Vec<Resource>, AllocError> {
+    let mut again = Vec::new(alloc);
+    for before in pushed {
+        again.push(Resource {
+            target: before.target.clone()?,
+            sum: String::from_str(alloc, NO_SUM)?,
+            file: before.file,
+        })?;
+    }
+    Ok(again)
+}
+
 /// Whether one of these edits changes this target.
 fn is_edited(edits: &[Edit], resources: &[Resource], target: &str) -> bool {
     edits.iter().any(|edit| edit.target(resources) == target)

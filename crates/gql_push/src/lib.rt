@@ -10,6 +10,6 @@ mod sum;
 
 pub use answer::{AnswerSpan, answer_in};
 pub use body::{Reply, reply_in};
-pub use edits::{Edit, Resource, plan, pushed_after, resources_of};
+pub use edits::{Edit, Resource, plan, pushed_after, resources_of, to_put_again};
 pub use request::{write_edit, write_report};
 pub use state::{PushState, read_state};
