@@ -1,6 +1,5 @@
 //! The operations of a manifest, with their ids.
 
-use crate::fault::ManifestFault;
 use serde_json::{Map, Value};
 use std::alloc::{AllocError, Global};
 
@@ -64,16 +63,16 @@ fn mapped<'m>(
 }
 
 /// The entries of a manifest: those of its list `operations`, or if it has none its texts by ids.
-pub fn entries_of<'m>(alloc: Global, manifest: &'m Value) -> Result<Vec<Entry<'m>>, ManifestFault> {
+/// None if it has neither form.
+pub fn entries_of<'m>(
+    alloc: Global,
+    manifest: &'m Value,
+) -> Result<Option<Vec<Entry<'m>>>, AllocError> {
     let Some(members) = manifest.as_object() else {
-        return Err(ManifestFault::NoManifest);
+        return Ok(None);
     };
-    let found = match manifest.get("operations") {
-        Some(Value::Array(operations)) => listed(alloc, operations.as_slice())?,
-        _ => mapped(alloc, members)?,
-    };
-    match found {
-        Some(entries) => Ok(entries),
-        None => Err(ManifestFault::NoManifest),
+    match manifest.get("operations") {
+        Some(Value::Array(operations)) => listed(alloc, operations.as_slice()),
+        _ => mapped(alloc, members),
     }
 }

@@ -1,16 +1,17 @@
 //! The fragments of a manifest, each kept once.
 
 use crate::fault::ManifestFault;
+use crate::origin::Origin;
 use gql_ast::Text;
 use indexmap::IndexMap;
 use std::alloc::{AllocError, Global};
 
-/// A fragment: its tokens, its bytes, and the id of the operation that brought it first.
+/// A fragment: its tokens, its bytes, and the operation that brought it first.
 #[derive(Drop)]
 struct KeptFragment {
     tokens: String,
     bytes: Vec<u8>,
-    first: String,
+    first: Origin,
 }
 
 /// The fragments of a manifest by their names.
@@ -20,11 +21,16 @@ pub struct KeptFragments {
 }
 
 /// Two fragments of this name differ.
-fn differ(alloc: Global, name: &Text, first: &str, id: &str) -> Result<ManifestFault, AllocError> {
+fn differ(
+    alloc: Global,
+    name: &Text,
+    first: &Origin,
+    at: &Origin,
+) -> Result<ManifestFault, AllocError> {
     Ok(ManifestFault::Differ {
         name: String::from_str(alloc, name.as_str())?,
-        first: String::from_str(alloc, first)?,
-        id: String::from_str(alloc, id)?,
+        first: first.copy()?,
+        at: at.copy()?,
     })
 }
 
@@ -45,7 +51,7 @@ impl KeptFragments {
     pub fn add(
         &mut self,
         alloc: Global,
-        id: &str,
+        at: &Origin,
         name: &Text,
         bytes: &[u8],
         tokens: String,
@@ -54,14 +60,14 @@ impl KeptFragments {
             if kept.tokens == tokens {
                 return Ok(());
             }
-            return Err(differ(alloc, name, kept.first.as_str(), id)?);
+            return Err(differ(alloc, name, &kept.first, at)?);
         }
         let mut copied = Vec::new(alloc);
         copied.extend_from_slice(bytes)?;
         let fragment = KeptFragment {
             tokens,
             bytes: copied,
-            first: String::from_str(alloc, id)?,
+            first: at.copy()?,
         };
         self.fragments.insert(name.copy()?, fragment)?;
         Ok(())

@@ -1,21 +1,22 @@
-//! The operations and fragments of a manifest, as its texts are read one after the other.
+//! The operations and fragments of manifests, as their texts are read one after the other.
 
 use crate::entries::Entry;
 use crate::fault::ManifestFault;
 use crate::fragments::KeptFragments;
+use crate::origin::Origin;
 use crate::pieces::{Piece, pieces_of};
 use gql_ast::{Operation, Text, Tree};
 use indexmap::IndexMap;
 use std::alloc::{AllocError, Global};
 
-/// An operation: its bytes, and its id in the manifest.
+/// An operation: its bytes, and where it comes from.
 #[derive(Drop)]
 pub struct GatheredOperation {
-    pub id: String,
+    pub origin: Origin,
     pub bytes: Vec<u8>,
 }
 
-/// The operations of a manifest by their names, and its fragments.
+/// The operations of manifests by their names, and their fragments.
 #[derive(Drop)]
 pub struct Gathered {
     pub operations: IndexMap<Text, GatheredOperation>,
@@ -23,11 +24,16 @@ pub struct Gathered {
 }
 
 /// Two operations have this name.
-fn twice(alloc: Global, name: &Text, first: &str, id: &str) -> Result<ManifestFault, AllocError> {
+fn twice(
+    alloc: Global,
+    name: &Text,
+    first: &Origin,
+    at: &Origin,
+) -> Result<ManifestFault, AllocError> {
     Ok(ManifestFault::Twice {
         name: String::from_str(alloc, name.as_str())?,
-        first: String::from_str(alloc, first)?,
-        id: String::from_str(alloc, id)?,
+        first: first.copy()?,
+        at: at.copy()?,
     })
 }
 
@@ -44,22 +50,23 @@ impl Gathered {
     fn add_operation(
         &mut self,
         alloc: Global,
-        id: &str,
+        at: &Origin,
         operation: &Operation,
         bytes: &[u8],
     ) -> Result<(), ManifestFault> {
         let Some(name) = &operation.name else {
-            let id = String::from_str(alloc, id)?;
-            return Err(ManifestFault::Unnamed { id });
+            return Err(ManifestFault::Unnamed { at: at.copy()? });
         };
         if let Some(first) = self.operations.get(&name.text) {
-            return Err(twice(alloc, &name.text, first.id.as_str(), id)?);
+            return Err(twice(alloc, &name.text, &first.origin, at)?);
         }
         let mut copied = Vec::new(alloc);
         copied.extend_from_slice(bytes)?;
         copied.push(b'\n')?;
-        let id = String::from_str(alloc, id)?;
-        let gathered = GatheredOperation { id, bytes: copied };
+        let gathered = GatheredOperation {
+            origin: at.copy()?,
+            bytes: copied,
+        };
         self.operations.insert(name.text.copy()?, gathered)?;
         Ok(())
     }
@@ -68,7 +75,7 @@ impl Gathered {
     fn add_piece(
         &mut self,
         alloc: Global,
-        id: &str,
+        at: &Origin,
         piece: Piece<'_>,
     ) -> Result<(), ManifestFault> {
         let Piece {
@@ -77,22 +84,25 @@ impl Gathered {
             tokens,
         } = piece;
         match &tree {
-            Tree::Operation(operation) => self.add_operation(alloc, id, operation.get(), bytes),
+            Tree::Operation(operation) => self.add_operation(alloc, at, operation.get(), bytes),
             Tree::Fragment(fragment) => {
                 let name = &fragment.get().name.text;
-                self.fragments.add(alloc, id, name, bytes, tokens)
+                self.fragments.add(alloc, at, name, bytes, tokens)
             }
-            _ => {
-                let id = String::from_str(alloc, id)?;
-                Err(ManifestFault::NotExecutable { id })
-            }
+            _ => Err(ManifestFault::NotExecutable { at: at.copy()? }),
         }
     }
 
-    /// Adds the definitions of an operation's text.
-    pub fn add_entry(&mut self, alloc: Global, entry: &Entry<'_>) -> Result<(), ManifestFault> {
-        for piece in pieces_of(alloc, entry)? {
-            self.add_piece(alloc, entry.id, piece)?;
+    /// Adds the definitions of the text of an operation of the manifest at this path.
+    pub fn add_entry(
+        &mut self,
+        alloc: Global,
+        path: &str,
+        entry: &Entry<'_>,
+    ) -> Result<(), ManifestFault> {
+        let at = Origin::new(alloc, path, entry.id)?;
+        for piece in pieces_of(alloc, &at, entry.body)? {
+            self.add_piece(alloc, &at, piece)?;
         }
         Ok(())
     }

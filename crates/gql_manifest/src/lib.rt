@@ -1,6 +1,6 @@
 //! Manifests of persisted operations: the operations and fragments of a client, as its build wrote
-//! them, made into the files of a folder. Each operation is a file of its own; a fragment that several
-//! operations bring with them is kept once.
+//! them, made into the files of a folder. Each operation is a file of its own; a fragment that
+//! several operations bring with them is kept once.
 #![tactic(auto)]
 
 mod entries;
@@ -8,7 +8,13 @@ mod fault;
 mod files;
 mod fragments;
 mod gathered;
+mod joined;
+mod origin;
 mod pieces;
+mod words;
 
 pub use fault::{ManifestFault, fault_text};
-pub use files::{FromManifest, files_of};
+pub use files::{FromManifests, GivenManifest, MadeFile, files_of};
+pub use joined::add_files;
+pub use origin::Origin;
+pub use words::made_text;

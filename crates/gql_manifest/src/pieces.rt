@@ -1,7 +1,7 @@
 //! The definitions of a text, each with the part of the text that it is.
 
-use crate::entries::Entry;
 use crate::fault::ManifestFault;
+use crate::origin::Origin;
 use gql_ast::{Document, FileName, Tree};
 use gql_grammar::SyntaxFault;
 use gql_parse_sdl::parse_any;
@@ -19,13 +19,13 @@ pub struct Piece<'t> {
 }
 
 /// The fault of a text that is refused.
-fn refused(alloc: Global, id: &str, fault: SyntaxFault) -> ManifestFault {
+fn refused(at: &Origin, fault: SyntaxFault) -> ManifestFault {
     let SyntaxFault::At { number, place } = fault else {
         return ManifestFault::Memory;
     };
-    match String::from_str(alloc, id) {
-        Ok(id) => ManifestFault::Refused {
-            id,
+    match at.copy() {
+        Ok(at) => ManifestFault::Refused {
+            at,
             line: place.line,
             column: place.column,
             number: number.number(),
@@ -34,14 +34,14 @@ fn refused(alloc: Global, id: &str, fault: SyntaxFault) -> ManifestFault {
     }
 }
 
-/// The tree of a text.
-fn parsed(alloc: Global, entry: &Entry<'_>) -> Result<Document, ManifestFault> {
+/// The tree of the text of an operation.
+fn parsed(alloc: Global, at: &Origin, text: &str) -> Result<Document, ManifestFault> {
     let Some(name) = FileName::read("manifest") else {
-        return Err(ManifestFault::NoManifest);
+        return Err(ManifestFault::Memory);
     };
-    match parse_any(alloc, name, entry.body) {
+    match parse_any(alloc, name, text) {
         Ok(document) => Ok(document),
-        Err(fault) => Err(refused(alloc, entry.id, fault)),
+        Err(fault) => Err(refused(at, fault)),
     }
 }
 
@@ -82,20 +82,23 @@ fn ends_of(alloc: Global, document: &Document, length: usize) -> Result<Vec<usiz
     Ok(ends)
 }
 
-/// The definitions of an operation's text, in their order.
-pub fn pieces_of<'t>(alloc: Global, entry: &Entry<'t>) -> Result<Vec<Piece<'t>>, ManifestFault> {
-    let document = parsed(alloc, entry)?;
-    let body = entry.body;
-    let Ok(tokens) = lex(alloc, body) else {
+/// The definitions of the text of an operation, in their order.
+pub fn pieces_of<'t>(
+    alloc: Global,
+    at: &Origin,
+    text: &'t str,
+) -> Result<Vec<Piece<'t>>, ManifestFault> {
+    let document = parsed(alloc, at, text)?;
+    let Ok(tokens) = lex(alloc, text) else {
         return Err(ManifestFault::Memory);
     };
-    let ends = ends_of(alloc, &document, body.len())?;
+    let ends = ends_of(alloc, &document, text.len())?;
     let mut pieces = Vec::new(alloc);
     for (definition, end) in document.definitions.as_slice().iter().zip(ends.iter()) {
         let start = definition.tree.place().offset;
         pieces.push(Piece {
             tree: definition.tree.copy()?,
-            bytes: part_of(body, start, *end),
+            bytes: part_of(text, start, *end),
             tokens: joined(alloc, tokens.as_slice(), start, *end)?,
         })?;
     }

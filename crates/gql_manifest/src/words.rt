@@ -1,0 +1,28 @@
+//! What manifests are made into, in words.
+
+use crate::files::FromManifests;
+use std::alloc::{AllocError, Global};
+
+/// Adds a number of things, as `1 operation` or `3 operations`.
+fn add_count(alloc: Global, out: &mut String, count: usize, noun: &str) -> Result<(), AllocError> {
+    let text = format!(in alloc; "{count} {noun}")?;
+    out.push_str(text.as_str())?;
+    if count != 1 {
+        out.push('s')?;
+    }
+    Ok(())
+}
+
+/// How many operations and fragments manifests have, and the paths of the files that they are made
+/// into, as one line without a line break at its end.
+pub fn made_text(alloc: Global, made: &FromManifests) -> Result<String, AllocError> {
+    let mut out = String::from_str(alloc, "manifests: ")?;
+    add_count(alloc, &mut out, made.operations, "operation")?;
+    out.push_str(" and ")?;
+    add_count(alloc, &mut out, made.fragments, "fragment")?;
+    for (at, one) in made.files.as_slice().iter().enumerate() {
+        out.push_str(if at == 0 { ", as " } else { ", " })?;
+        out.push_str(one.file.path.as_str())?;
+    }
+    Ok(out)
+}
