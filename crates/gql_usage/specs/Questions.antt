@@ -1,5 +1,5 @@
 -- The question about a part of a schema: whoever reads the part asks it.
-use Rattle.std.specs.Prelude.{ℕ, List, Option, Some, None, find, option_and_then, option_map, bytes_eq}
+use Rattle.std.specs.Prelude.{ℕ, List, Option, None, find, option_and_then, option_map, bytes_eq}
 use Rattle.gql_ast.specs.declared.type_system.EnumValueDefinition.{EnumValueDefinition}
 use Rattle.gql_ast.specs.declared.type_system.InputValueDefinition.{InputValueDefinition}
 use Rattle.gql_built_in.specs.declared.sited.Sited.{Sited}

@@ -6,6 +6,7 @@ use Rattle.gql_usage.specs.declared.subject.Subject.TheVariants.{«Type» as a_t
 -- the bytes `@` and `.`
 abbrev pub at_sign : ℕ
 at_sign = 64
+
 abbrev pub dot : ℕ
 dot = 46
 

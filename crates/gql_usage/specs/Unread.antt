@@ -3,7 +3,6 @@ use Rattle.std.specs.Prelude.{ℕ, List, [], ◌∷◌, ◌++◌, Bool, true, fa
 use Rattle.std.specs.List.{list_all, list_any}
 use Rattle.std.specs.Option.{option_map_or}
 use Rattle.gql_ast.specs.declared.text.Name.{Name}
-use Rattle.gql_ast.specs.declared.fault.FilePlace.{FilePlace}
 use Rattle.gql_ast.specs.declared.fault.FileSide.TheVariants as side
 use Rattle.gql_ast.specs.declared.type_system.DirectiveDefinition.{DirectiveDefinition}
 use Rattle.gql_ast.specs.declared.type_system.FieldDefinition.{FieldDefinition}
@@ -52,7 +51,7 @@ abbrev pub unread_field : List Judgement → SchemaType → Sited FieldDefinitio
 unread_field shelf t f =
     if is_field_unread shelf t.definition.node.name.text t.interfaces f.node.name.text
     then at_place f.file f.node.name.place
-        (part.Field t.definition.node.name.text f.node.name.text)
+    (part.Field t.definition.node.name.text f.node.name.text)
     else []
 
 -- the fields of a type that nobody reads
@@ -80,7 +79,7 @@ is_abstract_read shelf t =
 abbrev pub answered_by : Schema → List Judgement → SchemaType → List (List ℕ)
 answered_by s shelf t = if is_abstract_read shelf t
     then option_map_or (λ (names : List (List ℕ)). names)
-        (possible_named s t.definition.node.name.text) []
+    (possible_named s t.definition.node.name.text) []
     else []
 
 -- the objects that an answer may hold since an interface or a union of them is read
@@ -100,7 +99,7 @@ is_type_unread s shelf name = not (is_root s name)
 abbrev pub unread_in_file : Schema → List Judgement → SchemaType → List Unread
 unread_in_file s shelf t = if is_type_unread s shelf t.definition.node.name.text
     then at_place t.definition.file t.definition.node.name.place
-        (part.«Type» t.definition.node.name.text)
+    (part.«Type» t.definition.node.name.text)
     else unread_fields shelf t
 
 -- what nobody reads of a type: of a built-in one, nothing is listed

@@ -1,6 +1,6 @@
-use Rattle.std.proofs.Common.{◌≡◌, ◌∙◌, ◌∷◌, ◌++◌, ap, sym, Some, None, lit<}
+use Rattle.std.proofs.Common.{◌∙◌, ◌∷◌, ap, sym, Some, None, lit<}
 use Rattle.std.proofs.lemmas.Str.Pattern.{split_parts, strip_prefix_char}
-use Rattle.gql_usage.specs.Subjects.{a_directive, a_member, of_type, at_sign, dot}
+use Rattle.gql_usage.specs.Subjects.{a_directive, a_member, of_type, at_sign}
 use Rattle.gql_usage.proofs.subject.read_subject.Goals as goal
 
 pub returns-in-Some : goal.returns-in-Some
