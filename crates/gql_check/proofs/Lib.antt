@@ -1,0 +1,5 @@
+mod Lists
+mod Indices
+mod Marks
+mod Serving
+mod Refused
