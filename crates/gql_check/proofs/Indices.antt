@@ -49,10 +49,10 @@ added xs f same q = ap (option_map (λ (g : NamedFile). g.at)) (find-append has 
     by false (Some g) e is = refl
 
 -- the map has the index of one name more
-pub index_more : (named : List NamedFile) (i : ℕ) (f : NamedFile) → i < length named → f ≡ get_or named i f → AreDistinct named → (q : List ℕ) (old new : Option ℕ)
-    → new ≡ cond (is_at (name_order f.name) q) (Some f.at) old → old ≡ index_in (take i named) q → new ≡ index_in (take (i + 1) named) q
-index_more named i f within is distinct q old new updates before =
-    updates ∙ ap (λ b. cond b (Some f.at) old) (sym (texts_ties f.name q)) ∙ ap (cond (bytes_eq f.name q) (Some f.at)) before
+pub index_more : (named : List NamedFile) (i : ℕ) (f : NamedFile) → i < length named → f ≡ get_or named i f → AreDistinct named → (key : List ℕ) → key ≡ f.name → (q : List ℕ) (old new : Option ℕ)
+    → new ≡ cond (is_at (name_order key) q) (Some f.at) old → old ≡ index_in (take i named) q → new ≡ index_in (take (i + 1) named) q
+index_more named i f within is distinct key same q old new updates before =
+    updates ∙ ap (λ k. cond (is_at (name_order k) q) (Some f.at) old) same ∙ ap (λ b. cond b (Some f.at) old) (sym (texts_ties f.name q)) ∙ ap (cond (bytes_eq f.name q) (Some f.at)) before
     ∙ sym (added (take i named) f (λ g c names. distinct g f (among g c) there names) q)
     ∙ ap (λ xs. index_in xs q) (sym (take_next named i f within is))
   where

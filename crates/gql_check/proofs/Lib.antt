@@ -3,3 +3,4 @@ mod Indices
 mod Marks
 mod Serving
 mod Refused
+mod Found

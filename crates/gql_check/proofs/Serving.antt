@@ -3,6 +3,7 @@ use Rattle.std.proofs.Common.{◌≡◌, ◌<◌, ◌+◌, ◌∙◌, ℕ, List,
 use Rattle.gql_ast.specs.declared.definition.Definition.{Definition}
 use Rattle.gql_ast.specs.declared.definition.Tree.TheVariants as tree
 use Rattle.gql_ast.specs.declared.executable.Operation.{Operation}
+use Rattle.gql_check.proofs.Lists.{differ}
 use Rattle.gql_check.specs.Affected.{AreAffected, Breaks, IsAffected, IsLeftOut, definition_of, own, through, left_out, listed, none}
 use Rattle.gql_check.specs.Owners.{name_of}
 use Rattle.gql_check.specs.Spots.{spot_of, start_of}
@@ -16,9 +17,6 @@ use Rattle.gql_facts.specs.declared.fact.FragmentFact.{FragmentFact}
 use Rattle.gql_findings.specs.declared.finding.Affected.{Affected}
 use Rattle.gql_findings.specs.declared.finding.Spot.{Spot}
 use Rattle.gql_folder.specs.declared.folder.Folder.{Folder}
-
-differ : {A : Type 0} (b : Bool) → b ≡ true → b ≡ false → A
-differ b is not_so = absurd (cc (sym is ∙ not_so))
 
 module _ (facts : Facts) (owns : Definition → Bool) (d : Definition) where
   -- what stands against a definition that owns no fault, by the fragments that it reaches

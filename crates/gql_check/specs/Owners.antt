@@ -19,12 +19,14 @@ use Rattle.gql_folder.specs.declared.folder.Folder.{Folder}
 abbrev pub is_at : FilePlace → Definition → Bool
 is_at p d = bytes_eq p.file d.file && nat_eq p.place.offset (trees.place_of d.tree).offset
 
+-- whether a definition starts at a place of a document file, if there is one
+abbrev pub is_at_owner : Option FilePlace → Definition → Bool
+is_at_owner None d = false
+is_at_owner (Some p) d = is_at p d
+
 -- whether a definition owns a fault
 abbrev pub is_owned_by : Definition → Fault → Bool
-is_owned_by d f = at f.owner where
-  at : Option FilePlace → Bool
-  at None = false
-  at (Some p) = is_at p d
+is_owned_by d f = is_at_owner f.owner d
 
 -- whether a definition owns one of these faults
 abbrev pub is_owner : List Fault → Definition → Bool
@@ -51,7 +53,9 @@ pub data IsOwnerAt (f : Folder) (definitions : List Definition) : Option FilePla
       → is_at p d ≡ true → owner_of d.tree ≡ Some o
       → IsOwnerAt f definitions (Some p)
       (Some (record { owner = o; spot = spot_of f (start_of d) }))
-  -- no operation and no fragment is there
-  missing : {p : FilePlace} → ((d : Definition) (o : Owner) → Contains definitions d
-      → is_at p d ≡ true → owner_of d.tree ≡ Some o → ⊥)
+  -- a definition of another kind is there
+  other : {p : FilePlace} (d : Definition) → Contains definitions d → is_at p d ≡ true
+      → owner_of d.tree ≡ None → IsOwnerAt f definitions (Some p) None
+  -- no definition is there
+  missing : {p : FilePlace} → ((d : Definition) → Contains definitions d → is_at p d ≡ true → ⊥)
       → IsOwnerAt f definitions (Some p) None

@@ -5,4 +5,4 @@ use Rattle.gql_check.proofs.affected.affected_among.Given as goal
 
 abbrev pub invariant-loop-definition : goal.invariant-loop-definition
 invariant-loop-definition g l = (g.W.World.facts l.world ≡ g.W.World.facts l.initial.world)
-    × AreAffected l.places (g.W.World.facts l.initial.world) (owns l.owners) (take l.definition-index (map (λ d. d.now) l.definitions)) l.affected.items
+    × AreAffected l.places (g.W.World.facts l.initial.world) (owns l.owners) (map (λ d. d.now) (take l.definition-index l.definitions)) l.affected.items

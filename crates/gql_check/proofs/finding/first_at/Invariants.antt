@@ -4,4 +4,4 @@ use Rattle.gql_check.specs.Owners.{is_at}
 use Rattle.gql_check.proofs.finding.first_at.Given as goal
 
 abbrev pub invariant-loop-definition : goal.invariant-loop-definition
-invariant-loop-definition l = (d : Definition) → Contains (take l.definition-index (map (λ e. e.now) l.definitions)) d → is_at l.place d ≡ true → ⊥
+invariant-loop-definition l = (d : Definition) → Contains (map (λ e. e.now) (take l.definition-index l.definitions)) d → is_at l.place d ≡ true → ⊥
