@@ -15,8 +15,8 @@ use Rattle.gql_folder.specs.declared.folder.Folder.{Folder}
 abbrev pub definition_of : FragmentFact → Definition
 definition_of g = record { file = g.file; tree = tree.Fragment g.fragment }
 
--- What keeps a definition from being served, where `owns` says which definitions own faults: a fault
--- of its own, or else one of a fragment that it reaches, which has this name.
+-- What keeps a definition from being served, where `owns` says which definitions own faults: a
+-- fault of its own, or else one of a fragment that it reaches, which has this name.
 pub data Breaks (facts : Facts) (owns : Definition → Bool) (d : Definition) : Option (List ℕ)
     → Type 0 where
   own : owns d ≡ true → Breaks facts owns d None

@@ -30,8 +30,8 @@ pub record IsFound (label : List ℕ) (given : List GivenFile) (f : Folder) (fil
       found.affected.items
   pub schema_is_faulty : IsTrue found.schema_is_faulty ↔ (IsSound files → ⊥)
 
--- A check of these files of a folder finds this: what a registry reports after they were put into it
--- one by one.
+-- A check of these files of a folder finds this: what a registry reports after they were put into
+-- it one by one.
 pub record IsCheck (label : List ℕ) (given : List GivenFile) (found : Findings) : Type 0 where
   pub folder : Folder
   pub state : State

@@ -28,8 +28,8 @@ operation_in f d = at d.tree where
       record { kind = o.kind; name = name_of o; spot = spot_of f (start_of d) } ∷ []
   at _ = []
 
--- a file given: its path as it is shown, which is below this folder, its path, and its text, which is
--- left empty if the bytes are not UTF-8
+-- a file given: its path as it is shown, which is below this folder, its path, and its text, which
+-- is left empty if the bytes are not UTF-8
 pub record IsSource (folder : List ℕ) (file : GivenFile) (source : TextFile) : Type 0 where
   pub label : source.label ≡ folder ++ codes "/" ++ string_bytes file.path
   pub path : source.path ≡ string_bytes file.path

@@ -25,8 +25,8 @@ abbrev pub data_edits : List GivenFile → Option ℕ → List Edit
 data_edits given None = []
 data_edits given (Some at) = put_data (bytes_at given at) ∷ []
 
--- The edits that put the files of a folder: the schema files, the documents and the data. Those of a
--- side are in the order in which they are given.
+-- The edits that put the files of a folder: the schema files, the documents and the data. Those of
+-- a side are in the order in which they are given.
 abbrev pub folder_edits : List GivenFile → Folder → List Edit
 folder_edits given f = map (put_on Schema given) f.schema.items
     ++ map (put_on Documents given) f.documents.items ++ data_edits given f.«data»

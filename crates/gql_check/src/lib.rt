@@ -1,5 +1,5 @@
-//! Checks the files of a folder, all at once: what a registry reports after they were put into it one
-//! by one.
+//! Checks the files of a folder, all at once: what a registry reports after they were put into it
+//! one by one.
 #![tactic(auto)]
 
 mod affected;

@@ -155,9 +155,9 @@ pub fn load(alloc: Global, folder: &Folder, given: &[GivenFile]) -> Result<Regis
     }
 }
 
-/// The registry that putting these files of a folder one by one into a new one leaves. It is refused
-/// if none of them is a file of a registry, if their paths are not those of a registry's files, and
-/// with the first file that the registry refuses.
+/// The registry that putting these files of a folder one by one into a new one leaves. It is
+/// refused if none of them is a file of a registry, if their paths are not those of a registry's
+/// files, and with the first file that the registry refuses.
 pub fn load_files(alloc: Global, given: &[GivenFile]) -> Result<Registry, CheckFault>
     ensures loaded { IfOk result (IsLoaded given.now) }
     ensures err { IfErr result (IsFault given.now) }
