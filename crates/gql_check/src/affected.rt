@@ -1,12 +1,20 @@
 //! Which operations are not served: those that own a fault, and those that reach a fragment that
 //! owns one.
 
-use crate::places::owner_id;
-use gql_ast::{Definition, DefinitionId, Fault, Text};
-use gql_facts::FragmentFact;
-use gql_verdict::Verdict;
+ghost use Rattle.std.specs.Prelude.{◌≡◌, ◌++◌, IfOk, OnOk, map};
+ghost use Rattle.gql_check.specs.Affected.{AreAffected, definition_of};
+ghost use Rattle.gql_check.specs.Owners.{is_owner};
+ghost use Rattle.gql_check.specs.Steps.{AddsAffected, IsAgainst, IsAgainstBy, against_in, owns};
+ghost use Rattle.gql_facts.specs.Facts.{fact_of};
+
+use crate::finding::name_of;
+use crate::owners::Owners;
+use crate::places::{Places, start_of};
+use gql_ast::{Definition, Fault, Files, Operation, Text, Tree};
+use gql_facts::{FragmentFact, Fragments, Present, SchemaFacts, World, walk_reads};
+use gql_findings::{Affected, Spot};
+use gql_types::assemble;
 use std::alloc::{AllocError, Global};
-use std::cmp::Ordering;
 
 /// What stands against a definition: nothing, a fault of its own, or one of a fragment that it
 /// reaches.
@@ -17,87 +25,131 @@ pub enum Against {
     Fragment(Text),
 }
 
-/// The order of a definition, and of what identifies one.
-fn order_to(definition: &Definition, id: &DefinitionId) -> Ordering {
-    let by_file = definition.file.cmp(&id.file);
-    by_file.then(definition.tree.place().offset.cmp(&id.offset))
-}
-
-/// The index of a definition among these, which are in order.
-pub fn index_of(definitions: &[&Definition], id: &DefinitionId) -> Option<usize> {
-    definitions
-        .binary_search_by(|definition| order_to(definition, id))
-        .ok()
-}
-
-/// The index of the definition of a fragment.
-fn index_of_fragment(definitions: &[&Definition], fragment: &FragmentFact) -> Option<usize> {
-    let id = DefinitionId {
+/// Whether a fragment owns a fault.
+fn owns_fault(owners: &Owners, fragment: &FragmentFact) -> Result<bool, AllocError>
+    ensures { IfOk result (λ is. is ≡ owns owners.now (definition_of fragment.now)) }
+{
+    let definition = Definition {
         file: fragment.file.copy(),
-        offset: fragment.fragment.get().place.offset,
+        tree: Tree::Fragment(fragment.fragment.clone()?),
     };
-    index_of(definitions, &id)
+    Ok(owners.has(&definition))
 }
 
-/// Whether the definition at an index owns a fault.
-fn is_owner(owners: &[bool], at: Option<usize>) -> bool {
-    match at {
-        Some(at) => owners.get(at).copied().unwrap_or(false),
-        None => false,
-    }
-}
-
-/// Which of these definitions own faults of a report.
-fn owners_of(
-    alloc: Global,
-    definitions: &[&Definition],
-    faults: &[Fault],
-) -> Result<Vec<bool>, AllocError> {
-    let mut owners = Vec::new(alloc);
-    for _ in definitions {
-        owners.push(false)?;
-    }
-    for fault in faults {
-        if let Some(id) = owner_id(fault) {
-            if let Some(at) = index_of(definitions, &id) {
-                if at < owners.len() {
-                    owners[at] = true;
-                }
-            }
-        }
-    }
-    Ok(owners)
-}
-
-/// The first fragment that a verdict's definition reaches and that owns a fault.
-fn faulty_fragment(
-    definitions: &[&Definition],
-    verdict: &Verdict,
-    owners: &[bool],
-) -> Result<Against, AllocError> {
-    for part in verdict.reading().parts.as_slice() {
-        if is_owner(owners, index_of_fragment(definitions, part.fragment())) {
-            return Ok(Against::Fragment(part.name().copy()?));
+/// The first of these fragments that owns a fault, if a definition owns none.
+fn faulty_fragment(owners: &Owners, members: &[FragmentFact]) -> Result<Against, AllocError>
+    ensures { IfOk result (IsAgainstBy (owns owners.now) members.now) }
+{
+    for member in members {
+        if owns_fault(owners, member)? {
+            return Ok(Against::Fragment(member.fragment.get().name.text.copy()?));
         }
     }
     Ok(Against::Nothing)
 }
 
-/// What stands against each of these definitions, by their verdicts and the faults of a report.
-pub fn against_each(
+/// What stands against a definition.
+fn find_against<W: World>(
     alloc: Global,
-    definitions: &[&Definition],
-    verdicts: &[Verdict],
-    faults: &[Fault],
-) -> Result<Vec<Against>, AllocError> {
-    let owners = owners_of(alloc, definitions, faults)?;
-    let mut against = Vec::new(alloc);
-    for (verdict, owns) in verdicts.iter().zip(owners.iter()) {
-        if *owns {
-            against.push(Against::Own)?;
-        } else {
-            against.push(faulty_fragment(definitions, verdict, owners.as_slice())?)?;
-        }
+    world: &mut W,
+    owners: &Owners,
+    definition: &Definition,
+) -> Result<Against, AllocError>
+    ensures facts { W.facts world.new ≡ W.facts world.old }
+    ensures against { IfOk result
+        (IsAgainst (W.facts world.old) (owns owners.now) definition.now) }
+{
+    if owners.has(definition) {
+        return Ok(Against::Own);
     }
-    Ok(against)
+    let walk = walk_reads(alloc, world, definition)?;
+    let found = faulty_fragment(owners, walk.members.as_slice())?;
+    Ok(found)
+}
+
+/// Adds an operation that is not served.
+fn add_against(
+    operation: &Operation,
+    spot: Spot,
+    against: Against,
+    affected: &mut Vec<Affected>,
+) -> Result<(), AllocError>
+    ensures { OnOk result (affected.new.items
+        ≡ affected.old.items ++ against_in operation.now spot against) }
+{
+    let through = match against {
+        Against::Nothing => return Ok(()),
+        Against::Own => None,
+        Against::Fragment(name) => Some(name),
+    };
+    affected.push(Affected {
+        kind: operation.kind,
+        name: name_of(operation)?,
+        spot,
+        through,
+    })?;
+    Ok(())
+}
+
+/// Adds a definition, if it is an operation that is not served.
+fn add_affected<W: World>(
+    alloc: Global,
+    world: &mut W,
+    places: &Places,
+    owners: &Owners,
+    definition: &Definition,
+    affected: &mut Vec<Affected>,
+) -> Result<(), AllocError>
+    ensures facts { W.facts world.new ≡ W.facts world.old }
+    ensures added { OnOk result (AddsAffected places.now (W.facts world.old) (owns owners.now)
+        definition.now affected.old.items affected.new.items) }
+{
+    let Tree::Operation(operation) = &definition.tree else {
+        return Ok(());
+    };
+    let against = find_against(alloc, world, owners, definition)?;
+    let spot = places.spot(&start_of(definition));
+    add_against(operation.get(), spot, against, affected)
+}
+
+/// The operations among these definitions that are not served.
+fn affected_among<W: World>(
+    alloc: Global,
+    world: &mut W,
+    places: &Places,
+    owners: &Owners,
+    definitions: &[&Definition],
+) -> Result<Vec<Affected>, AllocError>
+    ensures { IfOk result (λ affected. AreAffected places.now (W.facts world.old) (owns owners.now)
+        (map (λ d. d.now) definitions.now) affected.items) }
+{
+    let mut affected = Vec::new(alloc);
+    for definition in definitions {
+        add_affected(alloc, world, places, owners, definition, &mut affected)?;
+    }
+    Ok(affected)
+}
+
+/// The operations of these files that are not served, by the faults of their report. These are the
+/// definitions of the document files.
+pub fn affected_of(
+    alloc: Global,
+    files: &Files,
+    definitions: &[&Definition],
+    places: &Places,
+    faults: &[Fault],
+) -> Result<Vec<Affected>, AllocError>
+    ensures { IfOk result (λ affected. AreAffected places.now (fact_of files.now)
+        (is_owner faults.now) (map (λ d. d.now) definitions.now) affected.items) }
+{
+    let owners = Owners::new(alloc, faults)?;
+    if owners.is_empty() {
+        return Ok(Vec::new(alloc));
+    }
+    let schema = assemble(alloc, files)?;
+    let facts = SchemaFacts::new(alloc, &schema)?;
+    let fragments = Fragments::new(alloc, &files.documents)?;
+    let mut world = Present::new(&facts, &fragments);
+    let affected = affected_among(alloc, &mut world, places, &owners, definitions)?;
+    Ok(affected)
 }

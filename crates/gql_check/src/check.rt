@@ -1,185 +1,60 @@
 //! A check of the files of a folder.
 
-use crate::affected::{Against, against_each, index_of};
+ghost use Rattle.std.specs.Prelude.{◌≡◌, IfErr, IfOk};
+ghost use Rattle.gql_check.specs.Checks.{IsCheck, IsFound};
+ghost use Rattle.gql_check.specs.Faults.{IsFault};
+ghost use Rattle.gql_check.specs.Steps.{AreDistinct};
+ghost use Rattle.gql_registry.specs.State.{state_of};
+
+use crate::affected::affected_of;
 use crate::fault::CheckFault;
-use crate::places::{Places, owner_id};
-use crate::reading::{read_data, read_files};
-use crate::report::{Report, definitions_of, report_of};
-use gql_ast::{Definition, Fault, FilePlace, FileSide, Operation, Text, Tree};
-use gql_findings::{Affected, Finding, Findings, OperationAt, Owner, OwnerAt, Source};
-use gql_folder::{GivenFile, read_folder};
+use crate::finding::findings_of;
+use crate::loading::{folder_of, load};
+use crate::operations::{definitions_of, operations_of};
+use crate::places::Places;
+use crate::sources::sources_of;
+use gql_findings::Findings;
+use gql_folder::{Folder, GivenFile};
+use gql_registry::Registry;
 use std::alloc::{AllocError, Global};
-use std::str;
 
-/// The name of an operation, if it has one.
-fn name_of(operation: &Operation) -> Result<Option<Text>, AllocError> {
-    match &operation.name {
-        Some(name) => Ok(Some(name.text.copy()?)),
-        None => Ok(None),
-    }
-}
-
-/// A definition of a document, as the owner of faults.
-fn owner_of(definition: &Definition) -> Result<Option<Owner>, AllocError> {
-    match &definition.tree {
-        Tree::Operation(operation) => {
-            let operation = operation.get();
-            Ok(Some(Owner::Operation {
-                kind: operation.kind,
-                name: name_of(operation)?,
-            }))
-        }
-        Tree::Fragment(fragment) => Ok(Some(Owner::Fragment(fragment.get().name.text.copy()?))),
-        _ => Ok(None),
-    }
-}
-
-/// The place where a definition begins.
-fn place_of(definition: &Definition) -> FilePlace {
-    FilePlace {
-        side: FileSide::Documents,
-        file: definition.file.copy(),
-        place: definition.tree.place(),
-    }
-}
-
-/// The definition that owns a fault, and where it begins.
-fn owner_at(
-    definitions: &[&Definition],
-    places: &Places,
-    fault: &Fault,
-) -> Result<Option<OwnerAt>, AllocError> {
-    let Some(id) = owner_id(fault) else {
-        return Ok(None);
-    };
-    let Some(at) = index_of(definitions, &id) else {
-        return Ok(None);
-    };
-    let Some(definition) = definitions.get(at) else {
-        return Ok(None);
-    };
-    match owner_of(definition)? {
-        Some(owner) => Ok(Some(OwnerAt {
-            owner,
-            spot: places.spot(&place_of(definition)),
-        })),
-        None => Ok(None),
-    }
-}
-
-/// The faults of a report.
-fn findings_of(
-    alloc: Global,
-    definitions: &[&Definition],
-    places: &Places,
-    faults: &[Fault],
-) -> Result<Vec<Finding>, AllocError> {
-    let mut findings = Vec::new(alloc);
-    for fault in faults {
-        let mut spots = Vec::new(alloc);
-        for place in fault.places.as_slice() {
-            spots.push(places.spot(place))?;
-        }
-        findings.push(Finding {
-            rule: fault.rule,
-            about: fault.about.copy()?,
-            spots,
-            owner: owner_at(definitions, places, fault)?,
-        })?;
-    }
-    Ok(findings)
-}
-
-/// Adds an operation to the list of all, and to that of those that are not served.
-fn add_operation(
-    places: &Places,
-    definition: &Definition,
-    against: &Against,
-    operations: &mut Vec<OperationAt>,
-    affected: &mut Vec<Affected>,
-) -> Result<(), AllocError> {
-    let Tree::Operation(operation) = &definition.tree else {
-        return Ok(());
-    };
-    let operation = operation.get();
-    let spot = places.spot(&place_of(definition));
-    let through = match against {
-        Against::Nothing => None,
-        Against::Own => Some(None),
-        Against::Fragment(name) => Some(Some(name.copy()?)),
-    };
-    if let Some(through) = through {
-        affected.push(Affected {
-            kind: operation.kind,
-            name: name_of(operation)?,
-            spot,
-            through,
-        })?;
-    }
-    operations.push(OperationAt {
-        kind: operation.kind,
-        name: name_of(operation)?,
-        spot,
-    })?;
-    Ok(())
-}
-
-/// The files given, each with its path below this folder.
-fn sources_of(alloc: Global, folder: &str, files: &[GivenFile]) -> Result<Vec<Source>, AllocError> {
-    let mut sources = Vec::new(alloc);
-    for file in files {
-        let label = format!(in alloc; "{folder}/{}", file.path)?;
-        let path = file.path.clone()?;
-        let text = match str::from_utf8(file.bytes.as_slice()) {
-            Ok(text) => String::from_str(alloc, text)?,
-            Err(_) => String::new(alloc),
-        };
-        sources.push(Source::new(alloc, label, path, text)?)?;
-    }
-    Ok(sources)
-}
-
-/// What is found in files, by their report.
+/// What is found in the files of a folder, which a registry holds.
 fn found_in(
     alloc: Global,
-    definitions: &[&Definition],
-    places: &Places,
-    report: &Report,
-    sources: Vec<Source>,
-) -> Result<Findings, AllocError> {
-    let faults = report.faults.as_slice();
-    let against = against_each(alloc, definitions, report.verdicts.as_slice(), faults)?;
-    let mut operations = Vec::new(alloc);
-    let mut affected = Vec::new(alloc);
-    for (definition, against) in definitions.iter().zip(against.iter()) {
-        add_operation(places, definition, against, &mut operations, &mut affected)?;
-    }
-    let findings = findings_of(alloc, definitions, places, faults)?;
+    label: &str,
+    given: &[GivenFile],
+    folder: Folder,
+    registry: &Registry,
+) -> Result<Findings, AllocError>
+    requires schema { AreDistinct folder.schema.items }
+    requires documents { AreDistinct folder.documents.items }
+    ensures { IfOk result
+        (IsFound label.now given.now folder (state_of registry.now).files) }
+{
+    let faults = registry.report()?;
+    let is_sound = registry.is_sound()?;
+    let files = registry.files();
+    let places = Places::new(alloc, folder)?;
+    let definitions = definitions_of(alloc, &files.documents)?;
+    let definitions = definitions.as_slice();
+    let affected = affected_of(alloc, files, definitions, &places, faults.as_slice())?;
     Ok(Findings {
-        sources,
-        findings,
-        operations,
+        sources: sources_of(alloc, label, given)?,
+        findings: findings_of(alloc, definitions, &places, faults.as_slice())?,
+        operations: operations_of(alloc, &places, definitions)?,
         affected,
-        schema_is_faulty: report.schema_is_faulty,
+        schema_is_faulty: !is_sound,
     })
 }
 
-/// What a check of these files of a folder finds: what a registry that has just these files reports.
-pub fn check_files(
-    alloc: Global,
-    folder: &str,
-    given: &[GivenFile],
-) -> Result<Findings, CheckFault> {
-    let named = read_folder(alloc, given)?;
-    if named.schema.is_empty() && named.documents.is_empty() && named.data.is_none() {
-        return Err(CheckFault::Empty);
-    }
-    let files = read_files(alloc, &named, given)?;
-    read_data(alloc, &named, given)?;
-    let places = Places::new(alloc, &named)?;
-    let definitions = definitions_of(alloc, &files)?;
-    let report = report_of(alloc, &files, definitions.as_slice())?;
-    let sources = sources_of(alloc, folder, given)?;
-    let found = found_in(alloc, definitions.as_slice(), &places, &report, sources)?;
+/// What a check of these files of a folder finds: what a registry reports after they were put into
+/// it one by one. It is refused as `load_files` is.
+pub fn check_files(alloc: Global, folder: &str, given: &[GivenFile]) -> Result<Findings, CheckFault>
+    ensures check { IfOk result (IsCheck folder.now given.now) }
+    ensures err { IfErr result (IsFault given.now) }
+{
+    let named = folder_of(alloc, given)?;
+    let registry = load(alloc, &named, given)?;
+    let found = found_in(alloc, folder, given, named, &registry)?;
     Ok(found)
 }

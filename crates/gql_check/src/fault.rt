@@ -1,8 +1,12 @@
 //! Why a folder is not checked.
 
+ghost use Rattle.std.specs.Prelude.{◌≡◌};
+ghost use Rattle.gql_check.specs.Faults as spec;
+ghost use Rattle.gql_check.specs.Faults.{IsFileFault};
+
 use gql_ast::FileSide;
 use gql_folder::FolderFault;
-use gql_grammar::SyntaxRefusal;
+use gql_registry::{Refusal, syntax_message};
 use gql_text::Place;
 use std::alloc::{AllocError, AllocFailed};
 use thiserror::Error;
@@ -63,6 +67,11 @@ impl<T: Drop> From<AllocFailed<T>> for CheckFault {
 }
 
 impl From<FolderFault> for CheckFault {
+    ghost use Rattle.std.specs.Prelude.{◌≡◌};
+    ghost use Rattle.gql_check.specs.Faults.{of_folder};
+
+    ghost from_gives = { λ fault e. e ≡ of_folder fault };
+
     fn from(fault: FolderFault) -> CheckFault {
         match fault {
             FolderFault::Misnamed { at } => CheckFault::Misnamed { at },
@@ -73,26 +82,62 @@ impl From<FolderFault> for CheckFault {
     }
 }
 
-/// Why a text is not a file of its side, in words.
-fn syntax_reason(number: SyntaxRefusal) -> &'static str {
-    match number {
-        SyntaxRefusal::BadCharacter => "syntax: bad character",
-        SyntaxRefusal::BadNumber => "syntax: bad number",
-        SyntaxRefusal::UnfinishedText => "syntax: unfinished text",
-        SyntaxRefusal::BadEscape => "syntax: bad escape",
-        SyntaxRefusal::LoneSurrogate => "syntax: lone surrogate",
-        SyntaxRefusal::TooLong => "syntax: too long",
-        SyntaxRefusal::Unexpected => "syntax: unexpected token",
-        SyntaxRefusal::TooDeep => "syntax: too deep",
+/// The number of a refusal.
+fn number_of(refusal: &Refusal) -> u16
+    ensures { result ≡ spec.number_of refusal.now }
+{
+    match refusal {
+        Refusal::Syntax {
+            number: _,
+            place: _,
+        } => 201,
+        Refusal::NotText => 202,
+        Refusal::TooLong => 203,
+        Refusal::NoFile => 204,
+        Refusal::FilesFull => 205,
+        Refusal::Stale { revision: _ } => 206,
+        Refusal::BadData => 207,
+        Refusal::NoOperation => 208,
+        Refusal::Faulty { faults: _ } => 209,
+        Refusal::TooLarge => 210,
+        Refusal::Memory => 211,
+        Refusal::Spent => 212,
     }
 }
 
-/// The fault of a file that cannot be parsed.
-pub fn syntax_fault(file: usize, number: SyntaxRefusal, place: Place) -> CheckFault {
-    CheckFault::Refused(FileFault {
+/// The place of a refusal in its file, if it has one.
+fn place_in(refusal: &Refusal) -> Option<Place>
+    ensures { result ≡ spec.place_in refusal.now }
+{
+    match refusal {
+        Refusal::Syntax { number: _, place } => Some(*place),
+        _ => None,
+    }
+}
+
+/// Why a file is refused, in words.
+fn reason_of(refusal: &Refusal) -> &'static str
+    ensures { result.now ≡ spec.reason_of refusal.now }
+{
+    match refusal {
+        Refusal::Syntax { number, place: _ } => syntax_message(*number),
+        Refusal::NotText => "the file is not UTF-8",
+        Refusal::TooLong => "the file has more than 65,536 bytes",
+        Refusal::FilesFull => "there are more than 256 files",
+        Refusal::BadData => "data is not accepted",
+        Refusal::Spent => "revisions are spent",
+        _ => "the file is refused",
+    }
+}
+
+/// The refusal of the file at an index, in words.
+pub fn file_fault(file: usize, refusal: &Refusal) -> FileFault
+    ensures { IsFileFault file refusal.now result }
+{
+    FileFault {
         file,
-        place: Some(place),
-        number: 201,
-        reason: syntax_reason(number),
-    })
+        place: place_in(refusal),
+        number: number_of(refusal),
+        reason: reason_of(refusal),
+    }
 }

@@ -1,14 +1,19 @@
-//! Checks the files of a folder, all at once, as a registry that has just these files would.
+//! Checks the files of a folder, all at once: what a registry reports after they were put into it
+//! one by one.
 #![tactic(auto)]
 
 mod affected;
 mod check;
 mod fault;
+mod finding;
+mod loading;
+mod operations;
+mod owners;
 mod places;
-mod reading;
-mod report;
+mod sources;
 mod words;
 
 pub use check::check_files;
 pub use fault::{CheckFault, FileFault};
+pub use loading::load_files;
 pub use words::{refusal_annotation, refusal_text};

@@ -4,10 +4,11 @@ use crate::fault::{CheckFault, FileFault};
 use gql_ast::FileSide;
 use gql_findings::Source;
 use gql_folder::GivenFile;
+use gql_render::caret::write_padding;
+use gql_render::escapes::write_property;
 use gql_text::Place;
 use std::alloc::{AllocError, Global};
 use std::str;
-use unicode_width::UnicodeWidthChar;
 
 /// The path of a file given, below its folder; empty where there is none.
 fn path_at(files: &[GivenFile], at: usize) -> &str {
@@ -15,20 +16,6 @@ fn path_at(files: &[GivenFile], at: usize) -> &str {
         Some(file) => file.path.as_str(),
         None => "",
     }
-}
-
-/// Writes blanks as wide as the characters of a line before a column. A tab stays a tab.
-fn write_padding(out: &mut String, line: &str, column: usize) -> Result<(), AllocError> {
-    for character in line.chars().take(column.saturating_sub(1)) {
-        if character == '\t' {
-            out.push('\t')?;
-        } else {
-            for _ in 0..character.width().unwrap_or(0) {
-                out.push(' ')?;
-            }
-        }
-    }
-    Ok(())
 }
 
 /// Writes the line of a place, and below it a caret at the place.
@@ -116,21 +103,6 @@ pub fn refusal_text(
         CheckFault::Refused(fault) => refused_text(alloc, folder, files, fault),
         CheckFault::Memory => String::from_str(alloc, "out of memory"),
     }
-}
-
-/// Adds a text as the value of a property of an annotation.
-fn write_property(out: &mut String, text: &str) -> Result<(), AllocError> {
-    for character in text.chars() {
-        match character {
-            '%' => out.push_str("%25")?,
-            '\r' => out.push_str("%0D")?,
-            '\n' => out.push_str("%0A")?,
-            ':' => out.push_str("%3A")?,
-            ',' => out.push_str("%2C")?,
-            other => out.push(other)?,
-        }
-    }
-    Ok(())
 }
 
 /// Why a file given is refused, as an annotation of GitHub's build server, with a line break at its

@@ -1,8 +1,10 @@
 -- A folder with the file at one more path.
 use Rattle.std.specs.declared.alloc.Global.{Global}
-use Rattle.std.proofs.Common.{Vec, Result, Ok, Err, OnOk, IfErr, length-append, ◌≡◌, ◌<◌, ◌≤◌, ◌+◌, ◌∙◌, ◌⊎◌, inl, inr, ℕ, List, [], ◌∷◌, ◌++◌, Option, Some, None, refl, sym, ap, subst, length, arith, rules, Contains, slice_get}
+use Rattle.std.proofs.Common.{Vec, Result, Ok, Err, OnOk, IfErr, length-append, ◌≡◌, ◌<◌, ◌≤◌, ◌+◌, ◌∙◌, ◌⊎◌, inl, inr, ℕ, List, [], ◌∷◌, ◌++◌, Option, Some, None, refl, sym, ap, subst, length, arith, rules, Contains, get_or, slice_get}
 use Rattle.std.proofs.lemmas.Bool.{cases_lt}
-use Rattle.std.proofs.lemmas.List.Elements.{Contains-append_left, Contains-push, Contains-push_cases}
+use Rattle.std.proofs.lemmas.List.Elements.{Contains-append_left, Contains-get_or, Contains-push, Contains-push_cases}
+use Rattle.std.specs.List.{AllPairs}
+use Rattle.std.proofs.lemmas.List.Quantifiers.{all_pairs_push}
 use Rattle.gql_ast.specs.declared.fault.FileSide.{FileSide}
 use Rattle.gql_ast.specs.declared.fault.FileSide.TheVariants.{Schema, Documents}
 use Rattle.gql_folder.specs.Adding.{IsAddFault, IsFresh}
@@ -41,7 +43,7 @@ file_not_data side n is = cc is
 -- one more file of a side
 pub named_more : (side : FileSide) (paths : List (List ℕ)) (at : ℕ) (name : List ℕ) (named : List NamedFile) → AreNamed side paths at named → HasRole paths at (role.File side name) → IsFresh name named
     → AreNamed side paths (at + 1) (named ++ (record { name = name; at = at }) ∷ [])
-named_more side paths at name named old here fresh = record { each = each; all = all; distinct = distinct }
+named_more side paths at name named old here fresh = record { each = each; all = all; distinct = distinct; rising = rising }
   where
     new : NamedFile
     new = record { name = name; at = at }
@@ -74,10 +76,13 @@ named_more side paths at name named old here fresh = record { each = each; all =
       ]
     ]
 
+    rising : AllPairs (λ (f g : NamedFile). f.at < g.at) (named ++ new ∷ [])
+    rising = all_pairs_push (λ (f g : NamedFile). f.at < g.at) named new old.rising (λ k d within. (old.each (get_or named k d) (Contains-get_or named k d within)).0)
+
 -- the files of a side, if the next path is none of it
 pub named_same : (side : FileSide) (paths : List (List ℕ)) (at : ℕ) (named : List NamedFile) (r : Role) → AreNamed side paths at named → HasRole paths at r → ((n : List ℕ) → r ≡ role.File side n → ⊥)
     → AreNamed side paths (at + 1) named
-named_same side paths at named r old here other = record { each = each; all = all; distinct = old.distinct }
+named_same side paths at named r old here other = record { each = each; all = all; distinct = old.distinct; rising = old.rising }
   where
     each : (f : NamedFile) → Contains named f → (f.at < at + 1) × HasRole paths f.at (role.File side f.name)
     each f h = let e : (f.at < at) × HasRole paths f.at (role.File side f.name) = old.each f h in (omega arith, e.1)
@@ -224,4 +229,5 @@ nothing paths f schema documents the_data = record {
       each = λ f h. not_below_zero h.0 h.1;
       all = λ i n low has. not_below_zero i low;
       distinct = λ f g h. not_below_zero h.0 h.1;
+      rising = λ i j d low within. not_below_zero j within;
     }

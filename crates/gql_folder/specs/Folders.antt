@@ -1,5 +1,6 @@
 -- The files of a folder, as the files of a registry.
 use Rattle.std.specs.Prelude.{ℕ, ◌≡◌, ◌<◌, ◌≤◌, List, Contains, Option, Some, None, length, map, slice_get, string_bytes}
+use Rattle.std.specs.List.{AllPairs}
 use Rattle.gql_ast.specs.declared.fault.FileSide.{FileSide}
 use Rattle.gql_ast.specs.declared.fault.FileSide.TheVariants.{Schema, Documents}
 use Rattle.gql_folder.specs.Roles.{role_at}
@@ -19,7 +20,8 @@ paths_of = map (λ (f : GivenFile). string_bytes f.path)
 abbrev pub HasRole : List (List ℕ) → ℕ → Role → Type 0
 HasRole paths at r = (path : List ℕ) × (slice_get paths at ≡ Some path) × (role_at path ≡ r)
 
--- these are exactly the files of a side among the first `count` paths, and no two have one name
+-- these are exactly the files of a side among the first `count` paths, in the order of the paths, and
+-- no two have one name
 pub record AreNamed (side : FileSide) (paths : List (List ℕ)) (count : ℕ) (named : List NamedFile)
     : Type 0 where
   pub each : (f : NamedFile) → Contains named f
@@ -28,6 +30,7 @@ pub record AreNamed (side : FileSide) (paths : List (List ℕ)) (count : ℕ) (n
       → Contains named (record { name = name; at = at })
   pub distinct : (f g : NamedFile) → Contains named f → Contains named g → f.name ≡ g.name
       → f ≡ g
+  pub rising : AllPairs (λ (f g : NamedFile). f.at < g.at) named
 
 -- the data, if there is some, is at this index among the first `count` paths
 abbrev pub IsDataAt : List (List ℕ) → ℕ → Option ℕ → Type 0

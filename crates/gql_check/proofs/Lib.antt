@@ -1,0 +1,6 @@
+mod Lists
+mod Indices
+mod Marks
+mod Serving
+mod Refused
+mod Found

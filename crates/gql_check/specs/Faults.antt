@@ -1,0 +1,85 @@
+-- Why the files of a folder are not checked.
+use Rattle.std.specs.Prelude.{ℕ, ◌≡◌, List, [], Option, Some, None, codes, length, slice_get}
+use Rattle.gql_check.specs.Loads.{IsFolderOf, folder_edits, folder_indices}
+use Rattle.gql_check.specs.declared.fault.CheckFault.{CheckFault}
+use Rattle.gql_check.specs.declared.fault.CheckFault.TheVariants.{Empty, TooMany, Twice, Misnamed, Refused, Memory}
+use Rattle.gql_check.specs.declared.fault.FileFault.{FileFault}
+use Rattle.gql_folder.specs.Folders.{IsFolder, IsFolderFault, paths_of}
+use Rattle.gql_folder.specs.declared.folder.Folder.{Folder}
+use Rattle.gql_folder.specs.declared.folder.FolderFault.{FolderFault}
+use Rattle.gql_folder.specs.declared.folder.FolderFault.TheVariants as folder
+use Rattle.gql_folder.specs.declared.folder.GivenFile.{GivenFile}
+use Rattle.gql_registry.specs.Loading.{IsRefusedAt}
+use Rattle.gql_registry.specs.Refusals.{syntax_message}
+use Rattle.gql_registry.specs.State as state
+use Rattle.gql_registry.specs.declared.refusal.Refusal.{Refusal}
+use Rattle.gql_registry.specs.declared.refusal.Refusal.TheVariants as refusal
+use Rattle.gql_text.specs.declared.place.Place.{Place}
+
+-- the number of a refusal
+abbrev pub number_of : Refusal → ℕ
+number_of (refusal.Syntax number place) = 201
+number_of refusal.NotText = 202
+number_of refusal.TooLong = 203
+number_of refusal.NoFile = 204
+number_of refusal.FilesFull = 205
+number_of (refusal.Stale revision) = 206
+number_of refusal.BadData = 207
+number_of refusal.NoOperation = 208
+number_of (refusal.Faulty faults) = 209
+number_of refusal.TooLarge = 210
+number_of refusal.Memory = 211
+number_of refusal.Spent = 212
+
+-- the place of a refusal in its file, if it has one
+abbrev pub place_in : Refusal → Option Place
+place_in (refusal.Syntax number place) = Some place
+place_in _ = None
+
+-- why a file is refused, in words
+abbrev pub reason_of : Refusal → List ℕ
+reason_of (refusal.Syntax number place) = syntax_message number
+reason_of refusal.NotText = codes "the file is not UTF-8"
+reason_of refusal.TooLong = codes "the file has more than 65,536 bytes"
+reason_of refusal.FilesFull = codes "there are more than 256 files"
+reason_of refusal.BadData = codes "data is not accepted"
+reason_of refusal.Spent = codes "revisions are spent"
+reason_of _ = codes "the file is refused"
+
+-- the refusal of the file at an index, in words
+pub record IsFileFault (at : ℕ) (r : Refusal) (e : FileFault) : Type 0 where
+  pub file : e.file ≡ at
+  pub place : e.place ≡ place_in r
+  pub number : e.number ≡ number_of r
+  pub reason : e.reason.now ≡ reason_of r
+
+-- A file of a folder is refused: those before it are accepted in turn by a new registry, and it is
+-- refused in the state that they leave.
+pub record IsRefusedFile (given : List GivenFile) (f : Folder) (e : FileFault) : Type 0 where
+  pub at : ℕ
+  pub refusal : Refusal
+  pub refused : IsRefusedAt state.empty (folder_edits given f) at refusal
+  pub file : ℕ
+  pub index : slice_get (folder_indices f) at ≡ Some file
+  pub fault : IsFileFault file refusal e
+
+-- the fault of a folder, as one of a check
+abbrev pub of_folder : FolderFault → CheckFault
+of_folder (folder.Misnamed at) = Misnamed at
+of_folder (folder.Twice first at) = Twice first at
+of_folder (folder.TooMany side) = TooMany side
+of_folder folder.Memory = Memory
+
+-- Why these files are not checked.
+pub data IsFault (given : List GivenFile) : CheckFault → Type 0 where
+  -- none of them is a file of a registry
+  empty : (f : Folder) → IsFolder (paths_of given) (length given) f → folder_indices f ≡ []
+      → IsFault given Empty
+  -- their paths are not those of the files of a registry
+  bad_folder : {c : CheckFault} (e : FolderFault) → IsFolderFault (paths_of given) e
+      → c ≡ of_folder e → IsFault given c
+  -- a file is refused
+  refused : {e : FileFault} (f : Folder) → IsFolderOf given f → IsRefusedFile given f e
+      → IsFault given (Refused e)
+  -- an allocation failed
+  memory : IsFault given Memory

@@ -1,0 +1,151 @@
+//! The faults of a report, with their places in the files given and the definitions that own them.
+
+ghost use Rattle.std.specs.Prelude.{◌≡◌, IfOk, map};
+ghost use Rattle.std.specs.List.{AllZip};
+ghost use Rattle.std.specs.Option.{option_copied};
+ghost use Rattle.gql_check.specs.Findings.{IsFinding};
+ghost use Rattle.gql_check.specs.Owners as spec;
+ghost use Rattle.gql_check.specs.Owners.{IsOwnerAt};
+ghost use Rattle.gql_check.specs.Spots.{spot_of};
+ghost use Rattle.gql_check.specs.Steps.{IsFoundIn};
+
+use crate::places::{Places, start_of};
+use gql_ast::{Definition, Fault, FilePlace, Operation, Text, Tree};
+use gql_findings::{Finding, Owner, OwnerAt, Spot};
+use std::alloc::{AllocError, Global};
+
+/// The name of an operation, if it has one.
+pub fn name_of(operation: &Operation) -> Result<Option<Text>, AllocError>
+    ensures { IfOk result (λ name. name ≡ spec.name_of operation.now) }
+{
+    match &operation.name {
+        Some(name) => Ok(Some(name.text.copy()?)),
+        None => Ok(None),
+    }
+}
+
+/// A definition of a document, as the owner of faults.
+fn owner_of(tree: &Tree) -> Result<Option<Owner>, AllocError>
+    ensures { IfOk result (λ owner. owner ≡ spec.owner_of tree.now) }
+{
+    match tree {
+        Tree::Operation(operation) => {
+            let operation = operation.get();
+            Ok(Some(Owner::Operation {
+                kind: operation.kind,
+                name: name_of(operation)?,
+            }))
+        }
+        Tree::Fragment(fragment) => Ok(Some(Owner::Fragment(fragment.get().name.text.copy()?))),
+        _ => Ok(None),
+    }
+}
+
+/// Whether a definition starts at a place of a document file.
+fn is_at(place: &FilePlace, definition: &Definition) -> bool
+    ensures { result ≡ spec.is_at place.now definition.now }
+{
+    place.file == definition.file && place.place.offset == definition.tree.place().offset
+}
+
+/// Whether a definition is before a place, by the names of the files and then by the offsets.
+fn is_before(definition: &Definition, place: &FilePlace) -> bool {
+    let by_file = definition.file.cmp(&place.file);
+    let order = by_file.then(definition.tree.place().offset.cmp(&place.place.offset));
+    order.is_lt()
+}
+
+/// The first of these definitions that starts at a place.
+fn first_at<'d>(definitions: &[&'d Definition], place: &FilePlace) -> Option<&'d Definition>
+    ensures { IsFoundIn (map (λ d. d.now) definitions.now) place.now (option_copied result) }
+{
+    for definition in definitions {
+        if is_at(place, definition) {
+            return Some(*definition);
+        }
+    }
+    None
+}
+
+/// The one of these definitions that starts at a place. They are in order, so that it is at the
+/// first index where it can be.
+fn find_at<'d>(definitions: &[&'d Definition], place: &FilePlace) -> Option<&'d Definition>
+    ensures { IsFoundIn (map (λ d. d.now) definitions.now) place.now (option_copied result) }
+{
+    let at = definitions.partition_point(|definition| is_before(definition, place));
+    if let Some(near) = definitions.get(at) {
+        if is_at(place, near) {
+            return Some(*near);
+        }
+    }
+    first_at(definitions, place)
+}
+
+/// The definition that owns a fault, and where it starts.
+fn owner_at(
+    definitions: &[&Definition],
+    places: &Places,
+    owner: &Option<FilePlace>,
+) -> Result<Option<OwnerAt>, AllocError>
+    ensures { IfOk result (IsOwnerAt places.now (map (λ d. d.now) definitions.now) owner.now) }
+{
+    let Some(place) = owner else {
+        return Ok(None);
+    };
+    let Some(definition) = find_at(definitions, place) else {
+        return Ok(None);
+    };
+    match owner_of(&definition.tree)? {
+        Some(owner) => Ok(Some(OwnerAt {
+            owner,
+            spot: places.spot(&start_of(definition)),
+        })),
+        None => Ok(None),
+    }
+}
+
+/// Places of a report, as places in the files given.
+fn spots_of(alloc: Global, places: &Places, at: &[FilePlace]) -> Result<Vec<Spot>, AllocError>
+    ensures { IfOk result (λ spots. spots.items ≡ map (spot_of places.now) at.now) }
+{
+    let mut spots = Vec::new(alloc);
+    for place in at {
+        spots.push(places.spot(place))?;
+    }
+    Ok(spots)
+}
+
+/// A fault of a report, with its places and its owner.
+fn finding_of(
+    alloc: Global,
+    definitions: &[&Definition],
+    places: &Places,
+    fault: &Fault,
+) -> Result<Finding, AllocError>
+    ensures { IfOk result
+        (IsFinding places.now (map (λ d. d.now) definitions.now) fault.now) }
+{
+    Ok(Finding {
+        rule: fault.rule,
+        about: fault.about.copy()?,
+        spots: spots_of(alloc, places, fault.places.as_slice())?,
+        owner: owner_at(definitions, places, &fault.owner)?,
+    })
+}
+
+/// The faults of a report.
+pub fn findings_of(
+    alloc: Global,
+    definitions: &[&Definition],
+    places: &Places,
+    faults: &[Fault],
+) -> Result<Vec<Finding>, AllocError>
+    ensures { IfOk result (λ findings. AllZip
+        (IsFinding places.now (map (λ d. d.now) definitions.now)) faults.now findings.items) }
+{
+    let mut findings = Vec::new(alloc);
+    for fault in faults {
+        findings.push(finding_of(alloc, definitions, places, fault)?)?;
+    }
+    Ok(findings)
+}
