@@ -1,3 +1,4 @@
+pub mod Answering
 pub mod Subjects
 pub mod Questions
 pub mod Readers

@@ -1,7 +1,8 @@
-//! Who reads a part of a schema: the stored operations and fragments whose verdicts depend on it. And
-//! which parts nobody reads.
+//! Who reads a part of a schema: the stored operations and fragments whose verdicts depend on it.
+//! And which parts nobody reads.
 #![tactic(auto)]
 
+mod answered;
 mod json_usage;
 mod label;
 mod question;

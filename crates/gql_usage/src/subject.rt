@@ -1,6 +1,6 @@
 //! The part of a schema that a user names, as `Product.price`.
-ghost use Rattle.std.specs.Prelude.{◌≡◌, IfOk};
-ghost use Rattle.gql_usage.specs.Subjects.{word_of};
+ghost use Rattle.std.specs.Prelude.{IfOk};
+ghost use Rattle.gql_usage.specs.Subjects.{Names};
 
 use gql_ast::Text;
 use std::alloc::{AllocError, Global};
@@ -20,7 +20,7 @@ pub enum Subject {
 /// The part of a schema that a word names: a directive after `@`, a member after the first dot, or
 /// else a type.
 pub fn read_subject(alloc: Global, word: &str) -> Result<Subject, AllocError>
-    ensures { IfOk result (λ subject. word_of subject ≡ word.now) }
+    ensures { IfOk result (Names word.now) }
 {
     if let Some(name) = word.strip_prefix('@') {
         return Ok(Subject::Directive(Text::from_str(alloc, name)?));

@@ -1,15 +1,17 @@
 //! The parts of a schema that no stored operation or fragment reads.
-ghost use Rattle.std.specs.Prelude.{IfOk};
+ghost use Rattle.std.specs.Prelude.{◌≡◌, ◌++◌, [], IfOk, OnOk};
+ghost use Rattle.std.specs.Option.{option_copied};
+ghost use Rattle.gql_usage.specs.Answering.{HasMore};
+ghost use Rattle.gql_usage.specs.Unread as spec;
 ghost use Rattle.gql_facts.specs.declared.key.Key.TheVariants as key;
-ghost use Rattle.gql_usage.specs.Unread.{AreUnread, SaysUnread};
 
+use crate::answered::{Answered, answered_objects};
 use gql_ast::{DirectiveDefinition, FieldDefinition, FilePlace, FileSide, Name, Shared, Text};
 use gql_built_in::{Sited, SourceFile, name_of_source};
 use gql_facts::Key;
 use gql_text::Place;
-use gql_types::{HasName, Schema, SchemaType, TypeKind};
+use gql_types::{HasName, Schema, SchemaType};
 use gql_verdict::Shelf;
-use indexmap::IndexSet;
 use std::alloc::{AllocError, Global};
 
 /// A part of a schema that nobody reads.
@@ -31,185 +33,179 @@ pub struct Unread {
 }
 
 /// Whether no definition reads the answer to this key.
-fn is_unread(shelf: &Shelf, key: &Key) -> bool
-    ensures { SaysUnread shelf.now key.now result }
+pub fn is_unread(shelf: &Shelf, key: &Key) -> bool
+    ensures { result ≡ spec.is_unread shelf.now key.now }
 {
     shelf.readers(key).is_empty()
 }
 
-/// Whether no definition reads the type of this name.
-fn is_type_unread(alloc: Global, shelf: &Shelf, name: &str) -> Result<bool, AllocError>
-    ensures { IfOk result (SaysUnread shelf.now (key.KindOf name.now)) }
+/// Whether no definition reads this field of a type.
+fn is_own_field_unread(shelf: &Shelf, of_type: &Text, field: &Text) -> Result<bool, AllocError>
+    ensures { IfOk result (λ r. r ≡ spec.is_unread shelf.now (key.FieldOf of_type.now field.now)) }
 {
-    Ok(is_unread(shelf, &Key::KindOf(Text::from_str(alloc, name)?)))
-}
-
-/// Whether no definition reads a field of a type.
-fn is_field_unread(
-    alloc: Global,
-    shelf: &Shelf,
-    of_type: &str,
-    field: &str,
-) -> Result<bool, AllocError>
-    ensures { IfOk result (SaysUnread shelf.now (key.FieldOf of_type.now field.now)) }
-{
-    let of_type = Text::from_str(alloc, of_type)?;
-    let field = Text::from_str(alloc, field)?;
-    Ok(is_unread(shelf, &Key::FieldOf { of_type, field }))
-}
-
-/// Adds the names of the objects that a value of this type may be, if a definition reads the type.
-fn add_answered(
-    alloc: Global,
-    schema: &Schema,
-    shelf: &Shelf,
-    abstract_type: &str,
-    answered: &mut IndexSet<Text>,
-) -> Result<(), AllocError> {
-    if is_type_unread(alloc, shelf, abstract_type)? {
-        return Ok(());
-    }
-    if let Some(possible) = schema.possible(abstract_type) {
-        for name in possible.as_slice() {
-            answered.insert(name.copy()?)?;
-        }
-    }
-    Ok(())
-}
-
-/// The names of the objects that an answer may hold because a definition reads an interface or a
-/// union of them.
-fn answered_objects(
-    alloc: Global,
-    schema: &Schema,
-    shelf: &Shelf,
-) -> Result<IndexSet<Text>, AllocError> {
-    let mut answered = IndexSet::new(alloc);
-    for of_type in schema.types() {
-        if matches!(of_type.kind, TypeKind::Interface | TypeKind::Union) {
-            add_answered(alloc, schema, shelf, of_type.name(), &mut answered)?;
-        }
-    }
-    Ok(answered)
+    Ok(is_unread(
+        shelf,
+        &Key::FieldOf {
+            of_type: of_type.copy()?,
+            field: field.copy()?,
+        },
+    ))
 }
 
 /// Whether no definition reads this field of one of these interfaces.
 fn is_unread_in_all(
-    alloc: Global,
     shelf: &Shelf,
     interfaces: &[Sited<Name>],
-    field: &str,
-) -> Result<bool, AllocError> {
+    field: &Text,
+) -> Result<bool, AllocError>
+    ensures { IfOk result (λ r.
+        r ≡ spec.is_unread_in_all shelf.now interfaces.now field.now) }
+{
     for interface in interfaces {
-        if !is_field_unread(alloc, shelf, interface.node.as_str(), field)? {
+        if !is_own_field_unread(shelf, &interface.node.text, field)? {
             return Ok(false);
         }
     }
     Ok(true)
 }
 
-/// The place of a node of a file, if it is in a file: the built-in definitions are in none.
-fn place_in(file: &SourceFile, place: Place) -> Option<FilePlace> {
-    Some(FilePlace {
-        side: FileSide::Schema,
-        file: name_of_source(file)?.copy(),
-        place,
-    })
+/// Whether nobody reads this field, neither of the type nor of an interface of it.
+fn is_field_unread(
+    shelf: &Shelf,
+    of_type: &Text,
+    interfaces: &[Sited<Name>],
+    field: &Text,
+) -> Result<bool, AllocError>
+    ensures { IfOk result (λ r.
+        r ≡ spec.is_field_unread shelf.now of_type.now interfaces.now field.now) }
+{
+    if !is_own_field_unread(shelf, of_type, field)? {
+        return Ok(false);
+    }
+    is_unread_in_all(shelf, interfaces, field)
 }
 
-/// Adds a field of a type, if nobody reads it, neither of the type nor of an interface of it.
-fn add_field(
-    alloc: Global,
-    shelf: &Shelf,
-    of_type: &SchemaType,
-    field: &Sited<Shared<FieldDefinition>>,
+/// Adds a part at a place of a file, if it is in a file: the built-in definitions are in none.
+fn add_part(
+    file: &SourceFile,
+    place: Place,
+    part: UnreadPart,
     unread: &mut Vec<Unread>,
 ) -> Result<(), AllocError>
-    requires { AreUnread shelf.now unread.old.items }
-    ensures { AreUnread shelf.now unread.new.items }
+    ensures { OnOk result (unread.new.items
+        ≡ unread.old.items ++ spec.at_place file.now place part) }
 {
-    let name = &field.node.get().name;
-    let Some(place) = place_in(&field.file, name.place) else {
-        return Ok(());
-    };
-    let of_name = of_type.definition.node.get().name.as_str();
-    let interfaces = of_type.interfaces.as_slice();
-    if is_field_unread(alloc, shelf, of_name, name.as_str())?
-        && is_unread_in_all(alloc, shelf, interfaces, name.as_str())?
-    {
-        let part = UnreadPart::Field {
-            of_type: Text::from_str(alloc, of_name)?,
-            name: name.text.copy()?,
+    if let Some(name) = name_of_source(file) {
+        let place = FilePlace {
+            side: FileSide::Schema,
+            file: name.copy(),
+            place,
         };
         unread.push(Unread { part, place })?;
     }
     Ok(())
 }
 
+/// Adds a field of a type, if nobody reads it.
+fn add_field(
+    shelf: &Shelf,
+    of_type: &SchemaType,
+    field: &Sited<Shared<FieldDefinition>>,
+    unread: &mut Vec<Unread>,
+) -> Result<(), AllocError>
+    ensures { OnOk result (unread.new.items
+        ≡ unread.old.items ++ spec.unread_field shelf.now of_type.now field.now) }
+{
+    let type_name = &of_type.definition.node.get().name.text;
+    let name = &field.node.get().name;
+    if !is_field_unread(shelf, type_name, of_type.interfaces.as_slice(), &name.text)? {
+        return Ok(());
+    }
+    let part = UnreadPart::Field {
+        of_type: type_name.copy()?,
+        name: name.text.copy()?,
+    };
+    add_part(&field.file, name.place, part, unread)
+}
+
 /// Adds the fields of a type that nobody reads.
 fn add_fields(
-    alloc: Global,
     shelf: &Shelf,
     of_type: &SchemaType,
     unread: &mut Vec<Unread>,
 ) -> Result<(), AllocError>
-    requires { AreUnread shelf.now unread.old.items }
-    ensures { AreUnread shelf.now unread.new.items }
+    ensures { OnOk result (unread.new.items
+        ≡ unread.old.items ++ spec.unread_fields shelf.now of_type.now) }
 {
     for field in of_type.fields.as_slice() {
-        add_field(alloc, shelf, of_type, field, unread)?;
+        add_field(shelf, of_type, field, unread)?;
     }
     Ok(())
 }
 
 /// Whether this is the name of a root operation type.
-fn is_root(schema: &Schema, name: &str) -> bool {
+fn is_root(schema: &Schema, name: &Text) -> bool
+    ensures { result ≡ spec.is_root schema.now name.now }
+{
     schema
         .roots()
         .iter()
-        .any(|root| root.name.node.as_str() == name)
+        .any(|root| root.name.node.text == *name)
 }
 
-/// Whether a type can be read by no definition as a whole: nobody reads it, no answer holds objects
-/// of it, and it is no root operation type.
-fn is_type_spare(
-    alloc: Global,
+/// Whether nobody reads the type of this name, no answer holds objects of it, and it is no root
+/// operation type.
+fn is_type_unread(
     schema: &Schema,
     shelf: &Shelf,
-    answered: &IndexSet<Text>,
-    of_type: &SchemaType,
+    answered: &Answered,
+    name: &Text,
 ) -> Result<bool, AllocError>
-    ensures { IfOk result (SaysUnread shelf.now (key.KindOf of_type.now.definition.node.name.text)) }
+    requires { HasMore [] (spec.answered schema.now shelf.now) answered.now }
+    ensures { IfOk result (λ r. r ≡ spec.is_type_unread schema.now shelf.now name.now) }
 {
-    let name = &of_type.definition.node.get().name;
-    if is_root(schema, name.as_str()) || answered.contains(&name.text) {
+    if is_root(schema, name) || answered.has(name) {
         return Ok(false);
     }
-    is_type_unread(alloc, shelf, name.as_str())
+    Ok(is_unread(shelf, &Key::KindOf(name.copy()?)))
 }
 
-/// Adds a type that nobody reads, or else those of its fields that nobody reads.
-fn add_type(
-    alloc: Global,
+/// Adds a type of a file, if nobody reads it, or else those of its fields that nobody reads.
+fn add_type_of_file(
     schema: &Schema,
     shelf: &Shelf,
-    answered: &IndexSet<Text>,
+    answered: &Answered,
     of_type: &SchemaType,
     unread: &mut Vec<Unread>,
 ) -> Result<(), AllocError>
-    requires { AreUnread shelf.now unread.old.items }
-    ensures { AreUnread shelf.now unread.new.items }
+    requires { HasMore [] (spec.answered schema.now shelf.now) answered.now }
+    ensures { OnOk result (unread.new.items
+        ≡ unread.old.items ++ spec.unread_in_file schema.now shelf.now of_type.now) }
 {
     let name = &of_type.definition.node.get().name;
-    let Some(place) = place_in(&of_type.definition.file, name.place) else {
-        return Ok(());
-    };
-    if !is_type_spare(alloc, schema, shelf, answered, of_type)? {
-        return add_fields(alloc, shelf, of_type, unread);
+    if !is_type_unread(schema, shelf, answered, &name.text)? {
+        return add_fields(shelf, of_type, unread);
     }
     let part = UnreadPart::Type(name.text.copy()?);
-    unread.push(Unread { part, place })?;
-    Ok(())
+    add_part(&of_type.definition.file, name.place, part, unread)
+}
+
+/// Adds what nobody reads of a type: of a built-in one, nothing is listed.
+fn add_type(
+    schema: &Schema,
+    shelf: &Shelf,
+    answered: &Answered,
+    of_type: &SchemaType,
+    unread: &mut Vec<Unread>,
+) -> Result<(), AllocError>
+    requires { HasMore [] (spec.answered schema.now shelf.now) answered.now }
+    ensures { OnOk result (unread.new.items
+        ≡ unread.old.items ++ spec.unread_type schema.now shelf.now of_type.now) }
+{
+    if name_of_source(&of_type.definition.file).is_none() {
+        return Ok(());
+    }
+    add_type_of_file(schema, shelf, answered, of_type, unread)
 }
 
 /// Adds a directive, if nobody reads it.
@@ -218,16 +214,45 @@ fn add_directive(
     directive: &Sited<Shared<DirectiveDefinition>>,
     unread: &mut Vec<Unread>,
 ) -> Result<(), AllocError>
-    requires { AreUnread shelf.now unread.old.items }
-    ensures { AreUnread shelf.now unread.new.items }
+    ensures { OnOk result (unread.new.items
+        ≡ unread.old.items ++ spec.unread_directive shelf.now directive.now) }
 {
     let name = &directive.node.get().name;
-    let Some(place) = place_in(&directive.file, name.place) else {
+    if !is_unread(shelf, &Key::DirectiveOf(name.text.copy()?)) {
         return Ok(());
-    };
-    if is_unread(shelf, &Key::DirectiveOf(name.text.copy()?)) {
-        let part = UnreadPart::Directive(name.text.copy()?);
-        unread.push(Unread { part, place })?;
+    }
+    let part = UnreadPart::Directive(name.text.copy()?);
+    add_part(&directive.file, name.place, part, unread)
+}
+
+/// Adds the types of a schema that nobody reads, and the fields that nobody reads of the others.
+fn add_types(
+    schema: &Schema,
+    shelf: &Shelf,
+    answered: &Answered,
+    unread: &mut Vec<Unread>,
+) -> Result<(), AllocError>
+    requires { HasMore [] (spec.answered schema.now shelf.now) answered.now }
+    ensures { OnOk result (unread.new.items
+        ≡ unread.old.items ++ spec.unread_types schema.now shelf.now) }
+{
+    for of_type in schema.types() {
+        add_type(schema, shelf, answered, of_type, unread)?;
+    }
+    Ok(())
+}
+
+/// Adds the directives of a schema that nobody reads.
+fn add_directives(
+    schema: &Schema,
+    shelf: &Shelf,
+    unread: &mut Vec<Unread>,
+) -> Result<(), AllocError>
+    ensures { OnOk result (unread.new.items
+        ≡ unread.old.items ++ spec.unread_directives schema.now shelf.now) }
+{
+    for directive in schema.directives() {
+        add_directive(shelf, directive, unread)?;
     }
     Ok(())
 }
@@ -239,15 +264,11 @@ pub fn unread_parts(
     schema: &Schema,
     shelf: &Shelf,
 ) -> Result<Vec<Unread>, AllocError>
-    ensures { IfOk result (λ unread. AreUnread shelf.now unread.items) }
+    ensures { IfOk result (λ unread. unread.items ≡ spec.unread_in schema.now shelf.now) }
 {
     let answered = answered_objects(alloc, schema, shelf)?;
     let mut unread = Vec::new(alloc);
-    for of_type in schema.types() {
-        add_type(alloc, schema, shelf, &answered, of_type, &mut unread)?;
-    }
-    for directive in schema.directives() {
-        add_directive(shelf, directive, &mut unread)?;
-    }
+    add_types(schema, shelf, &answered, &mut unread)?;
+    add_directives(schema, shelf, &mut unread)?;
     Ok(unread)
 }

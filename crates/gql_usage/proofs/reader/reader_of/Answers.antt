@@ -1,4 +1,4 @@
-use Rattle.std.proofs.Common.{◌≡◌, ◌∙◌, ap}
+use Rattle.std.proofs.Common.{◌∙◌, ap}
 use Rattle.gql_usage.specs.Readers.{has_key, names_through}
 use Rattle.gql_usage.proofs.reader.reader_of.Goals as goal
 

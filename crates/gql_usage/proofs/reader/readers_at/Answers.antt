@@ -1,4 +1,4 @@
-use Rattle.std.proofs.Common.{◌≡◌, ◌++◌, ◌∙◌, ◌∷◌, [], ap, sym, take, inl, inr}
+use Rattle.std.proofs.Common.{◌++◌, ◌∙◌, ◌∷◌, [], ap, sym, take, inl, inr}
 use Rattle.std.proofs.lemmas.List.{take_more}
 use Rattle.gql_usage.proofs.reader.readers_at.Goals as goal
 
