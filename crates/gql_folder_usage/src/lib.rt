@@ -5,7 +5,6 @@
 mod answer;
 mod fault;
 mod loaded;
-mod loading;
 mod words;
 
 pub use answer::{AnswerFormat, readers_in, unread_in};

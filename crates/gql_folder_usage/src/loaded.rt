@@ -1,8 +1,7 @@
 //! What is known of the files of a folder.
 
 use crate::fault::UsageFault;
-use crate::loading::load;
-use gql_check::CheckFault;
+use gql_check::{CheckFault, load_files};
 use gql_folder::{GivenFile, read_folder};
 use gql_registry::Registry;
 use gql_types::{Schema, assemble};
@@ -28,13 +27,13 @@ fn test_schema(registry: &Registry) -> Result<(), UsageFault> {
 
 /// What is known of the files of a folder, if its schema has no fault.
 pub fn load_folder(alloc: Global, folder: &str, given: &[GivenFile]) -> Result<Loaded, UsageFault> {
+    let registry = load_files(alloc, given)?;
+    test_schema(&registry)?;
+    let schema = assemble(alloc, registry.files())?;
     let named = match read_folder(alloc, given) {
         Ok(named) => named,
         Err(fault) => return Err(UsageFault::from(CheckFault::from(fault))),
     };
-    let registry = load(alloc, &named, given)?;
-    test_schema(&registry)?;
-    let schema = assemble(alloc, registry.files())?;
     let paths = Paths::new(alloc, folder, &named, given)?;
     Ok(Loaded {
         registry,
