@@ -1,4 +1,9 @@
 //! S12, Missing Fields: a type has no field for a field of an interface that it implements.
+//! <https://spec.graphql.org/October2021/#sec-Objects>
+//! <https://spec.graphql.org/October2021/#sec-Interfaces>
+//!
+//! At fault: `interface N { a: Int } type Query implements N { b: Int }`
+//! No fault: `interface N { a: Int } type Query implements N { a: Int b: Int }`
 ghost use Rattle.std.specs.Prelude.{◌≡◌, ◌++◌, OnOk, map, flat_map};
 ghost use Rattle.gql_iface_rules.specs.Borrowed.{implements};
 ghost use Rattle.gql_iface_rules.specs.S12MissingFields as spec;
