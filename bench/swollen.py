@@ -78,9 +78,19 @@ def moved(count):
         + [document("f0", "# moved %d\n" % n + fragment % (0, 0, 0)) for n in range(count)])
 
 
+def interfaces(count):
+    """A type that lists an interface of 4,000 fields so many times."""
+    fields = " ".join("a%x:Int" % n for n in range(4000))
+    return [
+        request("PUT", "/schema/i", "interface I { %s }" % fields),
+        request("PUT", "/schema/t", "type T { %s }" % fields),
+        request("PUT", "/schema/x", "extend type T implements " + "&".join(["I"] * count))]
+
+
 KINDS = {
     "chain": chain, "aliases": aliases, "names": names, "spreads": spreads, "lower": lower,
-    "equal": equal, "schema_edits": schema_edits, "document_edits": document_edits, "moved": moved,
+    "equal": equal, "interfaces": interfaces, "schema_edits": schema_edits,
+    "document_edits": document_edits, "moved": moved,
 }
 
 if __name__ == "__main__":

@@ -33,6 +33,7 @@ names 8000
 spreads 400
 lower 100
 equal 200
+interfaces 16000
 schema_edits 0
 schema_edits 1000
 document_edits 0

@@ -1,5 +1,6 @@
 pub mod AtNames
 pub mod Members
+pub mod MetPairs
 pub mod Names
 pub mod S19Edges
 pub mod S19Equations
@@ -11,6 +12,7 @@ pub mod S19Missing
 pub mod S19Plain
 pub mod S19Steps
 pub mod S26Leads
+pub mod Settling
 pub mod Steps
 pub mod Together
 pub mod Types

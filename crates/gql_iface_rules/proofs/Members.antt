@@ -3,16 +3,16 @@ use Rattle.std.proofs.Common.{◌≡◌, ◌↔◌, ◌++◌, zero, suc, ◌⊎�
 use Rattle.std.specs.Prelude.{Contains}
 use Rattle.std.proofs.lemmas.List.Elements.{Contains-append_left, Contains-append_right, Contains-append_cases}
 
-nothing_in : {A : Type 0} (x : A) → Contains [] x → ⊥
+pub nothing_in : {A : Type 0} (x : A) → Contains [] x → ⊥
 nothing_in x h = omega (arith, h.1)
 
-first_of_all : {A : Type 0} (x : A) (xs : List A) → Contains (x ∷ xs) x
+pub first_of_all : {A : Type 0} (x : A) (xs : List A) → Contains (x ∷ xs) x
 first_of_all x xs = (0, omega arith, refl)
 
-one_more : {A : Type 0} (x y : A) (xs : List A) → Contains xs x → Contains (y ∷ xs) x
+pub one_more : {A : Type 0} (x y : A) (xs : List A) → Contains xs x → Contains (y ∷ xs) x
 one_more x y xs h = (suc h.0, omega (arith, h.1), h.2)
 
-either_of : {A : Type 0} (x y : A) (xs : List A) → Contains (y ∷ xs) x → (x ≡ y) ⊎ Contains xs x
+pub either_of : {A : Type 0} (x y : A) (xs : List A) → Contains (y ∷ xs) x → (x ≡ y) ⊎ Contains xs x
 either_of x y xs (zero, lt, e) = inl (sym e)
 either_of x y xs (suc k, lt, e) = inr (k, omega arith, e)
 

@@ -13,10 +13,9 @@ use Rattle.gql_iface_rules.specs.S19DefaultValueCycles as s19
 use Rattle.gql_iface_rules.specs.S26DirectiveCycles as s26
 use Rattle.gql_types.specs.declared.schema.Schema.{Schema}
 
--- the faults by the rules on interfaces, as one list
+-- the faults by S09 to S12, as one list
 abbrev pub listed_faults : Schema → List Fault
-listed_faults s = s09.faults s ++ (s10.faults s ++ (s11.faults s ++ (s12.faults s
-    ++ (s13.faults s ++ (s14.faults s ++ s15.faults s)))))
+listed_faults s = s09.faults s ++ (s10.faults s ++ (s11.faults s ++ s12.faults s))
 
 -- a fault by one of the rules on interfaces or on cycles
 pub data IsInterfaceFault (s : Schema) (f : Fault) : Type 0 where

@@ -1,6 +1,7 @@
 pub mod Borrowed
 pub mod Implementing
 pub mod InterfaceFaults
+pub mod Pairing
 pub mod S09BadInterfaceNames
 pub mod S10SelfImplementation
 pub mod S11UndeclaredInterfaces
@@ -16,3 +17,4 @@ pub mod S19Plain
 pub mod S19Ranges
 pub mod S26DirectiveCycles
 pub mod S26Leads
+pub mod Settled

@@ -1,5 +1,5 @@
 //! The interfaces that types implement, and the fields that both have (GraphQL 3.6 and 3.7).
-ghost use Rattle.std.specs.Prelude.{◌≡◌, ◌++◌, IfOk, OnOk, map, flat_map};
+ghost use Rattle.std.specs.Prelude.{◌≡◌, ◌++◌, OnOk, map};
 ghost use Rattle.std.specs.Option.{option_copied};
 ghost use Rattle.gql_iface_rules.specs.Borrowed.{implements, pair};
 ghost use Rattle.gql_iface_rules.specs.Implementing as spec;
@@ -31,55 +31,6 @@ pub struct Implementation<'s> {
     pub of_type: &'s SchemaType,
     pub name: &'s Sited<Name>,
     pub interface: &'s SchemaType,
-}
-
-// Adds the interface of a name in the list of a type, if an interface has the name.
-fn add_implemented<'s>(
-    schema: &'s Schema,
-    of_type: &'s SchemaType,
-    name: &'s Sited<Name>,
-    found: &mut Vec<Implementation<'s>>,
-) -> Result<(), AllocError>
-    ensures { OnOk result (map implements found.new.items ≡ map implements found.old.items
-        ++ spec.implemented_by schema.now of_type.now name.now) }
-{
-    if let Some(interface) = interface_named(schema, name.node.as_str()) {
-        found.push(Implementation {
-            of_type,
-            name,
-            interface,
-        })?;
-    }
-    Ok(())
-}
-
-/// Adds the interfaces that a type implements, each as often as it lists them.
-pub fn add_implementations<'s>(
-    schema: &'s Schema,
-    of_type: &'s SchemaType,
-    found: &mut Vec<Implementation<'s>>,
-) -> Result<(), AllocError>
-    ensures { OnOk result (map implements found.new.items ≡ map implements found.old.items
-        ++ spec.implementations_of schema.now of_type.now) }
-{
-    for name in of_type.interfaces.as_slice() {
-        add_implemented(schema, of_type, name, found)?;
-    }
-    Ok(())
-}
-
-/// The interfaces that all types implement.
-pub fn implementations(
-    alloc: Global,
-    schema: &Schema,
-) -> Result<Vec<Implementation<'_>>, AllocError>
-    ensures { IfOk result (λ found. map implements found.items ≡ spec.implementations schema.now) }
-{
-    let mut found = Vec::new(alloc);
-    for of_type in schema.types() {
-        add_implementations(schema, of_type, &mut found)?;
-    }
-    Ok(found)
 }
 
 /// A type's own field, and the interface's field of that name.
@@ -114,8 +65,8 @@ fn add_paired<'s>(
     Ok(())
 }
 
-// Adds the pairs of fields of a type and an interface.
-fn add_pairs<'s>(
+/// Adds the pairs of fields of a type and an interface.
+pub fn add_pairs<'s>(
     implementation: &Implementation<'s>,
     pairs: &mut Vec<FieldPair<'s>>,
 ) -> Result<(), AllocError>
@@ -126,20 +77,4 @@ fn add_pairs<'s>(
         add_paired(implementation.of_type, expected, pairs)?;
     }
     Ok(())
-}
-
-/// The fields of interfaces, each with the field of its name of the type that implements it.
-pub fn field_pairs<'s>(
-    alloc: Global,
-    implementations: &[Implementation<'s>],
-) -> Result<Vec<FieldPair<'s>>, AllocError>
-    ensures { IfOk result
-        (λ pairs. map pair pairs.items
-        ≡ flat_map spec.pairs_of (map implements implementations.now)) }
-{
-    let mut pairs = Vec::new(alloc);
-    for implementation in implementations {
-        add_pairs(implementation, &mut pairs)?;
-    }
-    Ok(pairs)
 }

@@ -8,6 +8,7 @@
 mod arguments;
 mod implementing;
 mod name_set;
+mod pairing;
 mod rules;
 mod s09_bad_interface_names;
 mod s10_self_implementation;
