@@ -1,4 +1,9 @@
 //! S09, Bad Interface Names: a type lists a type that is no interface, or lists a name twice.
+//! <https://spec.graphql.org/October2021/#sec-Objects>
+//! <https://spec.graphql.org/October2021/#sec-Interfaces>
+//!
+//! At fault: `type Query implements A { a: Int } type A { a: Int }`
+//! No fault: `type Query implements A { a: Int } interface A { a: Int }`
 ghost use Rattle.std.specs.Prelude.{◌≡◌, ◌++◌, OnOk, flat_map};
 ghost use Rattle.gql_iface_rules.specs.S09BadInterfaceNames as spec;
 

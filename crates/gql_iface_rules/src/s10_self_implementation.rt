@@ -1,4 +1,8 @@
 //! S10, Self-Implementation: an interface implements itself.
+//! <https://spec.graphql.org/October2021/#sec-Interfaces>
+//!
+//! At fault: `type Query { n: N } interface N implements N { a: Int }`
+//! No fault: `type Query { n: N } interface N { a: Int }`
 ghost use Rattle.std.specs.Prelude.{◌≡◌, ◌++◌, OnOk, flat_map};
 ghost use Rattle.gql_iface_rules.specs.S10SelfImplementation as spec;
 

@@ -1,4 +1,11 @@
 //! S11, Undeclared Interfaces: a type does not declare an interface that one of its own declares.
+//! <https://spec.graphql.org/October2021/#sec-Objects>
+//! <https://spec.graphql.org/October2021/#sec-Interfaces>
+//!
+//! At fault:
+//! `interface A { a: Int } interface B implements A { a: Int } type Query implements B { a: Int }`
+//! No fault:
+//! `interface A { a: Int } interface B implements A { a: Int } type Query implements A & B { a: Int }`
 ghost use Rattle.std.specs.Prelude.{◌≡◌, ◌++◌, OnOk, flat_map};
 ghost use Rattle.gql_iface_rules.specs.Borrowed.{implements};
 ghost use Rattle.gql_iface_rules.specs.Implementing.{implemented_by};

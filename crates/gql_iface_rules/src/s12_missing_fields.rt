@@ -1,4 +1,9 @@
 //! S12, Missing Fields: a type has no field for a field of an interface that it implements.
+//! <https://spec.graphql.org/October2021/#sec-Objects>
+//! <https://spec.graphql.org/October2021/#sec-Interfaces>
+//!
+//! At fault: `interface N { a: Int } type Query implements N { b: Int }`
+//! No fault: `interface N { a: Int } type Query implements N { a: Int b: Int }`
 ghost use Rattle.std.specs.Prelude.{◌≡◌, ◌++◌, Contains, OnOk, flat_map, is_some, bytes_eq, true};
 ghost use Rattle.std.specs.HashMap as hash;
 ghost use Rattle.gql_ast.specs.declared.type_system.FieldDefinition.{FieldDefinition as AField};

@@ -1,4 +1,9 @@
 //! S13, Missing Arguments: an argument of the interface's field is missing, or its type differs.
+//! <https://spec.graphql.org/October2021/#sec-Objects>
+//! <https://spec.graphql.org/October2021/#sec-Interfaces>
+//!
+//! At fault: `interface N { a(b: Int): Int } type Query implements N { a: Int }`
+//! No fault: `interface N { a(b: Int): Int } type Query implements N { a(b: Int): Int }`
 ghost use Rattle.std.specs.Prelude.{◌≡◌, ◌↔◌, ◌++◌, IsTrue, OnOk, map, flat_map};
 ghost use Rattle.gql_iface_rules.specs.Borrowed.{pair};
 ghost use Rattle.gql_iface_rules.specs.S13MissingArguments as spec;

@@ -1,4 +1,9 @@
 //! S14, Extra Required Arguments: a required argument is not one of the interface's field.
+//! <https://spec.graphql.org/October2021/#sec-Objects>
+//! <https://spec.graphql.org/October2021/#sec-Interfaces>
+//!
+//! At fault: `interface N { a: Int } type Query implements N { a(b: Int!): Int }`
+//! No fault: `interface N { a: Int } type Query implements N { a(b: Int): Int }`
 ghost use Rattle.std.specs.Prelude.{◌≡◌, ◌++◌, OnOk, map, flat_map};
 ghost use Rattle.gql_iface_rules.specs.Borrowed.{pair};
 ghost use Rattle.gql_iface_rules.specs.S14ExtraRequiredArguments as spec;

@@ -1,4 +1,9 @@
 //! S15, Incompatible Field Types: a field's type is not covariant with the interface's.
+//! <https://spec.graphql.org/October2021/#sec-Objects>
+//! <https://spec.graphql.org/October2021/#sec-Interfaces>
+//!
+//! At fault: `interface N { a: Int! } type Query implements N { a: Int }`
+//! No fault: `interface N { a: Int } type Query implements N { a: Int! }`
 ghost use Rattle.std.specs.Prelude.{◌≡◌, ◌++◌, OnOk, map, flat_map};
 ghost use Rattle.gql_iface_rules.specs.Borrowed.{pair};
 ghost use Rattle.gql_iface_rules.specs.S15IncompatibleFieldTypes as spec;

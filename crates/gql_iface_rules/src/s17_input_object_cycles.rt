@@ -1,4 +1,8 @@
 //! S17, Input Object Cycles: an input object refers to itself through Non-Null fields.
+//! <https://spec.graphql.org/October2021/#sec-Input-Objects>
+//!
+//! At fault: `type Query { a(i: I): Int } input I { i: I! }`
+//! No fault: `type Query { a(i: I): Int } input I { i: [I!]! }`
 ghost use Rattle.std.specs.Prelude.{◌≡◌, ◌↔◌, ◌⊎◌, ◌++◌, ℕ, List, IfOk, OnOk, Contains, map, flat_map};
 ghost use Rattle.std.specs.Option.{option_copied};
 ghost use Rattle.gql_ast.specs.declared.fault.Fault.{Fault as TheFault};

@@ -1,4 +1,8 @@
 //! S19, Default Value Cycles: the default value of an input field needs itself.
+//! It is this registry's own rule.
+//!
+//! At fault: `type Query { a(i: I): Int } input I { i: I = {} }`
+//! No fault: `type Query { a(i: I): Int } input I { i: I = null }`
 ghost use Rattle.std.specs.Prelude.{◌≡◌, ◌↔◌, ◌⊎◌, ◌++◌, ℕ, OnOk, Contains, map, flat_map};
 ghost use Rattle.gql_ast.specs.declared.fault.Fault.{Fault as TheFault};
 ghost use Rattle.gql_iface_rules.specs.S19DefaultValueCycles as spec;

@@ -1,4 +1,8 @@
 //! S26, Directive Cycles: the definition of a directive refers to the directive itself.
+//! <https://spec.graphql.org/October2021/#sec-Type-System.Directives>
+//!
+//! At fault: `type Query { a: Int } directive @d(a: Int @d) on ARGUMENT_DEFINITION`
+//! No fault: `type Query { a(b: Int @d): Int } directive @d(a: Int) on ARGUMENT_DEFINITION`
 ghost use Rattle.std.specs.Prelude.{◌≡◌, ◌↔◌, ◌⊎◌, ◌++◌, ℕ, List, IfOk, OnOk, Contains, map, flat_map};
 ghost use Rattle.std.specs.Option.{option_copied};
 ghost use Rattle.gql_ast.specs.declared.fault.Fault.{Fault as TheFault};

@@ -1,4 +1,8 @@
 //! V05, Field Selection Merging: two fields of one response name differ in name or arguments.
+//! <https://spec.graphql.org/October2021/#sec-Field-Selection-Merging>
+//!
+//! At fault: `{ dog { n: name n: nickname } }`
+//! No fault: `{ dog { name nickname } }`
 ghost use Rattle.std.specs.Prelude.{◌≡◌, ◌++◌, ◌||◌, OnOk, bytes_eq, not};
 ghost use Rattle.gql_merge.specs.Known.{info_in};
 ghost use Rattle.gql_merge.specs.PairFaults as spec;

@@ -1,4 +1,8 @@
 //! V06, Field Selection Merging: two fields of one response name differ in shape.
+//! <https://spec.graphql.org/October2021/#sec-Field-Selection-Merging>
+//!
+//! At fault: `{ pet { ... on Dog { n: name } ... on Cat { n: lives } } }`
+//! No fault: `{ pet { ... on Dog { n: name } ... on Cat { n: name } } }`
 ghost use Rattle.std.specs.Prelude.{◌≡◌, ◌++◌, OnOk};
 ghost use Rattle.gql_merge.specs.Known.{info_in};
 ghost use Rattle.gql_merge.specs.PairFaults as spec;

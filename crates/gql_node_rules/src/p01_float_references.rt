@@ -1,4 +1,8 @@
 //! P01, Float References: a schema file refers to Float, which this registry does not serve.
+//! It is this registry's own rule.
+//!
+//! At fault: `type Query { a: Float }`
+//! No fault: `type Query { a: Int }`
 ghost use Rattle.std.specs.Prelude.{◌≡◌, ◌++◌, OnOk, map, flat_map};
 ghost use Rattle.gql_node_rules.specs.Resolved.{reference, to_float};
 ghost use Rattle.gql_node_rules.specs.P01FloatReferences as spec;

@@ -1,4 +1,8 @@
 //! S03, Reserved Names: a name that a schema file defines begins with two underscores.
+//! <https://spec.graphql.org/October2021/#sec-Names>
+//!
+//! At fault: `type Query { __a: Int }`
+//! No fault: `type Query { _a: Int }`
 ghost use Rattle.std.specs.Prelude.{◌≡◌, ◌++◌, OnOk, map, flat_map};
 ghost use Rattle.gql_faults.specs.Places.{named};
 ghost use Rattle.gql_node_rules.specs.S03ReservedNames as spec;

@@ -1,4 +1,10 @@
 //! S16, Non-Input Types: the type of an argument or an input field is not an input type.
+//! <https://spec.graphql.org/October2021/#sec-Field-Arguments>
+//! <https://spec.graphql.org/October2021/#sec-Input-Objects>
+//! <https://spec.graphql.org/October2021/#sec-Type-System.Directives>
+//!
+//! At fault: `type Query { a(b: Query): Int }`
+//! No fault: `type Query { a(b: Int): Int }`
 ghost use Rattle.std.specs.Prelude.{◌≡◌, ◌++◌, OnOk, map, flat_map};
 ghost use Rattle.gql_ast.specs.declared.rule.Rule.TheVariants as rule;
 ghost use Rattle.gql_types.specs.Kinds.{is_input};

@@ -1,4 +1,8 @@
 //! S20, Unknown Types: a reference names no type.
+//! <https://spec.graphql.org/October2021/#sec-Schema>
+//!
+//! At fault: `type Query { a: A }`
+//! No fault: `type Query { a: A } type A { b: Int }`
 ghost use Rattle.std.specs.Prelude.{◌≡◌, ◌++◌, OnOk, map, flat_map};
 ghost use Rattle.gql_node_rules.specs.Resolved.{reference, unknown};
 

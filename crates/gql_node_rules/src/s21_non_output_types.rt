@@ -1,4 +1,9 @@
 //! S21, Non-Output Types: the type of a field is not an output type.
+//! <https://spec.graphql.org/October2021/#sec-Objects>
+//! <https://spec.graphql.org/October2021/#sec-Interfaces>
+//!
+//! At fault: `type Query { a: I } input I { b: Int }`
+//! No fault: `type Query { a(i: I): Int } input I { b: Int }`
 ghost use Rattle.std.specs.Prelude.{◌≡◌, ◌++◌, OnOk, map, flat_map};
 ghost use Rattle.gql_ast.specs.declared.rule.Rule.TheVariants as rule;
 ghost use Rattle.gql_types.specs.Kinds.{is_output};

@@ -1,4 +1,8 @@
 //! S22, Non-Object Members: a member of a union is not an object.
+//! <https://spec.graphql.org/October2021/#sec-Unions>
+//!
+//! At fault: `type Query { u: U } union U = E enum E { A }`
+//! No fault: `type Query { u: U } union U = A type A { b: Int }`
 ghost use Rattle.std.specs.Prelude.{◌≡◌, ◌++◌, OnOk, map, flat_map};
 ghost use Rattle.gql_ast.specs.declared.rule.Rule.TheVariants as rule;
 ghost use Rattle.gql_types.specs.Kinds.{same_kind};

@@ -1,4 +1,8 @@
 //! S29, Unknown Directives: an applied directive is not defined.
+//! <https://spec.graphql.org/October2021/#sec-Directives-Are-Defined>
+//!
+//! At fault: `type Query { a: Int @d }`
+//! No fault: `type Query { a: Int @d } directive @d on FIELD_DEFINITION`
 ghost use Rattle.std.specs.Prelude.{◌≡◌, ◌++◌, OnOk, map, flat_map};
 ghost use Rattle.gql_node_rules.specs.Resolved.{resolution, undefined};
 

@@ -1,4 +1,9 @@
 //! S30, Bad Locations: a directive is applied at a location that it does not list.
+//! <https://spec.graphql.org/October2021/#sec-Type-System.Directives>
+//! <https://spec.graphql.org/October2021/#sec-Directives-Are-In-Valid-Locations>
+//!
+//! At fault: `type Query { a: Int @d } directive @d on ENUM`
+//! No fault: `type Query { a: Int @d } directive @d on FIELD_DEFINITION`
 ghost use Rattle.std.specs.Prelude.{◌≡◌, ◌++◌, Some, OnOk, map, flat_map};
 ghost use Rattle.gql_node_rules.specs.Borrowed.{application};
 ghost use Rattle.gql_node_rules.specs.Resolved.{resolution};

@@ -1,4 +1,9 @@
 //! S31, Repeated Directives: a directive that is not repeatable is applied twice.
+//! <https://spec.graphql.org/October2021/#sec-Schema-Extension>
+//! <https://spec.graphql.org/October2021/#sec-Directives-Are-Unique-Per-Location>
+//!
+//! At fault: `type Query { a: Int @d @d } directive @d on FIELD_DEFINITION`
+//! No fault: `type Query { a: Int @d @d } directive @d repeatable on FIELD_DEFINITION`
 ghost use Rattle.std.specs.Prelude.{◌≡◌, ◌++◌, [], IfOk, OnOk, map, flat_map, bytes_eq, nat_lt, unwrap_or, if◌then◌else◌};
 ghost use Rattle.std.specs.HashMap as hash;
 ghost use Rattle.gql_faults.specs.Places.{named};

@@ -1,4 +1,10 @@
 //! S32, Bad Arguments: an argument of an applied directive is undefined, repeated or missing.
+//! <https://spec.graphql.org/October2021/#sec-Argument-Names>
+//! <https://spec.graphql.org/October2021/#sec-Argument-Uniqueness>
+//! <https://spec.graphql.org/October2021/#sec-Required-Arguments>
+//!
+//! At fault: `type Query { a: Int @deprecated(why: "b") }`
+//! No fault: `type Query { a: Int @deprecated(reason: "b") }`
 ghost use Rattle.std.specs.Prelude.{◌≡◌, ◌++◌, [], ℕ, List, IfOk, OnOk, map, flat_map, bytes_eq, is_some, Some, None, if◌then◌else◌};
 ghost use Rattle.std.specs.List.{list_any};
 ghost use Rattle.std.specs.HashMap as hash;

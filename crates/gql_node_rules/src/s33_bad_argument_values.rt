@@ -1,4 +1,8 @@
 //! S33, Bad Argument Values: the value of an applied directive's argument does not fit its type.
+//! <https://spec.graphql.org/October2021/#sec-Values-of-Correct-Type>
+//!
+//! At fault: `type Query { a: Int @deprecated(reason: 3) }`
+//! No fault: `type Query { a: Int @deprecated(reason: "b") }`
 ghost use Rattle.std.specs.Prelude.{◌≡◌, ◌++◌, Some, OnOk, map, flat_map};
 ghost use Rattle.gql_node_rules.specs.Borrowed.{application};
 ghost use Rattle.gql_node_rules.specs.Resolved.{resolution};

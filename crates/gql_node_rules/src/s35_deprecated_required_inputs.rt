@@ -1,4 +1,8 @@
 //! S35, Deprecated Required Inputs: a required argument or input field is deprecated.
+//! It is a rule of later editions of the specification.
+//!
+//! At fault: `type Query { a(b: Int! @deprecated): Int }`
+//! No fault: `type Query { a(b: Int @deprecated): Int }`
 ghost use Rattle.std.specs.Prelude.{◌≡◌, ◌++◌, OnOk, map, flat_map};
 ghost use Rattle.gql_node_rules.specs.Borrowed.{lists, one};
 ghost use Rattle.gql_node_rules.specs.S35DeprecatedRequiredInputs as spec;

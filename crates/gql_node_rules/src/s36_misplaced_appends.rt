@@ -1,4 +1,9 @@
 //! S36, Misplaced Appends: `@append` is on a field that is not one of the mutation root type.
+//! It is this registry's own rule.
+//!
+//! At fault: `type Query { a: Int @append(to: "l") }`
+//! No fault:
+//! `type Query { a: N } type N { b: Int } type Mutation { m(b: Int): N @append(to: "l") }`
 ghost use Rattle.std.specs.Prelude.{◌≡◌, ◌++◌, OnOk, Some, map, flat_map};
 ghost use Rattle.std.specs.Option.{option_copied};
 ghost use Rattle.gql_faults.specs.Places.{named};

@@ -1,4 +1,8 @@
 //! P03, Subscriptions: an operation is a subscription, which this registry does not serve.
+//! It is this registry's own rule.
+//!
+//! At fault: `subscription A { dog { name } }`
+//! No fault: `query A { dog { name } }`
 ghost use Rattle.std.specs.Prelude.{◌≡◌, ◌++◌, OnOk};
 ghost use Rattle.gql_rules.specs.P03Subscriptions as spec;
 

@@ -1,4 +1,8 @@
 //! P05, Mutations Without a Root: an operation is a mutation, and the schema has no mutation root.
+//! It is this registry's own rule.
+//!
+//! At fault: `mutation A { dog { name } }`
+//! No fault: `query A { dog { name } }`
 ghost use Rattle.std.specs.Prelude.{◌≡◌, ◌++◌, OnOk};
 ghost use Rattle.gql_facts.specs.Nodes.{root_in};
 ghost use Rattle.gql_rules.specs.P05MutationsWithoutARoot as spec;

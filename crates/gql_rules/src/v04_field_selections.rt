@@ -1,4 +1,8 @@
 //! V04, Field Selections: the parent type has no field of this name.
+//! <https://spec.graphql.org/October2021/#sec-Field-Selections>
+//!
+//! At fault: `{ dog { meows } }`
+//! No fault: `{ dog { name } }`
 ghost use Rattle.std.specs.Prelude.{◌≡◌, ◌++◌, OnOk};
 ghost use Rattle.std.specs.Option.{option_copied};
 ghost use Rattle.gql_facts.specs.Nodes.{field_node};

@@ -1,4 +1,8 @@
 //! V07, Leaf Field Selections: a leaf field has a selection set, or a composite one has none.
+//! <https://spec.graphql.org/October2021/#sec-Leaf-Field-Selections>
+//!
+//! At fault: `{ dog }`
+//! No fault: `{ dog { name } }`
 ghost use Rattle.std.specs.Prelude.{◌≡◌, ◌++◌, OnOk, Option, if◌then◌else◌};
 ghost use Rattle.gql_types.specs.Kinds.{is_leaf, is_composite};
 ghost use Rattle.gql_facts.specs.Nodes.{field_node, has_any};

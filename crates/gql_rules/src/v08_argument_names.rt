@@ -1,4 +1,8 @@
 //! V08, Argument Names: an argument of a field or a directive is not defined.
+//! <https://spec.graphql.org/October2021/#sec-Argument-Names>
+//!
+//! At fault: `{ dog { barks(times: 1, loud: true) } }`
+//! No fault: `{ dog { barks(times: 1) } }`
 ghost use Rattle.std.specs.Prelude.{◌≡◌, ◌++◌, OnOk, flat_map};
 ghost use Rattle.std.specs.Option.{option_copied};
 ghost use Rattle.gql_rules.specs.V08ArgumentNames as spec;

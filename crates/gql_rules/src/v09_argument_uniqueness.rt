@@ -1,4 +1,8 @@
 //! V09, Argument Uniqueness: an argument is given twice.
+//! <https://spec.graphql.org/October2021/#sec-Argument-Uniqueness>
+//!
+//! At fault: `{ dog { barks(times: 1, times: 1) } }`
+//! No fault: `{ dog { barks(times: 1) } }`
 ghost use Rattle.std.specs.Prelude.{◌≡◌, ◌++◌, ◌∷◌, [], OnOk, bytes_eq, nat_lt, unwrap_or, if◌then◌else◌};
 ghost use Rattle.std.specs.HashMap as hash;
 ghost use Rattle.gql_ast.specs.declared.rule.Rule.TheVariants as rule;

@@ -1,4 +1,8 @@
 //! V10, Required Arguments: a required argument is missing or null.
+//! <https://spec.graphql.org/October2021/#sec-Required-Arguments>
+//!
+//! At fault: `{ dog { barks } }`
+//! No fault: `{ dog { barks(times: 1) } }`
 ghost use Rattle.std.specs.Prelude.{◌≡◌, ◌++◌, ◌∷◌, ◌&&◌, [], ℕ, List, IfOk, OnOk, flat_map, bytes_eq, unwrap_or, true, if◌then◌else◌};
 ghost use Rattle.std.specs.HashMap as hash;
 ghost use Rattle.std.specs.Option.{option_copied};

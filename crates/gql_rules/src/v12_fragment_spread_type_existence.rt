@@ -1,4 +1,8 @@
 //! V12, Fragment Spread Type Existence: a type condition names no type.
+//! <https://spec.graphql.org/October2021/#sec-Fragment-Spread-Type-Existence>
+//!
+//! At fault: `{ pet { ... on Wolf { name } } }`
+//! No fault: `{ pet { ... on Dog { name } } }`
 ghost use Rattle.std.specs.Prelude.{◌≡◌, ◌++◌, OnOk};
 ghost use Rattle.gql_rules.specs.V12FragmentSpreadTypeExistence as spec;
 

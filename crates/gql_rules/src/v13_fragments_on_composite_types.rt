@@ -1,4 +1,8 @@
 //! V13, Fragments On Composite Types: a type condition names a type that is not composite.
+//! <https://spec.graphql.org/October2021/#sec-Fragments-On-Composite-Types>
+//!
+//! At fault: `{ pet { ... on Int { name } } }`
+//! No fault: `{ pet { ... on Dog { name } } }`
 ghost use Rattle.std.specs.Prelude.{◌≡◌, ◌++◌, OnOk};
 ghost use Rattle.gql_rules.specs.V13FragmentsOnCompositeTypes as spec;
 

@@ -1,4 +1,8 @@
 //! V15, Fragment Spread Target Defined: a spread names no fragment.
+//! <https://spec.graphql.org/October2021/#sec-Fragment-spread-target-defined>
+//!
+//! At fault: `{ dog { ...F } }`
+//! No fault: `{ dog { ...F } } fragment F on Dog { name }`
 ghost use Rattle.std.specs.Prelude.{◌≡◌, ◌++◌, OnOk};
 ghost use Rattle.std.specs.Option.{option_copied};
 ghost use Rattle.gql_rules.specs.V15FragmentSpreadTargetDefined as spec;

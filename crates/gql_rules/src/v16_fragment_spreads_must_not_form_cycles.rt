@@ -1,4 +1,8 @@
 //! V16, Fragment Spreads Must Not Form Cycles: a fragment spreads itself.
+//! <https://spec.graphql.org/October2021/#sec-Fragment-spreads-must-not-form-cycles>
+//!
+//! At fault: `{ dog { ...F } } fragment F on Dog { name owner { dog { ...F } } }`
+//! No fault: `{ dog { ...F } } fragment F on Dog { name owner { dog { name } } }`
 ghost use Rattle.std.specs.Prelude.{◌≡◌, ◌↔◌, Contains, IsTrue};
 ghost use Rattle.gql_facts.specs.Members.{Lists};
 ghost use Rattle.gql_facts.specs.Reads.{Reaches};

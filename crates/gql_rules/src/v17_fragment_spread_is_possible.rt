@@ -1,4 +1,8 @@
 //! V17, Fragment Spread Is Possible: no object is possible for both condition and parent.
+//! <https://spec.graphql.org/October2021/#sec-Fragment-spread-is-possible>
+//!
+//! At fault: `{ dog { ... on Cat { lives } } }`
+//! No fault: `{ pet { ... on Cat { lives } } }`
 ghost use Rattle.std.specs.Prelude.{◌≡◌, ◌++◌, OnOk};
 ghost use Rattle.std.specs.Option.{option_copied};
 ghost use Rattle.gql_rules.specs.V17FragmentSpreadIsPossible as spec;

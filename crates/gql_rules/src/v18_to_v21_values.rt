@@ -3,6 +3,19 @@
 //! V20, Input Object Field Uniqueness: an object value has two fields of the same name.
 //! V21, Input Object Required Fields: a required input field is missing or null.
 //! They check the values of arguments and the default values of variables.
+//! <https://spec.graphql.org/October2021/#sec-Values-of-Correct-Type>
+//! <https://spec.graphql.org/October2021/#sec-Input-Object-Field-Names>
+//! <https://spec.graphql.org/October2021/#sec-Input-Object-Field-Uniqueness>
+//! <https://spec.graphql.org/October2021/#sec-Input-Object-Required-Fields>
+//!
+//! At fault by V18: `{ dog { barks(times: "two") } }`
+//! No fault by V18: `{ dog { barks(times: 2) } }`
+//! At fault by V19: `{ search(filter: { name: "Rex", size: 3 }) { name } }`
+//! No fault by V19: `{ search(filter: { name: "Rex", limit: 3 }) { name } }`
+//! At fault by V20: `{ search(filter: { name: "Rex", name: "Tom" }) { name } }`
+//! No fault by V20: `{ search(filter: { name: "Rex" }) { name } }`
+//! At fault by V21: `{ search(filter: { limit: 3 }) { name } }`
+//! No fault by V21: `{ search(filter: { name: "Rex" }) { name } }`
 ghost use Rattle.std.specs.Prelude.{◌≡◌, ◌++◌, ◌∷◌, [], OnOk, map};
 ghost use Rattle.std.specs.Option.{option_copied};
 ghost use Rattle.gql_inputs.specs.ExpectedTypes.{written_of};

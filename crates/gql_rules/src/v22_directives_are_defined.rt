@@ -1,4 +1,8 @@
 //! V22, Directives Are Defined: an applied directive is not defined.
+//! <https://spec.graphql.org/October2021/#sec-Directives-Are-Defined>
+//!
+//! At fault: `{ dog { name @hidden } }`
+//! No fault: `{ dog { name @skip(if: true) } }`
 ghost use Rattle.std.specs.Prelude.{◌≡◌, ◌++◌, OnOk};
 ghost use Rattle.std.specs.Option.{option_copied};
 ghost use Rattle.gql_rules.specs.V22DirectivesAreDefined as spec;

@@ -1,4 +1,8 @@
 //! V23, Directives Are in Valid Locations: a directive does not list the location.
+//! <https://spec.graphql.org/October2021/#sec-Directives-Are-In-Valid-Locations>
+//!
+//! At fault: `query A @skip(if: true) { dog { name } }`
+//! No fault: `query A { dog @skip(if: true) { name } }`
 ghost use Rattle.std.specs.Prelude.{◌≡◌, ◌++◌, OnOk};
 ghost use Rattle.std.specs.Option.{option_copied};
 ghost use Rattle.gql_rules.specs.V23DirectivesInValidLocations as spec;

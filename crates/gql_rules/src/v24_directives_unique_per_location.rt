@@ -1,4 +1,8 @@
 //! V24, Directives Are Unique per Location: a directive that is not repeatable is applied twice.
+//! <https://spec.graphql.org/October2021/#sec-Directives-Are-Unique-Per-Location>
+//!
+//! At fault: `{ dog { name @skip(if: true) @skip(if: false) } }`
+//! No fault: `{ dog { name @tag(name: "a") @tag(name: "b") } }`
 ghost use Rattle.std.specs.Prelude.{◌≡◌, ◌++◌, ◌∷◌, ◌&&◌, not, [], OnOk, if◌then◌else◌};
 ghost use Rattle.std.specs.Option.{option_copied};
 ghost use Rattle.gql_ast.specs.declared.rule.Rule.TheVariants as rule;

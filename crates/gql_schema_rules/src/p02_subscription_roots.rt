@@ -1,4 +1,8 @@
 //! P02, Subscription Roots: the schema has a subscription root, and this registry serves none.
+//! It is this registry's own rule.
+//!
+//! At fault: `type Query { a: Int } type Subscription { b: Int }`
+//! No fault: `type Query { a: Int }`
 ghost use Rattle.std.specs.Prelude.{◌≡◌, ◌++◌, OnOk};
 ghost use Rattle.gql_schema_rules.specs.P02SubscriptionRoots as spec;
 

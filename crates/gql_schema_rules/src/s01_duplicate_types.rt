@@ -1,4 +1,8 @@
 //! S01, Duplicate Types: two type definitions have the same name.
+//! <https://spec.graphql.org/October2021/#sec-Schema>
+//!
+//! At fault: `type Query { a: A } type A { b: Int } enum A { C }`
+//! No fault: `type Query { a: A } type A { b: Int }`
 ghost use Rattle.std.specs.Prelude.{◌≡◌, ◌++◌, OnOk};
 ghost use Rattle.gql_node_rules.specs.Borrowed.{lists};
 ghost use Rattle.gql_schema_rules.specs.S01DuplicateTypes as spec;

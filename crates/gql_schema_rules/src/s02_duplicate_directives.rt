@@ -1,4 +1,8 @@
 //! S02, Duplicate Directives: two directive definitions have the same name.
+//! <https://spec.graphql.org/October2021/#sec-Schema>
+//!
+//! At fault: `type Query { a: Int } directive @d on FIELD directive @d on QUERY`
+//! No fault: `type Query { a: Int } directive @d on FIELD | QUERY`
 ghost use Rattle.std.specs.Prelude.{◌≡◌, ◌++◌, OnOk};
 ghost use Rattle.gql_node_rules.specs.Borrowed.{lists};
 ghost use Rattle.gql_schema_rules.specs.S02DuplicateDirectives as spec;

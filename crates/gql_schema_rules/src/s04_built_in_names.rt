@@ -1,4 +1,8 @@
 //! S04, Built-In Names: a built-in scalar or directive, or Float, is defined again.
+//! <https://spec.graphql.org/October2021/#sec-Schema>
+//!
+//! At fault: `type Query { a: Int } scalar String`
+//! No fault: `type Query { a: Date } scalar Date`
 ghost use Rattle.std.specs.Prelude.{◌≡◌, ◌++◌, OnOk, map, flat_map};
 ghost use Rattle.gql_faults.specs.Places.{named};
 ghost use Rattle.gql_node_rules.specs.Borrowed.{lists};

@@ -1,4 +1,12 @@
 //! S05, Empty Types: a type that needs fields, enum values or members has none.
+//! <https://spec.graphql.org/October2021/#sec-Objects>
+//! <https://spec.graphql.org/October2021/#sec-Interfaces>
+//! <https://spec.graphql.org/October2021/#sec-Unions>
+//! <https://spec.graphql.org/October2021/#sec-Enums>
+//! <https://spec.graphql.org/October2021/#sec-Input-Objects>
+//!
+//! At fault: `type Query { a: A } type A`
+//! No fault: `type Query { a: A } type A extend type A { b: Int }`
 ghost use Rattle.std.specs.Prelude.{◌≡◌, ◌++◌, OnOk};
 ghost use Rattle.gql_schema_rules.specs.S05EmptyTypes as spec;
 

@@ -1,4 +1,10 @@
 //! S06, Duplicate Fields: a type has two fields or two input fields of the same name.
+//! <https://spec.graphql.org/October2021/#sec-Objects>
+//! <https://spec.graphql.org/October2021/#sec-Interfaces>
+//! <https://spec.graphql.org/October2021/#sec-Input-Objects>
+//!
+//! At fault: `type Query { a: Int a: String }`
+//! No fault: `type Query { a: Int b: String }`
 ghost use Rattle.std.specs.Prelude.{◌≡◌, ◌++◌, OnOk};
 ghost use Rattle.gql_schema_rules.specs.S06DuplicateFields as spec;
 

@@ -1,4 +1,9 @@
 //! S07, Duplicate Values: an enum has two values, or a union two members, of the same name.
+//! <https://spec.graphql.org/October2021/#sec-Unions>
+//! <https://spec.graphql.org/October2021/#sec-Enums>
+//!
+//! At fault: `type Query { a: E } enum E { B B }`
+//! No fault: `type Query { a: E } enum E { B C }`
 ghost use Rattle.std.specs.Prelude.{◌≡◌, ◌++◌, OnOk};
 ghost use Rattle.gql_schema_rules.specs.S07DuplicateValues as spec;
 

@@ -1,4 +1,9 @@
 //! S08, Duplicate Arguments: a field or a directive has two arguments of the same name.
+//! <https://spec.graphql.org/October2021/#sec-Field-Arguments>
+//! <https://spec.graphql.org/October2021/#sec-Type-System.Directives>
+//!
+//! At fault: `type Query { a(b: Int, b: Int): Int }`
+//! No fault: `type Query { a(b: Int, c: Int): Int }`
 ghost use Rattle.std.specs.Prelude.{◌≡◌, ◌++◌, IfOk, OnOk, map, flat_map};
 ghost use Rattle.gql_faults.specs.Places.{named};
 ghost use Rattle.gql_schema_rules.specs.S08DuplicateArguments as spec;

@@ -1,4 +1,8 @@
 //! S18, Bad Default Values: a default value does not fit the type of its argument or input field.
+//! It is this registry's own rule.
+//!
+//! At fault: `type Query { a(b: Int = "c"): Int }`
+//! No fault: `type Query { a(b: Int = 3): Int }`
 ghost use Rattle.std.specs.Prelude.{◌≡◌, ◌++◌, OnOk, map, flat_map};
 ghost use Rattle.gql_schema_rules.specs.S18BadDefaultValues as spec;
 

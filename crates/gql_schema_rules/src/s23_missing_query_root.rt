@@ -1,4 +1,8 @@
 //! S23, Missing Query Root: the schema has no query root operation type.
+//! <https://spec.graphql.org/October2021/#sec-Root-Operation-Types>
+//!
+//! At fault: `type A { b: Int }`
+//! No fault: `schema { query: A } type A { b: Int }`
 ghost use Rattle.std.specs.Prelude.{◌≡◌, ◌++◌, IfOk, OnOk};
 ghost use Rattle.gql_schema_rules.specs.S23MissingQueryRoot as spec;
 

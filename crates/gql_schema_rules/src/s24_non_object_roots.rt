@@ -1,4 +1,8 @@
 //! S24, Non-Object Roots: a root operation type is not an object.
+//! <https://spec.graphql.org/October2021/#sec-Root-Operation-Types>
+//!
+//! At fault: `schema { query: E } enum E { A }`
+//! No fault: `schema { query: A } type A { b: Int }`
 ghost use Rattle.std.specs.Prelude.{◌≡◌, ◌++◌, OnOk};
 ghost use Rattle.gql_schema_rules.specs.S24NonObjectRoots as spec;
 

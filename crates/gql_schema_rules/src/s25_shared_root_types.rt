@@ -1,4 +1,8 @@
 //! S25, Shared Root Types: two kinds of operations have the same root operation type.
+//! <https://spec.graphql.org/October2021/#sec-Root-Operation-Types>
+//!
+//! At fault: `schema { query: A mutation: A } type A { a: Int }`
+//! No fault: `schema { query: A mutation: B } type A { a: Int } type B { a: Int }`
 ghost use Rattle.std.specs.Prelude.{◌≡◌, ◌++◌, ◌∷◌, [], ℕ, List, IfOk, OnOk, map, flat_map, bytes_eq, string_bytes, if◌then◌else◌};
 ghost use Rattle.std.specs.Option.{option_map_or};
 ghost use Rattle.std.specs.HashMap as hash;

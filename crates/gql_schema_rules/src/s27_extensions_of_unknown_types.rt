@@ -1,4 +1,8 @@
 //! S27, Extensions of Unknown Types: an extension names no type.
+//! <https://spec.graphql.org/October2021/#sec-Type-Extensions>
+//!
+//! At fault: `type Query { a: Int } extend type A { b: Int }`
+//! No fault: `type Query { a: A } type A { c: Int } extend type A { b: Int }`
 ghost use Rattle.std.specs.Prelude.{◌≡◌, ◌++◌, OnOk, map, flat_map};
 ghost use Rattle.gql_faults.specs.Places.{named};
 ghost use Rattle.gql_node_rules.specs.Borrowed.{lists};

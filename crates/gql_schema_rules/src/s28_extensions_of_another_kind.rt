@@ -1,4 +1,8 @@
 //! S28, Extensions of Another Kind: an extension names a type of another kind.
+//! <https://spec.graphql.org/October2021/#sec-Type-Extensions>
+//!
+//! At fault: `type Query { a: A } enum A { B } extend type A { c: Int }`
+//! No fault: `type Query { a: A } enum A { B } extend enum A { C }`
 ghost use Rattle.std.specs.Prelude.{◌≡◌, ◌++◌, OnOk};
 ghost use Rattle.gql_node_rules.specs.Borrowed.{lists, one};
 ghost use Rattle.gql_schema_rules.specs.S28ExtensionsOfAnotherKind as spec;

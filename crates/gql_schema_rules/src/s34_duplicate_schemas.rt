@@ -1,4 +1,9 @@
 //! S34, Duplicate Schemas: there are two schema definitions, or an operation type is given twice.
+//! <https://spec.graphql.org/October2021/#sec-Schema>
+//! <https://spec.graphql.org/October2021/#sec-Root-Operation-Types>
+//!
+//! At fault: `schema { query: A } schema { query: A } type A { b: Int }`
+//! No fault: `schema { query: A } type A { b: Int }`
 ghost use Rattle.std.specs.Prelude.{◌≡◌, ◌++◌, ◌||◌, [], IfOk, OnOk, map, flat_map, codes, if◌then◌else◌};
 ghost use Rattle.gql_ast.specs.declared.executable.OperationKind.{OperationKind as TheKind};
 ghost use Rattle.gql_ast.specs.declared.rule.Rule.TheVariants as rule;

@@ -1,4 +1,8 @@
 //! P04, Float Variables: a variable is of type Float, which this registry does not serve.
+//! It is this registry's own rule.
+//!
+//! At fault: `query A($n: Float) { dog { barks(times: $n) } }`
+//! No fault: `query A($n: Int!) { dog { barks(times: $n) } }`
 ghost use Rattle.std.specs.Prelude.{◌≡◌, ◌++◌, OnOk};
 ghost use Rattle.gql_vars.specs.P04FloatVariables as spec;
 

@@ -1,4 +1,8 @@
 //! V25, Variable Uniqueness: an operation has two variables of the same name.
+//! <https://spec.graphql.org/October2021/#sec-Variable-Uniqueness>
+//!
+//! At fault: `query A($n: Int!, $n: Int!) { dog { barks(times: $n) } }`
+//! No fault: `query A($n: Int!) { dog { barks(times: $n) } }`
 ghost use Rattle.std.specs.Prelude.{◌≡◌, ◌++◌, ◌∷◌, [], OnOk, bytes_eq, nat_lt, unwrap_or, if◌then◌else◌};
 ghost use Rattle.std.specs.HashMap as hash;
 ghost use Rattle.gql_ast.specs.declared.rule.Rule.TheVariants as rule;

@@ -1,4 +1,8 @@
 //! V26, Variables Are Input Types: the type of a variable is unknown, or not an input type.
+//! <https://spec.graphql.org/October2021/#sec-Variables-Are-Input-Types>
+//!
+//! At fault: `query A($d: Dog) { search(filter: $d) { name } }`
+//! No fault: `query A($f: Filter) { search(filter: $f) { name } }`
 ghost use Rattle.std.specs.Prelude.{◌≡◌, ◌++◌, OnOk};
 ghost use Rattle.gql_vars.specs.V26VariablesAreInputTypes as spec;
 

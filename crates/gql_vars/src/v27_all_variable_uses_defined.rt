@@ -1,4 +1,8 @@
 //! V27, All Variable Uses Defined: an operation does not define a variable that it uses.
+//! <https://spec.graphql.org/October2021/#sec-All-Variable-Uses-Defined>
+//!
+//! At fault: `query A { dog { barks(times: $n) } }`
+//! No fault: `query A($n: Int!) { dog { barks(times: $n) } }`
 ghost use Rattle.std.specs.Prelude.{◌≡◌, ◌++◌, ◌∷◌, [], ℕ, List, OnOk, bytes_eq, flat_map, is_some, option_map, if◌then◌else◌};
 ghost use Rattle.std.specs.HashMap as hash;
 ghost use Rattle.gql_ast.specs.declared.executable.VariableDefinition.{VariableDefinition as AVariable};

@@ -1,4 +1,8 @@
 //! V28, All Variables Used: neither the operation nor its fragments use a variable.
+//! <https://spec.graphql.org/October2021/#sec-All-Variables-Used>
+//!
+//! At fault: `query A($n: Int!) { dog { name } }`
+//! No fault: `query A($n: Int!) { dog { barks(times: $n) } }`
 ghost use Rattle.std.specs.Prelude.{◌≡◌, ◌++◌, ℕ, List, OnOk, [], bytes_eq, flat_map, is_some, map, option_map, if◌then◌else◌};
 ghost use Rattle.std.specs.HashMap as hash;
 ghost use Rattle.std.specs.Option.{option_copied};

@@ -1,4 +1,8 @@
 //! V29, All Variable Usages Are Allowed: a variable is used where its type does not fit.
+//! <https://spec.graphql.org/October2021/#sec-All-Variable-Usages-are-Allowed>
+//!
+//! At fault: `query A($n: Int) { dog { barks(times: $n) } }`
+//! No fault: `query A($n: Int!) { dog { barks(times: $n) } }`
 ghost use Rattle.std.specs.Prelude.{◌≡◌, ◌++◌, IfOk, OnOk};
 ghost use Rattle.std.specs.Option.{option_copied};
 ghost use Rattle.gql_vars.specs.Lists.{use_of};

@@ -1,4 +1,8 @@
 //! V01, Executable Definitions: a document file has a definition of the type system.
+//! <https://spec.graphql.org/October2021/#sec-Executable-Definitions>
+//!
+//! At fault: `type T { a: Int }`
+//! No fault: `{ dog { name } }`
 ghost use Rattle.std.specs.Prelude.{◌≡◌, ◌++◌, OnOk, map, option_map};
 ghost use Rattle.gql_verdict.specs.V01ExecutableDefinitions as spec;
 

@@ -1,4 +1,8 @@
 //! V02, Operation Name Uniqueness: two operations have the same name.
+//! <https://spec.graphql.org/October2021/#sec-Operation-Name-Uniqueness>
+//!
+//! At fault: `query A { dog { name } } query A { pet { name } }`
+//! No fault: `query A { dog { name } } query B { pet { name } }`
 ghost use Rattle.std.specs.Prelude.{◌≡◌, ◌++◌, OnOk, map};
 ghost use Rattle.gql_verdict.specs.V02OperationNameUniqueness as spec;
 

@@ -1,4 +1,8 @@
 //! V03, Lone Anonymous Operation: an operation without a name is not the only one.
+//! <https://spec.graphql.org/October2021/#sec-Lone-Anonymous-Operation>
+//!
+//! At fault: `{ dog { name } } query A { pet { name } }`
+//! No fault: `query A { dog { name } } query B { pet { name } }`
 ghost use Rattle.std.specs.Prelude.{◌≡◌, ◌++◌, OnOk, count_by, flat_map, map};
 ghost use Rattle.gql_ast.specs.declared.definition.Definition.{Definition as ADefinition};
 ghost use Rattle.gql_verdict.specs.Definitions.{is_operation as is_an_operation};

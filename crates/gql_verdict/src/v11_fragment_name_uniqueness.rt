@@ -1,4 +1,8 @@
 //! V11, Fragment Name Uniqueness: two fragments have the same name.
+//! <https://spec.graphql.org/October2021/#sec-Fragment-Name-Uniqueness>
+//!
+//! At fault: `{ dog { ...F } } fragment F on Dog { name } fragment F on Dog { nickname }`
+//! No fault: `{ dog { ...F ...G } } fragment F on Dog { name } fragment G on Dog { nickname }`
 ghost use Rattle.std.specs.Prelude.{◌≡◌, ◌++◌, OnOk, map};
 ghost use Rattle.gql_verdict.specs.V11FragmentNameUniqueness as spec;
 

@@ -1,4 +1,8 @@
 //! V14, Fragments Must Be Used: no spread of the document names the fragment.
+//! <https://spec.graphql.org/October2021/#sec-Fragments-Must-Be-Used>
+//!
+//! At fault: `{ dog { name } } fragment F on Dog { name }`
+//! No fault: `{ dog { ...F } } fragment F on Dog { name }`
 ghost use Rattle.std.specs.Prelude.{◌≡◌, ◌++◌, ◌∷◌, [], ℕ, List, OnOk, bytes_eq, flat_map, is_some, map, if◌then◌else◌};
 ghost use Rattle.std.specs.HashMap as hash;
 ghost use Rattle.gql_ast.specs.declared.rule.Rule.TheVariants as rule;
