@@ -21,7 +21,7 @@ const BATCH: usize = 16;
 /// A push: the files of a folder, their resources, the resources that were pushed before, and the
 /// edits that are to be made.
 #[derive(Drop)]
-struct Push {
+struct PushPlan {
     files: Vec<GivenFile>,
     resources: Vec<Resource>,
     before: Vec<Resource>,
@@ -96,7 +96,7 @@ fn test_revision(
 /// Notes an answer. An `Err` if the edit was not made.
 fn note(
     rt: &HostRuntime,
-    push: &Push,
+    push: &PushPlan,
     folder: &str,
     edit: &Edit,
     reply: Reply,
@@ -128,7 +128,7 @@ fn make_batch(
     rt: &HostRuntime,
     connection: &mut Connection,
     options: &PushOptions,
-    push: &Push,
+    push: &PushPlan,
     edits: &[Edit],
     progress: &mut Progress,
 ) -> Result<(), Failure> {
@@ -162,7 +162,7 @@ fn make_batch(
 fn keep_made(
     rt: &HostRuntime,
     options: &PushOptions,
-    push: &Push,
+    push: &PushPlan,
     progress: &Progress,
 ) -> Result<(), Failure> {
     match push.edits.get(..progress.made) {
@@ -180,7 +180,7 @@ fn make_all(
     rt: &HostRuntime,
     connection: &mut Connection,
     options: &PushOptions,
-    push: &Push,
+    push: &PushPlan,
     progress: &mut Progress,
 ) -> Result<(), Failure> {
     let mut counter = Counter::new(rt);
@@ -230,7 +230,7 @@ fn planned(
     options: &PushOptions,
     files: Vec<GivenFile>,
     last: Option<PushState>,
-) -> Result<Push, AllocError> {
+) -> Result<PushPlan, AllocError> {
     let all = options.all || options.force;
     let before = match last {
         Some(last) if all => to_put_again(rt.alloc(), last.pushed.as_slice())?,
@@ -239,7 +239,7 @@ fn planned(
     };
     let resources = resources_of(rt.alloc(), files.as_slice())?;
     let edits = plan(rt.alloc(), resources.as_slice(), before.as_slice(), all)?;
-    Ok(Push {
+    Ok(PushPlan {
         files,
         resources,
         before,
