@@ -3,23 +3,15 @@
 //! input on standard output, `gqlreg serve` those of connections.
 #![tactic(auto)]
 
-mod check;
-mod connection;
-mod failure;
-mod folder;
-mod progress;
 mod push;
-mod state;
-mod usage;
 
 ghost use Rattle.std.specs.Prelude.{◌≡◌, ◌≤◌, None};
 ghost use Rattle.gql_http.specs.Hubs.{rests_of};
 ghost use Rattle.gql_server.specs.Together.{AreClosed};
 
-use crate::check::run_check;
 use crate::push::run_push;
-use crate::usage::run_usage;
 use gql_command::{Command, CommandFault, read_command};
+use gql_folder_check::{run_check, run_usage};
 use gql_folder_command::{
     FolderCommand, FolderCommandFault, is_folder_command, read_folder_command,
 };

@@ -1,5 +1,6 @@
 //! A connection to a registry, over which requests are sent and answers are read.
 
+use gql_folder_files::Failure;
 use gql_push::{AnswerSpan, Reply, answer_in, reply_in};
 use std::alloc::AllocError;
 use std::io::{Read, Write};
@@ -22,6 +23,15 @@ pub enum NoAnswer {
 impl From<AllocError> for NoAnswer {
     fn from(_: AllocError) -> NoAnswer {
         NoAnswer::Memory
+    }
+}
+
+impl From<NoAnswer> for Failure {
+    fn from(fault: NoAnswer) -> Failure {
+        match fault {
+            NoAnswer::NoServer => Failure::NoServer,
+            NoAnswer::Memory => Failure::Memory,
+        }
     }
 }
 

@@ -1,10 +1,9 @@
 //! `gqlreg usage`: who reads a part of a schema, and which parts nobody reads.
 
 use crate::check::refusal;
-use crate::failure::{Failure, report};
-use crate::folder::{given_files, tell_made};
 use gql_folder::GivenFile;
 use gql_folder_command::{Format, UsageFormat, UsageOptions, UsageQuestion};
+use gql_folder_files::{Failure, given_files, report, tell_made};
 use gql_folder_usage::{AnswerFormat, UsageFault, readers_in, unread_in};
 use std::alloc::AllocError;
 use std::io::Write;

@@ -1,12 +1,10 @@
 //! `gqlreg check`: what a check of a folder finds, written in a format.
 
-use crate::failure::{Failure, report, unwritten};
-use crate::folder::{given_files, tell_made};
-use crate::progress::tell_long_check;
 use gql_check::{CheckFault, check_files, refusal_annotation, refusal_text};
 use gql_findings::{Comparison, Findings, compare};
 use gql_folder::GivenFile;
 use gql_folder_command::{CheckOptions, Format};
+use gql_folder_files::{Failure, given_files, report, tell_long_check, tell_made, unwritten};
 use gql_page::{as_html, as_markdown};
 use gql_render::{Against, Check, as_github, as_json, as_sarif, as_text};
 use std::alloc::AllocError;

@@ -1,5 +1,8 @@
 //! Why a command on a folder ends early, and its status then.
 
+ghost use Rattle.std.specs.Prelude.{◌≡◌};
+ghost use Rattle.gql_folder_files.specs.Statuses.{status_of};
+
 use gql_disk::DiskFault;
 use std::alloc::{AllocError, AllocFailed};
 
@@ -47,8 +50,10 @@ pub fn unwritten(rt: &HostRuntime, path: &str) -> Failure {
     }
 }
 
-/// Reports a failure, and returns the status.
-pub fn report(rt: &HostRuntime, failure: Failure) -> u8 {
+/// Reports a failure on standard error, if something is to be said of it, and returns the status.
+pub fn report(rt: &HostRuntime, failure: Failure) -> u8
+    ensures { result ≡ status_of failure }
+{
     match failure {
         Failure::Refused(text) => {
             let _ = rt.eprintln(text);

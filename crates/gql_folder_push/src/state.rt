@@ -1,7 +1,7 @@
 //! The file that keeps what was pushed, beside the folder that is pushed.
 
-use crate::failure::{Failure, unwritten};
 use gql_folder_command::PushOptions;
+use gql_folder_files::{Failure, unwritten};
 use gql_push::{PushState, Resource, read_state};
 use std::alloc::AllocError;
 use std::fs;
