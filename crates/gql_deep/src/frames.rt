@@ -70,7 +70,8 @@ pub struct Around {
     pub outer: bool,
 }
 
-/// An object or a list, and what is around the value within it that is executed.
+/// An object or a list whose execution is suspended, and the state to restore once the value within
+/// it is executed.
 #[derive(Drop)]
 pub struct Frame<'d, 'v> {
     pub group: Group<'d, 'v>,

@@ -9,7 +9,7 @@ use Rattle.gql_types.specs.declared.schema_type.SchemaType.{SchemaType}
 use Rattle.gql_iface_rules.specs.Implementing.{field_in, implemented_by}
 use Rattle.gql_iface_rules.specs.S12MissingFields.{missing_fields}
 
--- the type has a field of the name of this one
+-- the type has a field of the same name
 abbrev pub HasField : SchemaType → Sited FieldDefinition → Type 0
 HasField t f = is_some (field_in t.fields f.node.name.text) ≡ true
 

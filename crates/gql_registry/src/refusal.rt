@@ -39,7 +39,7 @@ pub enum Refusal {
     /// 208: no such operation, or none is named and there isn't exactly one.
     #[error("no such operation")]
     NoOperation,
-    /// 209: the schema, the operation or a fragment that it reaches has faults, which are these.
+    /// 209: the schema, the operation or a fragment that it reaches has these faults.
     #[error("operation is faulty")]
     Faulty { faults: Items<Shared<Fault>> },
     /// 210: the answer has more than 100,000 values.

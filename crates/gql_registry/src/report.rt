@@ -74,7 +74,7 @@ pub fn sharing(alloc: Global, faults: &[Shared<Fault>]) -> Result<Vec<Shared<Fau
     Ok(shared)
 }
 
-/// The report if the schema has faults, which are these.
+/// The report of a schema with these faults: they alone are reported.
 pub fn schema_report(
     alloc: Global,
     faults: &[Shared<Fault>],

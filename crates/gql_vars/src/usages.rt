@@ -116,7 +116,7 @@ fn check_value<W: World>(
     }
 }
 
-/// Adds those in a list. If no list is expected, there are none.
+/// Adds the usages of variables in a list. If no list is expected, there are none.
 #[cycle(usages)]
 #[tactic(auto, using(crate::proofs::ValueUsages::no_list))]
 fn check_list<W: World>(

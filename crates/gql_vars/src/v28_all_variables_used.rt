@@ -59,7 +59,7 @@ fn check_variable(
     Ok(())
 }
 
-/// Adds the faults of the variables of an operation, which are these by their names.
+/// Adds the faults of the variables of an operation. `first` has the first definition of each name.
 pub fn check(
     alloc: Global,
     owner: &FilePlace,
