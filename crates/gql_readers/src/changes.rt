@@ -8,7 +8,7 @@ ghost use Rattle.gql_readers.specs.Readers.{Reader, with_reader};
 
 use crate::ids::{copy, is_same};
 use crate::orders::OrderedKey;
-use gql_ast::DefinitionId;
+use gql_ast::{DefinitionId, Shared};
 use gql_facts::{Fact, Key};
 use gql_reads::{Observation, Reading};
 use indexmap::IndexSet;
@@ -206,7 +206,7 @@ impl Changes {
         &mut self,
         alloc: Global,
         id: &DefinitionId,
-        observations: &[Observation],
+        observations: &[Shared<Observation>],
         seen: &mut IndexSet<Key>,
     ) -> Result<(), AllocError>
         ensures { OnOk result ((coming going : List Reader) (before : List AnObservation)
@@ -214,7 +214,7 @@ impl Changes {
             → AreComing self.new seen.new.keys coming going id.now (before ++ observations.now)) }
     {
         for observation in observations {
-            self.come_once(alloc, id, observation, seen)?;
+            self.come_once(alloc, id, observation.get(), seen)?;
         }
         Ok(())
     }
@@ -269,7 +269,7 @@ impl Changes {
         &mut self,
         alloc: Global,
         id: &DefinitionId,
-        observations: &[Observation],
+        observations: &[Shared<Observation>],
         seen: &mut IndexSet<Key>,
     ) -> Result<(), AllocError>
         ensures { OnOk result ((coming going : List Reader) (before : List AnObservation)
@@ -277,7 +277,7 @@ impl Changes {
             → AreGoing self.new seen.new.keys coming going id.now (before ++ observations.now)) }
     {
         for observation in observations {
-            self.go_once(alloc, id, observation, seen)?;
+            self.go_once(alloc, id, observation.get(), seen)?;
         }
         Ok(())
     }

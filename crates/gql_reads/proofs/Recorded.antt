@@ -44,6 +44,10 @@ certified F g os r v h =
 
 -- ---- the answers of a walk
 
+-- an observation of this key and this answer
+pub observed : (o : Observation) (e : Key × Fact) → (o.key ≡ e.0) × (o.fact ≡ e.1) → o ≡ observation_of e
+observed o e (k, f) = rw (k, f) refl
+
 entry_key : (es : List (Key × Fact)) → keys_of (map observation_of es) ≡ map (λ (e : Key × Fact). e.0) es
 entry_key [] = refl
 entry_key (e ∷ es) = ap (λ l. e.0 ∷ l) (entry_key es)

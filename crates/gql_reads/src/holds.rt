@@ -5,7 +5,7 @@ ghost use Rattle.gql_reads.specs.Observations.{Hold, IsBroken};
 ghost use Rattle.gql_reads.specs.Reaching.{IsNamed};
 
 use crate::observation::Observation;
-use gql_ast::Same;
+use gql_ast::{Same, Shared};
 use gql_facts::{Fact, FragmentFact, Key, World};
 use std::alloc::{AllocError, Global};
 
@@ -29,7 +29,7 @@ fn is_as_observed<W: World>(
 pub fn observations_hold<W: World>(
     alloc: Global,
     world: &mut W,
-    observations: &[Observation],
+    observations: &[Shared<Observation>],
 ) -> Result<bool, AllocError>
     ensures facts { W.facts world.new ≡ W.facts world.old }
     ensures names { W.names world.new ≡ W.names world.old }
@@ -39,7 +39,7 @@ pub fn observations_hold<W: World>(
         (IsBroken (W.facts world.old) observations.now)) }
 {
     for observation in observations {
-        let is_same = is_as_observed(alloc, world, observation)?;
+        let is_same = is_as_observed(alloc, world, observation.get())?;
         if !is_same {
             return Ok(false);
         }

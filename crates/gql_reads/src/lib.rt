@@ -5,6 +5,7 @@
 mod asking;
 mod closing;
 mod holds;
+mod known;
 pub mod laws;
 mod observation;
 mod part;
@@ -14,6 +15,7 @@ mod retest;
 mod scan;
 mod table;
 
+pub use known::KnownAnswers;
 pub use observation::Observation;
 pub use part::Part;
 pub use reading::{OwnReads, Reading, reads_of};

@@ -4,6 +4,7 @@ ghost use Rattle.gql_reads.specs.Own.{tree_of};
 ghost use Rattle.gql_reads.specs.Readings.{name_of};
 ghost use Rattle.gql_reads.specs.Records.{IsCertified, IsRecord};
 
+use crate::known::KnownAnswers;
 use crate::record::{Record, record_of};
 use gql_ast::{Shared, Text, Tree};
 use gql_facts::{FragmentFact, World};
@@ -96,6 +97,7 @@ pub fn walk_fragment<W: World>(
     alloc: Global,
     world: &mut W,
     fragment: &FragmentFact,
+    known: &mut KnownAnswers,
 ) -> Result<Part, AllocError>
     ensures facts { W.facts world.new ≡ W.facts world.old }
     ensures names { W.names world.new ≡ W.names world.old }
@@ -105,7 +107,7 @@ pub fn walk_fragment<W: World>(
         IsRecord (W.facts world.old) (tree_of fragment.now) part.seen) }
 {
     let tree = Tree::Fragment(fragment.fragment.clone()?);
-    let seen = record_of(alloc, world, &tree)?;
+    let seen = record_of(alloc, world, &tree, known)?;
     let seen = Shared::new(alloc, seen)?;
     let fragment = fragment.copy()?;
     let held = Shared::new(alloc, Held { fragment, seen })?;

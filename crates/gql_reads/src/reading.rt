@@ -12,6 +12,7 @@ ghost use Rattle.gql_reads.specs.Records.{IsRecord, IsTold, Kept};
 ghost use Rattle.gql_reads.specs.Tables.{AllHold, Keeps, entry_at};
 
 use crate::holds::is_named;
+use crate::known::KnownAnswers;
 use crate::part::Part;
 use crate::record::{Record, record_of};
 use crate::retest::{KeptParts, part_for};
@@ -72,6 +73,7 @@ fn add_part<W: World, K: KeptParts>(
     world: &mut W,
     kept: &K,
     table: &mut ReadTable,
+    known: &mut KnownAnswers,
     fragment: &FragmentFact,
 ) -> Result<Part, AllocError>
     requires holds { AllHold (W.facts world.old) table.old }
@@ -84,7 +86,7 @@ fn add_part<W: World, K: KeptParts>(
     ensures keeps { Keeps table.old table.new }
     ensures part { IfOk result (IsPartOf (W.facts world.old) table.new fragment.now) }
 {
-    let part = part_for(alloc, world, kept, fragment)?;
+    let part = part_for(alloc, world, kept, fragment, known)?;
     let entry = part.copy()?;
     let name = fragment.fragment.get().name.text.copy()?;
     table.add(name, entry)?;
@@ -97,6 +99,7 @@ fn part_of<W: World, K: KeptParts>(
     world: &mut W,
     kept: &K,
     table: &mut ReadTable,
+    known: &mut KnownAnswers,
     fragment: &FragmentFact,
 ) -> Result<Part, AllocError>
     requires holds { AllHold (W.facts world.old) table.old }
@@ -111,7 +114,7 @@ fn part_of<W: World, K: KeptParts>(
     if let Some(part) = table.get(&fragment.fragment.get().name.text) {
         return part.copy();
     }
-    let part = add_part(alloc, world, kept, table, fragment)?;
+    let part = add_part(alloc, world, kept, table, known, fragment)?;
     Ok(part)
 }
 
@@ -121,6 +124,7 @@ fn meet<W: World, K: KeptParts>(
     world: &mut W,
     kept: &K,
     table: &mut ReadTable,
+    known: &mut KnownAnswers,
     fragment: &FragmentFact,
     met: &mut Met,
 ) -> Result<(), AllocError>
@@ -141,7 +145,7 @@ fn meet<W: World, K: KeptParts>(
     if met.names.contains(name) {
         return Ok(());
     }
-    let part = part_of(alloc, world, kept, table, fragment)?;
+    let part = part_of(alloc, world, kept, table, known, fragment)?;
     met.names.insert(name.copy()?)?;
     met.parts.push(part)?;
     Ok(())
@@ -153,6 +157,7 @@ fn meet_all<W: World, K: KeptParts>(
     world: &mut W,
     kept: &K,
     table: &mut ReadTable,
+    known: &mut KnownAnswers,
     fragments: &[FragmentFact],
     met: &mut Met,
 ) -> Result<(), AllocError>
@@ -170,7 +175,7 @@ fn meet_all<W: World, K: KeptParts>(
         met.old.parts.items met.new.parts.items) }
 {
     for fragment in fragments {
-        meet(alloc, world, kept, table, fragment, met)?;
+        meet(alloc, world, kept, table, known, fragment, met)?;
     }
     Ok(())
 }
@@ -188,6 +193,7 @@ fn visit<W: World, K: KeptParts>(
     world: &mut W,
     kept: &K,
     table: &mut ReadTable,
+    known: &mut KnownAnswers,
     at: usize,
     met: &mut Met,
 ) -> Result<(), AllocError>
@@ -207,7 +213,7 @@ fn visit<W: World, K: KeptParts>(
         return Ok(());
     };
     let seen = part.seen().clone()?;
-    meet_all(alloc, world, kept, table, seen.get().spreads(), met)?;
+    meet_all(alloc, world, kept, table, known, seen.get().spreads(), met)?;
     Ok(())
 }
 
@@ -217,6 +223,7 @@ fn own_part<W: World, K: KeptParts>(
     world: &mut W,
     kept: &K,
     table: &mut ReadTable,
+    known: &mut KnownAnswers,
     definition: &Definition,
 ) -> Result<Option<Part>, AllocError>
     requires holds { AllHold (W.facts world.old) table.old }
@@ -239,7 +246,7 @@ fn own_part<W: World, K: KeptParts>(
     if !is_named {
         return Ok(None);
     }
-    let part = part_of(alloc, world, kept, table, &fragment)?;
+    let part = part_of(alloc, world, kept, table, known, &fragment)?;
     Ok(Some(part))
 }
 
@@ -249,6 +256,7 @@ fn own_of<W: World, K: KeptParts>(
     world: &mut W,
     kept: &K,
     table: &mut ReadTable,
+    known: &mut KnownAnswers,
     definition: &Definition,
 ) -> Result<OwnReads, AllocError>
     requires holds { AllHold (W.facts world.old) table.old }
@@ -259,7 +267,7 @@ fn own_of<W: World, K: KeptParts>(
     ensures keeps { Keeps table.old table.new }
     ensures own { IfOk result (λ own. IsRecord (W.facts world.old) definition.now.tree own.record) }
 {
-    match own_part(alloc, world, kept, table, definition)? {
+    match own_part(alloc, world, kept, table, known, definition)? {
         Some(part) => {
             let record = part.seen().clone()?;
             Ok(OwnReads {
@@ -268,7 +276,7 @@ fn own_of<W: World, K: KeptParts>(
             })
         }
         None => {
-            let record = record_of(alloc, world, &definition.tree)?;
+            let record = record_of(alloc, world, &definition.tree, known)?;
             let record = Shared::new(alloc, record)?;
             Ok(OwnReads { record, part: None })
         }
@@ -278,12 +286,14 @@ fn own_of<W: World, K: KeptParts>(
 /// What was observed of a definition: a handle of its own record, and a part of each fragment that
 /// it reaches. A fragment that the table has is not walked. Of each other, a part that is kept is
 /// added to the table if what was observed then still holds; else the fragment is walked, once.
-/// Whether it succeeds or an allocation fails, no entry is lost, and all entries hold.
+/// Answers that are known are shared. Whether it succeeds or an allocation fails, no entry is lost,
+/// and all entries hold.
 pub fn reads_of<W: World, K: KeptParts>(
     alloc: Global,
     world: &mut W,
     kept: &K,
     table: &mut ReadTable,
+    known: &mut KnownAnswers,
     definition: &Definition,
 ) -> Result<Reading, AllocError>
     requires holds { AllHold (W.facts world.old) table.old }
@@ -299,7 +309,7 @@ pub fn reads_of<W: World, K: KeptParts>(
         Lists (members_of r.parts.items) (Reaches (W.facts world.old) definition.now)) }
     ensures shared { IfOk result (AreShared table.new) }
 {
-    let own = own_of(alloc, world, kept, table, definition)?;
+    let own = own_of(alloc, world, kept, table, known, definition)?;
     let mut met = Met {
         names: IndexSet::new(alloc),
         parts: Vec::new(alloc),
@@ -309,12 +319,13 @@ pub fn reads_of<W: World, K: KeptParts>(
         world,
         kept,
         table,
+        known,
         own.record.get().spreads(),
         &mut met,
     )?;
     let mut at = 0;
     'walk: while at < met.names.len() {
-        visit(alloc, world, kept, table, at, &mut met)?;
+        visit(alloc, world, kept, table, known, at, &mut met)?;
         at += 1;
     }
     let Met { names: _, parts } = met;

@@ -6,8 +6,9 @@ ghost use Rattle.gql_reads.specs.Closings.{observation_of};
 ghost use Rattle.gql_reads.specs.Records.{IsRecord, IsTold};
 
 use crate::closing::own_answers;
+use crate::known::KnownAnswers;
 use crate::observation::Observation;
-use gql_ast::Tree;
+use gql_ast::{Shared, Tree};
 use gql_facts::{Fact, FragmentFact, Key, World};
 use indexmap::IndexMap;
 use std::alloc::{AllocError, Global};
@@ -15,7 +16,7 @@ use std::marker::Model;
 
 /// The answers to the own reads of a definition or fragment. Contracts see the list of them.
 pub struct Record {
-    observations: Vec<Observation>,
+    observations: Vec<Shared<Observation>>,
     /// The fragments that are among the answers.
     spreads: Vec<FragmentFact>,
 }
@@ -48,8 +49,8 @@ impl Model for Record {
 }
 
 impl Record {
-    /// The answers.
-    pub fn observations(&self) -> &[Observation]
+    /// The answers, each shared with the records that have it, too.
+    pub fn observations(&self) -> &[Shared<Observation>]
         ensures { result.now ≡ self.now }
     {
         self.observations.as_slice()
@@ -73,15 +74,19 @@ fn add_spread(fact: &Fact, spreads: &mut Vec<FragmentFact>) -> Result<(), AllocE
     Ok(())
 }
 
-/// These answers as a record.
-fn record_from(alloc: Global, answers: IndexMap<Key, Fact>) -> Result<Record, AllocError>
+/// These answers as a record. Answers that are known are shared.
+fn record_from(
+    alloc: Global,
+    answers: IndexMap<Key, Fact>,
+    known: &mut KnownAnswers,
+) -> Result<Record, AllocError>
     ensures { IfOk result (λ r. r ≡ map observation_of answers.entries) }
 {
     let mut observations = Vec::with_capacity(alloc, answers.len())?;
     let mut spreads = Vec::new(alloc);
     for (key, fact) in answers {
         add_spread(&fact, &mut spreads)?;
-        observations.push(Observation { key, fact })?;
+        observations.push(known.observation(alloc, key, fact)?)?;
     }
     spreads.shrink_to_fit();
     Ok(Record {
@@ -91,13 +96,19 @@ fn record_from(alloc: Global, answers: IndexMap<Key, Fact>) -> Result<Record, Al
 }
 
 /// What a world answers to exactly the own reads of a definition or fragment. Each is asked once.
-pub fn record_of<W: World>(alloc: Global, world: &mut W, tree: &Tree) -> Result<Record, AllocError>
+/// Answers that are known are shared.
+pub fn record_of<W: World>(
+    alloc: Global,
+    world: &mut W,
+    tree: &Tree,
+    known: &mut KnownAnswers,
+) -> Result<Record, AllocError>
     ensures facts { W.facts world.new ≡ W.facts world.old }
     ensures names { W.names world.new ≡ W.names world.old }
     ensures lent { W.lent world.new ≡ W.lent world.old }
     ensures seen { IfOk result (IsRecord (W.facts world.old) tree.now) }
 {
     let answers = own_answers(alloc, world, tree)?;
-    let seen = record_from(alloc, answers)?;
+    let seen = record_from(alloc, answers, known)?;
     Ok(seen)
 }

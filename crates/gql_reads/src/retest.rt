@@ -6,6 +6,7 @@ ghost use Rattle.gql_reads.specs.Own.{tree_of};
 ghost use Rattle.gql_reads.specs.Records.{IsRecord, Kept};
 
 use crate::holds::observations_hold;
+use crate::known::KnownAnswers;
 use crate::part::{Part, walk_fragment};
 use gql_ast::Same;
 use gql_facts::{FragmentFact, World};
@@ -82,6 +83,7 @@ pub fn part_for<W: World, K: KeptParts>(
     world: &mut W,
     kept: &K,
     fragment: &FragmentFact,
+    known: &mut KnownAnswers,
 ) -> Result<Part, AllocError>
     ensures facts { W.facts world.new ≡ W.facts world.old }
     ensures names { W.names world.new ≡ W.names world.old }
@@ -93,7 +95,7 @@ pub fn part_for<W: World, K: KeptParts>(
     match older_part(alloc, world, kept, fragment)? {
         Some(part) => Ok(part),
         None => {
-            let part = walk_fragment(alloc, world, fragment)?;
+            let part = walk_fragment(alloc, world, fragment, known)?;
             Ok(part)
         }
     }

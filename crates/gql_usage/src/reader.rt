@@ -6,7 +6,7 @@ ghost use Rattle.gql_usage.specs.Readers as spec;
 ghost use Rattle.gql_usage.specs.declared.reader.Reader.{Reader as AReader};
 ghost use Rattle.gql_verdict.specs.Shelves.{readers_of as all_readers};
 
-use gql_ast::{Definition, DefinitionId, FilePlace, FileSide, Text};
+use gql_ast::{Definition, DefinitionId, FilePlace, FileSide, Shared, Text};
 use gql_facts::Key;
 use gql_reads::{Observation, Part, Reading};
 use gql_verdict::{Shelf, Verdict};
@@ -22,12 +22,12 @@ pub struct Reader {
 }
 
 /// Whether one of these observations is of this key.
-fn has_key(observations: &[Observation], key: &Key) -> bool
+fn has_key(observations: &[Shared<Observation>], key: &Key) -> bool
     ensures { result ≡ spec.has_key key.now observations.now }
 {
     observations
         .iter()
-        .any(|observation| observation.key == *key)
+        .any(|observation| observation.get().key == *key)
 }
 
 /// Adds the name of a fragment, if it reads the key by itself.

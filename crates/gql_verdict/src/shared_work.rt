@@ -3,14 +3,15 @@ ghost use Rattle.gql_merge.specs.Clean.{AreClean};
 ghost use Rattle.gql_verdict.specs.SharedWorks.{Holds};
 
 use gql_merge::CleanFragments;
-use gql_reads::ReadTable;
+use gql_reads::{KnownAnswers, ReadTable};
 use std::alloc::Global;
 
-/// What the examinations of one edit share: what was observed of each fragment alone, and which
-/// fragments are known to have no fault by the merging of fields.
+/// What the examinations of one edit share: what was observed of each fragment alone, the answers that
+/// were observed, and which fragments are known to have no fault by the merging of fields.
 #[derive(Drop)]
 pub struct SharedWork {
     pub reads: ReadTable,
+    pub known: KnownAnswers,
     pub clean: CleanFragments,
 }
 
@@ -23,6 +24,7 @@ impl SharedWork {
     {
         SharedWork {
             reads: ReadTable::new(alloc),
+            known: KnownAnswers::new(alloc),
             clean: CleanFragments::new(alloc),
         }
     }

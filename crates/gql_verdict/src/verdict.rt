@@ -154,7 +154,14 @@ pub fn examine<W: World, K: KeptParts>(
     ensures ok { OnOk result (meter.new ≡ meter.old ++ id_of definition.now ∷ []) }
     ensures err { OnErr result (meter.new ≡ meter.old) }
 {
-    let reading = reads_of(alloc, world, kept, &mut shared.reads, definition)?;
+    let reading = reads_of(
+        alloc,
+        world,
+        kept,
+        &mut shared.reads,
+        &mut shared.known,
+        definition,
+    )?;
     let members = reading.members(alloc)?;
     let faults = faults_in(
         alloc,

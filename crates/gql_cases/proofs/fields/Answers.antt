@@ -1,0 +1,5 @@
+use Rattle.gql_cases.proofs.Fields.{flattens}
+use Rattle.gql_cases.proofs.fields.Goals as goal
+
+pub returns : goal.returns
+returns c = flattens

@@ -1,0 +1,5 @@
+use Rattle.gql_cases.proofs.Inputs.{in_cases}
+use Rattle.gql_cases.proofs.inputs.Goals as goal
+
+pub returns : goal.returns
+returns c = in_cases
