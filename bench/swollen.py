@@ -109,11 +109,18 @@ def faulty(count):
         request("POST", "/run", '{"operationName":"Faulty"}')] * count
 
 
+def defaults(count):
+    """A default value of so many empty objects, at an input type of so many required fields."""
+    fields = " ".join("f%x:ID!" % n for n in range(count))
+    return [request("PUT", "/schema/i", "input I { %s } extend type Query { f(a: [I] = [%s]): Int }" % (
+        fields, "{}" * count))]
+
+
 KINDS = {
     "chain": chain, "aliases": aliases, "names": names, "spreads": spreads, "lower": lower,
     "equal": equal, "interfaces": interfaces, "schema_edits": schema_edits,
     "document_edits": document_edits, "moved": moved, "clashing": clashing, "faults": faults,
-    "beside": beside, "faulty": faulty,
+    "beside": beside, "faulty": faulty, "defaults": defaults,
 }
 
 if __name__ == "__main__":

@@ -46,4 +46,5 @@ beside 0
 beside 100
 faulty 0
 faulty 20
+defaults 5000
 KINDS

@@ -9,3 +9,4 @@ pub mod MissingFields
 pub mod Wholes
 pub mod Agreement
 pub mod RequiredFields
+pub mod CleanLists

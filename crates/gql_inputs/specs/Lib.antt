@@ -5,3 +5,4 @@ pub mod Lookups
 pub mod BadValues
 pub mod ExpectedTypes
 pub mod Agreement
+pub mod NothingFound

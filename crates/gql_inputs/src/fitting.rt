@@ -11,6 +11,7 @@ use crate::input_types::InputTypes;
 use crate::misfits::add_misfits;
 use crate::of_schema::OfSchema;
 use crate::repeats::add_repeats;
+use crate::value_fits::value_fits;
 use gql_ast::{Literal, TypeRef};
 use gql_types::Schema;
 use std::alloc::{AllocError, Global};
@@ -52,7 +53,8 @@ pub fn bad_values(
     Ok(found)
 }
 
-/// Whether a value fits a type of a schema.
+/// Whether a value fits a type of a schema. It ends at the first part of a list or an object that
+/// does not.
 pub fn fits(
     alloc: Global,
     schema: &Schema,
@@ -61,6 +63,12 @@ pub fn fits(
 ) -> Result<bool, AllocError>
     ensures { IfOk result (λ b. b ≡ spec.fits schema.now value.now (written of_type.now)) }
 {
-    let found = bad_values(alloc, schema, value, of_type)?;
+    let mut types = OfSchema { schema };
+    let expected = ExpectedType::Placed(of_type);
+    if !value_fits(alloc, value, &mut types, expected)? {
+        return Ok(false);
+    }
+    let mut found = Vec::new(alloc);
+    add_repeats(alloc, value, &mut found)?;
     Ok(found.is_empty())
 }

@@ -18,6 +18,7 @@ mod singles;
 mod steps;
 mod texts;
 mod types;
+mod value_fits;
 mod within;
 
 pub use bad_value::BadValue;

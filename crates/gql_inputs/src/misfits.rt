@@ -72,9 +72,9 @@ fn add_at_one(
     add_bad(Rule::V18, place, of_type.one().text(alloc)?, found)
 }
 
-// Adds what of a list does not fit a type that is not a list.
+/// Adds what of a list does not fit a type that is not a list.
 #[tactic(auto, using(crate::proofs::Inside::within_values_is))]
-fn add_list_at_one<A: InputTypes>(
+pub fn add_list_at_one<A: InputTypes>(
     alloc: Global,
     items: &[Literal],
     place: Place,
@@ -228,9 +228,9 @@ fn add_object<A: InputTypes>(
     }
 }
 
-// Adds what of an object does not fit a scalar.
+/// Adds what of an object does not fit a scalar.
 #[tactic(auto, using(crate::proofs::Inside::within_fields_is))]
-fn add_to_scalar(
+pub fn add_to_scalar(
     alloc: Global,
     fields: &[ObjectField],
     place: Place,

@@ -2,8 +2,10 @@
 //! 5.6.4).
 ghost use Rattle.std.specs.Prelude.{◌≡◌, ◌++◌, ◌&&◌, ◌||◌, ℕ, List, true, map, flat_map, bytes_eq, is_some, IfOk, OnOk};
 ghost use Rattle.std.specs.HashMap as hash;
+ghost use Rattle.gql_text.specs.declared.place.Place.{Place as APlace};
 ghost use Rattle.gql_inputs.specs.BadValues as spec;
 ghost use Rattle.gql_inputs.specs.Lookups.{field_form, fields_in, is_required as is_required_field};
+ghost use Rattle.gql_inputs.specs.NothingFound.{is_clean};
 ghost use Rattle.gql_inputs.specs.Values.{given_field, is_null as is_null_value, value_of};
 
 use crate::bad_value::{BadValue, add_bad};
@@ -117,4 +119,26 @@ pub fn add_missing<T: InputType>(
         add_if_missing(&given, place, &field, found)?;
     }
     Ok(())
+}
+
+/// Whether fields give each required field of an input object, and none of these as `null`.
+pub fn gives_required<T: InputType>(
+    alloc: Global,
+    fields: &[ObjectField],
+    of_type: &T,
+) -> Result<bool, AllocError>
+    ensures { IfOk result (λ gives. (place : APlace) → gives ≡ is_clean
+        (flat_map (spec.missing place (map given_field fields.now))
+        (fields_in (T.form of_type.now)))) }
+{
+    let names = names(alloc, fields)?;
+    let nulls = nulls(alloc, fields)?;
+    let given = Given { names, nulls };
+    for index in 0..of_type.required_count() {
+        let field = of_type.required_at(index);
+        if given.lacks(field.name.as_str()) {
+            return Ok(false);
+        }
+    }
+    Ok(true)
 }
