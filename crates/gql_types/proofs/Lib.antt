@@ -1,4 +1,5 @@
 pub mod Declaring
+pub mod EachOnce
 pub mod Filtering
 pub mod Firsts
 pub mod Groups

@@ -15,6 +15,7 @@ mod roots;
 mod same_name;
 mod schema;
 mod schema_type;
+mod sorted_names;
 mod written_type;
 
 pub use applied::{append_in, argument_of, directive_of, string_of};
@@ -27,4 +28,5 @@ pub use roots::Root;
 pub use same_name::is_same_name;
 pub use schema::{Schema, assemble};
 pub use schema_type::SchemaType;
+pub use sorted_names::in_order;
 pub use written_type::{Wrapper, WrittenType};
