@@ -1,5 +1,5 @@
 -- Names that were sorted and of which each was kept once are the names in their order.
-use Rattle.std.proofs.Common.{◌≡◌, ◌↔◌, ◌⊎◌, inl, inr, ℕ, zero, suc, List, [], ◌∷◌, Bool, true, map, fold, bytes_eq, Contains, refl, sym, ap, ap₂, ◌∙◌, subst, arith}
+use Rattle.std.proofs.Common.{◌≡◌, ◌↔◌, ◌⊎◌, inl, inr, ℕ, List, [], ◌∷◌, Bool, true, map, fold, bytes_eq, Contains, refl, sym, ap, ap₂, ◌∙◌, subst}
 use Rattle.std.specs.Ordering.{is_eq, ordering_reverse}
 use Rattle.std.specs.declared.cmp.Ordering.{Ordering}
 use Rattle.std.specs.declared.cmp.Ordering.TheVariants.{Less, Equal, Greater}
@@ -14,27 +14,8 @@ use Rattle.std.proofs.lemmas.List.Kept.{Any-dedup, Contains-from_dedup, IsStrict
 use Rattle.std.proofs.lemmas.List.Sorted.{Contains-permutation, IsPermutation-sym}
 use Rattle.gql_ast.specs.FileMaps.{name_order}
 use Rattle.gql_types.specs.Possible.{in_order}
+use Rattle.gql_types.proofs.Members.{none, here, there, cases, every, Contains-to_map, Contains-from_map}
 use Rattle.gql_types.proofs.Ordering.{Entries, put}
-
--- ---- members of a list
-
-module _ {A : Type 0} where
-  none : (x : A) → Contains [] x → ⊥
-  none x h = omega (arith, h.1)
-
-  here : (x : A) (xs : List A) → Contains (x ∷ xs) x
-  here x xs = (0, omega arith, refl)
-
-  there : (x y : A) (xs : List A) → Contains xs x → Contains (y ∷ xs) x
-  there x y xs h = (suc h.0, omega (arith, h.1), h.2)
-
-  cases : (x y : A) (xs : List A) → Contains (y ∷ xs) x → (x ≡ y) ⊎ Contains xs x
-  cases x y xs (zero, lt, e) = inl (sym e)
-  cases x y xs (suc k, lt, e) = inr (k, omega arith, e)
-
-  every : (P : A → Type 0) (xs : List A) → AllByRecursion P xs → (x : A) → Contains xs x → P x
-  every P [] all x h = absurd (none x h)
-  every P (y ∷ ys) all x h = elim (cases x y ys h) [ inl e ↦ subst P (sym e) all.0 | inr t ↦ every P ys all.1 x t ]
 
 -- ---- two strictly sorted lists with the same members are one
 
@@ -181,20 +162,6 @@ module _ {A : Type 0} (name : A → List ℕ) where
   sorted_mapped [] sorted = tt
   sorted_mapped (x ∷ xs) sorted = (all_mapped x xs sorted.0, sorted_mapped xs sorted.1)
 
-  to_mapped : (xs : List A) (x : A) → Contains xs x → Contains (map name xs) (name x)
-  to_mapped [] x h = absurd (none x h)
-  to_mapped (y ∷ ys) x h = elim (cases x y ys h) [
-    | inl e ↦ subst (λ z. Contains (name y ∷ map name ys) (name z)) (sym e) (here (name y) (map name ys))
-    | inr t ↦ there (name x) (name y) (map name ys) (to_mapped ys x t)
-  ]
-
-  from_mapped : (xs : List A) (q : List ℕ) → Contains (map name xs) q → (x : A) × Contains xs x × (q ≡ name x)
-  from_mapped [] q h = absurd (none q h)
-  from_mapped (y ∷ ys) q h = elim (cases q (name y) (map name ys) h) [
-    | inl e ↦ (y, here y ys, e)
-    | inr t ↦ let r = from_mapped ys q t in (r.0, there r.0 y ys r.1, r.2)
-  ]
-
   module _ (given sorted left : List A) (moved : IsPermutation given sorted) (is_sorted : IsSorted order sorted)
       (dropped : IsFiltered (DiffersFromLast (λ x y. bytes_eq (name x) (name y))) [] sorted left) where
     abbrev same : A → A → Bool
@@ -208,18 +175,18 @@ module _ {A : Type 0} (name : A → List ℕ) where
 
     to_left : (q : List ℕ) → Contains (map name given) q → Contains (map name left) q
     to_left q h =
-        let r = from_mapped given q h in
+        let r = Contains-from_map name given q h in
         let k : Any (λ y. same r.0 y ≡ true) (dedup same sorted) = Any-dedup (on_equiv name nat_list_eq_equiv) sorted r.0 (Contains-permutation given sorted r.0 moved r.1) in
         found r.0 (r.2) (subst (λ l. Any (λ y. same r.0 y ≡ true) l) (sym is) k)
       where
         found : (x : A) → q ≡ name x → Any (λ y. same x y ≡ true) left → Contains (map name left) q
-        found x e k = subst (λ z. Contains (map name left) z) (sym (e ∙ same_text (name x) (name k.1) (sym k.4))) (to_mapped left k.1 (k.0, k.2, k.3))
+        found x e k = subst (λ z. Contains (map name left) z) (sym (e ∙ same_text (name x) (name k.1) (sym k.4))) (Contains-to_map name left k.1 (k.0, k.2, k.3))
 
     from_left : (q : List ℕ) → Contains (map name left) q → Contains (map name given) q
     from_left q h =
-        let r = from_mapped left q h in
+        let r = Contains-from_map name left q h in
         subst (λ z. Contains (map name given) z) (sym r.2)
-        (to_mapped given r.0 (Contains-permutation sorted given r.0 (IsPermutation-sym given sorted moved) (Contains-from_dedup same sorted r.0 (subst (λ l. Contains l r.0) is r.1))))
+        (Contains-to_map name given r.0 (Contains-permutation sorted given r.0 (IsPermutation-sym given sorted moved) (Contains-from_dedup same sorted r.0 (subst (λ l. Contains l r.0) is r.1))))
 
     pub each_once : map name left ≡ in_order (map name given)
     each_once = one_list (map name left) (in_order (map name given)) (sorted_mapped left ordered) (all_sorted (map name given) [] none_sorted) (λ q. (

@@ -6,8 +6,10 @@ mod by_name;
 mod covariance;
 mod defined_inputs;
 mod definitions;
+mod edited;
 mod first_definitions;
 mod kind;
+pub mod laws;
 mod named;
 mod parts;
 mod possible;
@@ -20,6 +22,7 @@ mod written_type;
 
 pub use applied::{append_in, argument_of, directive_of, string_of};
 pub use defined_inputs::{DefinedInput, DefinedInputs};
+pub use edited::edited_names;
 pub use gql_built_in::Sited;
 pub use kind::TypeKind;
 pub use named::{HasName, Named};
