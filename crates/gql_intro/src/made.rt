@@ -1,7 +1,7 @@
 //! What is made once for a schema (GraphQL specification, 4.2.1).
 ghost use Rattle.std.specs.Prelude.{◌≡◌, ◌++◌, map, filter, IfOk};
 ghost use Rattle.std.specs.Option.{option_copied};
-ghost use Rattle.gql_types.specs.Possible.{entries_of, in_order as in_order_of, name_of};
+ghost use Rattle.gql_types.specs.Possible.{name_of};
 ghost use Rattle.gql_intro.specs.Made as spec;
 ghost use Rattle.gql_intro.specs.MetaFields.{meta_field};
 
@@ -11,9 +11,8 @@ use gql_ast::{
     Definition, Document, FieldDefinition, FileMap, Files, Items, SchemaDefinition, Shared, Text,
     Tree,
 };
-use gql_types::{HasName, Schema, SchemaType};
+use gql_types::{HasName, Schema, SchemaType, in_order};
 use std::alloc::{AllocError, Global};
-use std::collections::BTreeMap;
 
 /// The schema as introspection shows it. It is made once for a schema, and is valid as long as the
 /// schema is.
@@ -72,35 +71,6 @@ fn shown_names(
     Ok(names)
 }
 
-fn ordered(alloc: Global, names: &[&str]) -> Result<BTreeMap<Text, ()>, AllocError>
-    ensures { IfOk result (λ set. set.entries ≡ entries_of (map (λ n. n.now) names.now)) }
-{
-    let mut set = BTreeMap::new(alloc);
-    for name in names {
-        set.insert(Text::from_str(alloc, name)?, ())?;
-    }
-    Ok(set)
-}
-
-fn names_in(alloc: Global, set: &BTreeMap<Text, ()>) -> Result<Items<Text>, AllocError>
-    ensures { IfOk result (λ found. found ≡ map (λ e. e.0) set.now.entries) }
-{
-    let mut found = Items::new(alloc);
-    for (name, _unit) in set.iter() {
-        found.push(name.copy()?)?;
-    }
-    Ok(found)
-}
-
-/// These names, each once, in the order of their bytes.
-fn in_order(alloc: Global, names: &[&str]) -> Result<Items<Text>, AllocError>
-    ensures { IfOk result (λ found. found ≡ in_order_of (map (λ n. n.now) names.now)) }
-{
-    let set = ordered(alloc, names)?;
-    let found = names_in(alloc, &set)?;
-    Ok(found)
-}
-
 /// The names of the types that introspection shows, in the order of their bytes.
 fn shown_types(
     alloc: Global,
@@ -111,7 +81,7 @@ fn shown_types(
     ensures { IfOk result (λ names. names ≡ spec.shown_types schema.now has_int has_id) }
 {
     let names = shown_names(alloc, schema.types(), has_int, has_id)?;
-    let types = in_order(alloc, names.as_slice())?;
+    let types = in_order(alloc, names)?;
     Ok(types)
 }
 

@@ -1,7 +1,10 @@
 pub mod Declaring
+pub mod EachOnce
 pub mod Filtering
 pub mod Firsts
 pub mod Groups
+pub mod Members
 pub mod Ordering
+pub mod OtherTypes
 pub mod Places
 pub mod Wrapping

@@ -2,6 +2,7 @@ pub mod Applied
 pub mod Covariance
 pub mod Declarations
 pub mod Definitions
+pub mod Edits
 pub mod Held
 pub mod Kinds
 pub mod Parts

@@ -6,7 +6,7 @@ ghost use Rattle.std.specs.List.{position_from};
 ghost use Rattle.std.specs.HashMap as hash;
 
 use crate::same_name::is_same_name;
-use gql_ast::{Boxed, Text};
+use gql_ast::{Boxed, Shared, Text};
 use std::alloc::{AllocError, Global};
 use std::collections::HashMap;
 use std::marker::Model;
@@ -25,6 +25,14 @@ impl HasName for Text {
 
     fn name(&self) -> &str {
         self.as_str()
+    }
+}
+
+impl<T: HasName> HasName for Shared<T> {
+    ghost name = { T.name };
+
+    fn name(&self) -> &str {
+        self.get().name()
     }
 }
 

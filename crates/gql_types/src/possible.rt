@@ -10,10 +10,10 @@ use crate::by_name::{ByName, by_name};
 use crate::kind::TypeKind;
 use crate::named::HasName;
 use crate::schema_type::SchemaType;
+use crate::sorted_names::in_order;
 use gql_ast::{Items, Name, Text};
 use gql_built_in::Sited;
 use std::alloc::{AllocError, Global};
-use std::collections::BTreeMap;
 
 /// A composite type and the objects that its values may be, each once, in the order of the bytes of
 /// their names.
@@ -98,34 +98,6 @@ fn declarations(alloc: Global, types: &[SchemaType]) -> Result<Vec<Declaration<'
     Ok(found)
 }
 
-fn ordered(alloc: Global, names: &[&str]) -> Result<BTreeMap<Text, ()>, AllocError>
-    ensures { IfOk result (λ set. set.entries ≡ spec.entries_of (map (λ n. n.now) names.now)) }
-{
-    let mut set = BTreeMap::new(alloc);
-    for name in names {
-        set.insert(Text::from_str(alloc, name)?, ())?;
-    }
-    Ok(set)
-}
-
-fn names_in(alloc: Global, set: &BTreeMap<Text, ()>) -> Result<Items<Text>, AllocError>
-    ensures { IfOk result (λ found. found ≡ map (λ e. e.0) set.now.entries) }
-{
-    let mut found = Items::from_vec(Vec::with_capacity(alloc, set.len())?);
-    for (name, _unit) in set.iter() {
-        found.push(name.copy()?)?;
-    }
-    Ok(found)
-}
-
-fn in_order(alloc: Global, names: &[&str]) -> Result<Items<Text>, AllocError>
-    ensures { IfOk result (λ found. found ≡ spec.in_order (map (λ n. n.now) names.now)) }
-{
-    let set = ordered(alloc, names)?;
-    let found = names_in(alloc, &set)?;
-    Ok(found)
-}
-
 fn objects_in<'t>(alloc: Global, group: &[&Declaration<'t>]) -> Result<Vec<&'t str>, AllocError>
     ensures { IfOk result (λ names.
         map (λ n. n.now) names.items ≡ map (λ d. d.object.now) (map (λ x. x.now) group.now)) }
@@ -150,7 +122,7 @@ fn of_interface(
     match declaring.get(name) {
         Some(group) => {
             let names = objects_in(alloc, group.as_slice())?;
-            in_order(alloc, names.as_slice())
+            in_order(alloc, names)
         }
         None => Ok(Items::new(alloc)),
     }
@@ -163,7 +135,7 @@ fn of_union(alloc: Global, members: &[Sited<Name>]) -> Result<Items<Text>, Alloc
     for member in members {
         names.push(member.node.as_str())?;
     }
-    in_order(alloc, names.as_slice())
+    in_order(alloc, names)
 }
 
 fn itself(alloc: Global, name: &Text) -> Result<Items<Text>, AllocError>
