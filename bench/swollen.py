@@ -112,8 +112,50 @@ def faulty(count):
 def defaults(count):
     """A default value of so many empty objects, at an input type of so many required fields."""
     fields = " ".join("f%x:ID!" % n for n in range(count))
-    return [request("PUT", "/schema/i", "input I { %s } extend type Query { f(a: [I] = [%s]): Int }" % (
-        fields, "{}" * count))]
+    field = "f(a: [I] = [%s]): Int" % ("{}" * count)
+    return [request(
+        "PUT", "/schema/i", "input I { %s } extend type Query { %s }" % (fields, field))]
+
+
+def extended(fields):
+    return request("PUT", "/schema/x", "extend type Query { %s }" % fields)
+
+
+def variables(count):
+    """A run of so many fields, the argument of each of which is a variable of 131,000 integers."""
+    fields = " ".join("a%d:f(a:$v)" % n for n in range(count))
+    return [
+        extended("f(a: [Int]): Int"), request("PUT", "/data", '{"query":{"f":1}}'),
+        document("d", "query Q($v: [Int]) { %s }" % fields),
+        request("POST", "/run", '{"operationName":"Q","variables":{"v":[%s]}}' % (
+            ",".join(["1"] * 131000)))]
+
+
+def filters(count):
+    """A run of so many fields, each of which filters a list of 32,000 objects by an argument."""
+    fields = " ".join("a%x:f(a:2)" % n for n in range(count))
+    return [
+        extended("f(a: Int): Y"), request("PUT", "/schema/y", "scalar Y"),
+        request("PUT", "/data", '{"query":{"f":[%s]}}' % ",".join(['{"a":1}'] * 32000)),
+        document("d", "query Q { %s }" % fields), request("POST", "/run", '{"operationName":"Q"}')]
+
+
+def inputs(count):
+    """So many operations of a field that has an argument of each of 1,000 input types."""
+    types = "".join("input I%d { a: Int }" % n for n in range(1000))
+    arguments = " ".join("a%d: I%d" % (n, n) for n in range(1000))
+    return [
+        request("PUT", "/schema/i", types), extended("f(%s): Int" % arguments),
+        document("d", "".join("query O%d { f }" % n for n in range(count)))]
+
+
+def input_chain(count):
+    """So many operations of a field with an argument that leads to 1,000 input types, one through
+    the other."""
+    types = "".join("input I%d { a: I%d }" % (n, n + 1) for n in range(999))
+    return [
+        request("PUT", "/schema/i", types + "input I999 { a: Int }"), extended("f(a: I0): Int"),
+        document("d", "".join("query O%d { f }" % n for n in range(count)))]
 
 
 KINDS = {
@@ -121,6 +163,7 @@ KINDS = {
     "equal": equal, "interfaces": interfaces, "schema_edits": schema_edits,
     "document_edits": document_edits, "moved": moved, "clashing": clashing, "faults": faults,
     "beside": beside, "faulty": faulty, "defaults": defaults,
+    "variables": variables, "filters": filters, "inputs": inputs, "input_chain": input_chain,
 }
 
 if __name__ == "__main__":

@@ -47,4 +47,8 @@ beside 100
 faulty 0
 faulty 20
 defaults 5000
+variables 400
+filters 1000
+inputs 500
+input_chain 500
 KINDS

@@ -1,6 +1,6 @@
 //! Copies of values. The lists and objects around the part that is being copied are on a stack of
 //! its own, so that only memory limits how deep they nest.
-ghost use Rattle.std.specs.Prelude.{◌≡◌, ◌++◌, IfOk};
+ghost use Rattle.std.specs.Prelude.{◌≡◌, ◌++◌, IfOk, IfSome};
 ghost use Rattle.serde_json.specs.Data.{array, object};
 ghost use Rattle.serde_json.specs.View.{view, items_view, members_view};
 ghost use Rattle.gql_coerce.specs.Copies.{frame_with, put_each, copied_by};
@@ -29,14 +29,35 @@ pub enum CopyStep<'v> {
     Copied(CoercedValue),
 }
 
-// The next item of a list, or the whole list.
-fn next_item<'v>(items: &'v [Value], copies: CoercedItems) -> CopyStep<'v>
-    ensures { array (items_view (copies ++ items.now)) ≡ copied_by result }
+// A copy of a value that is neither a list nor an object.
+fn leaf_copy(value: &Value) -> Result<Option<Value>, AllocError>
+    ensures { IfOk result (λ leaf. IfSome leaf (λ copy. view copy ≡ view value.now)) }
 {
-    match items.split_first() {
-        Some((item, rest)) => CopyStep::Within(CopyFrame::Items(rest, copies), item),
-        None => CopyStep::Copied(copies.into_value()),
+    Ok(match value {
+        Value::Null => Some(Value::Null),
+        Value::Bool(truth) => Some(Value::Bool(*truth)),
+        Value::Number(number) => Some(Value::Number(*number)),
+        Value::String(text) => Some(Value::String(text.clone()?)),
+        Value::Array(_) => None,
+        Value::Object(_) => None,
+    })
+}
+
+// The next list or object among the items of a list, with copies of the items before it; or the
+// whole list.
+fn next_item<'v>(items: &'v [Value], copies: CoercedItems) -> Result<CopyStep<'v>, AllocError>
+    ensures { IfOk result (λ step. array (items_view (copies ++ items.now)) ≡ copied_by step) }
+{
+    let mut copies = copies;
+    let mut rest = items;
+    while let Some((item, after)) = rest.split_first() {
+        let Some(leaf) = leaf_copy(item)? else {
+            return Ok(CopyStep::Within(CopyFrame::Items(after, copies), item));
+        };
+        copies.push(CoercedValue::new(leaf))?;
+        rest = after;
     }
+    Ok(CopyStep::Copied(copies.into_value()))
 }
 
 // The next member of an object, or the whole object.
@@ -61,7 +82,7 @@ fn enter<'v>(alloc: Global, value: &'v Value) -> Result<CopyStep<'v>, AllocError
         Value::Bool(truth) => Value::Bool(*truth),
         Value::Number(number) => Value::Number(*number),
         Value::String(text) => Value::String(text.clone()?),
-        Value::Array(items) => return Ok(next_item(items.as_slice(), CoercedItems::new(alloc))),
+        Value::Array(items) => return next_item(items.as_slice(), CoercedItems::new(alloc)),
         Value::Object(members) => {
             return Ok(next_member(members.iter(), CoercedMembers::new(alloc)));
         }
@@ -77,7 +98,7 @@ fn resume<'v>(frame: CopyFrame<'v>, copy: CoercedValue) -> Result<CopyStep<'v>, 
         CopyFrame::Items(rest, copies) => {
             let mut copies = copies;
             copies.push(copy)?;
-            Ok(next_item(rest, copies))
+            next_item(rest, copies)
         }
         CopyFrame::Members(name, rest, copies) => {
             let mut copies = copies;
