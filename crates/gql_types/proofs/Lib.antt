@@ -1,5 +1,6 @@
 pub mod Declaring
 pub mod EachOnce
+pub mod EditedTypes
 pub mod Filtering
 pub mod Firsts
 pub mod Groups

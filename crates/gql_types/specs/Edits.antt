@@ -35,10 +35,18 @@ type_names (Some document) = names_in document.definitions
 abbrev pub edited_names : Option Document → Option Document → List (List ℕ)
 edited_names before after = type_names before ++ type_names after
 
+-- if its name is not among these, the type is that of its name before the edit
+abbrev pub KeepsType : List (List ℕ) → Schema → SchemaType → Type 0
+KeepsType names before t = is_some (find (bytes_eq (name_of t)) names) ≡ false
+    → type_named before (name_of t) ≡ Some t
+
+-- each of these types whose name is not among the names is the type of its name before the edit
+abbrev pub KeepsTypes : List (List ℕ) → Schema → List SchemaType → Type 0
+KeepsTypes names before types = (t : SchemaType) → Contains types t → KeepsType names before t
+
 -- each type after an edit whose name is not among these is the type of its name before the edit
 abbrev pub KeepsOthers : List (List ℕ) → Schema → Schema → Type 0
-KeepsOthers names before after = (t : SchemaType) → Contains after.types t
-    → is_some (find (bytes_eq (name_of t)) names) ≡ false → type_named before (name_of t) ≡ Some t
+KeepsOthers names before after = KeepsTypes names before after.types
 
 -- the files with this schema file, in place of any of its name
 abbrev pub with_schema : Files → List ℕ → Document → Files

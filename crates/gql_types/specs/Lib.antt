@@ -3,6 +3,7 @@ pub mod Covariance
 pub mod Declarations
 pub mod Definitions
 pub mod Edits
+pub mod EditedTypes
 pub mod Held
 pub mod Kinds
 pub mod Parts

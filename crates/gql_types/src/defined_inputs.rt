@@ -69,6 +69,16 @@ impl<T: DefinedInput + Drop> DefinedInputs<T> {
         let all = Named::new(alloc, inputs)?;
         Ok(DefinedInputs { all, required })
     }
+
+    /// The same inputs, which both share.
+    pub fn copy(&self) -> Result<DefinedInputs<T>, AllocError>
+        ensures { IfOk result (λ copy. copy ≡ self.now) }
+    {
+        Ok(DefinedInputs {
+            all: self.all.copy()?,
+            required: self.required.clone()?,
+        })
+    }
 }
 
 impl<T: DefinedInput> DefinedInputs<T> {

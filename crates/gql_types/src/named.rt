@@ -1,14 +1,11 @@
 //! Things that have names, with a look-up of the first of a name.
 
-ghost use Rattle.std.specs.Prelude.{◌≡◌, ℕ, List, IfOk, find, bytes_eq, string_bytes, slice_get, option_and_then};
+ghost use Rattle.std.specs.Prelude.{◌≡◌, ℕ, List, [], IfOk, find, bytes_eq};
 ghost use Rattle.std.specs.Option.{option_copied};
-ghost use Rattle.std.specs.List.{position_from};
-ghost use Rattle.std.specs.HashMap as hash;
 
-use crate::same_name::is_same_name;
-use gql_ast::{Boxed, Shared, Text};
+use crate::named_list::NamedList;
+use gql_ast::{Shared, Text};
 use std::alloc::{AllocError, Global};
-use std::collections::HashMap;
 use std::marker::Model;
 
 /// Something that has a name.
@@ -36,87 +33,29 @@ impl<T: HasName> HasName for Shared<T> {
     }
 }
 
-/// How many things are compared one by one at most. Of more, a map keeps where each name is.
-const FEW: usize = 16;
-
 /// Things in their order, with a look-up of the first of a name. Contracts see the list of the
-/// things.
+/// things. A copy shares them.
 pub struct Named<T: HasName> {
-    things: Vec<T>,
-    /// Where the first of each name is; none for few things.
-    first: Option<Boxed<HashMap<String, usize>>>,
+    /// The things; none if there are none.
+    list: Option<Shared<NamedList<T>>>,
 }
 
 impl<T: HasName + Drop> Drop for Named<T> {
     fn drop(self) {
-        let Named {
-            things: _,
-            first: _,
-        } = self;
+        let Named { list: _ } = self;
     }
 }
 
 impl<T: HasName> Model for Named<T> {
-    ghost use Rattle.std.specs.Prelude.{◌≡◌, ℕ, List, IfSome, find, bytes_eq, string_bytes, slice_get, option_and_then};
+    ghost use Rattle.std.specs.Prelude.{List, []};
+    ghost use Rattle.std.specs.Option.{unwrap_or};
     ghost use Rattle.std.specs.Coded.{coded_list};
-    ghost use Rattle.std.specs.HashMap as hash;
 
     ghost Value = { List T };
 
     ghost coded = { coded_list T.code };
 
-    ghost view = { λ n. n.things.items };
-
-    ghost invariant = { λ n. (q : List ℕ) → IfSome n.first
-        (λ first. option_and_then (λ i. slice_get n.things.items i) (hash.get_by_text first q)
-        ≡ find (λ x. bytes_eq q (T.name x)) n.things.items) };
-}
-
-/// The index of the first of each name.
-fn first_places<T: HasName>(
-    alloc: Global,
-    things: &[T],
-) -> Result<HashMap<String, usize>, AllocError>
-    ensures { IfOk result (λ first. (q : List ℕ) → hash.get_by_text first q
-        ≡ position_from (λ x. bytes_eq q (T.name x)) 0 things.now) }
-{
-    let mut first = HashMap::with_capacity(alloc, things.len())?;
-    let mut place = things.len();
-    'things: while place > 0 {
-        place -= 1;
-        first.insert(String::from_str(alloc, things[place].name())?, place)?;
-    }
-    Ok(first)
-}
-
-/// The first of that name, each compared.
-fn first_named<'a, T: HasName>(things: &'a [T], name: &str) -> Option<&'a T>
-    ensures { option_copied result ≡ find (λ x. bytes_eq name.now (T.name x)) things.now }
-{
-    for thing in things {
-        if is_same_name(name, thing.name()) {
-            return Some(thing);
-        }
-    }
-    None
-}
-
-/// The thing at a place.
-fn thing_at<T>(things: &[T], place: usize) -> Option<&T>
-    ensures { option_copied result ≡ slice_get things.now place }
-{
-    things.get(place)
-}
-
-/// The first of that name, by the map of places.
-fn thing_in_map<'a, T>(first: &HashMap<String, usize>, things: &'a [T], name: &str) -> Option<&'a T>
-    ensures { option_copied result
-        ≡ option_and_then (λ i. slice_get things.now i) (hash.get_by_text first.now name.now) }
-{
-    match first.get(name) {
-        Some(place) => thing_at(things, *place),
-        None => None,
-    }
+    ghost view = { λ n. unwrap_or n.list [] };
 }
 
 impl<T: HasName + Drop> Named<T> {
@@ -124,18 +63,25 @@ impl<T: HasName + Drop> Named<T> {
     pub fn new(alloc: Global, things: Vec<T>) -> Result<Named<T>, AllocError>
         ensures { IfOk result (λ named. named ≡ things.items) }
     {
-        if things.len() <= FEW {
-            return Ok(Named {
-                things,
-                first: None,
-            });
+        if things.is_empty() {
+            return Ok(Named { list: None });
         }
-        let places = first_places(alloc, things.as_slice())?;
-        let first = Boxed::new(alloc, places)?;
-        Ok(Named {
-            things,
-            first: Some(first),
-        })
+        let list = NamedList::new(alloc, things)?;
+        let list = Shared::new(alloc, list)?;
+        Ok(Named { list: Some(list) })
+    }
+
+    /// The same things, which both share.
+    pub fn copy(&self) -> Result<Named<T>, AllocError>
+        ensures { IfOk result (λ copy. copy ≡ self.now) }
+    {
+        match &self.list {
+            Some(list) => {
+                let list = list.clone()?;
+                Ok(Named { list: Some(list) })
+            }
+            None => Ok(Named { list: None }),
+        }
     }
 }
 
@@ -144,16 +90,19 @@ impl<T: HasName> Named<T> {
     pub fn as_slice(&self) -> &[T]
         ensures { result.now ≡ self.now }
     {
-        self.things.as_slice()
+        match &self.list {
+            Some(list) => list.get().as_slice(),
+            None => &[],
+        }
     }
 
     /// The first of that name.
     pub fn get(&self, name: &str) -> Option<&T>
         ensures { option_copied result ≡ find (λ x. bytes_eq name.now (T.name x)) self.now }
     {
-        match &self.first {
-            Some(first) => thing_in_map(first.get(), self.things.as_slice(), name),
-            None => first_named(self.things.as_slice(), name),
+        match &self.list {
+            Some(list) => list.get().get(name),
+            None => None,
         }
     }
 }

@@ -1,6 +1,7 @@
 //! The schema of all schema files (GraphQL specification, 3.3).
 ghost use Rattle.std.specs.Prelude.{◌≡◌, IfOk};
 ghost use Rattle.std.specs.Option.{option_copied};
+ghost use Rattle.gql_types.specs.Edits.{KeepsOthers, KeepsTypes};
 ghost use Rattle.gql_types.specs.Schemas as spec;
 
 use crate::applied::append_in;
@@ -9,6 +10,7 @@ use crate::definitions::{
     definitions, directive_definitions, schema_definitions, schema_extensions, type_definitions,
     type_extensions,
 };
+use crate::edited_types::types_after_edit;
 use crate::kind::{TypeKind, is_operation};
 use crate::named::{HasName, Named};
 use crate::possible::{PossibleTypes, all_possible};
@@ -59,6 +61,25 @@ fn types(alloc: Global, definitions: &[Sited<Tree>]) -> Result<Named<SchemaType>
     )
 }
 
+/// The types of these definitions after an edit, by the schema before it.
+fn types_after(
+    alloc: Global,
+    definitions: &[Sited<Tree>],
+    before: &Schema,
+    edited: &Named<Text>,
+) -> Result<Named<SchemaType>, AllocError>
+    ensures { IfOk result (λ types.
+        KeepsTypes edited.now before.now (spec.types_in definitions.now)
+        → types ≡ spec.types_in definitions.now) }
+{
+    let extensions = type_extensions(alloc, definitions)?;
+    let definitions = type_definitions(alloc, definitions)?;
+    let extensions = extensions.as_slice();
+    let types = types_after_edit(alloc, definitions.as_slice(), extensions, before, edited)?;
+    let types = Named::new(alloc, types)?;
+    Ok(types)
+}
+
 fn roots(
     alloc: Global,
     definitions: &[Sited<Tree>],
@@ -71,6 +92,26 @@ fn roots(
     roots_of(alloc, types, schemas.as_slice(), extensions.as_slice())
 }
 
+/// The schema of these definitions, with these types.
+fn schema_with(
+    alloc: Global,
+    definitions: &[Sited<Tree>],
+    types: Named<SchemaType>,
+) -> Result<Schema, AllocError>
+    ensures { IfOk result (λ schema. types ≡ spec.types_in definitions.now
+        → schema ≡ spec.schema_in definitions.now) }
+{
+    let roots = roots(alloc, definitions, &types)?;
+    let directives = Named::new(alloc, directive_definitions(alloc, definitions)?)?;
+    let possible = Named::new(alloc, all_possible(alloc, types.as_slice())?)?;
+    Ok(Schema {
+        types,
+        directives,
+        roots,
+        possible,
+    })
+}
+
 /// The schema of all schema files, with the built-in definitions. The first definition of a name
 /// counts, with the extensions of its kind in their order. Built-in definitions come before the
 /// files, and these come in the order of their names.
@@ -79,15 +120,25 @@ pub fn assemble(alloc: Global, files: &Files) -> Result<Schema, AllocError>
 {
     let definitions = definitions(alloc, files)?;
     let types = types(alloc, definitions.as_slice())?;
-    let roots = roots(alloc, definitions.as_slice(), &types)?;
-    let directives = Named::new(alloc, directive_definitions(alloc, definitions.as_slice())?)?;
-    let possible = Named::new(alloc, all_possible(alloc, types.as_slice())?)?;
-    Ok(Schema {
-        types,
-        directives,
-        roots,
-        possible,
-    })
+    let schema = schema_with(alloc, definitions.as_slice(), types)?;
+    Ok(schema)
+}
+
+/// The schema of all schema files after an edit, by the schema before it. The edit changed types of
+/// these names alone. The others share their parts with the types before.
+pub fn assemble_after_edit(
+    alloc: Global,
+    files: &Files,
+    before: &Schema,
+    edited: &Named<Text>,
+) -> Result<Schema, AllocError>
+    requires { KeepsOthers edited.now before.now (spec.schema_of files.now) }
+    ensures { IfOk result (λ schema. schema ≡ spec.schema_of files.now) }
+{
+    let definitions = definitions(alloc, files)?;
+    let types = types_after(alloc, definitions.as_slice(), before, edited)?;
+    let schema = schema_with(alloc, definitions.as_slice(), types)?;
+    Ok(schema)
 }
 
 impl Schema {

@@ -176,7 +176,8 @@ fn assembled(
     })
 }
 
-fn with_extensions(
+/// The type of a definition, with the extensions of its name and kind.
+pub(crate) fn with_extensions(
     alloc: Global,
     definition: &Sited<Shared<TypeDefinition>>,
     extensions: &ByName<'_, Sited<Shared<TypeExtension>>>,

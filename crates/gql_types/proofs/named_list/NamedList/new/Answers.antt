@@ -2,7 +2,7 @@ use Rattle.std.proofs.Common.{◌∙◌, ap, bytes_eq, option_and_then, slice_ge
 use Rattle.std.specs.HashMap.{get_by_text}
 use Rattle.std.specs.List.{position_from}
 use Rattle.gql_types.proofs.Places.{found_there}
-use Rattle.gql_types.proofs.named.Named.new.Goals as goal
+use Rattle.gql_types.proofs.named_list.NamedList.new.Goals as goal
 
 pub invariant_of-result-2 : goal.invariant_of-result-2
 invariant_of-result-2 g c = λ q. ap (λ m. option_and_then (λ i. slice_get c.args.things.items i) (get_by_text m q)) c.in_ok-first.ensures

@@ -1,7 +1,7 @@
 use Rattle.std.proofs.Common.{◌≡◌, ◌≤◌, ℕ, List, bytes_eq, drop, length}
 use Rattle.std.specs.HashMap as hash
 use Rattle.std.specs.List.{position_from}
-use Rattle.gql_types.proofs.named.first_places.Given as goal
+use Rattle.gql_types.proofs.named_list.first_places.Given as goal
 
 abbrev pub invariant-things : goal.invariant-things
 invariant-things g l = (l.place ≤ length l.things) × ((q : List ℕ) → hash.get_by_text l.first q

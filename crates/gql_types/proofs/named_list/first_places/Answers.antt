@@ -1,7 +1,7 @@
 use Rattle.std.proofs.Common.{arith, bytes_eq}
 use Rattle.std.proofs.lemmas.Map.Text.{text_keys}
 use Rattle.gql_types.proofs.Places.{place_before}
-use Rattle.gql_types.proofs.named.first_places.Goals as goal
+use Rattle.gql_types.proofs.named_list.first_places.Goals as goal
 
 pub things-preserved : goal.things-preserved
 things-preserved g c = (
