@@ -1,3 +1,3 @@
-pub mod Inputs
-pub mod Misfits
-pub mod Fields
+pub mod OfFields
+pub mod OfInputs
+pub mod OfMisfits

@@ -100,31 +100,31 @@ mutual
         → Becomes s e (object fs) (as_object e o)
 
   -- the items of a list from an index on: all values, or the first refusal
-  pub data ItemsBecome (s : Schema) (i : Option Written)
-      : ℕ → List Input → Outcome (List Data) → Type 0 where
-    no_items : {n : ℕ} → ItemsBecome s i n [] (value [])
-    all_items : {n : ℕ} {x : Input} {xs : List Input} {d : Data} {ds : List Data}
+  pub data ItemsBecome (s : Schema)
+      : Option Written → ℕ → List Input → Outcome (List Data) → Type 0 where
+    no_items : {i : Option Written} {n : ℕ} → ItemsBecome s i n [] (value [])
+    all_items : {i : Option Written} {n : ℕ} {x : Input} {xs : List Input} {d : Data} {ds : List Data}
         → ItemBecomes s i x (value d) → ItemsBecome s i (suc n) xs (value ds)
         → ItemsBecome s i n (x ∷ xs) (value (d ∷ ds))
-    item_refused : {n : ℕ} {x : Input} {xs : List Input} {r : Reason} {path : List Segment}
+    item_refused : {i : Option Written} {n : ℕ} {x : Input} {xs : List Input} {r : Reason} {path : List Segment}
         → ItemBecomes s i x (refused r path)
         → ItemsBecome s i n (x ∷ xs) (refused r (segment.Index n ∷ path))
-    later_item_refused : {n : ℕ} {x : Input} {xs : List Input} {d : Data} {r : Reason}
+    later_item_refused : {i : Option Written} {n : ℕ} {x : Input} {xs : List Input} {d : Data} {r : Reason}
         {path : List Segment} → ItemBecomes s i x (value d)
         → ItemsBecome s i (suc n) xs (refused r path)
         → ItemsBecome s i n (x ∷ xs) (refused r path)
 
   -- an item of a list; no list of one is made of it
-  pub data ItemBecomes (s : Schema) (i : Option Written) : Input → Outcome Data → Type 0 where
-    not_listed : {x : Input} → (is_list_expected i && not (may_be_list x)) ≡ true
+  pub data ItemBecomes (s : Schema) : Option Written → Input → Outcome Data → Type 0 where
+    not_listed : {i : Option Written} {x : Input} → (is_list_expected i && not (may_be_list x)) ≡ true
         → ItemBecomes s i x (refused reason.WrongKind [])
-    item_taken : {x : Input} {d : Data} → (is_list_expected i && not (may_be_list x)) ≡ false
+    item_taken : {i : Option Written} {x : Input} {d : Data} → (is_list_expected i && not (may_be_list x)) ≡ false
         → Becomes s i x (value (Some d)) → ItemBecomes s i x (value d)
     -- a variable without a value is null
-    item_without_value : {x : Input} {o : Outcome Data}
+    item_without_value : {i : Option Written} {x : Input} {o : Outcome Data}
         → (is_list_expected i && not (may_be_list x)) ≡ false
         → Becomes s i x (value None) → NullComes i o → ItemBecomes s i x o
-    refused_item : {x : Input} {r : Reason} {path : List Segment}
+    refused_item : {i : Option Written} {x : Input} {r : Reason} {path : List Segment}
         → (is_list_expected i && not (may_be_list x)) ≡ false
         → Becomes s i x (refused r path) → ItemBecomes s i x (refused r path)
 

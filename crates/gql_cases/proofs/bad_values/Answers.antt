@@ -1,4 +1,4 @@
-use Rattle.gql_cases.proofs.Misfits.{in_cases}
+use Rattle.gql_cases.proofs.OfMisfits.{in_cases}
 use Rattle.gql_cases.proofs.bad_values.Goals as goal
 
 pub returns : goal.returns

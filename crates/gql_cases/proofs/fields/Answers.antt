@@ -1,4 +1,4 @@
-use Rattle.gql_cases.proofs.Fields.{flattens}
+use Rattle.gql_cases.proofs.OfFields.{flattens}
 use Rattle.gql_cases.proofs.fields.Goals as goal
 
 pub returns : goal.returns

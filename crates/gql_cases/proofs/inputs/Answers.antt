@@ -1,4 +1,4 @@
-use Rattle.gql_cases.proofs.Inputs.{in_cases}
+use Rattle.gql_cases.proofs.OfInputs.{in_cases}
 use Rattle.gql_cases.proofs.inputs.Goals as goal
 
 pub returns : goal.returns

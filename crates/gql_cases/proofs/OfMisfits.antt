@@ -20,7 +20,7 @@ use Rattle.gql_cases.specs.Misfits.{v18, all_values, IsSingle, MisfitsWithin, Is
 -- ---- lists and choices
 
 one : {A : Type 0} (v b : A) → Contains (v ∷ []) b → v ≡ b
-one v b h = elim (Contains-cases b v [] h) [ | inl is ↦ sym is | inr none ↦ absurd (Contains-nil b none) ]
+one v b h = elim (Contains-cases b v [] h) [ inl is ↦ sym is | inr none ↦ absurd (Contains-nil b none) ]
 
 pick_true : {A : Type 0} (c : Bool) (x y : A) → c ≡ true → (if c then x else y) ≡ x
 pick_true c x y is = ap (λ d. if d then x else y) is
@@ -35,7 +35,7 @@ in_false : (c : Bool) (xs ys : List BadValue) (b : BadValue) → c ≡ false →
 in_false c xs ys b is h = subst (λ zs. Contains zs b) (sym (pick_false c xs ys is)) h
 
 not_both : (c : Bool) → c ≡ true → c ≡ false → ⊥
-not_both c yes no = true≢false (sym yes ∙ no)
+not_both c is_true is_false = true≢false (sym is_true ∙ is_false)
 
 -- an item, or a field, of a list or an object of which something is found
 in_values : (f : Value → List BadValue) (g : Values → List BadValue) → g no_values ≡ [] → ((x : Value) (xs : Values) → g (value x xs) ≡ f x ++ g xs) → (xs : Values) (x : Value) (b : BadValue)
@@ -140,7 +140,7 @@ missing_by false t n is = absurd (true≢false (sym is))
 
 by_missing : (r t n : Bool) → r ≡ true → (t ≡ false) ⊎ (n ≡ true) → (r && lacks t n) ≡ true
 by_missing true true true is so = refl
-by_missing true true false is so = elim so [ | inl no ↦ absurd (true≢false no) | inr yes ↦ absurd (true≢false (sym yes)) ]
+by_missing true true false is so = elim so [ inl lost ↦ absurd (true≢false lost) | inr nulled ↦ absurd (true≢false (sym nulled)) ]
 by_missing true false n is so = refl
 by_missing false t n is so = absurd (true≢false (sym is))
 
@@ -189,33 +189,34 @@ module _ (look : InputLookup) where
     misfits_found t (string p) b h = single_found t (string p) b cases.a_string h
     misfits_found t (boolean p) b h = single_found t (boolean p) b cases.a_boolean h
     misfits_found t (enum p n) b h = single_found t (enum p n) b cases.an_enum h
-    misfits_found t (list p xs) b h = by (item_of t) refl h where
+    misfits_found t (list p xs) b h = by (λ item so. items_found item xs b so) (item_of t) refl h where
       at_one_or : (i : InputForm) → item_of t ≡ None → look (name_in t) ≡ Some i → (c : Bool) → is_custom_form i ≡ c → Contains (if c then within_values (name_in t) xs else at_one p t) b → Misfits look t (list p xs) b
       at_one_or i no_item known true custom so = let r = within_values_found (name_in t) xs b so in cases.in_custom_list no_item known custom (cases.within_item r.1 r.2)
       at_one_or i no_item known false custom so = subst (Misfits look t (list p xs)) (one (v18 p (text_of (one_of t))) b so) (cases.unexpected_list no_item known custom)
 
-      by : (o : Option Written) → item_of t ≡ o → Contains (list_by look p t (λ name. within_values name xs) (λ item. items_misfits look item xs) o) b → Misfits look t (list p xs) b
-      by None is so =
+      by : ((item : Written) → Contains (items_misfits look item xs) b → (x : Value) × Contains (all_values xs) x × OfItem item x b) → (o : Option Written) → item_of t ≡ o
+          → Contains (list_by look p t (λ name. within_values name xs) (λ item. items_misfits look item xs) o) b → Misfits look t (list p xs) b
+      by found None is so =
           let k = known_found t (list_at_one p t (λ name. within_values name xs)) b so in
           at_one_or k.0 is k.1 (is_custom_form k.0) refl k.2
-      by (Some item) is so = let r = items_found item xs b so in elim r.2 [
+      by found (Some item) is so = let r = found item so in elim r.2 [
         | inl unlisted ↦ subst (Misfits look t (list p xs)) unlisted.1.2 (cases.unlisted_item is r.1 unlisted.0 unlisted.1.1)
         | inr inner ↦ cases.in_item is r.1 inner.0 inner.1
       ]
     misfits_found t (object p fs) b h =
-        let k = known_found t (object_by p t (all_fields fs) (λ name. within_fields name fs) (λ fields. fields_misfits look fields fs)) b h in by k.0 k.1 k.2
+        let k = known_found t (object_by p t (all_fields fs) (λ name. within_fields name fs) (λ fields. fields_misfits look fields fs)) b h in by (λ fields so. fields_found fields fs b so) k.0 k.1 k.2
       where
         scalar_or : (s : Scalar) → look (name_in t) ≡ Some (scalar s) → (c : Bool) → is_custom s ≡ c → Contains (if c then within_fields (name_in t) fs else at_one p t) b → Misfits look t (object p fs) b
         scalar_or s known true custom so = let r = within_fields_found (name_in t) fs b so in cases.in_custom_object known custom (cases.within_field r.1 r.2)
         scalar_or s known false custom so = subst (Misfits look t (object p fs)) (one (v18 p (text_of (one_of t))) b so)
             (cases.unexpected_object known (λ fields e. let clash : ◌≡◌ {A = InputForm} (scalar s) (input_object fields) = e in cc) custom)
 
-        by : (i : InputForm) → look (name_in t) ≡ Some i → Contains (object_by p t (all_fields fs) (λ name. within_fields name fs) (λ fields. fields_misfits look fields fs) i) b → Misfits look t (object p fs) b
-        by (scalar s) known so = scalar_or s known (is_custom s) refl so
-        by (enumeration values) known so = subst (Misfits look t (object p fs)) (one (v18 p (text_of (one_of t))) b so)
+        by : ((fields : List FieldForm) → Contains (fields_misfits look fields fs) b → (g : GivenField) × Contains (all_fields fs) g × OfField fields g.name g.value b) → (i : InputForm) → look (name_in t) ≡ Some i → Contains (object_by p t (all_fields fs) (λ name. within_fields name fs) (λ fields. fields_misfits look fields fs) i) b → Misfits look t (object p fs) b
+        by each (scalar s) known so = scalar_or s known (is_custom s) refl so
+        by each (enumeration values) known so = subst (Misfits look t (object p fs)) (one (v18 p (text_of (one_of t))) b so)
             (cases.unexpected_object known (λ fields e. let clash : ◌≡◌ {A = InputForm} (enumeration values) (input_object fields) = e in cc) refl)
-        by (input_object fields) known so = elim (Contains-append_cases (fields_misfits look fields fs) (flat_map (missing p (all_fields fs)) fields) b so) [
-          | inl inner ↦ let r = fields_found fields fs b inner in elim r.2 [
+        by each (input_object fields) known so = elim (Contains-append_cases (fields_misfits look fields fs) (flat_map (missing p (all_fields fs)) fields) b so) [
+          | inl inner ↦ let r = each fields inner in elim r.2 [
             | inl unknown ↦ subst (Misfits look t (object p fs)) unknown.1 (cases.unknown_field known r.1 unknown.0)
             | inr found ↦ cases.in_field known r.1 found.1 found.2 found.3
           ]
@@ -227,26 +228,26 @@ module _ (look : InputLookup) where
     items_found : (item : Written) (xs : Values) (b : BadValue) → Contains (items_misfits look item xs) b → (x : Value) × Contains (all_values xs) x × OfItem item x b
     items_found item no_values b h = absurd (Contains-nil b h)
     items_found item (value x xs) b h = elim (Contains-append_cases (item_by look item x (misfits look item x)) (items_misfits look item xs) b h) [
-      | inl first ↦ (x, Contains-here x (all_values xs), by (is_list item && not (may_be_list x)) refl first)
+      | inl first ↦ (x, Contains-here x (all_values xs), by (λ so. misfits_found item x b so) (is_list item && not (may_be_list x)) refl first)
       | inr later ↦ let r = items_found item xs b later in (r.0, Contains-there r.0 x (all_values xs) r.1, r.2)
     ] where
-      by : (c : Bool) → (is_list item && not (may_be_list x)) ≡ c → Contains (if c then never_fits look (place_of x) item else misfits look item x) b → OfItem item x b
-      by true is so = let k = known_found item (λ i. bad rule.V18 (place_of x) (text_of item)) b so in inl (is, (k.0, k.1, one (v18 (place_of x) (text_of item)) b k.2))
-      by false is so = inr (λ yes. not_both (is_list item && not (may_be_list x)) yes is, misfits_found item x b so)
+      by : (Contains (misfits look item x) b → Misfits look item x b) → (c : Bool) → (is_list item && not (may_be_list x)) ≡ c → Contains (if c then never_fits look (place_of x) item else misfits look item x) b → OfItem item x b
+      by inner true is so = let k = known_found item (λ i. bad rule.V18 (place_of x) (text_of item)) b so in inl (is, (k.0, k.1, one (v18 (place_of x) (text_of item)) b k.2))
+      by inner false is so = inr (λ unlisted. not_both (is_list item && not (may_be_list x)) unlisted is, inner so)
 
     fields_found : (fields : List FieldForm) (fs : Fields) (b : BadValue) → Contains (fields_misfits look fields fs) b → (g : GivenField) × Contains (all_fields fs) g × OfField fields g.name g.value b
     fields_found fields no_fields b h = absurd (Contains-nil b h)
     fields_found fields (field n x fs) b h = elim (Contains-append_cases (field_by n x (λ t. misfits look t x) (field_named fields n.text)) (fields_misfits look fields fs) b h) [
-      | inl first ↦ (record { name = n; value = x }, Contains-here (record { name = n; value = x }) (all_fields fs), by (field_named fields n.text) refl first)
+      | inl first ↦ (record { name = n; value = x }, Contains-here (record { name = n; value = x }) (all_fields fs), by (λ t so. misfits_found t x b so) (field_named fields n.text) refl first)
       | inr later ↦ let r = fields_found fields fs b later in (r.0, Contains-there r.0 (record { name = n; value = x }) (all_fields fs) r.1, r.2)
     ] where
-      by_type : (f : FieldForm) → field_named fields n.text ≡ Some f → (c : Bool) → (is_null x && is_required f) ≡ c → Contains (if c then [] else misfits look f.of_type x) b → OfField fields n x b
-      by_type f named true is so = absurd (Contains-nil b so)
-      by_type f named false is so = inr (f, named, λ yes. not_both (is_null x && is_required f) yes is, misfits_found f.of_type x b so)
+      by_type : ((t : Written) → Contains (misfits look t x) b → Misfits look t x b) → (f : FieldForm) → field_named fields n.text ≡ Some f → (c : Bool) → (is_null x && is_required f) ≡ c → Contains (if c then [] else misfits look f.of_type x) b → OfField fields n x b
+      by_type inner f named true is so = absurd (Contains-nil b so)
+      by_type inner f named false is so = inr (f, named, λ nulled. not_both (is_null x && is_required f) nulled is, inner f.of_type so)
 
-      by : (o : Option FieldForm) → field_named fields n.text ≡ o → Contains (field_by n x (λ t. misfits look t x) o) b → OfField fields n x b
-      by None is so = inl (is, one (record { rule = rule.V19; place = n.place; about = n.text }) b so)
-      by (Some f) is so = by_type f is (is_null x && is_required f) refl so
+      by : ((t : Written) → Contains (misfits look t x) b → Misfits look t x b) → (o : Option FieldForm) → field_named fields n.text ≡ o → Contains (field_by n x (λ t. misfits look t x) o) b → OfField fields n x b
+      by inner None is so = inl (is, one (record { rule = rule.V19; place = n.place; about = n.text }) b so)
+      by inner (Some f) is so = by_type inner f is (is_null x && is_required f) refl so
 
   -- ---- the other way
 
@@ -290,8 +291,8 @@ module _ (look : InputLookup) where
   custom_in t p fs (input_object fields) b custom h = absurd (true≢false (sym custom))
 
   is_false : (c : Bool) → (c ≡ true → ⊥) → c ≡ false
-  is_false true no = absurd (no refl)
-  is_false false no = refl
+  is_false true never = absurd (never refl)
+  is_false false never = refl
 
   found_misfits : {t : Written} {x : Value} {b : BadValue} → Misfits look t x b → Contains (misfits look t x) b
   found_misfits (cases.null_at_non_null {t = t} {p = p} {i = i} is known) =

@@ -115,9 +115,9 @@ module _ (s : Schema) where
       instead (λ n. some (list_by (coerced n s) ys (this t))) (λ n. some (list_by (coerced n s) ys (items_expected s e))) (as_array o) (λ n. ap (λ i. some (list_by (coerced n s) ys i)) is)
       (mapped (λ a. some (after a (λ ds. value (json.array (items_of ds))))) (λ n. all (items_from (item_at (coerced n s) (Some t)) 0 ys)) o (as_array o) (array_is o) h)
 
-  object_here : {e : Option Written} (es : Entries) (ms : List Entry) (o : Outcome (List (Option (List ℕ × Data)))) → es ≡ are ms → Ev (λ n. all (map (member_at (coerced n s)) ms)) o
+  object_here : (e : Option Written) (es : Entries) (ms : List Entry) (o : Outcome (List (Option (List ℕ × Data)))) → es ≡ are ms → Ev (λ n. all (map (member_at (coerced n s)) ms)) o
       → Ev (λ n. once e (some (object_at (coerced n s) es))) (as_object e o)
-  object_here {e} es ms o is h =
+  object_here e es ms o is h =
       instead (λ n. once e (some (object_at (coerced n s) (are ms)))) (λ n. once e (some (object_at (coerced n s) es))) (as_object e o) (λ n. ap (λ i. once e (some (object_at (coerced n s) i))) is)
       (mapped (λ a. once e (some (after a (λ more. value (json.object (put_all more json.no_members)))))) (λ n. all (map (member_at (coerced n s)) ms)) o (as_object e o) (object_is e o) h)
 
@@ -138,7 +138,7 @@ module _ (s : Schema) where
         (λ n. ap (λ i. once e (some (object_at (coerced n s) i))) is ∙ once_refused e reason.WrongKind []))
     input {e} (cases.unknown_field {fs = fs} {n = name} is) = up (object fs) e (comes.refused reason.UnknownField (Key name ∷ [])) (always (λ n. once e (some (object_at (coerced n s) (entries_for s (all_fields fs) e)))) (comes.refused reason.UnknownField (Key name ∷ []))
         (λ n. ap (λ i. once e (some (object_at (coerced n s) i))) is ∙ once_refused e reason.UnknownField (Key name ∷ [])))
-    input {e} (cases.an_object {fs = fs} {ms = ms} {o = o} is h) = up (object fs) e (as_object e o) (object_here (entries_for s (all_fields fs) e) ms o is (members h))
+    input {e} (cases.an_object {fs = fs} {ms = ms} {o = o} is h) = up (object fs) e (as_object e o) (object_here e (entries_for s (all_fields fs) e) ms o is (members h))
 
     items : {i : Option Written} {n : ℕ} {xs : List Input} {o : Outcome (List Data)} → ItemsBecome s i n xs o → Ev (λ k. all (items_from (item_at (coerced k s) i) n xs)) o
     items cases.no_items = always (λ k. value []) (comes.value []) (λ k. refl)
@@ -266,16 +266,18 @@ module _ (s : Schema) (f : Inner) (each : (x : Input) (e : Option Written) (o : 
 
   items_back : (i : Option Written) (n : ℕ) (xs : List Input) (o : Outcome (List Data)) → all (items_from (item_at f i) n xs) ≡ reached o → ItemsBecome s i n xs o
   items_back i n [] o is = subst (ItemsBecome s i n []) (value_is [] o is) cases.no_items
-  items_back i n (x ∷ xs) o is = by (item_at f i x) refl is where
-    by_rest : (d : Data) → item_at f i x ≡ value d → (a : Reached (List Data)) → all (items_from (item_at f i) (suc n) xs) ≡ a → after a (λ ds. value (d ∷ ds)) ≡ reached o → ItemsBecome s i n (x ∷ xs) o
-    by_rest d first (value ds) rest so = subst (ItemsBecome s i n (x ∷ xs)) (value_is (d ∷ ds) o so) (cases.all_items (item_back i x (comes.value d) first) (items_back i (suc n) xs (comes.value ds) rest))
-    by_rest d first (refused r path) rest so = subst (ItemsBecome s i n (x ∷ xs)) (refused_is r path o so) (cases.later_item_refused (item_back i x (comes.value d) first) (items_back i (suc n) xs (comes.refused r path) rest))
-    by_rest d first too_deep rest so = never o so
+  items_back i n (x ∷ xs) o is = by (λ p so. items_back i (suc n) xs p so) (item_at f i x) refl is where
+    by_rest : ((p : Outcome (List Data)) → all (items_from (item_at f i) (suc n) xs) ≡ reached p → ItemsBecome s i (suc n) xs p) → (d : Data) → item_at f i x ≡ value d → (a : Reached (List Data))
+        → all (items_from (item_at f i) (suc n) xs) ≡ a → after a (λ ds. value (d ∷ ds)) ≡ reached o → ItemsBecome s i n (x ∷ xs) o
+    by_rest later d first (value ds) rest so = subst (ItemsBecome s i n (x ∷ xs)) (value_is (d ∷ ds) o so) (cases.all_items (item_back i x (comes.value d) first) (later (comes.value ds) rest))
+    by_rest later d first (refused r path) rest so = subst (ItemsBecome s i n (x ∷ xs)) (refused_is r path o so) (cases.later_item_refused (item_back i x (comes.value d) first) (later (comes.refused r path) rest))
+    by_rest later d first too_deep rest so = never o so
 
-    by : (a : Reached Data) → item_at f i x ≡ a → after (within (Index n) a) (λ d. after (all (items_from (item_at f i) (suc n) xs)) (λ ds. value (d ∷ ds))) ≡ reached o → ItemsBecome s i n (x ∷ xs) o
-    by (value d) first so = by_rest d first (all (items_from (item_at f i) (suc n) xs)) refl so
-    by (refused r path) first so = subst (ItemsBecome s i n (x ∷ xs)) (refused_is r (Index n ∷ path) o so) (cases.item_refused (item_back i x (comes.refused r path) first))
-    by too_deep first so = never o so
+    by : ((p : Outcome (List Data)) → all (items_from (item_at f i) (suc n) xs) ≡ reached p → ItemsBecome s i (suc n) xs p) → (a : Reached Data) → item_at f i x ≡ a
+        → after (within (Index n) a) (λ d. after (all (items_from (item_at f i) (suc n) xs)) (λ ds. value (d ∷ ds))) ≡ reached o → ItemsBecome s i n (x ∷ xs) o
+    by later (value d) first so = by_rest later d first (all (items_from (item_at f i) (suc n) xs)) refl so
+    by later (refused r path) first so = subst (ItemsBecome s i n (x ∷ xs)) (refused_is r (Index n ∷ path) o so) (cases.item_refused (item_back i x (comes.refused r path) first))
+    by later too_deep first so = never o so
 
   default_back : (m : Entry) (o : Outcome (Option Data)) → IsNotGiven s m → or_default f m.name m.definition None ≡ reached o → MemberBecomes s m o
   default_back m o ng is = by (m.definition) refl is where
@@ -312,16 +314,18 @@ module _ (s : Schema) (f : Inner) (each : (x : Input) (e : Option Written) (o : 
 
   members_back : (ms : List Entry) (o : Outcome (List (Option (List ℕ × Data)))) → all (map (member_at f) ms) ≡ reached o → MembersBecome s ms o
   members_back [] o is = subst (MembersBecome s []) (value_is [] o is) cases.no_members_left
-  members_back (m ∷ ms) o is = by (entry_at f m) refl is where
-    by_rest : (v : Option Data) → entry_at f m ≡ value v → (a : Reached (List (Option (List ℕ × Data)))) → all (map (member_at f) ms) ≡ a → after a (λ vs. value (under m.name v ∷ vs)) ≡ reached o → MembersBecome s (m ∷ ms) o
-    by_rest v first (value vs) rest so = subst (MembersBecome s (m ∷ ms)) (value_is (under m.name v ∷ vs) o so) (cases.all_members (entry_back m (comes.value v) first) (members_back ms (comes.value vs) rest))
-    by_rest v first (refused r path) rest so = subst (MembersBecome s (m ∷ ms)) (refused_is r path o so) (cases.later_member_refused (entry_back m (comes.value v) first) (members_back ms (comes.refused r path) rest))
-    by_rest v first too_deep rest so = never o so
+  members_back (m ∷ ms) o is = by (λ p so. members_back ms p so) (entry_at f m) refl is where
+    by_rest : ((p : Outcome (List (Option (List ℕ × Data)))) → all (map (member_at f) ms) ≡ reached p → MembersBecome s ms p) → (v : Option Data) → entry_at f m ≡ value v → (a : Reached (List (Option (List ℕ × Data))))
+        → all (map (member_at f) ms) ≡ a → after a (λ vs. value (under m.name v ∷ vs)) ≡ reached o → MembersBecome s (m ∷ ms) o
+    by_rest later v first (value vs) rest so = subst (MembersBecome s (m ∷ ms)) (value_is (under m.name v ∷ vs) o so) (cases.all_members (entry_back m (comes.value v) first) (later (comes.value vs) rest))
+    by_rest later v first (refused r path) rest so = subst (MembersBecome s (m ∷ ms)) (refused_is r path o so) (cases.later_member_refused (entry_back m (comes.value v) first) (later (comes.refused r path) rest))
+    by_rest later v first too_deep rest so = never o so
 
-    by : (a : Reached (Option Data)) → entry_at f m ≡ a → after (after a (λ v. value (under m.name v))) (λ y. after (all (map (member_at f) ms)) (λ ys. value (y ∷ ys))) ≡ reached o → MembersBecome s (m ∷ ms) o
-    by (value v) first so = by_rest v first (all (map (member_at f) ms)) refl so
-    by (refused r path) first so = subst (MembersBecome s (m ∷ ms)) (refused_is r path o so) (cases.member_refused (entry_back m (comes.refused r path) first))
-    by too_deep first so = never o so
+    by : ((p : Outcome (List (Option (List ℕ × Data)))) → all (map (member_at f) ms) ≡ reached p → MembersBecome s ms p) → (a : Reached (Option Data)) → entry_at f m ≡ a
+        → after (after a (λ v. value (under m.name v))) (λ y. after (all (map (member_at f) ms)) (λ ys. value (y ∷ ys))) ≡ reached o → MembersBecome s (m ∷ ms) o
+    by later (value v) first so = by_rest later v first (all (map (member_at f) ms)) refl so
+    by later (refused r path) first so = subst (MembersBecome s (m ∷ ms)) (refused_is r path o so) (cases.member_refused (entry_back m (comes.refused r path) first))
+    by later too_deep first so = never o so
 
   array_back : (e i : Option Written) (xs : Inputs) (o : Outcome (Option Data)) → AreItemsOf s e i → some (array_of (item_at f i) (all_inputs xs)) ≡ reached o → Becomes s e (list xs) o
   array_back e i xs o are_items is =
