@@ -124,12 +124,14 @@ pub fn selections(alloc: Global, cursor: &mut Cursor<'_>) -> Result<Items<Select
     ensures shorter { OnOk result (length cursor.new < length cursor.old) }
     ensures rest { IsRest cursor.new cursor.old }
 {
-    let mut found = Items::new(alloc);
+    let mut found = Vec::new(alloc);
     found.push(selection(alloc, cursor)?)?;
     'selections: while cursor.before(Kind::RightBrace) {
         found.push(selection(alloc, cursor)?)?;
     }
-    Ok(found)
+    // A document is held as long as its file, so no room for more selections is.
+    found.shrink_to_fit();
+    Ok(Items::from_vec(found))
 }
 
 #[cycle(set)]

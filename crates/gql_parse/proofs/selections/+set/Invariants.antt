@@ -27,7 +27,7 @@ abbrev pub decreases-selections : goal.decreases-selections
 decreases-selections l = 8 * length l.cursor.now + 4
 
 abbrev pub invariant-selections-selections : goal.invariant-selections-selections
-invariant-selections-selections l = Going (before RightBrace) (selection_of set) l.initial.found l.initial.cursor l.found l.cursor
+invariant-selections-selections l = Going (before RightBrace) (selection_of set) l.initial.found.items l.initial.cursor l.found.items l.cursor
 
 abbrev pub decreases-selections-selections : goal.decreases-selections-selections
 decreases-selections-selections l = length l.cursor
