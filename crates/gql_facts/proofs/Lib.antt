@@ -5,4 +5,5 @@ pub mod Walked
 pub mod Trees
 pub mod Agreement
 pub mod Kept
+pub mod EditedFacts
 pub mod Failing

@@ -11,4 +11,5 @@ pub mod Walks
 pub mod Facts
 pub mod Tables
 pub mod Presents
+pub mod EditedFacts
 pub mod Examples

@@ -2,6 +2,7 @@
 //! definition reads, and records of the answers.
 #![tactic(auto)]
 
+mod edited_facts;
 mod fact;
 mod fragments;
 mod key;

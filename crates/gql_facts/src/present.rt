@@ -8,7 +8,7 @@ ghost use Rattle.gql_facts.specs.Tables.{type_in, field_in, is_composite_in, is_
 ghost use Rattle.gql_facts.specs.Worlds.{Facts};
 ghost use Rattle.gql_facts.specs.declared.fact.Fact.TheVariants as fact;
 ghost use Rattle.gql_facts.specs.declared.schema_facts.SchemaFacts.{SchemaFacts};
-ghost use Rattle.gql_facts.specs.declared.schema_facts.TypeEntry.{TypeEntry};
+ghost use Rattle.gql_facts.specs.declared.schema_facts.TypeEntry.{TypeEntry as TheTypeEntry};
 ghost use Rattle.gql_facts.specs.declared.schema_facts.FieldEntry.{FieldEntry};
 ghost use Rattle.gql_facts.specs.declared.schema_facts.DirectiveEntry.{DirectiveEntry};
 ghost use Rattle.gql_facts.specs.declared.schema_facts.RootEntry.{RootEntry};
@@ -16,15 +16,25 @@ ghost use Rattle.gql_facts.specs.declared.schema_facts.RootEntry.{RootEntry};
 use crate::fact::{Fact, FieldFact};
 use crate::fragments::Fragments;
 use crate::key::Key;
-use crate::schema_facts::{FieldEntry, RootEntry, SchemaFacts};
+use crate::schema_facts::{FieldEntry, RootEntry, SchemaFacts, TypeEntry};
 use crate::world::World;
 use gql_ast::{OperationKind, Shared};
 use std::alloc::{AllocError, Global};
 
+/// The entry of the type of that name.
+fn type_entry<'s>(schema: &'s SchemaFacts, of_type: &str) -> Option<&'s TypeEntry>
+    ensures { option_copied result ≡ type_in schema.entry.now of_type.now }
+{
+    match schema.types.get(of_type) {
+        Some(entry) => Some(entry.get()),
+        None => None,
+    }
+}
+
 fn field_entry<'s>(schema: &'s SchemaFacts, of_type: &str, name: &str) -> Option<&'s FieldEntry>
     ensures { option_copied result ≡ field_in schema.entry.now of_type.now name.now }
 {
-    match schema.types.get(of_type) {
+    match type_entry(schema, of_type) {
         Some(entry) => entry.fields.get(name),
         None => None,
     }
@@ -50,10 +60,10 @@ fn root_entry(schema: &SchemaFacts, kind: OperationKind) -> Option<&RootEntry>
 }
 
 fn kind_of(schema: &SchemaFacts, of_type: &str) -> Fact
-    ensures { result ≡ answer (λ (e : TypeEntry). fact.Kind e.kind)
+    ensures { result ≡ answer (λ (e : TheTypeEntry). fact.Kind e.kind)
         (type_in schema.now of_type.now) }
 {
-    match schema.types.get(of_type) {
+    match type_entry(schema, of_type) {
         Some(entry) => Fact::Kind(entry.kind),
         None => Fact::Absent,
     }
@@ -63,7 +73,7 @@ fn kind_of(schema: &SchemaFacts, of_type: &str) -> Fact
 fn is_composite(schema: &SchemaFacts, of_type: &str) -> bool
     ensures { result ≡ is_composite_in schema.now of_type.now }
 {
-    match schema.types.get(of_type) {
+    match type_entry(schema, of_type) {
         Some(entry) => entry.kind.is_composite(),
         None => false,
     }
@@ -117,9 +127,9 @@ fn field_of(schema: &SchemaFacts, of_type: &str, name: &str) -> Result<Fact, All
 
 fn possible_of(schema: &SchemaFacts, of_type: &str) -> Result<Fact, AllocError>
     ensures { IfOk result (λ f. f ≡ answer fact.Possible
-        (option_and_then (λ (e : TypeEntry). e.possible) (type_in schema.now of_type.now))) }
+        (option_and_then (λ (e : TheTypeEntry). e.possible) (type_in schema.now of_type.now))) }
 {
-    let Some(entry) = schema.types.get(of_type) else {
+    let Some(entry) = type_entry(schema, of_type) else {
         return Ok(Fact::Absent);
     };
     match &entry.possible {
@@ -130,9 +140,9 @@ fn possible_of(schema: &SchemaFacts, of_type: &str) -> Result<Fact, AllocError>
 
 fn input_of(schema: &SchemaFacts, of_type: &str) -> Result<Fact, AllocError>
     ensures { IfOk result (λ f. f ≡ answer fact.Input
-        (option_and_then (λ (e : TypeEntry). e.inputs) (type_in schema.now of_type.now))) }
+        (option_and_then (λ (e : TheTypeEntry). e.inputs) (type_in schema.now of_type.now))) }
 {
-    let Some(entry) = schema.types.get(of_type) else {
+    let Some(entry) = type_entry(schema, of_type) else {
         return Ok(Fact::Absent);
     };
     match &entry.inputs {
@@ -143,9 +153,9 @@ fn input_of(schema: &SchemaFacts, of_type: &str) -> Result<Fact, AllocError>
 
 fn enum_of(schema: &SchemaFacts, of_type: &str) -> Result<Fact, AllocError>
     ensures { IfOk result (λ f. f ≡ answer fact.Enum
-        (option_and_then (λ (e : TypeEntry). e.values) (type_in schema.now of_type.now))) }
+        (option_and_then (λ (e : TheTypeEntry). e.values) (type_in schema.now of_type.now))) }
 {
-    let Some(entry) = schema.types.get(of_type) else {
+    let Some(entry) = type_entry(schema, of_type) else {
         return Ok(Fact::Absent);
     };
     match &entry.values {

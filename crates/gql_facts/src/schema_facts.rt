@@ -73,9 +73,10 @@ impl HasName for DirectiveEntry {
     }
 }
 
-/// The facts of a schema. They are made once; an answer is a look-up, and shares the fact.
+/// The facts of a schema. They are made once; an answer is a look-up, and shares the fact. The entry
+/// of a type is shared with the facts after an edit that leaves the type as it is.
 pub struct SchemaFacts {
-    pub types: Named<TypeEntry>,
+    pub types: Named<Shared<TypeEntry>>,
     pub directives: Named<DirectiveEntry>,
     pub roots: Items<RootEntry>,
     pub meta: MetaFields,
@@ -239,7 +240,12 @@ fn shared_values(
     }
 }
 
-fn type_entry(alloc: Global, schema: &Schema, of_type: &SchemaType) -> Result<TypeEntry, AllocError>
+/// The entry of a type.
+pub fn type_entry(
+    alloc: Global,
+    schema: &Schema,
+    of_type: &SchemaType,
+) -> Result<TypeEntry, AllocError>
     ensures { IfOk result (λ e. e ≡ tables.type_entry schema.now of_type.now) }
 {
     let name = of_type.name();
@@ -254,13 +260,14 @@ fn type_entry(alloc: Global, schema: &Schema, of_type: &SchemaType) -> Result<Ty
     })
 }
 
-fn type_entries(alloc: Global, schema: &Schema) -> Result<Vec<TypeEntry>, AllocError>
+fn type_entries(alloc: Global, schema: &Schema) -> Result<Vec<Shared<TypeEntry>>, AllocError>
     ensures { IfOk result (λ entries. entries.items
         ≡ map (tables.type_entry schema.now) schema.now.types) }
 {
     let mut entries = Vec::with_capacity(alloc, schema.types().len())?;
     for of_type in schema.types() {
-        entries.push(type_entry(alloc, schema, of_type)?)?;
+        let entry = type_entry(alloc, schema, of_type)?;
+        entries.push(Shared::new(alloc, entry)?)?;
     }
     Ok(entries)
 }
@@ -283,7 +290,8 @@ fn directive_entry(
     })
 }
 
-fn directive_entries(alloc: Global, schema: &Schema) -> Result<Vec<DirectiveEntry>, AllocError>
+/// The entries of the directives.
+pub fn directive_entries(alloc: Global, schema: &Schema) -> Result<Vec<DirectiveEntry>, AllocError>
     ensures { IfOk result (λ entries. entries.items
         ≡ map tables.directive_entry schema.now.directives) }
 {
@@ -294,7 +302,8 @@ fn directive_entries(alloc: Global, schema: &Schema) -> Result<Vec<DirectiveEntr
     Ok(entries)
 }
 
-fn root_entries(alloc: Global, roots: &[Root]) -> Result<Items<RootEntry>, AllocError>
+/// The entries of the root operation types.
+pub fn root_entries(alloc: Global, roots: &[Root]) -> Result<Items<RootEntry>, AllocError>
     ensures { IfOk result (λ entries. entries ≡ map tables.root_entry roots.now) }
 {
     let mut entries = Items::new(alloc);
