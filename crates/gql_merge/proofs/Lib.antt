@@ -1,6 +1,10 @@
+pub mod AmongFragments
 pub mod Appending
+pub mod BadFields
 pub mod BeforeFields
 pub mod Below
+pub mod ByNames
+pub mod BySetsBack
 pub mod CleanNames
 pub mod Cleanness
 pub mod Closed

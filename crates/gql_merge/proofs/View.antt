@@ -1,12 +1,12 @@
 -- Facts that agree on what a definition reads give it the same faults by the rules on merging.
-use Rattle.std.specs.Prelude.{◌≡◌, ◌↔◌, ℕ, List, [], ◌∷◌, ◌++◌, flat_map, refl, Some, Contains}
+use Rattle.std.specs.Prelude.{◌≡◌, ◌↔◌, ◌⊎◌, ℕ, List, [], ◌∷◌, ◌++◌, flat_map, refl, Some, Contains}
 use Rattle.std.proofs.Common.{ap, sym, ◌∙◌, subst, inl, inr}
-use Rattle.std.proofs.lemmas.List.Elements.{Contains-append_right}
+use Rattle.std.proofs.lemmas.List.Elements.{Contains-append_left, Contains-append_right}
 use Rattle.gql_ast.specs.declared.definition.Definition.{Definition}
 use Rattle.gql_ast.specs.declared.definition.Tree.{Tree}
 use Rattle.gql_ast.specs.declared.definition.Tree.TheVariants as tree
 use Rattle.gql_ast.specs.declared.fault.Fault.{Fault}
-use Rattle.gql_clashes.specs.Clashes.{Below, FieldsOf, IsClash, Reached, SeedsOf, here, seed, spread, step, turn}
+use Rattle.gql_clashes.specs.Clashes.{Below, FieldsOf, IsClash, Reached, SeedsBetween, SeedsOf, here, seed, spread, step, turn}
 use Rattle.gql_clashes.specs.declared.sets.Mode.{Mode}
 use Rattle.gql_facts.specs.ListMembers.{Contains-flat_map_from, Contains-here, Contains-nil, Contains-there}
 use Rattle.gql_facts.specs.Nodes.{composite}
@@ -16,11 +16,14 @@ use Rattle.gql_facts.specs.Worlds.{Facts}
 use Rattle.gql_facts.specs.declared.fact.Fact.{Fact}
 use Rattle.gql_facts.specs.declared.fact.Fact.TheVariants as fact
 use Rattle.gql_facts.specs.declared.fact.FragmentFact.{FragmentFact}
+use Rattle.gql_facts.specs.declared.key.Key.{Key}
 use Rattle.gql_facts.specs.declared.key.Key.TheVariants as key
 use Rattle.gql_merge.proofs.Appending.{append_end}
 use Rattle.gql_merge.proofs.Closed.{closed, own_closed}
 use Rattle.gql_merge.proofs.NamesRead.{of_fragment_asked, of_tree_asked}
 use Rattle.gql_merge.proofs.SameParts.{fragment_same, tree_same}
+use Rattle.gql_merge.specs.Between as between
+use Rattle.gql_merge.specs.Between.{IsBadBetween, IsClashBetween, PairReads, definition_of}
 use Rattle.gql_merge.specs.FieldNodes.{FieldNode, SetNode, direct, names_spread}
 use Rattle.gql_merge.specs.FieldSets.{list_of, set_of}
 use Rattle.gql_merge.specs.Flattened.{fragment_sets}
@@ -28,6 +31,7 @@ use Rattle.gql_merge.specs.MergeFaults.{IsMergeFault, by_v05, by_v06}
 use Rattle.gql_merge.specs.MergedNodes.{fragment_part, fragment_set, nodes, operation_part, sets_by, sets_in, sets_named, sets_of, tree_part}
 use Rattle.gql_merge.specs.V05DifferentCalls as v05
 use Rattle.gql_merge.specs.V06DifferentShapes as v06
+use Rattle.gql_merge.specs.declared.bad_pair.BadPair.{BadPair}
 
 -- ---- what is reached by facts F is reached by facts G, where they lead to the same sets
 
@@ -67,6 +71,19 @@ module _ (F G : Facts) (P : SetNode → Type 0)
 
     pub clash_there : (f g : FieldNode) (m : Mode) → IsClash (nodes F) (SeedsOf (nodes F) sets) f g m → IsClash (nodes G) (SeedsOf (nodes G) sets) f g m
     clash_there f g m c = ((reached_there c.0).0, c.1)
+
+  module _ (s t : SetNode) (ps : P s) (pt : P t) where
+    between_reached : {f g : FieldNode} {m : Mode} → Reached (nodes F) (SeedsBetween (nodes F) s t) f g m → Reached (nodes G) (SeedsBetween (nodes G) s t) f g m × (Q f × Q g)
+    between_reached (seed {f} {g} two b) = (seed two b, (λ r e. belows s f r ps b.0 e, λ r e. belows t g r pt b.1 e))
+    between_reached (turn r) = let k = between_reached r in (turn k.0, (k.1.1, k.1.0))
+    between_reached (step {f} {g} {h} {k} r fine is a b two) =
+        let i = between_reached r in
+        let x = below_there f g h i.1.0 i.1.1 a in
+        let y = below_there f g k i.1.0 i.1.1 b in
+        (step i.0 fine is x.0 y.0 two, (x.1, y.1))
+
+    pub between_there : (f g : FieldNode) (m : Mode) → IsClash (nodes F) (SeedsBetween (nodes F) s t) f g m → IsClash (nodes G) (SeedsBetween (nodes G) s t) f g m
+    between_there f g m c = ((between_reached c.0).0, c.1)
 
 -- ---- the sets that a definition leads to
 
@@ -168,3 +185,70 @@ module _ (v u : Facts) (d : Definition) (agree : Agree v u d) where
 
   pub same_faults : (x : Fault) → IsMergeFault v d x ↔ IsMergeFault u d x
   same_faults x = (faults_there x, faults_back x)
+
+-- ---- clashes between two fragments
+
+module _ (v u : Facts) (g h : FragmentFact) (agree : (k : Key) → PairReads v g h k → u k ≡ v k) where
+  of_first : Agree v u (definition_of g)
+  of_first k r = agree k (inl (inr r))
+
+  of_second : Agree v u (definition_of h)
+  of_second k r = agree k (inr (inr r))
+
+  -- one of the two leads to the set
+  abbrev EitherLeads : SetNode → Type 0
+  EitherLeads s = Leads v u (definition_of g) of_first s ⊎ Leads v u (definition_of h) of_second s
+
+  own_set : (x : FragmentFact) → Contains (sets_in v (definition_of x)) (fragment_set v x)
+  own_set x =
+      let p = fragment_part v x.file x.fragment in
+      Contains-append_left (sets_of p) [] (fragment_set v x) (Contains-append_right p.sets (fragment_set v x ∷ []) (fragment_set v x) (Contains-here (fragment_set v x) []))
+
+  first_same : fragment_set u g ≡ fragment_set v g
+  first_same = ap set_of (fragment_same v u g.file g.fragment (λ k r. of_first k (own r)))
+
+  second_same : fragment_set u h ≡ fragment_set v h
+  second_same = ap set_of (fragment_same v u h.file h.fragment (λ k r. of_second k (own r)))
+
+  first_leads : EitherLeads (fragment_set v g)
+  first_leads = inl (of_own (own_set g))
+
+  second_leads : EitherLeads (fragment_set v h)
+  second_leads = inr (of_own (own_set h))
+
+  either_spreads : (s : SetNode) → EitherLeads s → (nodes u).spreads s ≡ (nodes v).spreads s
+  either_spreads s p = elim p [
+    | inl l ↦ spreads_same v u (definition_of g) of_first s l
+    | inr l ↦ spreads_same v u (definition_of h) of_second s l
+  ]
+
+  either_leads : (s t : SetNode) → EitherLeads s → Contains ((nodes v).spreads s) t → EitherLeads t
+  either_leads s t p c = elim p [
+    | inl l ↦ inl (spreads_lead v u (definition_of g) of_first s t l c)
+    | inr l ↦ inr (spreads_lead v u (definition_of h) of_second s t l c)
+  ]
+
+  either_below : (s : SetNode) (f : FieldNode) (t : SetNode) → EitherLeads s → Contains (direct s) f → f.below ≡ Some t → EitherLeads t
+  either_below s f t p c e = elim p [
+    | inl l ↦ inl (below_leads v u (definition_of g) of_first s f t l c e)
+    | inr l ↦ inr (below_leads v u (definition_of h) of_second s f t l c e)
+  ]
+
+  two_there : (x y : FieldNode) (m : Mode) → IsClashBetween v g h x y m → IsClashBetween u g h x y m
+  two_there x y m c = subst (λ s. IsClash (nodes u) (SeedsBetween (nodes u) s (fragment_set u h)) x y m) (sym first_same)
+      (subst (λ t. IsClash (nodes u) (SeedsBetween (nodes u) (fragment_set v g) t) x y m) (sym second_same)
+      (between_there v u EitherLeads (λ s t p k. (either_leads s t p k, subst (λ l. Contains l t) (sym (either_spreads s p)) k)) either_below
+      (fragment_set v g) (fragment_set v h) first_leads second_leads x y m c))
+
+  two_back : (x y : FieldNode) (m : Mode) → IsClashBetween u g h x y m → IsClashBetween v g h x y m
+  two_back x y m c = between_there u v EitherLeads
+      (λ s t p k. let j = subst (λ l. Contains l t) (either_spreads s p) k in (either_leads s t p j, j)) either_below
+      (fragment_set v g) (fragment_set v h) first_leads second_leads x y m
+      (subst (λ s. IsClash (nodes u) (SeedsBetween (nodes u) s (fragment_set v h)) x y m) first_same
+      (subst (λ t. IsClash (nodes u) (SeedsBetween (nodes u) (fragment_set u g) t) x y m) second_same c))
+
+  pub bad_there : (p : BadPair) → IsBadBetween v g h p → IsBadBetween u g h p
+  bad_there p (between.clash {x = x} {y = y} {m = m} c l) = between.clash {x = x} {y = y} {m = m} (two_there x y m c) l
+
+  pub bad_back : (p : BadPair) → IsBadBetween u g h p → IsBadBetween v g h p
+  bad_back p (between.clash {x = x} {y = y} {m = m} c l) = between.clash {x = x} {y = y} {m = m} (two_back x y m c) l

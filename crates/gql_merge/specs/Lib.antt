@@ -1,3 +1,6 @@
+pub mod BadPairs
+pub mod Between
+pub mod ByFragments
 pub mod BySets
 pub mod Calls
 pub mod Clean

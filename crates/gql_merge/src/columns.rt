@@ -65,7 +65,7 @@ fn aspects_of(alloc: Global, aspect: Aspect, all: &[FlatField<'_>]) -> Result<Ve
 }
 
 /// The number of a text, if it has one.
-fn known_number(text: &str, places: &HashMap<&str, usize>) -> Option<usize>
+pub fn known_number(text: &str, places: &HashMap<&str, usize>) -> Option<usize>
     ensures { result ≡ hash.get_by (λ k. bytes_eq text.now k.now) places.now }
 {
     match places.get(text) {

@@ -12,7 +12,7 @@ use std::alloc::{AllocError, Global};
 use std::cmp::Ordering;
 
 /// Whether a field is before another: by the names of their files, then by their places.
-fn is_before(first: &FlatField<'_>, second: &FlatField<'_>) -> bool
+pub fn is_before(first: &FlatField<'_>, second: &FlatField<'_>) -> bool
     ensures { result ≡ is_before_it (info_in first.now.known) (info_in second.now.known) }
 {
     let start = own_name(first.known.field).place.offset;
@@ -25,7 +25,7 @@ fn is_before(first: &FlatField<'_>, second: &FlatField<'_>) -> bool
 }
 
 /// Where a field starts.
-fn place_of(field: &FlatField<'_>) -> FilePlace
+pub fn place_of(field: &FlatField<'_>) -> FilePlace
     ensures { result ≡ conflicts.place_of (info_in field.now.known) }
 {
     FilePlace {

@@ -4,6 +4,7 @@
 //! definitions are best checked with one `CleanFragments`: then each fragment is searched once.
 #![tactic(auto)]
 
+mod bad_pair;
 mod checking;
 mod clean;
 mod columns;
@@ -20,8 +21,11 @@ mod parents;
 mod searching;
 mod shapes;
 mod texts;
+mod two_fragments;
 mod v05_different_calls;
 mod v06_different_shapes;
 
+pub use bad_pair::BadPair;
 pub use clean::CleanFragments;
 pub use merging::{merge_faults, merge_faults_with};
+pub use two_fragments::{FragmentClash, fragment_clashes};

@@ -15,7 +15,7 @@ use gql_clashes::Mode;
 use std::alloc::{AllocError, Global};
 
 /// Whether the results of two fields may be those of one object.
-fn do_meet(first: &KnownField<'_>, second: &KnownField<'_>) -> bool
+pub fn do_meet(first: &KnownField<'_>, second: &KnownField<'_>) -> bool
     ensures { result ≡ (bytes_eq first.now.parent second.now.parent
         || not first.now.of_object || not second.now.of_object) }
 {
