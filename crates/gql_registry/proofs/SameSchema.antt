@@ -1,13 +1,13 @@
 -- The schema of files depends on the schema files alone.
-use Rattle.std.proofs.Common.{◌≡◌, ℕ, List, Option, Some, None, IfSome}
+use Rattle.std.proofs.Common.{◌≡◌, ℕ, List, Option, Some, None, IfSome, subst}
 use Rattle.gql_ast.specs.declared.definition.Document.{Document}
 use Rattle.gql_ast.specs.declared.fault.Fault.{Fault}
 use Rattle.gql_ast.specs.declared.files.Files.{Files}
 use Rattle.gql_schema_rules.specs.SchemaFaults.{IsSchemaFault, FaultsBy, by_s01, by_s02, by_s03, by_s04, by_s05, by_s06, by_s07, by_s08, by_s09, by_s10, by_s11, by_s12, by_s13, by_s14, by_s15, by_s16, by_s17, by_s18, by_s19, by_s20, by_s21, by_s22, by_s23, by_s24, by_s25, by_s26, by_s27, by_s28, by_s29, by_s30, by_s31, by_s32, by_s33, by_s34, by_s35, by_s36, by_p01, by_p02}
 use Rattle.gql_ast.specs.declared.fault.FileSide.{FileSide}
-use Rattle.gql_ast.specs.declared.fault.FileSide.TheVariants.{Schema as SchemaFiles, Documents}
-use Rattle.gql_registry.specs.Changes.{schema_after}
-use Rattle.gql_registry.specs.Sides.{with_put, with_removed}
+use Rattle.gql_registry.specs.Changes.{ChangesTypes, IsKnownBeforeEdit, IsSideBefore}
+use Rattle.gql_types.specs.Edits.{KeepsOthers}
+use Rattle.gql_types.specs.Schemas.{schema_of}
 use Rattle.gql_types.specs.declared.schema.Schema.{Schema}
 use Rattle.gql_registry.specs.Keeping.{IsKnownOf, IsSideOf}
 use Rattle.gql_registry.specs.declared.report.Known.{Known}
@@ -103,7 +103,7 @@ fault_before files documents s f (by_p01 h) = by_p01 h
 fault_before files documents s f (by_p02 h) = by_p02 h
 
 -- the schema of files is that of the files with other document files, too
-pub same_side : (files : Files) (documents : FileList) (side : SchemaSide) → IsSideOf files side
+same_side : (files : Files) (documents : FileList) (side : SchemaSide) → IsSideOf files side
     → IsSideOf (with_documents files documents) side
 same_side files documents side is = record {
   schema = is.schema;
@@ -115,22 +115,18 @@ same_side files documents side is = record {
   };
 }
 
-pub same_known : (files : Files) (documents : FileList) (side : Option SchemaSide)
-    → IfSome side (IsSideOf files) → IfSome side (IsSideOf (with_documents files documents))
-same_known files documents None is = is
-same_known files documents (Some side) is = same_side files documents side is
+same_schema : (before after : Files) (side : SchemaSide) → before.schema ≡ after.schema → IsSideOf before side → IsSideOf after side
+same_schema before after side e is = subst (λ schema. IsSideOf (record { schema = schema; documents = after.documents }) side) e (same_side before after.documents side is)
 
-side_known : (files : Files) (known : Option Known) → IfSome known (IsKnownOf files) → IfSome (schema_after Documents known) (IsSideOf files)
-side_known files None is = is
-side_known files (Some known) is = is.schema
+-- so an edit of a document file keeps the schema that is known
+pub kept_side : (before after : Files) (known : Known) → IsKnownOf before known → before.schema ≡ after.schema → IsSideOf after known.schema
+kept_side before after known is e = same_schema before after known.schema e is.schema
 
--- so the schema that is known after an edit is that of the files that it leaves
-pub known_after_put : (side : FileSide) (files : Files) (name : List ℕ) (d : Document) (known : Option Known)
-    → IfSome known (IsKnownOf files) → IfSome (schema_after side known) (IsSideOf (with_put side files name d))
-known_after_put SchemaFiles files name d known is = tt
-known_after_put Documents files name d known is = same_known files _ (schema_after Documents known) (side_known files known is)
+pub side_before : (before after : Files) (names : List (List ℕ)) (known : Known) → IsKnownOf before known → KeepsOthers names (schema_of before) (schema_of after)
+    → IsSideBefore names after known.schema
+side_before before after names known is keeps = (before, is.schema, keeps)
 
-pub known_after_removal : (side : FileSide) (files : Files) (name : List ℕ) (known : Option Known)
-    → IfSome known (IsKnownOf files) → IfSome (schema_after side known) (IsSideOf (with_removed side files name))
-known_after_removal SchemaFiles files name known is = tt
-known_after_removal Documents files name known is = same_known files _ (schema_after Documents known) (side_known files known is)
+pub known_before : (side : FileSide) (names : List (List ℕ)) (before after : Files) (known : Option Known) → IfSome known (IsKnownOf before)
+    → ChangesTypes side names before after → IfSome known (IsKnownBeforeEdit side names after)
+known_before side names before after None is changes = is
+known_before side names before after (Some known) is changes = (before, is, changes)

@@ -7,21 +7,34 @@ use Rattle.gql_ast.specs.declared.fault.FileSide.TheVariants.{Schema, Documents}
 use Rattle.gql_ast.specs.declared.files.Files.{Files}
 use Rattle.gql_registry.specs.Checks.{IsInTime}
 use Rattle.gql_registry.specs.Edits.{Edit, IsAccepted, Leaves, Makes}
-use Rattle.gql_registry.specs.Keeping.{IsSideOf}
+use Rattle.gql_registry.specs.Keeping.{IsKnownOf, IsSideOf}
 use Rattle.gql_registry.specs.Report.{IsReport}
 use Rattle.gql_registry.specs.State.{State, next}
 use Rattle.gql_registry.specs.declared.change.Change.{Change}
 use Rattle.gql_registry.specs.declared.refusal.Refusal.{Refusal}
 use Rattle.gql_registry.specs.declared.report.Known.{Known}
 use Rattle.gql_registry.specs.declared.report.SchemaSide.{SchemaSide}
+use Rattle.gql_types.specs.Edits.{KeepsOthers}
+use Rattle.gql_types.specs.Schemas.{schema_of}
 use Rattle.gql_verdict.specs.DocumentEdits.{ChangesOnly}
 use Rattle.gql_verdict.specs.FileOrder.{AreFilesPlaced}
 
--- the schema that is known after an edit of a side: an edit of a document file keeps it
-abbrev pub schema_after : FileSide → Option Known → Option SchemaSide
-schema_after Schema known = None
-schema_after Documents None = None
-schema_after Documents (Some known) = Some known.schema
+-- an edit of a side changes types of these names alone, or no schema file at all
+abbrev pub ChangesTypes : FileSide → List (List ℕ) → Files → Files → Type 0
+ChangesTypes Schema names before after = KeepsOthers names (schema_of before) (schema_of after)
+ChangesTypes Documents names before after = before.schema ≡ after.schema
+
+-- the schema is that of files before an edit that changes types of these names alone and makes these
+-- files
+abbrev pub IsSideBefore : List (List ℕ) → Files → SchemaSide → Type 0
+IsSideBefore names after side = (before : Files) × IsSideOf before side
+    × KeepsOthers names (schema_of before) (schema_of after)
+
+-- this is known of files before an edit of a side that changes types of these names alone and makes
+-- these files
+abbrev pub IsKnownBeforeEdit : FileSide → List (List ℕ) → Files → Known → Type 0
+IsKnownBeforeEdit side names after known = (before : Files) × IsKnownOf before known
+    × ChangesTypes side names before after
 
 -- a change that makes `after` of the files `before`
 pub record IsChangeTo (before after : Files) (c : Change) : Type 0 where

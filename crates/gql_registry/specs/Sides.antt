@@ -1,29 +1,19 @@
 -- The two sides of files: schema files, which are one schema together, and document files.
 use Rattle.std.specs.Prelude.{ℕ, List}
 use Rattle.gql_grammar.specs.declared.fault.SyntaxFault.{SyntaxFault}
-use Rattle.gql_ast.specs.FileMaps.{with_file, without_file}
 use Rattle.gql_ast.specs.declared.definition.Document.{Document}
 use Rattle.gql_ast.specs.declared.fault.FileSide.{FileSide}
 use Rattle.gql_ast.specs.declared.fault.FileSide.TheVariants.{Schema, Documents}
 use Rattle.gql_ast.specs.declared.files.Files.{Files}
 use Rattle.gql_parse_sdl.specs.DocumentFiles.{IsDocumentFile, IsDocumentFault}
 use Rattle.gql_parse_sdl.specs.SchemaFiles.{IsSchemaFile, IsSchemaFault}
+use Rattle.gql_types.specs.Edits.{with_schema, without_schema}
 use Rattle.gql_verdict.specs.DocumentEdits.{with_document, without_document}
 
 -- the files of a side
 abbrev pub files_on : FileSide → Files → List (List ℕ × Document)
 files_on Schema files = files.schema
 files_on Documents files = files.documents
-
--- the files with this schema file, in place of any of its name
-abbrev pub with_schema : Files → List ℕ → Document → Files
-with_schema files name document =
-    record { schema = with_file files.schema name document; documents = files.documents }
-
--- the files without the schema file of that name
-abbrev pub without_schema : Files → List ℕ → Files
-without_schema files name =
-    record { schema = without_file files.schema name; documents = files.documents }
 
 -- the files with this file on a side, in place of any of its name
 abbrev pub with_put : FileSide → Files → List ℕ → Document → Files

@@ -1,12 +1,15 @@
 //! What an edit makes of the files, before the change is taken.
-ghost use Rattle.std.specs.Prelude.{◌≡◌, IfOk, IfSome};
-ghost use Rattle.gql_registry.specs.Changes.{IsChangeTo, schema_after};
-ghost use Rattle.gql_registry.specs.Keeping.{IsKnownOf};
+ghost use Rattle.std.specs.Prelude.{IfOk, IfSome};
+ghost use Rattle.gql_registry.specs.Changes.{IsChangeTo, IsKnownBeforeEdit};
+ghost use Rattle.gql_registry.specs.Keeping.{IsKnownOf, IsSideOf};
 ghost use Rattle.gql_registry.specs.Sides as spec;
 
-use crate::report::{Known, SchemaSide};
-use crate::sides::{touched_by_put, touched_by_removal, with_put, with_removed};
-use gql_ast::{Document, FileName, FileSide, Files, Shared};
+use crate::report::{Known, SchemaSide, side_after_edit};
+use crate::sides::{
+    edited_by_put, edited_by_removal, touched_by_put, touched_by_removal, with_put, with_removed,
+};
+use gql_ast::{Document, FileName, FileSide, Files, Shared, Text};
+use gql_types::Named;
 use gql_verdict::Touched;
 use std::alloc::{AllocError, Global};
 
@@ -18,19 +21,31 @@ pub struct Change {
     pub schema: Option<Shared<SchemaSide>>,
 }
 
-/// The schema that is known after an edit of a side. An edit of a document file keeps it.
+/// The schema that is known after an edit of a side which changed types of these names alone. An edit
+/// of a document file keeps it.
 fn side_after(
+    alloc: Global,
+    files: &Files,
     side: FileSide,
     known: &Option<Known>,
+    edited: &Named<Text>,
 ) -> Result<Option<Shared<SchemaSide>>, AllocError>
-    ensures { IfOk result (λ after. after ≡ schema_after side known.now) }
+    requires { IfSome known.now (IsKnownBeforeEdit side edited.now files.now) }
+    ensures { IfOk result (λ schema. IfSome schema (IsSideOf files.now)) }
 {
+    let Some(known) = known else {
+        return Ok(None);
+    };
     match side {
-        FileSide::Schema => Ok(None),
-        FileSide::Documents => match known {
-            Some(known) => Ok(Some(known.schema.clone()?)),
-            None => Ok(None),
-        },
+        FileSide::Schema => {
+            let schema = side_after_edit(alloc, files, known.schema.get(), edited)?;
+            let schema = Shared::new(alloc, schema)?;
+            Ok(Some(schema))
+        }
+        FileSide::Documents => {
+            let schema = known.schema.clone()?;
+            Ok(Some(schema))
+        }
     }
 }
 
@@ -46,11 +61,12 @@ pub fn change_by_put(
     requires { IfSome known.now (IsKnownOf files.now) }
     ensures { IfOk result (IsChangeTo files.now (spec.with_put side files.now name document)) }
 {
-    let schema = side_after(side, known)?;
     let touched = touched_by_put(alloc, files, side, &name, &document)?;
-    let files = with_put(alloc, files, side, name, document)?;
+    let edited = edited_by_put(alloc, files, side, &name, &document)?;
+    let changed = with_put(alloc, files, side, name, document)?;
+    let schema = side_after(alloc, &changed, side, known, &edited)?;
     Ok(Change {
-        files,
+        files: changed,
         touched,
         schema,
     })
@@ -67,11 +83,12 @@ pub fn change_by_removal(
     requires { IfSome known.now (IsKnownOf files.now) }
     ensures { IfOk result (IsChangeTo files.now (spec.with_removed side files.now name.now)) }
 {
-    let schema = side_after(side, known)?;
     let touched = touched_by_removal(alloc, files, side, name)?;
-    let files = with_removed(files, side, name)?;
+    let edited = edited_by_removal(alloc, files, side, name)?;
+    let changed = with_removed(files, side, name)?;
+    let schema = side_after(alloc, &changed, side, known, &edited)?;
     Ok(Change {
-        files,
+        files: changed,
         touched,
         schema,
     })

@@ -2,17 +2,20 @@
 ghost use Rattle.std.specs.Prelude.{◌≡◌, ◌≢◌, ◌++◌, [], IfOk, OnOk};
 ghost use Rattle.gql_ast.specs.declared.files.Files.{Files as TheFiles};
 ghost use Rattle.gql_facts.specs.Members.{Lists};
-ghost use Rattle.gql_registry.specs.Keeping.{AreSchemaFaults, IsDefinitionFault, IsSideOf};
+ghost use Rattle.gql_registry.specs.Changes.{IsSideBefore};
+ghost use Rattle.gql_types.specs.Schemas.{schema_of};
+ghost use Rattle.gql_registry.specs.Keeping.{AreFactsOf, AreSchemaFaults, IsDefinitionFault};
+ghost use Rattle.gql_registry.specs.Keeping.{IsSideOf};
 ghost use Rattle.gql_registry.specs.Report.{IsReport, IsSound};
 
 use crate::index::DocumentIndex;
-use gql_ast::{Fault, Files, Shared};
+use gql_ast::{Fault, Files, Shared, Text};
 use gql_facts::SchemaFacts;
 use gql_intro::{IntroSchema, intro_schema};
 use gql_report::in_order;
 use gql_schema_rules::schema_faults;
 use gql_serving::Owners;
-use gql_types::{Schema, assemble};
+use gql_types::{Named, Schema, assemble, assemble_after_edit};
 use gql_verdict::{name_faults, shared_faults};
 use std::alloc::{AllocError, Global};
 
@@ -35,14 +38,19 @@ pub struct Known {
     pub owners: Owners,
 }
 
-/// Puts the schema of the schema files together.
-pub fn schema_side(alloc: Global, files: &Files) -> Result<SchemaSide, AllocError>
-    ensures { IfOk result (IsSideOf files.now) }
+/// This schema, which is that of the files, with these facts, what introspection makes of it, and its
+/// faults.
+fn side_of(
+    alloc: Global,
+    files: &Files,
+    schema: Schema,
+    facts: SchemaFacts,
+) -> Result<SchemaSide, AllocError>
+    requires { schema ≡ schema_of files.now }
+    ensures { IfOk result (λ side. AreFactsOf files.now facts → IsSideOf files.now side) }
 {
-    let schema = assemble(alloc, files)?;
     let found = schema_faults(alloc, files, &schema)?;
     let faults = shared_faults(alloc, found)?;
-    let facts = SchemaFacts::new(alloc, &schema)?;
     let made = intro_schema(alloc, files, &schema)?;
     Ok(SchemaSide {
         schema,
@@ -50,6 +58,33 @@ pub fn schema_side(alloc: Global, files: &Files) -> Result<SchemaSide, AllocErro
         made,
         faults,
     })
+}
+
+/// Puts the schema of the schema files together.
+pub fn schema_side(alloc: Global, files: &Files) -> Result<SchemaSide, AllocError>
+    ensures { IfOk result (IsSideOf files.now) }
+{
+    let schema = assemble(alloc, files)?;
+    let facts = SchemaFacts::new(alloc, &schema)?;
+    let side = side_of(alloc, files, schema, facts)?;
+    Ok(side)
+}
+
+/// Puts the schema of the schema files together after an edit which changed types of these names
+/// alone. What the edit did not change is shared with the schema before it.
+pub fn side_after_edit(
+    alloc: Global,
+    files: &Files,
+    before: &SchemaSide,
+    edited: &Named<Text>,
+) -> Result<SchemaSide, AllocError>
+    requires { IsSideBefore edited.now files.now before.now }
+    ensures { IfOk result (IsSideOf files.now) }
+{
+    let schema = assemble_after_edit(alloc, files, &before.schema, edited)?;
+    let facts = SchemaFacts::after_edit(alloc, &schema, &before.facts, edited)?;
+    let side = side_of(alloc, files, schema, facts)?;
+    Ok(side)
 }
 
 /// Copies of faults.

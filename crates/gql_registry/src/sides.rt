@@ -1,16 +1,18 @@
 //! The two sides of files: what is read as a file of a side, and an edit of it.
-ghost use Rattle.std.specs.Prelude.{◌≡◌, ℕ, List, IfErr, IfOk, IfSome, OnOk};
+ghost use Rattle.std.specs.Prelude.{◌≡◌, [], ℕ, List, IfErr, IfOk, IfSome, OnOk};
 ghost use Rattle.std.specs.Prelude.{Err};
 ghost use Rattle.gql_grammar.specs.declared.fault.SyntaxFault.TheVariants.{At};
 ghost use Rattle.gql_grammar.specs.declared.fault.SyntaxRefusal.{SyntaxRefusal as TheRefusal};
 ghost use Rattle.gql_text.specs.declared.place.Place.{Place as ThePlace};
 ghost use Rattle.gql_verdict.specs.DocumentEdits.{ChangesOnly};
+ghost use Rattle.gql_registry.specs.Changes.{ChangesTypes};
 ghost use Rattle.gql_registry.specs.Checks.{IsPlacedOn};
 ghost use Rattle.gql_registry.specs.Sides as spec;
 
-use gql_ast::{Document, FileMap, FileName, FileSide, Files, Shared};
+use gql_ast::{Document, FileMap, FileName, FileSide, Files, Shared, Text};
 use gql_grammar::SyntaxFault;
 use gql_parse_sdl::{parse_any, parse_sdl};
+use gql_types::{Named, edited_names, laws as type_laws};
 use gql_verdict::{Touched, laws};
 use std::alloc::{AllocError, Global};
 
@@ -126,5 +128,56 @@ pub fn touched_by_removal(
             Some(before) => Touched::by_edit(alloc, name, Some(before.get()), None),
             None => Touched::by_edit(alloc, name, None, None),
         },
+    }
+}
+
+/// The names of no types.
+fn no_names(alloc: Global) -> Result<Named<Text>, AllocError>
+    ensures { IfOk result (λ names. names ≡ []) }
+{
+    let names = Named::new(alloc, Vec::new(alloc))?;
+    Ok(names)
+}
+
+/// The names of the types that an edit may change which puts this file.
+pub fn edited_by_put(
+    alloc: Global,
+    files: &Files,
+    side: FileSide,
+    name: &FileName,
+    document: &Document,
+) -> Result<Named<Text>, AllocError>
+    ensures { IfOk result (λ names. ChangesTypes side names files.now
+        (spec.with_put side files.now name.now document.now)) }
+{
+    // The law that such an edit changes no types of other names.
+    type_laws::put_schema_file();
+    match side {
+        FileSide::Schema => match files.schema.get(name) {
+            Some(before) => edited_names(alloc, Some(before.get()), Some(document)),
+            None => edited_names(alloc, None, Some(document)),
+        },
+        FileSide::Documents => no_names(alloc),
+    }
+}
+
+/// The names of the types that an edit may change which removes the file of this name.
+pub fn edited_by_removal(
+    alloc: Global,
+    files: &Files,
+    side: FileSide,
+    name: &FileName,
+) -> Result<Named<Text>, AllocError>
+    ensures { IfOk result (λ names. ChangesTypes side names files.now
+        (spec.with_removed side files.now name.now)) }
+{
+    // The law that such an edit changes no types of other names.
+    type_laws::remove_schema_file();
+    match side {
+        FileSide::Schema => match files.schema.get(name) {
+            Some(before) => edited_names(alloc, Some(before.get()), None),
+            None => edited_names(alloc, None, None),
+        },
+        FileSide::Documents => no_names(alloc),
     }
 }

@@ -1,0 +1,28 @@
+use Rattle.std.proofs.Common.{◌∙◌, rules, ap, sym, subst}
+use Rattle.gql_facts.specs.Tables.{tables_of}
+use Rattle.gql_types.specs.Edits.{KeepsOthers}
+use Rattle.gql_types.specs.Schemas.{schema_of}
+use Rattle.gql_registry.specs.Keeping.{IsSideOf}
+use Rattle.gql_registry.proofs.Mapped.{ok_of_error}
+use Rattle.gql_registry.proofs.report.side_after_edit.Goals as goal
+
+pub assemble_after_edit-requires : goal.assemble_after_edit-requires
+assemble_after_edit-requires c = subst (λ s. KeepsOthers c.args.edited.now s (schema_of c.args.files.now)) (sym c.requires.1.schema) c.requires.2
+
+pub side_of-requires : goal.side_of-requires
+side_of-requires c = c.in_ok-schema.ensures
+
+pub returns-in_err-schema : goal.returns-in_err-schema
+returns-in_err-schema c = search rules
+
+pub returns-in_err-facts : goal.returns-in_err-facts
+returns-in_err-facts c = search rules
+
+pub returns-in_err-side : goal.returns-in_err-side
+returns-in_err-side c = ok_of_error c.from_residual-in_err-side.result (IsSideOf c.args.files.now) _ c.from_residual-in_err-side.ensures.1
+
+pub returns : goal.returns
+returns c = c.in_ok-side.ensures
+    (c.in_ok-facts.ensures (schema_of c.requires.0) c.requires.1.facts
+    (subst (KeepsOthers c.args.edited.now (schema_of c.requires.0)) (sym c.in_ok-schema.ensures) c.requires.2)
+    ∙ ap tables_of c.in_ok-schema.ensures)
