@@ -1,5 +1,5 @@
-//! The facts of a schema after an edit of a schema file. The facts of a type that the edit leaves
-//! as it is are shared with those before the edit.
+//! The facts of a schema after an edit of a schema file. The facts of a type that the edit leaves as
+//! it is are shared with those before the edit.
 ghost use Rattle.std.specs.Prelude.{◌≡◌, IfOk, IfSome, IsTrue};
 ghost use Rattle.std.specs.Option.{option_copied};
 ghost use Rattle.gql_types.specs.Edits.{KeepsOthers};
@@ -26,8 +26,8 @@ fn are_same_names(names: &Option<Shared<Named<Text>>>, others: Option<&Items<Tex
     }
 }
 
-/// The entry of the type before the edit, if it is that after the edit: the edit does not change
-/// the type, nor its possible types.
+/// The entry of the type before the edit, if it is that after the edit: the edit does not change the
+/// type, nor its possible types.
 fn kept_entry<'b>(
     schema: &Schema,
     before: &'b SchemaFacts,

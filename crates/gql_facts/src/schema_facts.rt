@@ -73,8 +73,8 @@ impl HasName for DirectiveEntry {
     }
 }
 
-/// The facts of a schema. They are made once; an answer is a look-up, and shares the fact. The
-/// entry of a type is shared with the facts after an edit that leaves the type as it is.
+/// The facts of a schema. They are made once; an answer is a look-up, and shares the fact. The entry
+/// of a type is shared with the facts after an edit that leaves the type as it is.
 pub struct SchemaFacts {
     pub types: Named<Shared<TypeEntry>>,
     pub directives: Named<DirectiveEntry>,

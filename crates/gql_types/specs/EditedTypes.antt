@@ -1,5 +1,4 @@
--- Helper definitions for private contracts: the types of definitions, by the extensions of each
--- name.
+-- Helper definitions for private contracts: the types of definitions, by the extensions of each name.
 use Rattle.std.specs.Prelude.{ℕ, List, filter}
 use Rattle.gql_ast.specs.declared.type_system.TypeDefinition.{TypeDefinition}
 use Rattle.gql_ast.specs.declared.type_system.TypeExtension.{TypeExtension}

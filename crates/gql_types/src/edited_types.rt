@@ -1,5 +1,5 @@
-//! The types of a schema after an edit of a schema file. A type that the edit leaves as it is
-//! shares its parts with the type before the edit.
+//! The types of a schema after an edit of a schema file. A type that the edit leaves as it is shares
+//! its parts with the type before the edit.
 ghost use Rattle.std.specs.Prelude.{◌≡◌, [], IfOk, IfSome, map};
 ghost use Rattle.std.specs.Option.{option_copied, option_map_or};
 ghost use Rattle.std.specs.HashMap as hash;
