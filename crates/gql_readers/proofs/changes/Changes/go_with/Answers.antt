@@ -1,4 +1,4 @@
-use Rattle.std.proofs.Common.{◌++◌, List, append-nil, subst, sym, take}
+use Rattle.std.proofs.Common.{◌++◌, ◌∷◌, [], List, append-nil, subst, sym, take}
 use Rattle.std.proofs.lemmas.List.{take_all}
 use Rattle.gql_reads.specs.declared.observation.Observation.{Observation}
 use Rattle.gql_readers.specs.Merged.{AreGoing}
@@ -15,7 +15,8 @@ loop-observation-preserved c = λ coming going before new are.
     let i = c.loop-observation.observation-index in
     let os = c.args.observations.now in
     subst (λ (zs : List Observation). AreGoing c.go_once.new.self c.go_once.new.seen.keys coming going c.args.id.now zs) (more_seen before os i o c.loop-observation-test.true c.observation-item.is)
-    (c.in_ok-go_once.ensures coming going (before ++ take i os) new (c.loop-observation.invariant coming going before new are))
+    (subst (λ (p : Observation). AreGoing c.go_once.new.self c.go_once.new.seen.keys coming going c.args.id.now (before ++ take i os ++ p ∷ [])) c.get.ensures
+    (c.in_ok-go_once.ensures coming going (before ++ take i os) new (c.loop-observation.invariant coming going before new are)))
 
 pub returns : goal.returns
 returns c = λ coming going before new are.
