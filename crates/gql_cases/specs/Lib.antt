@@ -1,3 +1,5 @@
 pub mod Inputs
 pub mod Misfits
 pub mod Fields
+pub mod SameCalls
+pub mod CallExamples
