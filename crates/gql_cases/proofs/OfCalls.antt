@@ -1,15 +1,17 @@
--- A literal that a document can write, in a text that fits in memory, is one whose text can be read
--- back. So texts of calls tell the calls.
-use Rattle.std.proofs.Common.{◌≡◌, ◌<◌, ◌≤◌, ◌^◌, inl, inr, ℕ, List, [], ◌∷◌, ◌++◌, length, false, All, map, refl, ap, ◌∙◌, subst, arith, length-append}
+-- The text of a literal that a document can write can be read back, if it fits in memory. So two
+-- fields with one text are the same call.
+use Rattle.std.proofs.Common.{◌≡◌, ◌<◌, ◌≤◌, ◌^◌, inl, inr, ℕ, List, [], ◌∷◌, ◌++◌, length, false, All, map, refl, sym, ap, ◌∙◌, subst, arith, length-append}
 use Rattle.std.specs.Prelude.{codes, decimal}
 use Rattle.std.specs.List.{AllByRecursion}
 use Rattle.std.proofs.lemmas.List.Elements.{All-tail}
+use Rattle.std.proofs.lemmas.Slice.Eq.{bytes_eq-Decides}
 use Rattle.gql_text.specs.Grammar.{IsName}
 use Rattle.gql_ast.specs.declared.literal.Argument.{Argument}
 use Rattle.gql_ast.specs.declared.literal.Literal.{Literal}
 use Rattle.gql_ast.specs.declared.literal.ObjectField.{ObjectField}
 use Rattle.gql_merge.specs.Calls.{Text, with_commas, each_once, in_order, value_text, member_text, object_field_text, argument_text, call_text, text_string, text_list, text_object}
-use Rattle.gql_cases.specs.SameCalls.{SameTextForSameCall}
+use Rattle.gql_merge.specs.FieldNodes.{FieldInfo}
+use Rattle.gql_cases.specs.SameCalls.{SharedCallIsSameCall, SameTextForSameCall}
 use Rattle.gql_printed.specs.Written.{IsWritten, variable, int, float, string, boolean, null, enum, list, object, AreWritten, no_items, item, AreWrittenFields, no_fields, field}
 use Rattle.gql_cases.proofs.TextsInOrder.{IsIn, in_order_to}
 use Rattle.gql_cases.proofs.TextsOnce.{once_to}
@@ -101,3 +103,14 @@ same_text_for_same_call n m a b one other short = (
       (plain_arguments b other.names other.values (λ q in_it. in_call m b q (subst (λ t. length t < 2 ^ 64) e short) in_it)) e,
   λ h. same_calls_one n m a b h,
 )
+
+-- ---- rule V05
+
+pub shared_call_is_same_call : SharedCallIsSameCall
+shared_call_is_same_call facts f g x y of_f of_g one other short =
+    let law = same_text_for_same_call f.name.text g.name.text f.arguments g.arguments one other short in
+    let a : x.its.call ≡ call_text f.name.text f.arguments = ap (λ (i : FieldInfo). i.call) of_f.is in
+    let b : y.its.call ≡ call_text g.name.text g.arguments = ap (λ (i : FieldInfo). i.call) of_g.is in (
+      λ e. law.0 (sym a ∙ (bytes_eq-Decides x.its.call y.its.call).0 e ∙ b),
+      λ h. (bytes_eq-Decides x.its.call y.its.call).1 (a ∙ law.1 h ∙ sym b),
+    )

@@ -2,7 +2,7 @@
 -- the same field name, and each argument of the one is an argument of the other. The law `calls`
 -- says that two fields are the same call exactly if their texts are one, and by these texts the
 -- contracts of gql_merge compare fields.
-use Rattle.std.specs.Prelude.{◌≡◌, ◌↔◌, ◌<◌, ◌^◌, ℕ, List, [], ◌∷◌, Bool, false, length, All, Contains}
+use Rattle.std.specs.Prelude.{◌≡◌, ◌↔◌, ◌<◌, ◌^◌, ℕ, List, [], ◌∷◌, Bool, true, false, length, All, Contains}
 use Rattle.std.specs.List.Sorted.{IsPermutation}
 use Rattle.gql_text.specs.Grammar.{IsName}
 use Rattle.gql_text.specs.declared.place.Place.{Place}
@@ -10,7 +10,12 @@ use Rattle.gql_ast.specs.declared.literal.Argument.{Argument}
 use Rattle.gql_ast.specs.declared.literal.Literal.{Literal}
 use Rattle.gql_ast.specs.declared.literal.Literal.TheVariants as l
 use Rattle.gql_ast.specs.declared.literal.ObjectField.{ObjectField}
+use Rattle.gql_facts.specs.Worlds.{Facts}
+use Rattle.gql_facts.specs.declared.fact.FieldFact.{FieldFact}
 use Rattle.gql_merge.specs.Calls.{call_text}
+use Rattle.gql_merge.specs.FieldNodes.{FieldNode}
+use Rattle.gql_merge.specs.FieldSets.{WrittenField, info_of}
+use Rattle.gql_merge.specs.MergedNodes.{nodes}
 use Rattle.gql_printed.specs.Written.{IsWritten}
 
 -- a number, by how it is written
@@ -87,3 +92,20 @@ SameTextForSameCall = (n m : List ℕ) (a b : List Argument) → IsWrittenCall n
 abbrev pub SameCallHasSameText : Type 0
 SameCallHasSameText = (n m : List ℕ) (a b : List Argument) → SameCall n a m b
     → call_text n a ≡ call_text m b
+
+-- ---- rule V05
+
+-- this node is what field merging compares of a field whose definition is known
+pub record IsNodeOf (facts : Facts) (f : WrittenField) (x : FieldNode) : Type 0 where
+  pub file : List ℕ
+  pub parent : List ℕ
+  pub definition : FieldFact
+  pub is : x.its ≡ info_of facts file parent f definition
+
+-- V05 asks whether two fields share their call: they do exactly if they are the same call
+abbrev pub SharedCallIsSameCall : Type 0
+SharedCallIsSameCall = (facts : Facts) (f g : WrittenField) (x y : FieldNode)
+    → IsNodeOf facts f x → IsNodeOf facts g y
+    → IsWrittenCall f.name.text f.arguments → IsWrittenCall g.name.text g.arguments
+    → length (call_text f.name.text f.arguments) < 2 ^ 64
+    → (nodes facts).share_call x y ≡ true ↔ SameCall f.name.text f.arguments g.name.text g.arguments

@@ -8,7 +8,9 @@ ghost use Rattle.gql_cases.specs.CallExamples as examples;
 ghost use Rattle.gql_cases.specs.Fields.{Flattens};
 ghost use Rattle.gql_cases.specs.Inputs.{InCases};
 ghost use Rattle.gql_cases.specs.Misfits.{BadValuesInCases};
-ghost use Rattle.gql_cases.specs.SameCalls.{SameCallHasSameText, SameTextForSameCall};
+ghost use Rattle.gql_cases.specs.SameCalls.{
+    SameCallHasSameText, SameTextForSameCall, SharedCallIsSameCall,
+};
 
 /// What an input comes to, in cases, is what it comes to by the contracts of gql_coerce.
 pub fn inputs()
@@ -32,6 +34,7 @@ pub fn fields()
 pub fn calls()
     ensures one_text { SameTextForSameCall }
     ensures same_text { SameCallHasSameText }
+    ensures shared { SharedCallIsSameCall }
 {}
 
 /// Arguments have no order. Their values count, a field of an object counts as often as it is
