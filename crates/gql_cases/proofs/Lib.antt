@@ -9,4 +9,5 @@ pub mod ReadValues
 pub mod SameTexts
 pub mod WrittenWords
 pub mod OfCalls
+pub mod OfShapes
 pub mod OfExamples

@@ -3,3 +3,4 @@ pub mod Misfits
 pub mod Fields
 pub mod SameCalls
 pub mod CallExamples
+pub mod SameShapes

@@ -9,8 +9,11 @@ ghost use Rattle.gql_cases.specs.Fields.{Flattens};
 ghost use Rattle.gql_cases.specs.Inputs.{InCases};
 ghost use Rattle.gql_cases.specs.Misfits.{BadValuesInCases};
 ghost use Rattle.gql_cases.specs.SameCalls.{
-    SameCallHasSameText, SameTextForSameCall, SharedCallIsSameCall,
+  SameCallHasSameText,
+  SameTextForSameCall,
+  SharedCallIsSameCall,
 };
+ghost use Rattle.gql_cases.specs.SameShapes.{SharedShapeIsSameShape};
 
 /// What an input comes to, in cases, is what it comes to by the contracts of gql_coerce.
 pub fn inputs()
@@ -35,6 +38,12 @@ pub fn calls()
     ensures one_text { SameTextForSameCall }
     ensures same_text { SameCallHasSameText }
     ensures shared { SharedCallIsSameCall }
+{}
+
+/// Whether two fields share their shape, as the contracts of gql_merge ask, is whether their types
+/// have the same shape.
+pub fn shapes()
+    ensures { SharedShapeIsSameShape }
 {}
 
 /// Arguments have no order. Their values count, a field of an object counts as often as it is
