@@ -52,7 +52,8 @@ mutual
   plain x (variable p n e c name) short = plain_word (variable_word p n e name)
   plain x (int p t e h) short = plain_word (int_word p t e h)
   plain x (float p t e h) short = plain_word (float_word p t e h)
-  plain x (string p v e) short = plain_string p v e (shorter v (decimal (length v) ++ (codes "\"" ++ v)) (2 ^ 64) (in_quotes v)
+  plain x (string p v e) short =
+      plain_string p v e (shorter v (decimal (length v) ++ (codes "\"" ++ v)) (2 ^ 64) (in_quotes v)
       (subst (λ t. length t < 2 ^ 64) (ap value_text e ∙ text_string p v) short))
   plain x (boolean p b e) short = plain_word (boolean_word p b e)
   plain x (null p e) short = plain_word (null_word p e)
@@ -66,11 +67,14 @@ mutual
       (shorter (with_commas (in_order (map object_field_text fs))) (123 ∷ (with_commas (in_order (map object_field_text fs)) ++ (125 ∷ []))) (2 ^ 64) (in_brackets 123 125 (with_commas (in_order (map object_field_text fs))))
       (subst (λ t. length t < 2 ^ 64) (ap value_text e ∙ text_object p fs) short))))
 
-  plain_items : (xs : List Literal) → AreWritten false xs → ((q : Text) → IsIn q (map value_text xs) → length q < 2 ^ 64) → ArePlain xs
+  plain_items : (xs : List Literal) → AreWritten false xs
+      → ((q : Text) → IsIn q (map value_text xs) → length q < 2 ^ 64) → ArePlain xs
   plain_items _ no_items short = plain_none
-  plain_items (x ∷ xs) (item h hs) short = plain_item (plain x h (short (value_text x) (inl refl))) (plain_items xs hs (λ q in_it. short q (inr in_it)))
+  plain_items (x ∷ xs) (item h hs) short =
+      plain_item (plain x h (short (value_text x) (inl refl))) (plain_items xs hs (λ q in_it. short q (inr in_it)))
 
-  plain_fields : (fs : List ObjectField) → AreWrittenFields false fs → ((q : Text) → IsIn q (map object_field_text fs) → length q < 2 ^ 64) → ArePlainFields fs
+  plain_fields : (fs : List ObjectField) → AreWrittenFields false fs
+      → ((q : Text) → IsIn q (map object_field_text fs) → length q < 2 ^ 64) → ArePlainFields fs
   plain_fields _ no_fields short = plain_no_fields
   plain_fields (f ∷ fs) (field name h hs) short = plain_field (name_clear f.name.text name)
       (plain f.value h (shorter (value_text f.value) (object_field_text f) (2 ^ 64) (in_member f.name.text (value_text f.value)) (short (object_field_text f) (inl refl))))
@@ -78,8 +82,10 @@ mutual
 
 -- ---- calls
 
-plain_arguments : (xs : List Argument) → All (λ (a : Argument). IsName a.name.text) xs → All (λ (a : Argument). IsWritten false a.value) xs
-    → ((q : Text) → IsIn q (map argument_text xs) → length q < 2 ^ 64) → AllByRecursion IsPlainArgument xs
+plain_arguments : (xs : List Argument) → All (λ (a : Argument). IsName a.name.text) xs
+    → All (λ (a : Argument). IsWritten false a.value) xs
+    → ((q : Text) → IsIn q (map argument_text xs) → length q < 2 ^ 64)
+    → AllByRecursion IsPlainArgument xs
 plain_arguments [] names values short = tt
 plain_arguments (x ∷ xs) names values short = (
   (
@@ -89,10 +95,12 @@ plain_arguments (x ∷ xs) names values short = (
   plain_arguments xs (All-tail (λ (a : Argument). IsName a.name.text) x xs names) (All-tail (λ (a : Argument). IsWritten false a.value) x xs values) (λ q in_it. short q (inr in_it)),
 )
 
-in_call : (n : List ℕ) (xs : List Argument) (q : Text) → length (call_text n xs) < 2 ^ 64 → IsIn q (map argument_text xs) → length q < 2 ^ 64
+in_call : (n : List ℕ) (xs : List Argument) (q : Text) → length (call_text n xs) < 2 ^ 64
+    → IsIn q (map argument_text xs) → length q < 2 ^ 64
 in_call n xs q short in_it =
     let ts = with_commas (each_once (map argument_text xs)) in
-    let f = in_commas q (each_once (map argument_text xs)) (once_to q (map argument_text xs) in_it) in
+    let f =
+    in_commas q (each_once (map argument_text xs)) (once_to q (map argument_text xs) in_it) in
     let g = length-append n (40 ∷ ts) in
     omega (arith, f, g, short)
 
@@ -108,8 +116,10 @@ same_text_for_same_call n m a b one other short = (
 
 pub shared_call_is_same_call : SharedCallIsSameCall
 shared_call_is_same_call facts f g x y of_f of_g one other short =
-    let law = same_text_for_same_call f.name.text g.name.text f.arguments g.arguments one other short in
-    let a : x.its.call ≡ call_text f.name.text f.arguments = ap (λ (i : FieldInfo). i.call) of_f.is in
+    let law =
+    same_text_for_same_call f.name.text g.name.text f.arguments g.arguments one other short in
+    let a : x.its.call ≡ call_text f.name.text f.arguments =
+    ap (λ (i : FieldInfo). i.call) of_f.is in
     let b : y.its.call ≡ call_text g.name.text g.arguments = ap (λ (i : FieldInfo). i.call) of_g.is in (
       λ e. law.0 (sym a ∙ (bytes_eq-Decides x.its.call y.its.call).0 e ∙ b),
       λ h. (bytes_eq-Decides x.its.call y.its.call).1 (a ∙ law.1 h ∙ sym b),

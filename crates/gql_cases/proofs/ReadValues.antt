@@ -30,10 +30,13 @@ one_boolean false false e = refl
 one_boolean true false e = cc
 one_boolean false true e = cc
 
-same_word : (k : Sort) (x y : Literal) (w v : List ℕ) → w ≡ v → Says k x w → Says k y v → SameValue x y
-same_word a_variable x y w v e f g = variables f.0 g.0 f.1 f.2 (g.2 ∙ ap (λ n. l.Variable g.0 n) (sym (same_tail 36 36 f.1 g.1 (sym f.3 ∙ e ∙ g.3))))
+same_word : (k : Sort) (x y : Literal) (w v : List ℕ) → w ≡ v → Says k x w → Says k y v
+    → SameValue x y
+same_word a_variable x y w v e f g =
+    variables f.0 g.0 f.1 f.2 (g.2 ∙ ap (λ n. l.Variable g.0 n) (sym (same_tail 36 36 f.1 g.1 (sym f.3 ∙ e ∙ g.3))))
 same_word a_number x y w v e f g = numbers v (subst (λ t. IsNumber x t) e f) g
-same_word a_boolean x y w v e f g = booleans f.0 g.0 f.1 f.2 (g.2 ∙ ap (λ b. l.Boolean g.0 b) (sym (one_boolean f.1 g.1 (sym f.3 ∙ e ∙ g.3))))
+same_word a_boolean x y w v e f g =
+    booleans f.0 g.0 f.1 f.2 (g.2 ∙ ap (λ b. l.Boolean g.0 b) (sym (one_boolean f.1 g.1 (sym f.3 ∙ e ∙ g.3))))
 same_word a_null x y w v e f g = nulls f.0 g.0 f.1 g.1
 same_word an_enum x y w v e f g = enums f.0 g.0 w f.1 (g.1 ∙ ap (λ n. l.Enum g.0 n) (sym e))
 
@@ -52,9 +55,12 @@ pub record IsWord (x : Literal) : Type 0 where
 mutual
   pub data IsPlain : Literal → Type 0 where
     word : {x : Literal} → IsWord x → IsPlain x
-    string : {x : Literal} (p : Place) (value : List ℕ) → x ≡ l.String p value → length value < 2 ^ 64 → IsPlain x
-    list : {x : Literal} (p : Place) (items : List Literal) → x ≡ l.List p items → ArePlain items → IsPlain x
-    object : {x : Literal} (p : Place) (fields : List ObjectField) → x ≡ l.Object p fields → ArePlainFields fields → IsPlain x
+    string : {x : Literal} (p : Place) (value : List ℕ) → x ≡ l.String p value
+        → length value < 2 ^ 64 → IsPlain x
+    list : {x : Literal} (p : Place) (items : List Literal) → x ≡ l.List p items → ArePlain items
+        → IsPlain x
+    object : {x : Literal} (p : Place) (fields : List ObjectField) → x ≡ l.Object p fields
+        → ArePlainFields fields → IsPlain x
 
   pub data ArePlain : List Literal → Type 0 where
     none : ArePlain []
@@ -62,7 +68,8 @@ mutual
 
   pub data ArePlainFields : List ObjectField → Type 0 where
     no_fields : ArePlainFields []
-    field : {f : ObjectField} {fs : List ObjectField} → IsClear f.name.text → IsPlain f.value → ArePlainFields fs → ArePlainFields (f ∷ fs)
+    field : {f : ObjectField} {fs : List ObjectField} → IsClear f.name.text → IsPlain f.value
+        → ArePlainFields fs → ArePlainFields (f ∷ fs)
 
 -- the word in front, the mark behind it, and what follows
 word_of : {x : Literal} → IsPlain x → List ℕ
@@ -89,12 +96,19 @@ string_rest d v r = simp append_assoc
 closed : (a b : ℕ) (t r : List ℕ) → (a ∷ (t ++ (b ∷ []))) ++ (44 ∷ r) ≡ a ∷ (t ++ (b ∷ 44 ∷ r))
 closed a b t r = simp append_assoc
 
-opens : {x : Literal} (f : IsPlain x) (r : List ℕ) → value_text x ++ (44 ∷ r) ≡ word_of f ++ (mark_of f ∷ rest_of f r)
+opens : {x : Literal} (f : IsPlain x) (r : List ℕ)
+    → value_text x ++ (44 ∷ r) ≡ word_of f ++ (mark_of f ∷ rest_of f r)
 unfolding word_of mark_of rest_of
 opens (word w) r = ap (λ t. t ++ (44 ∷ r)) w.is
-opens (string p v is short) r = ap (λ x. value_text x ++ (44 ∷ r)) is ∙ ap (λ t. t ++ (44 ∷ r)) (text_string p v) ∙ string_rest (decimal (length v)) v r
-opens (list p xs is all) r = ap (λ x. value_text x ++ (44 ∷ r)) is ∙ ap (λ t. t ++ (44 ∷ r)) (text_list p xs) ∙ closed 91 93 (with_commas (map value_text xs)) r
-opens (object p fs is all) r = ap (λ x. value_text x ++ (44 ∷ r)) is ∙ ap (λ t. t ++ (44 ∷ r)) (text_object p fs) ∙ closed 123 125 (with_commas (in_order (map object_field_text fs))) r
+opens (string p v is short) r =
+    ap (λ x. value_text x ++ (44 ∷ r)) is ∙ ap (λ t. t ++ (44 ∷ r)) (text_string p v)
+    ∙ string_rest (decimal (length v)) v r
+opens (list p xs is all) r =
+    ap (λ x. value_text x ++ (44 ∷ r)) is ∙ ap (λ t. t ++ (44 ∷ r)) (text_list p xs)
+    ∙ closed 91 93 (with_commas (map value_text xs)) r
+opens (object p fs is all) r =
+    ap (λ x. value_text x ++ (44 ∷ r)) is ∙ ap (λ t. t ++ (44 ∷ r)) (text_object p fs)
+    ∙ closed 123 125 (with_commas (in_order (map object_field_text fs))) r
 
 word_clear : {x : Literal} (f : IsPlain x) → IsClear (word_of f)
 unfolding word_of
@@ -110,9 +124,11 @@ mark_marks (string p v is short) = refl
 mark_marks (list p xs is all) = refl
 mark_marks (object p fs is all) = refl
 
-opened : {x y : Literal} (f : IsPlain x) (g : IsPlain y) (r s : List ℕ) → value_text x ++ (44 ∷ r) ≡ value_text y ++ (44 ∷ s)
+opened : {x y : Literal} (f : IsPlain x) (g : IsPlain y) (r s : List ℕ)
+    → value_text x ++ (44 ∷ r) ≡ value_text y ++ (44 ∷ s)
     → (word_of f ≡ word_of g) × (mark_of f ≡ mark_of g) × (rest_of f r ≡ rest_of g s)
-opened f g r s e = words (word_of f) (word_of g) (mark_of f) (mark_of g) (rest_of f r) (rest_of g s) (word_clear f) (word_clear g) (mark_marks f) (mark_marks g)
+opened f g r s e =
+    words (word_of f) (word_of g) (mark_of f) (mark_of g) (rest_of f r) (rest_of g s) (word_clear f) (word_clear g) (mark_marks f) (mark_marks g)
     (sym (opens f r) ∙ e ∙ opens g s)
 
 -- no value begins with `]`
@@ -124,11 +140,13 @@ mark_no_end (list p xs is all) h = omega (arith, h)
 mark_no_end (object p fs is all) h = omega (arith, h)
 
 no_end : {x : Literal} (f : IsPlain x) (r s : List ℕ) → value_text x ++ (44 ∷ r) ≡ 93 ∷ s → ⊥
-no_end f r s e = mark_no_end f (words (word_of f) [] (mark_of f) 93 (rest_of f r) s (word_clear f) tt (mark_marks f) refl (sym (opens f r) ∙ e)).1
+no_end f r s e =
+    mark_no_end f (words (word_of f) [] (mark_of f) 93 (rest_of f r) s (word_clear f) tt (mark_marks f) refl (sym (opens f r) ∙ e)).1
 
 -- ---- by the form of the one
 
-word_read : {x y : Literal} (w : IsWord x) (g : IsPlain y) (r s : List ℕ) → (w.text ≡ word_of g) × (44 ≡ mark_of g) × (r ≡ rest_of g s)
+word_read : {x y : Literal} (w : IsWord x) (g : IsPlain y) (r s : List ℕ) → (w.text ≡ word_of g)
+    × (44 ≡ mark_of g) × (r ≡ rest_of g s)
     → SameValue x y × (r ≡ s)
 unfolding word_of mark_of rest_of
 word_read {x} {y} w (word v) r s h =
@@ -138,23 +156,28 @@ word_read w (string p v is short) r s h = absurd (let e = h.1 in omega (arith, e
 word_read w (list p xs is all) r s h = absurd (let e = h.1 in omega (arith, e))
 word_read w (object p fs is all) r s h = absurd (let e = h.1 in omega (arith, e))
 
-string_read : {x y : Literal} (p : Place) (v : List ℕ) → x ≡ l.String p v → length v < 2 ^ 64 → (g : IsPlain y) (r s : List ℕ)
-    → (decimal (length v) ≡ word_of g) × (34 ≡ mark_of g) × (v ++ (44 ∷ r) ≡ rest_of g s) → SameValue x y × (r ≡ s)
+string_read : {x y : Literal} (p : Place) (v : List ℕ) → x ≡ l.String p v → length v < 2 ^ 64
+    → (g : IsPlain y) (r s : List ℕ)
+    → (decimal (length v) ≡ word_of g) × (34 ≡ mark_of g) × (v ++ (44 ∷ r) ≡ rest_of g s)
+    → SameValue x y × (r ≡ s)
 unfolding word_of mark_of rest_of
 string_read p v is short (word w) r s h = absurd (let e = h.1 in omega (arith, e))
 string_read p v is short (string q u iz small) r s h =
-    let k = fronts v u (44 ∷ r) (44 ∷ s) (decimal_injective (length v) (length u) short small h.0) h.2 in
+    let k =
+    fronts v u (44 ∷ r) (44 ∷ s) (decimal_injective (length v) (length u) short small h.0) h.2 in
     (strings p q v is (iz ∙ ap (λ t. l.String q t) (sym k.0)), same_tail 44 44 r s k.1)
 string_read p v is short (list q xs iz all) r s h = absurd (let e = h.1 in omega (arith, e))
 string_read p v is short (object q fs iz all) r s h = absurd (let e = h.1 in omega (arith, e))
 
 list_read : {x y : Literal} (p : Place) (xs : List Literal) → x ≡ l.List p xs
     → ((ys : List Literal) → ArePlain ys → (r s : List ℕ) → with_commas (map value_text xs) ++ (93 ∷ r) ≡ with_commas (map value_text ys) ++ (93 ∷ s) → SameItems xs ys × (r ≡ s))
-    → (g : IsPlain y) (r s : List ℕ) → (91 ≡ mark_of g) × (with_commas (map value_text xs) ++ (93 ∷ 44 ∷ r) ≡ rest_of g s) → SameValue x y × (r ≡ s)
+    → (g : IsPlain y) (r s : List ℕ) → (91 ≡ mark_of g)
+    × (with_commas (map value_text xs) ++ (93 ∷ 44 ∷ r) ≡ rest_of g s) → SameValue x y × (r ≡ s)
 unfolding mark_of rest_of
 list_read p xs is items (word w) r s h = absurd (let e = h.0 in omega (arith, e))
 list_read p xs is items (string q u iz small) r s h = absurd (let e = h.0 in omega (arith, e))
-list_read p xs is items (list q ys iz all) r s h = let k = items ys all (44 ∷ r) (44 ∷ s) h.1 in (lists p q xs ys is iz k.0, same_tail 44 44 r s k.1)
+list_read p xs is items (list q ys iz all) r s h =
+    let k = items ys all (44 ∷ r) (44 ∷ s) h.1 in (lists p q xs ys is iz k.0, same_tail 44 44 r s k.1)
 list_read p xs is items (object q fs iz all) r s h = absurd (let e = h.0 in omega (arith, e))
 
 -- ---- members: arguments and fields
@@ -162,7 +185,8 @@ list_read p xs is items (object q fs iz all) r s h = absurd (let e = h.0 in omeg
 -- a name and a value, read back
 pub member_read : (n m : List ℕ) (x y : Literal) → IsClear n → IsClear m
     → ((r s : List ℕ) → value_text x ++ (44 ∷ r) ≡ value_text y ++ (44 ∷ s) → SameValue x y × (r ≡ s))
-    → (r s : List ℕ) → member_text n (value_text x) ++ (44 ∷ r) ≡ member_text m (value_text y) ++ (44 ∷ s)
+    → (r s : List ℕ)
+    → member_text n (value_text x) ++ (44 ∷ r) ≡ member_text m (value_text y) ++ (44 ∷ s)
     → ((n ≡ m) × SameValue x y) × (r ≡ s)
 member_read n m x y p q value r s e =
     let k = words n m 58 58 (value_text x ++ (44 ∷ r)) (value_text y ++ (44 ∷ s)) p q refl refl
@@ -175,7 +199,8 @@ member_read n m x y p q value r s e =
 
 -- no member begins with `}`
 pub no_close : (n t r s : List ℕ) → IsClear n → member_text n t ++ r ≡ 125 ∷ s → ⊥
-no_close n t r s p e = let h = (words n [] 58 125 (t ++ r) s p tt refl refl (sym (parts n t r) ∙ e)).1 in omega (arith, h)
+no_close n t r s p e =
+    let h = (words n [] 58 125 (t ++ r) s p tt refl refl (sym (parts n t r) ∙ e)).1 in omega (arith, h)
   where
     parts : (n t r : List ℕ) → member_text n t ++ r ≡ n ++ (58 ∷ (t ++ r))
     parts n t r = simp append_assoc
@@ -189,7 +214,8 @@ IsSameField f g = (f.name.text ≡ g.name.text) × SameValue f.value g.value
 abbrev IsReadField : ObjectField → Type 0
 IsReadField = IsRead object_field_text IsPlainField IsSameField
 
-same_fields : (fs gs : List ObjectField) → AreSame object_field_text IsPlainField IsSameField fs gs → SameFields fs gs
+same_fields : (fs gs : List ObjectField) → AreSame object_field_text IsPlainField IsSameField fs gs
+    → SameFields fs gs
 same_fields [] [] h = same_no_fields
 same_fields [] (g ∷ gs) h = absurd h
 same_fields (f ∷ fs) [] h = absurd h
@@ -199,8 +225,11 @@ plain_fields : (fs : List ObjectField) → ArePlainFields fs → AllByRecursion 
 plain_fields _ no_fields = tt
 plain_fields (f ∷ fs) (field n v more) = ((n, v), plain_fields fs more)
 
-object_read : {x y : Literal} (p : Place) (fs : List ObjectField) → x ≡ l.Object p fs → AllByRecursion IsReadField fs
-    → (g : IsPlain y) (r s : List ℕ) → (123 ≡ mark_of g) × (with_commas (in_order (map object_field_text fs)) ++ (125 ∷ 44 ∷ r) ≡ rest_of g s) → SameValue x y × (r ≡ s)
+object_read : {x y : Literal} (p : Place) (fs : List ObjectField) → x ≡ l.Object p fs
+    → AllByRecursion IsReadField fs
+    → (g : IsPlain y) (r s : List ℕ) → (123 ≡ mark_of g)
+    × (with_commas (in_order (map object_field_text fs)) ++ (125 ∷ 44 ∷ r) ≡ rest_of g s)
+    → SameValue x y × (r ≡ s)
 unfolding mark_of rest_of
 object_read p fs is read (word w) r s h = absurd (let e = h.0 in omega (arith, e))
 object_read p fs is read (string q u iz small) r s h = absurd (let e = h.0 in omega (arith, e))
@@ -209,7 +238,8 @@ object_read p fs is read (object q gs iz all) r s h =
     let ts = map object_field_text fs in
     let us = map object_field_text gs in
     let good = plain_fields gs all in
-    let one = one_reading object_field_text IsPlainField IsSameField (λ a clear r s e. no_close a.name.text (value_text a.value) r s clear.0 e)
+    let one =
+    one_reading object_field_text IsPlainField IsSameField (λ a clear r s e. no_close a.name.text (value_text a.value) r s clear.0 e)
     (in_order ts) (in_order us)
     (all_of (IsTextOf object_field_text IsPlainField IsSameField IsReadField) (in_order ts) (λ t in_it. texts_of_all object_field_text IsPlainField IsSameField IsReadField fs read t (in_order_from t ts in_it)))
     (all_of (IsTextOf object_field_text IsPlainField IsSameField IsPlainField) (in_order us) (λ t in_it. texts_of_all object_field_text IsPlainField IsSameField IsPlainField gs good t (in_order_from t us in_it)))
@@ -223,23 +253,30 @@ object_read p fs is read (object q gs iz all) r s h =
 mutual
   unfolding word_of mark_of rest_of
 
-  pub read : (x y : Literal) → IsPlain x → IsPlain y → (r s : List ℕ) → value_text x ++ (44 ∷ r) ≡ value_text y ++ (44 ∷ s) → SameValue x y × (r ≡ s)
+  pub read : (x y : Literal) → IsPlain x → IsPlain y → (r s : List ℕ)
+      → value_text x ++ (44 ∷ r) ≡ value_text y ++ (44 ∷ s) → SameValue x y × (r ≡ s)
   read x y (word w) g r s e = word_read w g r s (opened (word w) g r s e)
-  read x y (string p v is short) g r s e = string_read p v is short g r s (opened (string p v is short) g r s e)
-  read x y (list p xs is all) g r s e = list_read p xs is (λ ys h r s e. read_items xs ys all h r s e) g r s
+  read x y (string p v is short) g r s e =
+      string_read p v is short g r s (opened (string p v is short) g r s e)
+  read x y (list p xs is all) g r s e =
+      list_read p xs is (λ ys h r s e. read_items xs ys all h r s e) g r s
       (let k = opened (list p xs is all) g r s e in (k.1, k.2))
   read x y (object p fs is all) g r s e = object_read p fs is (read_fields fs all) g r s
       (let k = opened (object p fs is all) g r s e in (k.1, k.2))
 
-  read_items : (xs ys : List Literal) → ArePlain xs → ArePlain ys → (r s : List ℕ) → with_commas (map value_text xs) ++ (93 ∷ r) ≡ with_commas (map value_text ys) ++ (93 ∷ s)
+  read_items : (xs ys : List Literal) → ArePlain xs → ArePlain ys → (r s : List ℕ)
+      → with_commas (map value_text xs) ++ (93 ∷ r) ≡ with_commas (map value_text ys) ++ (93 ∷ s)
       → SameItems xs ys × (r ≡ s)
   read_items _ _ none none r s e = (same_none, same_tail 93 93 r s e)
-  read_items _ (y ∷ ys) none (item h hs) r s e = absurd (no_end h (with_commas (map value_text ys) ++ (93 ∷ s)) r
+  read_items _ (y ∷ ys) none (item h hs) r s e =
+      absurd (no_end h (with_commas (map value_text ys) ++ (93 ∷ s)) r
       (sym (comma_first (value_text y) (map value_text ys) (93 ∷ s)) ∙ sym e))
-  read_items (x ∷ xs) _ (item g gs) none r s e = absurd (no_end g (with_commas (map value_text xs) ++ (93 ∷ r)) s
+  read_items (x ∷ xs) _ (item g gs) none r s e =
+      absurd (no_end g (with_commas (map value_text xs) ++ (93 ∷ r)) s
       (sym (comma_first (value_text x) (map value_text xs) (93 ∷ r)) ∙ e))
   read_items (x ∷ xs) (y ∷ ys) (item g gs) (item h hs) r s e =
-      let k = read x y g h (with_commas (map value_text xs) ++ (93 ∷ r)) (with_commas (map value_text ys) ++ (93 ∷ s))
+      let k =
+      read x y g h (with_commas (map value_text xs) ++ (93 ∷ r)) (with_commas (map value_text ys) ++ (93 ∷ s))
       (sym (comma_first (value_text x) (map value_text xs) (93 ∷ r)) ∙ e ∙ comma_first (value_text y) (map value_text ys) (93 ∷ s)) in
       let more = read_items xs ys gs hs r s k.1 in
       (same_item k.0 more.0, more.1)
@@ -249,7 +286,8 @@ mutual
   read_fields (f ∷ fs) (field n v more) = (
     record {
       good = (n, v);
-      only = λ g good r s e. member_read f.name.text g.name.text f.value g.value n good.0 (λ r s e. read f.value g.value v good.1 r s e) r s e;
+      only =
+          λ g good r s e. member_read f.name.text g.name.text f.value g.value n good.0 (λ r s e. read f.value g.value v good.1 r s e) r s e;
     },
     read_fields fs more,
   )

@@ -6,7 +6,8 @@ use Rattle.std.proofs.lemmas.Fmt.{decimal_by_steps}
 -- a byte that ends a name, a number and the length of a string: `"`, `(`, `,`, `:`, `[`, `]`, `{`
 -- and `}`
 abbrev pub is_mark : ℕ → Bool
-is_mark b = b == 34 || (b == 40 || (b == 44 || (b == 58 || (b == 91 || (b == 93 || (b == 123 || b == 125))))))
+is_mark b =
+    b == 34 || (b == 40 || (b == 44 || (b == 58 || (b == 91 || (b == 93 || (b == 123 || b == 125))))))
 
 -- no byte is a mark
 abbrev pub IsClear : List ℕ → Type 0
@@ -34,14 +35,18 @@ unfolding tail_of
 same_tail a b xs ys e = ap tail_of e
 
 -- texts that are equal have the same word up to the first mark, the same mark and the same rest
-pub words : (w v : List ℕ) (m k : ℕ) (r s : List ℕ) → IsClear w → IsClear v → is_mark m ≡ true → is_mark k ≡ true
+pub words : (w v : List ℕ) (m k : ℕ) (r s : List ℕ) → IsClear w → IsClear v → is_mark m ≡ true
+    → is_mark k ≡ true
     → w ++ (m ∷ r) ≡ v ++ (k ∷ s) → (w ≡ v) × (m ≡ k) × (r ≡ s)
 words [] [] m k r s p q mark other e = (refl, same_head m k r s e, same_tail m k r s e)
-words [] (b ∷ v) m k r s p q mark other e = absurd (true≢false (sym mark ∙ ap is_mark (same_head m b r (v ++ (k ∷ s)) e) ∙ q.0))
-words (a ∷ w) [] m k r s p q mark other e = absurd (true≢false (sym other ∙ ap is_mark (sym (same_head a k (w ++ (m ∷ r)) s e)) ∙ p.0))
+words [] (b ∷ v) m k r s p q mark other e =
+    absurd (true≢false (sym mark ∙ ap is_mark (same_head m b r (v ++ (k ∷ s)) e) ∙ q.0))
+words (a ∷ w) [] m k r s p q mark other e =
+    absurd (true≢false (sym other ∙ ap is_mark (sym (same_head a k (w ++ (m ∷ r)) s e)) ∙ p.0))
 words (a ∷ w) (b ∷ v) m k r s p q mark other e =
     let first : a ≡ b = same_head a b (w ++ (m ∷ r)) (v ++ (k ∷ s)) e in
-    let more = words w v m k r s p.1 q.1 mark other (same_tail a b (w ++ (m ∷ r)) (v ++ (k ∷ s)) e) in
+    let more =
+    words w v m k r s p.1 q.1 mark other (same_tail a b (w ++ (m ∷ r)) (v ++ (k ∷ s)) e) in
     (cc (first, more.0), more.1, more.2)
 
 -- texts of one length that are in front of others
@@ -73,7 +78,8 @@ pub data Sort : Type 0 where
   a_variable a_number a_boolean a_null an_enum : Sort
 
 abbrev pub sort_of_name : List ℕ → Sort
-sort_of_name w = cond (bytes_eq w (codes "true")) a_boolean (cond (bytes_eq w (codes "false")) a_boolean
+sort_of_name w =
+    cond (bytes_eq w (codes "true")) a_boolean (cond (bytes_eq w (codes "false")) a_boolean
     (cond (bytes_eq w (codes "null")) a_null an_enum))
 
 abbrev pub sort_of : List ℕ → Sort

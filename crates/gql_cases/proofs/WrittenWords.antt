@@ -36,11 +36,13 @@ module _ (P : ℕ → Bool) (none : (P 34 ≡ false) × (P 40 ≡ false) × (P 4
     by true is = absurd (true≢false (sym (is_true (P b) h) ∙ ap P (eqb-true b k is) ∙ free))
 
   byte_clear : (b : ℕ) → IsTrue (P b) → is_mark b ≡ false
-  byte_clear b h = rw (not_this b 34 h none.0, not_this b 40 h none.1, not_this b 44 h none.2, not_this b 58 h none.3, not_this b 91 h none.4, not_this b 93 h none.5, not_this b 123 h none.6, not_this b 125 h none.7) refl
+  byte_clear b h =
+      rw (not_this b 34 h none.0, not_this b 40 h none.1, not_this b 44 h none.2, not_this b 58 h none.3, not_this b 91 h none.4, not_this b 93 h none.5, not_this b 123 h none.6, not_this b 125 h none.7) refl
 
   all_clear : (bs : List ℕ) → IsTrue (list_all P bs) → IsClear bs
   all_clear [] h = tt
-  all_clear (b ∷ bs) h = let k = both_true (P b) (list_all P bs) h in (byte_clear b k.0, all_clear bs k.1)
+  all_clear (b ∷ bs) h =
+      let k = both_true (P b) (list_all P bs) h in (byte_clear b k.0, all_clear bs k.1)
 
 name_bytes : (bs : List ℕ) → IsTrue (list_all is_name_byte bs) → IsClear bs
 name_bytes bs h = all_clear is_name_byte (refl, refl, refl, refl, refl, refl, refl, refl) bs h
@@ -52,19 +54,22 @@ start_clear : (b : ℕ) → IsTrue (is_name_start b) → is_mark b ≡ false
 start_clear b h = byte_clear is_name_start (refl, refl, refl, refl, refl, refl, refl, refl) b h
 
 exponent_clear : (b : ℕ) → IsTrue (is_exponent_mark b) → is_mark b ≡ false
-exponent_clear b h = byte_clear is_exponent_mark (refl, refl, refl, refl, refl, refl, refl, refl) b h
+exponent_clear b h =
+    byte_clear is_exponent_mark (refl, refl, refl, refl, refl, refl, refl, refl) b h
 
 -- ---- names
 
 pub name_clear : (n : List ℕ) → IsName n → IsClear n
-name_clear n h = subst (λ t. IsClear t) (sym h.parts) (start_clear h.first h.starts, name_bytes h.rest h.continues)
+name_clear n h =
+    subst (λ t. IsClear t) (sym h.parts) (start_clear h.first h.starts, name_bytes h.rest h.continues)
 
 -- a byte at which a name starts is no `$`, and comes after the digits
 start_high : (b : ℕ) → is_name_start b ≡ true → 65 ≤ b
 start_high b h = grind (arith, nat_tests, h)
 
 name_sort : (n : List ℕ) → IsName n → sort_of n ≡ sort_of_name n
-name_sort n h = subst (λ t. sort_of t ≡ sort_of_name t) (sym h.parts) (by h.first h.rest (start_high h.first (is_true (is_name_start h.first) h.starts)))
+name_sort n h =
+    subst (λ t. sort_of t ≡ sort_of_name t) (sym h.parts) (by h.first h.rest (start_high h.first (is_true (is_name_start h.first) h.starts)))
   where
     by : (b : ℕ) (bs : List ℕ) → 65 ≤ b → sort_of (b ∷ bs) ≡ sort_of_name (b ∷ bs)
     by b bs high =
@@ -79,9 +84,12 @@ differs xs ys h = by (bytes_eq xs ys) refl where
   by true is = absurd (h ((bytes_eq-Decides xs ys).0 is))
 
 enum_sort : (n : List ℕ) → IsEnumName n → sort_of n ≡ an_enum
-enum_sort n h = name_sort n h.is_name ∙ by (bytes_eq n (codes "true")) (bytes_eq n (codes "false")) (bytes_eq n (codes "null")) (differs n (codes "true") h.not_true) (differs n (codes "false") h.not_false) (differs n (codes "null") h.not_null)
+enum_sort n h =
+    name_sort n h.is_name
+    ∙ by (bytes_eq n (codes "true")) (bytes_eq n (codes "false")) (bytes_eq n (codes "null")) (differs n (codes "true") h.not_true) (differs n (codes "false") h.not_false) (differs n (codes "null") h.not_null)
   where
-    by : (a b c : Bool) → a ≡ false → b ≡ false → c ≡ false → cond a a_boolean (cond b a_boolean (cond c a_null an_enum)) ≡ an_enum
+    by : (a b c : Bool) → a ≡ false → b ≡ false → c ≡ false
+        → cond a a_boolean (cond b a_boolean (cond c a_null an_enum)) ≡ an_enum
     by a b c e f g = rw (e, f, g) refl
 
 -- ---- numbers
@@ -111,7 +119,8 @@ number_sort t h = subst (λ u. sort_of u ≡ a_number) (sym h.parts) (by h.first
 
 unsigned_clear : (t : List ℕ) → IsUnsigned t → IsClear t
 unsigned_clear t (zero_alone e) = subst (λ u. IsClear u) (sym e) (refl, tt)
-unsigned_clear t (not_zero {rest = rest} {first = first} e other digits) = subst (λ u. IsClear u) (sym e) (digits_clear (first ∷ rest) digits)
+unsigned_clear t (not_zero {rest = rest} {first = first} e other digits) =
+    subst (λ u. IsClear u) (sym e) (digits_clear (first ∷ rest) digits)
 
 unsigned_starts : (t : List ℕ) → IsUnsigned t → StartsNumber t
 unsigned_starts t (zero_alone e) = record { first = 48; rest = []; parts = e; is = inr refl }
@@ -119,24 +128,29 @@ unsigned_starts t (not_zero {rest = rest} {first = first} e other digits) =
     record { first = first; rest = rest; parts = e; is = inr (both_true (is_ascii_digit first) (list_all is_ascii_digit rest) digits).0 }
 
 integer_clear : (t : List ℕ) → IsInteger t → IsClear t
-integer_clear t h = subst (λ u. IsClear u) (sym h.parts) (clear_append h.sign h.digits (by h.sign h.signed) (unsigned_clear h.digits h.unsigned))
+integer_clear t h =
+    subst (λ u. IsClear u) (sym h.parts) (clear_append h.sign h.digits (by h.sign h.signed) (unsigned_clear h.digits h.unsigned))
   where
     by : (s : List ℕ) → (s ≡ []) ⊎ (s ≡ 45 ∷ []) → IsClear s
     by s (inl e) = subst (λ u. IsClear u) (sym e) tt
     by s (inr e) = subst (λ u. IsClear u) (sym e) (refl, tt)
 
 integer_starts : (t : List ℕ) → IsInteger t → StartsNumber t
-integer_starts t h = subst (λ u. StartsNumber u) (sym h.parts) (by h.sign h.digits h.signed (unsigned_starts h.digits h.unsigned))
+integer_starts t h =
+    subst (λ u. StartsNumber u) (sym h.parts) (by h.sign h.digits h.signed (unsigned_starts h.digits h.unsigned))
   where
     by : (s ds : List ℕ) → (s ≡ []) ⊎ (s ≡ 45 ∷ []) → StartsNumber ds → StartsNumber (s ++ ds)
     by s ds (inl e) k = subst (λ u. StartsNumber (u ++ ds)) (sym e) k
-    by s ds (inr e) k = subst (λ u. StartsNumber (u ++ ds)) (sym e) (record { first = 45; rest = ds; parts = refl; is = inl refl })
+    by s ds (inr e) k =
+        subst (λ u. StartsNumber (u ++ ds)) (sym e) (record { first = 45; rest = ds; parts = refl; is = inl refl })
 
 fraction_clear : (t : List ℕ) → IsFraction t → IsClear t
-fraction_clear t h = subst (λ u. IsClear u) (sym h.parts) (refl, digits_clear h.digits h.are_digits.digits)
+fraction_clear t h =
+    subst (λ u. IsClear u) (sym h.parts) (refl, digits_clear h.digits h.are_digits.digits)
 
 exponent_part_clear : (t : List ℕ) → IsExponent t → IsClear t
-exponent_part_clear t h = subst (λ u. IsClear u) (sym h.parts) (exponent_clear h.mark h.marked, clear_append h.sign h.digits (by h.sign h.signed) (digits_clear h.digits h.are_digits.digits))
+exponent_part_clear t h =
+    subst (λ u. IsClear u) (sym h.parts) (exponent_clear h.mark h.marked, clear_append h.sign h.digits (by h.sign h.signed) (digits_clear h.digits h.are_digits.digits))
   where
     by : (s : List ℕ) → (s ≡ []) ⊎ ((s ≡ 43 ∷ []) ⊎ (s ≡ 45 ∷ [])) → IsClear s
     by s (inl e) = subst (λ u. IsClear u) (sym e) tt
@@ -146,20 +160,24 @@ exponent_part_clear t h = subst (λ u. IsClear u) (sym h.parts) (exponent_clear 
 tail_clear : (t : List ℕ) → IsFloatTail t → IsClear t
 tail_clear t (fraction h) = fraction_clear t h
 tail_clear t (exponent h) = exponent_part_clear t h
-tail_clear t (both {front = front} {back = back} e f g) = subst (λ u. IsClear u) (sym e) (clear_append front back (fraction_clear front f) (exponent_part_clear back g))
+tail_clear t (both {front = front} {back = back} e f g) =
+    subst (λ u. IsClear u) (sym e) (clear_append front back (fraction_clear front f) (exponent_part_clear back g))
 
 float_clear : (t : List ℕ) → IsFloat t → IsClear t
-float_clear t h = subst (λ u. IsClear u) (sym h.parts) (clear_append h.integer h.tail (integer_clear h.integer h.is_integer) (tail_clear h.tail h.is_tail))
+float_clear t h =
+    subst (λ u. IsClear u) (sym h.parts) (clear_append h.integer h.tail (integer_clear h.integer h.is_integer) (tail_clear h.tail h.is_tail))
 
 float_starts : (t : List ℕ) → IsFloat t → StartsNumber t
-float_starts t h = subst (λ u. StartsNumber u) (sym h.parts) (by (integer_starts h.integer h.is_integer))
+float_starts t h =
+    subst (λ u. StartsNumber u) (sym h.parts) (by (integer_starts h.integer h.is_integer))
   where
     by : StartsNumber h.integer → StartsNumber (h.integer ++ h.tail)
     by k = record { first = k.first; rest = k.rest ++ h.tail; parts = ap (λ u. u ++ h.tail) k.parts; is = k.is }
 
 -- ---- words
 
-pub variable_word : {x : Literal} (p : Place) (n : List ℕ) → x ≡ l.Variable p n → IsName n → IsWord x
+pub variable_word : {x : Literal} (p : Place) (n : List ℕ) → x ≡ l.Variable p n → IsName n
+    → IsWord x
 variable_word p n e name = record {
   text = 36 ∷ n;
   sort = a_variable;

@@ -19,22 +19,31 @@ field p name number = record {
   value = l.Int p number;
 }
 
+abbrev pub a_1 : Place → Argument
+a_1 p = argument p (codes "a") (codes "1")
+
+abbrev pub a_2 : Place → Argument
+a_2 p = argument p (codes "a") (codes "2")
+
+abbrev pub b_2 : Place → Argument
+b_2 p = argument p (codes "b") (codes "2")
+
+abbrev pub p_1 : Place → ObjectField
+p_1 p = field p (codes "p") (codes "1")
+
 -- `f(a: 1, b: 2)` is the same call as `f(b: 2, a: 1)`
 abbrev pub OrderDoesNotCount : Type 0
 OrderDoesNotCount = (p : Place)
-    → SameCall (codes "f") (argument p (codes "a") (codes "1") ∷ argument p (codes "b") (codes "2") ∷ [])
-    (codes "f") (argument p (codes "b") (codes "2") ∷ argument p (codes "a") (codes "1") ∷ [])
+    → SameCall (codes "f") (a_1 p ∷ b_2 p ∷ []) (codes "f") (b_2 p ∷ a_1 p ∷ [])
 
 -- `f(a: 1)` is not the same call as `f(a: 2)`
 abbrev pub ValuesCount : Type 0
-ValuesCount = (p : Place) → SameCall (codes "f") (argument p (codes "a") (codes "1") ∷ [])
-    (codes "f") (argument p (codes "a") (codes "2") ∷ []) → ⊥
+ValuesCount = (p : Place) → SameCall (codes "f") (a_1 p ∷ []) (codes "f") (a_2 p ∷ []) → ⊥
 
 -- `{p: 1, p: 1}` is not the same value as `{p: 1}`
 abbrev pub TwiceIsNotOnce : Type 0
-TwiceIsNotOnce = (p : Place)
-    → SameValue (l.Object p (field p (codes "p") (codes "1") ∷ field p (codes "p") (codes "1") ∷ []))
-    (l.Object p (field p (codes "p") (codes "1") ∷ [])) → ⊥
+TwiceIsNotOnce = (p : Place) → SameValue (l.Object p (p_1 p ∷ p_1 p ∷ [])) (l.Object p (p_1 p ∷ []))
+    → ⊥
 
 -- the enum value `A` is not the same value as the string `"A"`
 abbrev pub EnumIsNotString : Type 0

@@ -1,7 +1,6 @@
 -- When two fields of one response name are the same call (GraphQL specification, 5.3.2): they have
--- the same field name, and each argument of the one is an argument of the other. The law `calls`
--- says that two fields are the same call exactly if their texts are one, and by these texts the
--- contracts of gql_merge compare fields.
+-- the same field name, and identical sets of arguments. The law `calls` says that two fields are the
+-- same call exactly if they have one text. The contracts of gql_merge compare fields by these texts.
 use Rattle.std.specs.Prelude.{◌≡◌, ◌↔◌, ◌<◌, ◌^◌, ℕ, List, [], ◌∷◌, Bool, true, false, length, All, Contains}
 use Rattle.std.specs.List.Sorted.{IsPermutation}
 use Rattle.gql_text.specs.Grammar.{IsName}
@@ -68,13 +67,18 @@ pub record SameArgument (x y : Argument) : Type 0 where
   pub same_name : x.name.text ≡ y.name.text
   pub same_value : SameValue x.value y.value
 
--- The same field name, and the same arguments: each argument of the one is one of the other.
--- Arguments are a set, so neither their order counts nor how often one is written.
-pub record SameCall (name : List ℕ) (given : List Argument) (other : List ℕ) (taken : List Argument)
-    : Type 0 where
+-- each of these arguments is one of the others, by its name and its value
+abbrev pub AreAmong : List Argument → List Argument → Type 0
+AreAmong arguments others = (x : Argument) → Contains arguments x
+    → (y : Argument) × Contains others y × SameArgument x y
+
+-- The same field name and the same arguments. Arguments are a set: neither their order counts nor
+-- how often one is written.
+pub record SameCall (name : List ℕ) (arguments : List Argument) (other : List ℕ)
+    (others : List Argument) : Type 0 where
   pub same_name : name ≡ other
-  pub in_other : (x : Argument) → Contains given x → (y : Argument) × Contains taken y × SameArgument x y
-  pub in_one : (y : Argument) → Contains taken y → (x : Argument) × Contains given x × SameArgument x y
+  pub in_others : AreAmong arguments others
+  pub in_these : AreAmong others arguments
 
 -- a field that a document can write: its name, and the names and values of its arguments
 pub record IsWrittenCall (name : List ℕ) (arguments : List Argument) : Type 0 where
@@ -82,8 +86,8 @@ pub record IsWrittenCall (name : List ℕ) (arguments : List Argument) : Type 0 
   pub names : All (λ (a : Argument). IsName a.name.text) arguments
   pub values : All (λ (a : Argument). IsWritten false a.value) arguments
 
--- Two fields that a document can write have one text exactly if they are the same call. A text has
--- fewer than 2 ^ 64 bytes, as each text in memory.
+-- Two fields that a document can write have one text exactly if they are the same call. The bound
+-- on the text holds of each text in memory.
 abbrev pub SameTextForSameCall : Type 0
 SameTextForSameCall = (n m : List ℕ) (a b : List Argument) → IsWrittenCall n a → IsWrittenCall m b
     → length (call_text n a) < 2 ^ 64 → call_text n a ≡ call_text m b ↔ SameCall n a m b
@@ -108,4 +112,5 @@ SharedCallIsSameCall = (facts : Facts) (f g : WrittenField) (x y : FieldNode)
     → IsNodeOf facts f x → IsNodeOf facts g y
     → IsWrittenCall f.name.text f.arguments → IsWrittenCall g.name.text g.arguments
     → length (call_text f.name.text f.arguments) < 2 ^ 64
-    → (nodes facts).share_call x y ≡ true ↔ SameCall f.name.text f.arguments g.name.text g.arguments
+    → (nodes facts).share_call x y ≡ true
+    ↔ SameCall f.name.text f.arguments g.name.text g.arguments

@@ -1,6 +1,6 @@
--- When two fields have results of the same shape (GraphQL specification, 5.3.2, SameResponseShape), a
--- case for each form of their types. The law `shapes` says that this is exactly what rule V06 asks
--- of two fields.
+-- When the results of two fields have the same shape (GraphQL specification, 5.3.2,
+-- SameResponseShape), a case for each form of their types. The law `shapes` says that this is
+-- exactly what rule V06 asks of two fields.
 use Rattle.std.specs.Prelude.{◌≡◌, ◌↔◌, ℕ, List, Bool, true, false, Option, Some}
 use Rattle.gql_text.specs.Grammar.{IsName}
 use Rattle.gql_types.specs.Written.{Written, named, listed, required}
