@@ -33,84 +33,101 @@ in_commas q (t ∷ ts) (inr h) =
     let g = length-append (t ++ (44 ∷ [])) (with_commas ts) in
     omega (arith, f, g)
 
-in_quotes : (v : List ℕ) → length v ≤ length (decimal (length v) ++ (codes "\"" ++ v))
-in_quotes v = let f = length-append (decimal (length v)) (34 ∷ v) in omega (arith, f)
+-- a text fits in memory
+abbrev Fits : Text → Type 0
+Fits t = length t < 2 ^ 64
 
-in_brackets : (a b : ℕ) (t : List ℕ) → length t ≤ length (a ∷ (t ++ (b ∷ [])))
-in_brackets a b t = let f = length-append t (b ∷ []) in omega (arith, f)
+-- each of these texts fits
+abbrev AllFit : List Text → Type 0
+AllFit ts = (q : Text) → IsIn q ts → Fits q
 
-in_member : (n v : List ℕ) → length v ≤ length (member_text n v)
-in_member n v = let f = length-append n (58 ∷ v) in omega (arith, f)
+others_fit : (t : Text) (ts : List Text) → AllFit (t ∷ ts) → AllFit ts
+others_fit t ts fit q h = fit q (inr h)
 
-shorter : (v w : List ℕ) (k : ℕ) → length v ≤ length w → length w < k → length v < k
-shorter v w k f h = omega (arith, f, h)
+string_fits : (v : List ℕ) → Fits (decimal (length v) ++ (codes "\"" ++ v)) → Fits v
+string_fits v h = let f = length-append (decimal (length v)) (34 ∷ v) in omega (arith, f, h)
+
+member_fits : (n v : List ℕ) → Fits (member_text n v) → Fits v
+member_fits n v h = let f = length-append n (58 ∷ v) in omega (arith, f, h)
+
+enclosed_fit : (a b : ℕ) (ts : List Text) → Fits (a ∷ (with_commas ts ++ (b ∷ []))) → AllFit ts
+enclosed_fit a b ts h q in_it =
+    let f = length-append (with_commas ts) (b ∷ []) in
+    let g = in_commas q ts in_it in
+    omega (arith, f, g, h)
 
 -- ---- values
 
 mutual
-  plain : (x : Literal) → IsWritten false x → length (value_text x) < 2 ^ 64 → IsPlain x
-  plain x (variable p n e c name) short = plain_word (variable_word p n e name)
-  plain x (int p t e h) short = plain_word (int_word p t e h)
-  plain x (float p t e h) short = plain_word (float_word p t e h)
-  plain x (string p v e) short =
-      plain_string p v e (shorter v (decimal (length v) ++ (codes "\"" ++ v)) (2 ^ 64) (in_quotes v)
-      (subst (λ t. length t < 2 ^ 64) (ap value_text e ∙ text_string p v) short))
-  plain x (boolean p b e) short = plain_word (boolean_word p b e)
-  plain x (null p e) short = plain_word (null_word p e)
-  plain x (enum p n e h) short = plain_word (enum_word p n e h)
-  plain x (list p xs e all) short = plain_list p xs e (plain_items xs all
-      (λ q in_it. shorter q (with_commas (map value_text xs)) (2 ^ 64) (in_commas q (map value_text xs) in_it)
-      (shorter (with_commas (map value_text xs)) (91 ∷ (with_commas (map value_text xs) ++ (93 ∷ []))) (2 ^ 64) (in_brackets 91 93 (with_commas (map value_text xs)))
-      (subst (λ t. length t < 2 ^ 64) (ap value_text e ∙ text_list p xs) short))))
-  plain x (object p fs e all) short = plain_object p fs e (plain_fields fs all
-      (λ q in_it. shorter q (with_commas (in_order (map object_field_text fs))) (2 ^ 64) (in_commas q (in_order (map object_field_text fs)) (in_order_to q (map object_field_text fs) in_it))
-      (shorter (with_commas (in_order (map object_field_text fs))) (123 ∷ (with_commas (in_order (map object_field_text fs)) ++ (125 ∷ []))) (2 ^ 64) (in_brackets 123 125 (with_commas (in_order (map object_field_text fs))))
-      (subst (λ t. length t < 2 ^ 64) (ap value_text e ∙ text_object p fs) short))))
+  plain : (x : Literal) → IsWritten false x → Fits (value_text x) → IsPlain x
+  plain x (variable p n e c name) fit = plain_word (variable_word p n e name)
+  plain x (int p t e h) fit = plain_word (int_word p t e h)
+  plain x (float p t e h) fit = plain_word (float_word p t e h)
+  plain x (string p v e) fit =
+      plain_string p v e (string_fits v (subst Fits (ap value_text e ∙ text_string p v) fit))
+  plain x (boolean p b e) fit = plain_word (boolean_word p b e)
+  plain x (null p e) fit = plain_word (null_word p e)
+  plain x (enum p n e h) fit = plain_word (enum_word p n e h)
+  plain x (list p xs e all) fit =
+      let ts = map value_text xs in
+      plain_list p xs e (plain_items xs all
+      (enclosed_fit 91 93 ts (subst Fits (ap value_text e ∙ text_list p xs) fit)))
+  plain x (object p fs e all) fit =
+      let ts = map object_field_text fs in
+      let each = enclosed_fit 123 125 (in_order ts) (subst Fits (ap value_text e ∙ text_object p fs) fit) in
+      plain_object p fs e (plain_fields fs all (λ q h. each q (in_order_to q ts h)))
 
-  plain_items : (xs : List Literal) → AreWritten false xs
-      → ((q : Text) → IsIn q (map value_text xs) → length q < 2 ^ 64) → ArePlain xs
-  plain_items _ no_items short = plain_none
-  plain_items (x ∷ xs) (item h hs) short =
-      plain_item (plain x h (short (value_text x) (inl refl))) (plain_items xs hs (λ q in_it. short q (inr in_it)))
+  plain_items : (xs : List Literal) → AreWritten false xs → AllFit (map value_text xs)
+      → ArePlain xs
+  plain_items _ no_items fit = plain_none
+  plain_items (x ∷ xs) (item h hs) fit = plain_item (plain x h (fit (value_text x) (inl refl)))
+      (plain_items xs hs (others_fit (value_text x) (map value_text xs) fit))
 
   plain_fields : (fs : List ObjectField) → AreWrittenFields false fs
-      → ((q : Text) → IsIn q (map object_field_text fs) → length q < 2 ^ 64) → ArePlainFields fs
-  plain_fields _ no_fields short = plain_no_fields
-  plain_fields (f ∷ fs) (field name h hs) short = plain_field (name_clear f.name.text name)
-      (plain f.value h (shorter (value_text f.value) (object_field_text f) (2 ^ 64) (in_member f.name.text (value_text f.value)) (short (object_field_text f) (inl refl))))
-      (plain_fields fs hs (λ q in_it. short q (inr in_it)))
+      → AllFit (map object_field_text fs) → ArePlainFields fs
+  plain_fields _ no_fields fit = plain_no_fields
+  plain_fields (f ∷ fs) (field name h hs) fit =
+      let t = object_field_text f in
+      let own = member_fits f.name.text (value_text f.value) (fit t (inl refl)) in
+      plain_field (name_clear f.name.text name) (plain f.value h own)
+      (plain_fields fs hs (others_fit t (map object_field_text fs) fit))
 
 -- ---- calls
 
-plain_arguments : (xs : List Argument) → All (λ (a : Argument). IsName a.name.text) xs
-    → All (λ (a : Argument). IsWritten false a.value) xs
-    → ((q : Text) → IsIn q (map argument_text xs) → length q < 2 ^ 64)
-    → AllByRecursion IsPlainArgument xs
-plain_arguments [] names values short = tt
-plain_arguments (x ∷ xs) names values short = (
-  (
-    name_clear x.name.text (names 0 x (omega arith)),
-    plain x.value (values 0 x (omega arith)) (shorter (value_text x.value) (argument_text x) (2 ^ 64) (in_member x.name.text (value_text x.value)) (short (argument_text x) (inl refl))),
-  ),
-  plain_arguments xs (All-tail (λ (a : Argument). IsName a.name.text) x xs names) (All-tail (λ (a : Argument). IsWritten false a.value) x xs values) (λ q in_it. short q (inr in_it)),
-)
+abbrev HasName : Argument → Type 0
+HasName a = IsName a.name.text
 
-in_call : (n : List ℕ) (xs : List Argument) (q : Text) → length (call_text n xs) < 2 ^ 64
-    → IsIn q (map argument_text xs) → length q < 2 ^ 64
-in_call n xs q short in_it =
-    let ts = with_commas (each_once (map argument_text xs)) in
-    let f =
-    in_commas q (each_once (map argument_text xs)) (once_to q (map argument_text xs) in_it) in
-    let g = length-append n (40 ∷ ts) in
-    omega (arith, f, g, short)
+abbrev HasValue : Argument → Type 0
+HasValue a = IsWritten false a.value
+
+plain_arguments : (xs : List Argument) → All HasName xs → All HasValue xs
+    → AllFit (map argument_text xs) → AllByRecursion IsPlainArgument xs
+plain_arguments [] names values fit = tt
+plain_arguments (x ∷ xs) names values fit =
+    let t = argument_text x in
+    let own = member_fits x.name.text (value_text x.value) (fit t (inl refl)) in
+    let name = name_clear x.name.text (names 0 x (omega arith)) in
+    let value = plain x.value (values 0 x (omega arith)) own in
+    let others = others_fit t (map argument_text xs) fit in
+    let more_names = All-tail HasName x xs names in
+    let more_values = All-tail HasValue x xs values in
+    ((name, value), plain_arguments xs more_names more_values others)
+
+call_fits : (n : List ℕ) (xs : List Argument) → Fits (call_text n xs) → AllFit (map argument_text xs)
+call_fits n xs h q in_it =
+    let ts = each_once (map argument_text xs) in
+    let f = in_commas q ts (once_to q (map argument_text xs) in_it) in
+    let g = length-append n (40 ∷ with_commas ts) in
+    omega (arith, f, g, h)
 
 pub same_text_for_same_call : SameTextForSameCall
-same_text_for_same_call n m a b one other short = (
-  λ e. one_text_same n m a b (name_clear n one.is_name) (name_clear m other.is_name)
-      (plain_arguments a one.names one.values (λ q in_it. in_call n a q short in_it))
-      (plain_arguments b other.names other.values (λ q in_it. in_call m b q (subst (λ t. length t < 2 ^ 64) e short) in_it)) e,
-  λ h. same_calls_one n m a b h,
-)
+same_text_for_same_call n m a b one other fit =
+    let plain_a = plain_arguments a one.names one.values (call_fits n a fit) in (
+      λ e.
+          let plain_b = plain_arguments b other.names other.values (call_fits m b (subst Fits e fit)) in
+          one_text_same n m a b (name_clear n one.is_name) (name_clear m other.is_name) plain_a plain_b e,
+      λ h. same_calls_one n m a b h,
+    )
 
 -- ---- rule V05
 

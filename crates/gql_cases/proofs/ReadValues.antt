@@ -128,7 +128,8 @@ opened : {x y : Literal} (f : IsPlain x) (g : IsPlain y) (r s : List ℕ)
     → value_text x ++ (44 ∷ r) ≡ value_text y ++ (44 ∷ s)
     → (word_of f ≡ word_of g) × (mark_of f ≡ mark_of g) × (rest_of f r ≡ rest_of g s)
 opened f g r s e =
-    words (word_of f) (word_of g) (mark_of f) (mark_of g) (rest_of f r) (rest_of g s) (word_clear f) (word_clear g) (mark_marks f) (mark_marks g)
+    words (word_of f) (word_of g) (mark_of f) (mark_of g) (rest_of f r) (rest_of g s)
+    (word_clear f) (word_clear g) (mark_marks f) (mark_marks g)
     (sym (opens f r) ∙ e ∙ opens g s)
 
 -- no value begins with `]`
@@ -141,7 +142,9 @@ mark_no_end (object p fs is all) h = omega (arith, h)
 
 no_end : {x : Literal} (f : IsPlain x) (r s : List ℕ) → value_text x ++ (44 ∷ r) ≡ 93 ∷ s → ⊥
 no_end f r s e =
-    mark_no_end f (words (word_of f) [] (mark_of f) 93 (rest_of f r) s (word_clear f) tt (mark_marks f) refl (sym (opens f r) ∙ e)).1
+    let found = words (word_of f) [] (mark_of f) 93 (rest_of f r) s (word_clear f) tt (mark_marks f) refl
+    (sym (opens f r) ∙ e) in
+    mark_no_end f found.1
 
 -- ---- by the form of the one
 
@@ -169,8 +172,13 @@ string_read p v is short (string q u iz small) r s h =
 string_read p v is short (list q xs iz all) r s h = absurd (let e = h.1 in omega (arith, e))
 string_read p v is short (object q fs iz all) r s h = absurd (let e = h.1 in omega (arith, e))
 
-list_read : {x y : Literal} (p : Place) (xs : List Literal) → x ≡ l.List p xs
-    → ((ys : List Literal) → ArePlain ys → (r s : List ℕ) → with_commas (map value_text xs) ++ (93 ∷ r) ≡ with_commas (map value_text ys) ++ (93 ∷ s) → SameItems xs ys × (r ≡ s))
+-- the items of a list are read back
+abbrev AreReadItems : List Literal → Type 0
+AreReadItems xs = (ys : List Literal) → ArePlain ys → (r s : List ℕ)
+    → with_commas (map value_text xs) ++ (93 ∷ r) ≡ with_commas (map value_text ys) ++ (93 ∷ s)
+    → SameItems xs ys × (r ≡ s)
+
+list_read : {x y : Literal} (p : Place) (xs : List Literal) → x ≡ l.List p xs → AreReadItems xs
     → (g : IsPlain y) (r s : List ℕ) → (91 ≡ mark_of g)
     × (with_commas (map value_text xs) ++ (93 ∷ 44 ∷ r) ≡ rest_of g s) → SameValue x y × (r ≡ s)
 unfolding mark_of rest_of
@@ -225,6 +233,17 @@ plain_fields : (fs : List ObjectField) → ArePlainFields fs → AllByRecursion 
 plain_fields _ no_fields = tt
 plain_fields (f ∷ fs) (field n v more) = ((n, v), plain_fields fs more)
 
+-- the texts of fields, in order, are texts of such fields
+abbrev IsFieldText : (ObjectField → Type 0) → List ℕ → Type 0
+IsFieldText = IsTextOf object_field_text IsPlainField IsSameField
+
+field_texts : (P : ObjectField → Type 0) (fs : List ObjectField) → AllByRecursion P fs
+    → AllByRecursion (IsFieldText P) (in_order (map object_field_text fs))
+field_texts P fs all =
+    let ts = map object_field_text fs in
+    all_of (IsFieldText P) (in_order ts) (λ t h.
+    texts_of_all object_field_text IsPlainField IsSameField P fs all t (in_order_from t ts h))
+
 object_read : {x y : Literal} (p : Place) (fs : List ObjectField) → x ≡ l.Object p fs
     → AllByRecursion IsReadField fs
     → (g : IsPlain y) (r s : List ℕ) → (123 ≡ mark_of g)
@@ -238,12 +257,10 @@ object_read p fs is read (object q gs iz all) r s h =
     let ts = map object_field_text fs in
     let us = map object_field_text gs in
     let good = plain_fields gs all in
-    let one =
-    one_reading object_field_text IsPlainField IsSameField (λ a clear r s e. no_close a.name.text (value_text a.value) r s clear.0 e)
-    (in_order ts) (in_order us)
-    (all_of (IsTextOf object_field_text IsPlainField IsSameField IsReadField) (in_order ts) (λ t in_it. texts_of_all object_field_text IsPlainField IsSameField IsReadField fs read t (in_order_from t ts in_it)))
-    (all_of (IsTextOf object_field_text IsPlainField IsSameField IsPlainField) (in_order us) (λ t in_it. texts_of_all object_field_text IsPlainField IsSameField IsPlainField gs good t (in_order_from t us in_it)))
-    (44 ∷ r) (44 ∷ s) h.1 in
+    let one = one_reading object_field_text IsPlainField IsSameField
+    (λ a clear r s e. no_close a.name.text (value_text a.value) r s clear.0 e)
+    (in_order ts) (in_order us) (field_texts IsReadField fs read)
+    (field_texts IsPlainField gs good) (44 ∷ r) (44 ∷ s) h.1 in
     let k = some_order object_field_text IsPlainField IsSameField fs gs read good (λ q.
     sym (in_order_times q ts) ∙ ap (λ l. times q l) one.0 ∙ in_order_times q us) in
     (objects p q fs gs k.0 is iz k.1 (same_fields fs k.0 k.2), same_tail 44 44 r s one.1)
@@ -275,9 +292,11 @@ mutual
       absurd (no_end g (with_commas (map value_text xs) ++ (93 ∷ r)) s
       (sym (comma_first (value_text x) (map value_text xs) (93 ∷ r)) ∙ e))
   read_items (x ∷ xs) (y ∷ ys) (item g gs) (item h hs) r s e =
-      let k =
-      read x y g h (with_commas (map value_text xs) ++ (93 ∷ r)) (with_commas (map value_text ys) ++ (93 ∷ s))
-      (sym (comma_first (value_text x) (map value_text xs) (93 ∷ r)) ∙ e ∙ comma_first (value_text y) (map value_text ys) (93 ∷ s)) in
+      let ts = map value_text xs in
+      let us = map value_text ys in
+      let first = comma_first (value_text x) ts (93 ∷ r) in
+      let other = comma_first (value_text y) us (93 ∷ s) in
+      let k = read x y g h (with_commas ts ++ (93 ∷ r)) (with_commas us ++ (93 ∷ s)) (sym first ∙ e ∙ other) in
       let more = read_items xs ys gs hs r s k.1 in
       (same_item k.0 more.0, more.1)
 
@@ -286,8 +305,9 @@ mutual
   read_fields (f ∷ fs) (field n v more) = (
     record {
       good = (n, v);
-      only =
-          λ g good r s e. member_read f.name.text g.name.text f.value g.value n good.0 (λ r s e. read f.value g.value v good.1 r s e) r s e;
+      only = λ g good r s e.
+          member_read f.name.text g.name.text f.value g.value n good.0
+          (λ r s e. read f.value g.value v good.1 r s e) r s e;
     },
     read_fields fs more,
   )

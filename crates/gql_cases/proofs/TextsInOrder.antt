@@ -189,26 +189,32 @@ AreBelow n (e ∷ es) = (e.0.1 < n) × AreBelow n es
 greater : (m n : ℕ) → m < n → nat_cmp n m ≡ Greater
 greater m n h = grind (arith, h)
 
--- an entry behind those of its text and those of lower ones
+-- these entries with this text under this number
+abbrev with_entry : Text → ℕ → Numbered → Numbered
+with_entry t n es = insert_entry numbered_order es (t, n) tt
+
+-- the same, if the text compares so with that of the first entry
+abbrev with_entry_by : Ordering → Text → ℕ → (Text × ℕ) × Unit {0} → Numbered → Numbered
+with_entry_by o t n e es = match_ordering o (((t, n), tt) ∷ e ∷ es) (e ∷ with_entry t n es) (e ∷ with_entry t n es)
+
+-- an entry is put after those of its text
 step : (t : Text) (n : ℕ) (e : (Text × ℕ) × Unit {0}) (es : Numbered) → e.0.1 < n
-    → insert_entry numbered_order (e ∷ es) (t, n) tt
-    ≡ match_ordering (name_order t e.0.0) (((t, n), tt) ∷ e ∷ es) (e ∷ insert_entry numbered_order es (t, n) tt)
-    (e ∷ insert_entry numbered_order es (t, n) tt)
+    → with_entry t n (e ∷ es) ≡ with_entry_by (name_order t e.0.0) t n e es
 step t n e es low = by (name_order t e.0.0) (nat_cmp n e.0.1) (greater e.0.1 n low) where
   by : (o p : Ordering) → p ≡ Greater
-      → match_ordering (ordering_then o p) (((t, n), tt) ∷ e ∷ es) ((e.0, tt) ∷ es) (e ∷ insert_entry numbered_order es (t, n) tt)
-      ≡ match_ordering o (((t, n), tt) ∷ e ∷ es) (e ∷ insert_entry numbered_order es (t, n) tt) (e ∷ insert_entry numbered_order es (t, n) tt)
+      → match_ordering (ordering_then o p) (((t, n), tt) ∷ e ∷ es) ((e.0, tt) ∷ es) (e ∷ with_entry t n es)
+      ≡ with_entry_by o t n e es
   by Less p is = refl
   by Equal p is = rw is refl
   by Greater p is = refl
 
 put_texts : (t : Text) (n : ℕ) (es : Numbered) → AreBelow n es
-    → texts_of (insert_entry numbered_order es (t, n) tt) ≡ put t (texts_of es)
+    → texts_of (with_entry t n es) ≡ put t (texts_of es)
 put_texts t n [] low = refl
 put_texts t n (e ∷ es) low =
     ap texts_of (step t n e es low.0) ∙ by (name_order t e.0.0) (put_texts t n es low.1) where
-      by : (o : Ordering) → texts_of (insert_entry numbered_order es (t, n) tt) ≡ put t (texts_of es)
-          → texts_of (match_ordering o (((t, n), tt) ∷ e ∷ es) (e ∷ insert_entry numbered_order es (t, n) tt) (e ∷ insert_entry numbered_order es (t, n) tt))
+      by : (o : Ordering) → texts_of (with_entry t n es) ≡ put t (texts_of es)
+          → texts_of (with_entry_by o t n e es)
           ≡ match_ordering o (t ∷ texts_of (e ∷ es)) (e.0.0 ∷ put t (texts_of es)) (e.0.0 ∷ put t (texts_of es))
       by Less more = refl
       by Equal more = ap (λ ts. e.0.0 ∷ ts) more
@@ -219,12 +225,12 @@ higher n [] low = tt
 higher n (e ∷ es) low = (omega (arith, low.0), higher n es low.1)
 
 put_numbers : (t : Text) (n : ℕ) (es : Numbered) → AreBelow n es
-    → AreBelow (n + 1) (insert_entry numbered_order es (t, n) tt)
+    → AreBelow (n + 1) (with_entry t n es)
 put_numbers t n [] low = (omega arith, tt)
 put_numbers t n (e ∷ es) low =
     subst (λ l. AreBelow (n + 1) l) (sym (step t n e es low.0)) (by (name_order t e.0.0) (put_numbers t n es low.1)) where
-      by : (o : Ordering) → AreBelow (n + 1) (insert_entry numbered_order es (t, n) tt)
-          → AreBelow (n + 1) (match_ordering o (((t, n), tt) ∷ e ∷ es) (e ∷ insert_entry numbered_order es (t, n) tt) (e ∷ insert_entry numbered_order es (t, n) tt))
+      by : (o : Ordering) → AreBelow (n + 1) (with_entry t n es)
+          → AreBelow (n + 1) (with_entry_by o t n e es)
       by Less more = (omega arith, higher n (e ∷ es) low)
       by Equal more = (omega (arith, low.0), more)
       by Greater more = (omega (arith, low.0), more)
@@ -233,7 +239,7 @@ ordered_texts : (ts : List Text) (n : ℕ) (es : Numbered) → AreBelow n es
     → texts_of (ordered_from es n ts) ≡ put_all (texts_of es) ts
 ordered_texts [] n es low = refl
 ordered_texts (t ∷ ts) n es low =
-    ordered_texts ts (n + 1) (insert_entry numbered_order es (t, n) tt) (put_numbers t n es low)
+    ordered_texts ts (n + 1) (with_entry t n es) (put_numbers t n es low)
     ∙ ap (λ xs. put_all xs ts) (put_texts t n es low)
 
 in_order_is : (ts : List Text) → in_order ts ≡ put_all [] ts

@@ -1,6 +1,6 @@
 -- When two fields of one response name are the same call (GraphQL specification, 5.3.2): they have
--- the same field name, and identical sets of arguments. The law `calls` says that two fields are the
--- same call exactly if they have one text. The contracts of gql_merge compare fields by these texts.
+-- the same field name and identical sets of arguments. The law `calls` says that two fields are the
+-- same call exactly if they have one text; the contracts of gql_merge compare fields by it.
 use Rattle.std.specs.Prelude.{◌≡◌, ◌↔◌, ◌<◌, ◌^◌, ℕ, List, [], ◌∷◌, Bool, true, false, length, All, Contains}
 use Rattle.std.specs.List.Sorted.{IsPermutation}
 use Rattle.gql_text.specs.Grammar.{IsName}
