@@ -1,3 +1,13 @@
 pub mod OfFields
 pub mod OfInputs
 pub mod OfMisfits
+pub mod TextsInOrder
+pub mod TextsOnce
+pub mod Words
+pub mod ReadLists
+pub mod ReadValues
+pub mod SameTexts
+pub mod WrittenWords
+pub mod OfCalls
+pub mod OfShapes
+pub mod OfExamples

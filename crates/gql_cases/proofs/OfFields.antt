@@ -1,5 +1,5 @@
 -- Selections stand for the fields into which they unfold.
-use Rattle.std.proofs.Common.{◌≡◌, ◌↔◌, ℕ, List, [], ◌∷◌, ◌++◌, refl, ap, sym, subst, append_assoc}
+use Rattle.std.proofs.Common.{◌≡◌, ℕ, List, [], ◌∷◌, ◌++◌, refl, ap, sym, subst, append_assoc}
 use Rattle.gql_collect.specs.Nodes.{FileSelection, FieldNode}
 use Rattle.gql_collect.specs.Unfolding.{Given, Unfolds, nothing, kept, replaced}
 use Rattle.gql_cases.specs.Fields.{StandFor, none, field, fragment, Flattens}

@@ -1,5 +1,5 @@
 -- What an input comes to in cases is what it comes to, and the other way round.
-use Rattle.std.proofs.Common.{◌≡◌, ◌+◌, ◌↔◌, ◌&&◌, true≢false, ℕ, zero, suc, List, [], ◌∷◌, Bool, true, false, not, if◌then◌else◌, map, Option, Some, None, is_some, option_map, refl, ap, sym, subst, ◌∙◌, arith}
+use Rattle.std.proofs.Common.{◌≡◌, ◌+◌, ◌&&◌, true≢false, ℕ, zero, suc, List, [], ◌∷◌, Bool, true, false, not, if◌then◌else◌, map, Option, Some, None, is_some, refl, ap, sym, subst, ◌∙◌, arith}
 use Rattle.gql_ast.specs.declared.literal.Literal.{Literal}
 use Rattle.gql_ast.specs.declared.type_system.InputValueDefinition.{InputValueDefinition}
 use Rattle.gql_inputs.specs.InputTypes.{is_non_null}
@@ -13,7 +13,7 @@ use Rattle.gql_coerce.specs.Coercion.{coerced, at_level, Expected, nothing, anyt
 use Rattle.gql_coerce.specs.Comes.{Outcome, Eventually, reached}
 use Rattle.gql_coerce.specs.Comes as comes
 use Rattle.gql_coerce.specs.Frames.{Inner}
-use Rattle.gql_coerce.specs.Inputs.{Single, Input, Inputs, Fields, absent, given, null, single, list, object, all_inputs, all_fields, literal, may_be_list}
+use Rattle.gql_coerce.specs.Inputs.{Input, Inputs, absent, given, null, single, list, object, all_inputs, all_fields, literal, may_be_list}
 use Rattle.gql_coerce.specs.Outcomes.{Reached, value, refused, too_deep, after, within, all, some}
 use Rattle.gql_coerce.specs.Scalars.{wrong_kind}
 use Rattle.gql_coerce.specs.declared.refusal.Reason.{Reason}

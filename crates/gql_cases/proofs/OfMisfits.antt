@@ -1,11 +1,11 @@
 -- The bad values of a value are those that the cases say.
-use Rattle.std.proofs.Common.{◌≡◌, ◌↔◌, ◌⊎◌, inl, inr, ◌&&◌, ◌||◌, true≢false, ℕ, List, [], ◌∷◌, ◌++◌, Bool, true, false, not, if◌then◌else◌, Contains, Option, Some, None, flat_map, refl, ap, sym, subst, ◌∙◌}
+use Rattle.std.proofs.Common.{◌≡◌, ◌⊎◌, inl, inr, ◌&&◌, true≢false, ℕ, List, [], ◌∷◌, ◌++◌, Bool, true, false, not, if◌then◌else◌, Contains, Option, Some, None, flat_map, refl, ap, sym, subst, ◌∙◌}
 use Rattle.std.proofs.lemmas.List.Elements.{Contains-append_left, Contains-append_right, Contains-append_cases}
 use Rattle.gql_text.specs.declared.place.Place.{Place}
 use Rattle.gql_ast.specs.declared.rule.Rule.TheVariants as rule
 use Rattle.gql_ast.specs.declared.text.Name.{Name}
 use Rattle.gql_types.specs.Written.{Written}
-use Rattle.gql_inputs.specs.BadValues.{bad, bad_values_by, misfits, items_misfits, fields_misfits, null_misfits, never_fits, where_known, of_known, single_misfits, single_at, list_by, list_at_one, at_one, item_by, field_by, object_by, object_at_scalar, missing, missing_if, lacks, within, within_values, within_fields, repeats, repeats_in_values, repeats_in_fields, expected, field_repeats, is_custom_form, is_given, is_null_given, takes}
+use Rattle.gql_inputs.specs.BadValues.{bad, misfits, items_misfits, fields_misfits, never_fits, where_known, of_known, single_misfits, single_at, list_by, list_at_one, at_one, item_by, field_by, object_by, missing, lacks, within, within_values, within_fields, repeats, repeats_in_values, repeats_in_fields, expected, field_repeats, is_custom_form, is_given, is_null_given, takes}
 use Rattle.gql_inputs.specs.InputTypes.{is_custom, is_list, is_non_null, item_of, name_in, one_of, text_of}
 use Rattle.gql_inputs.specs.Lookups.{InputForm, scalar, enumeration, input_object, FieldForm, InputLookup, field_named, is_required}
 use Rattle.gql_inputs.specs.Numbers.{is_whole}

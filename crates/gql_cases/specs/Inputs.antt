@@ -1,7 +1,7 @@
 -- What an input comes to (GraphQL specification, 3.5 to 3.12), a case for each form of input: a value,
 -- or none for a variable without a value, or the first refusal and its path. The law
 -- `inputs` says that this is exactly `Comes`, which the contracts of gql_coerce cite.
-use Rattle.std.specs.Prelude.{◌≡◌, ◌&&◌, ◌⊎◌, ◌↔◌, ℕ, suc, List, [], ◌∷◌, true, false, not, is_some, Option, Some, None, option_map}
+use Rattle.std.specs.Prelude.{◌≡◌, ◌&&◌, ◌↔◌, ℕ, suc, List, [], ◌∷◌, true, false, not, is_some, Option, Some, None, option_map}
 use Rattle.gql_ast.specs.declared.literal.Literal.{Literal}
 use Rattle.gql_ast.specs.declared.type_system.InputValueDefinition.{InputValueDefinition}
 use Rattle.gql_inputs.specs.InputTypes.{is_non_null}
@@ -11,7 +11,7 @@ use Rattle.serde_json.specs.Data as json
 use Rattle.serde_json.specs.Data.{Data}
 use Rattle.serde_json.specs.Find.{as_null}
 use Rattle.serde_json.specs.View.{items_of}
-use Rattle.gql_coerce.specs.Coercion.{Entry, Entries, are, unknown, no_object, nothing, anything, this, entries_for, is_list_expected, items_expected, one_in, put_all, single_at, under}
+use Rattle.gql_coerce.specs.Coercion.{Entry, are, unknown, no_object, nothing, anything, this, entries_for, is_list_expected, items_expected, one_in, put_all, single_at, under}
 use Rattle.gql_coerce.specs.Comes.{Outcome, Comes, value, refused}
 use Rattle.gql_coerce.specs.Inputs.{Single, Input, Inputs, Fields, absent, given, null, single, list, object, all_inputs, all_fields, literal, may_be_list}
 use Rattle.gql_coerce.specs.Outcomes as levels

@@ -1,10 +1,9 @@
 -- What of a value does not fit its type (GraphQL specification, 5.6): a case for each sentence of the
 -- rules V18 to V21. The law `bad_values` says that these are exactly the faults of `bad_values_by`,
 -- which the contracts of gql_inputs cite.
-use Rattle.std.specs.Prelude.{◌≡◌, ◌&&◌, ◌⊎◌, ◌↔◌, ℕ, List, [], ◌∷◌, Contains, true, false, not, Option, Some, None}
+use Rattle.std.specs.Prelude.{◌≡◌, ◌&&◌, ◌⊎◌, ◌↔◌, ℕ, List, [], ◌∷◌, Contains, true, false, not, Some, None}
 use Rattle.gql_text.specs.declared.place.Place.{Place}
 use Rattle.gql_ast.specs.declared.rule.Rule.TheVariants as rule
-use Rattle.gql_ast.specs.declared.text.Name.{Name}
 use Rattle.gql_types.specs.Written.{Written}
 use Rattle.gql_inputs.specs.BadValues.{bad_values_by, expected, field_repeats, is_custom_form, is_given, is_null_given, takes}
 use Rattle.gql_inputs.specs.InputTypes.{is_list, is_non_null, item_of, name_in, one_of, text_of}

@@ -1,11 +1,19 @@
-//! Definitions for readers: what an input comes to, what of a value does not fit its type, and which
-//! fields a selection set stands for, each in cases; and for each a law that it is exactly the
-//! definition that contracts cite. The functions do nothing; their contracts hold.
+//! Definitions for readers: what an input comes to, what of a value does not fit its type, which
+//! fields a selection set stands for, each in cases, and when two fields are the same call; and for
+//! each a law that it is exactly the definition that contracts cite. The functions do nothing; their
+//! contracts hold.
 #![tactic(auto)]
 
+ghost use Rattle.gql_cases.specs.CallExamples as examples;
 ghost use Rattle.gql_cases.specs.Fields.{Flattens};
 ghost use Rattle.gql_cases.specs.Inputs.{InCases};
 ghost use Rattle.gql_cases.specs.Misfits.{BadValuesInCases};
+ghost use Rattle.gql_cases.specs.SameCalls.{
+  SameCallHasSameText,
+  SameTextForSameCall,
+  SharedCallIsSameCall,
+};
+ghost use Rattle.gql_cases.specs.SameShapes.{SharedShapeIsSameShape};
 
 /// What an input comes to, in cases, is what it comes to by the contracts of gql_coerce.
 pub fn inputs()
@@ -21,4 +29,28 @@ pub fn bad_values()
 /// gql_collect.
 pub fn fields()
     ensures { Flattens }
+{}
+
+/// Two fields are the same call exactly if their texts, by which the contracts of gql_merge compare
+/// fields, are equal. The same call has the same text whatever its names and values are; the other
+/// way, they are those that a document can write.
+pub fn calls()
+    ensures one_text { SameTextForSameCall }
+    ensures same_text { SameCallHasSameText }
+    ensures shared { SharedCallIsSameCall }
+{}
+
+/// Whether two fields share their shape, as the contracts of gql_merge ask, is whether their types
+/// have the same shape.
+pub fn shapes()
+    ensures { SharedShapeIsSameShape }
+{}
+
+/// Arguments have no order. Their values count, a field of an object counts as often as it is
+/// written, and an enum value is not a string.
+pub fn call_examples()
+    ensures order { examples.OrderDoesNotCount }
+    ensures values { examples.ValuesCount }
+    ensures fields { examples.TwiceIsNotOnce }
+    ensures kinds { examples.EnumIsNotString }
 {}
