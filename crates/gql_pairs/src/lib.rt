@@ -7,5 +7,5 @@ mod group;
 pub mod laws;
 mod member;
 
-pub use group::{Group, PairBad};
-pub use member::Member;
+pub use group::{Group, PairBad, group_of};
+pub use member::{Member, members_of};
