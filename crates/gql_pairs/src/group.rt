@@ -75,8 +75,8 @@ impl PairBad {
 }
 
 /// Fragments, with all that clashes between any two of them, under the names of the two. Wherever
-/// a world gives the answers that were observed of two members, this is exactly what clashes between
-/// the two. Only `group_of` makes one, and `with_members` one of fewer members.
+/// a world gives the answers that were observed of two members, this is exactly what clashes
+/// between the two. Only `group_of` makes one, and `with_members` one of fewer members.
 pub struct Group {
     members: Named<Member>,
     clashes: Shared<Vec<FragmentClash>>,

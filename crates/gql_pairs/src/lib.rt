@@ -4,8 +4,12 @@
 
 mod gather;
 mod group;
+mod holds;
 pub mod laws;
 mod member;
+mod sweep;
+mod table;
 
 pub use group::{Group, PairBad, group_of};
 pub use member::{Member, members_of};
+pub use table::PairTable;
