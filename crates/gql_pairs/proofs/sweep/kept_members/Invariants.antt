@@ -1,0 +1,14 @@
+use Rattle.std.proofs.Common.{◌≡◌, take}
+use Rattle.gql_facts.specs.Members.{Lists}
+use Rattle.gql_pairs.specs.Sweeps.{IsKeptOf}
+use Rattle.gql_pairs.proofs.sweep.kept_members.Given as goal
+
+abbrev pub invariant-loop-member : goal.invariant-loop-member
+invariant-loop-member g l =
+    let F = g.W.World.facts l.fn.world in
+    record {
+      same_facts : g.W.World.facts l.world ≡ F;
+      same_names : g.W.World.names l.world ≡ g.W.World.names l.fn.world;
+      same_lent : g.W.World.lent l.world ≡ g.W.World.lent l.fn.world;
+      kept : Lists l.kept.items (IsKeptOf F (take l.member-index l.members));
+    }
