@@ -6,7 +6,7 @@ ghost use Rattle.gql_reads.specs.Observations.{Hold, IsBroken};
 ghost use Rattle.gql_reads.specs.Readings.{seen_in};
 
 use crate::member::Member;
-use gql_ast::Same;
+use gql_ast::{Same, Shared};
 use gql_facts::{Fact, FragmentFact, Key, World};
 use gql_reads::{Observation, Part};
 use std::alloc::{AllocError, Global};
@@ -31,7 +31,7 @@ fn is_as_observed<W: World>(
 fn observations_hold<W: World>(
     alloc: Global,
     world: &mut W,
-    observations: &[Observation],
+    observations: &[Shared<Observation>],
 ) -> Result<bool, AllocError>
     ensures facts { W.facts world.new ≡ W.facts world.old }
     ensures names { W.names world.new ≡ W.names world.old }
@@ -41,7 +41,7 @@ fn observations_hold<W: World>(
         (IsBroken (W.facts world.old) observations.now)) }
 {
     for observation in observations {
-        let is_same = is_as_observed(alloc, world, observation)?;
+        let is_same = is_as_observed(alloc, world, observation.get())?;
         if !is_same {
             return Ok(false);
         }

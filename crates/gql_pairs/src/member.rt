@@ -11,7 +11,7 @@ ghost use Rattle.gql_pairs.specs.Fragments.{KeptFragment};
 
 use gql_ast::{Definition, Shared, Tree};
 use gql_facts::{FragmentFact, World};
-use gql_reads::{KeptParts, ReadTable, Reading, reads_of};
+use gql_reads::{KeptParts, KnownAnswers, ReadTable, Reading, reads_of};
 use gql_types::HasName;
 use std::alloc::{AllocError, Global};
 use std::marker::Model;
@@ -111,6 +111,7 @@ pub fn member_of<W: World, K: KeptParts>(
     world: &mut W,
     kept: &K,
     reads: &mut ReadTable,
+    known: &mut KnownAnswers,
     fragment: &FragmentFact,
 ) -> Result<Member, AllocError>
     requires holds { AllHold (W.facts world.old) reads.old }
@@ -124,7 +125,7 @@ pub fn member_of<W: World, K: KeptParts>(
     ensures certificate { IfOk result spec.IsCertified }
 {
     let definition = as_definition(fragment)?;
-    let read = reads_of(alloc, world, kept, reads, &definition)?;
+    let read = reads_of(alloc, world, kept, reads, known, &definition)?;
     let reading = Shared::new(alloc, read)?;
     let fragment = fragment.copy()?;
     Ok(Member { fragment, reading })
@@ -151,9 +152,10 @@ pub fn members_of<W: World, K: KeptParts>(
     ensures certified { IfOk result (λ members.
         (m : KeptFragment) → Contains members.items m → spec.IsCertified m) }
 {
+    let mut known = KnownAnswers::new(alloc);
     let mut members = Vec::with_capacity(alloc, fragments.len())?;
     for fragment in fragments {
-        members.push(member_of(alloc, world, kept, reads, fragment)?)?;
+        members.push(member_of(alloc, world, kept, reads, &mut known, fragment)?)?;
     }
     Ok(members)
 }

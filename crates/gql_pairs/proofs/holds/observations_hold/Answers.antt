@@ -11,7 +11,9 @@ loop-observation-preserved g c =
     let F = g.W.World.facts c.args.world.now in
     let x = c.observation-item.result in
     let same = c.loop-observation.invariant.same_facts in
-    let here : F x.key ≡ x.fact = ap (λ (G : Facts). G x.key) (sym same) ∙ c.in_ok-is_same.ensures.answer.0 c.if-not-is_same.false in
+    let y = c.get.result.now in
+    let there : F y.key ≡ y.fact = ap (λ (G : Facts). G y.key) (sym same) ∙ c.in_ok-is_same.ensures.answer.0 c.if-not-is_same.false in
+    let here : F x.key ≡ x.fact = subst (λ (p : Observation). F p.key ≡ p.fact) c.get.ensures there in
     record {
       same_facts = c.is_as_observed.ensures.facts ∙ same;
       same_names = c.is_as_observed.ensures.names ∙ c.loop-observation.invariant.same_names;
