@@ -23,6 +23,7 @@ pub struct Change {
 
 /// The schema that is known after an edit of a side which changed types of these names alone. An edit
 /// of a document file keeps it.
+#[tactic(auto, using(crate::proofs::SameSchema::kept_side))]
 fn side_after(
     alloc: Global,
     files: &Files,

@@ -3,7 +3,7 @@ use crate::faults::add_faults;
 use crate::step::{Step, written_refusal};
 use gql_ast::{Definition, DefinitionId, FileName, FileSide, Same, same_items};
 use gql_facts::{Fact, Key};
-use gql_reads::{Observation, Record};
+use gql_reads::Record;
 use gql_registry::Registry;
 use gql_verdict::Verdict;
 use serde_json::Value;
@@ -27,9 +27,9 @@ impl State {
     /// Adds what was observed of a definition or a fragment alone.
     fn add_record(&mut self, record: &Record) -> Option<()> {
         for observation in record.observations() {
-            let Observation { key, fact } = observation.get();
-            self.keys.push(key.copy().ok()?).ok()?;
-            self.facts.push(fact.copy().ok()?).ok()?;
+            let observation = observation.get();
+            self.keys.push(observation.key.copy().ok()?).ok()?;
+            self.facts.push(observation.fact.copy().ok()?).ok()?;
         }
         Some(())
     }
