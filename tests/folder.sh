@@ -292,6 +292,16 @@ try 'push a removal' 0 "$gqlreg" push team --to "$to" <<'TEXT'
 TEXT
 curl -s -X PUT --data-binary 'type Other { a: Int }' "http://$to/schema/other" > /dev/null
 has 'push after an edit of somebody else' 3 'at revision 8, and the last push left 7: somebody else' "$gqlreg" push team --to "$to"
+has 'which says that the folder has not changed' 3 '^the folder is as it was at the last push$' "$gqlreg" push team --to "$to"
+printf 'query Q { user(id: 1) { id } }\n' > team/documents/new.graphql
+has 'or which files have' 3 '^in the folder, since the last push:$' "$gqlreg" push team --to "$to"
+has 'a new one' 3 '^  documents/new has changed$' "$gqlreg" push team --to "$to"
+rm team/documents/new.graphql
+mv team/schema/users.graphql users.graphql
+printf 'type Query { a: Int }\n' > team/schema/root.graphql
+has 'one that is gone' 3 '^  schema/users is gone$' "$gqlreg" push team --to "$to"
+rm team/schema/root.graphql
+mv users.graphql team/schema/users.graphql
 has 'which put nothing' 0 '^{"revision":8,"faults":..}$' curl -s "http://$to/report"
 try 'push all the same' 0 "$gqlreg" push team --to "$to" --force <<'TEXT'
 1 file put or removed: revision 9, 0 faults, 0 operations are not served

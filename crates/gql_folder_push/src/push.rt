@@ -53,22 +53,58 @@ fn present(
     }
 }
 
-/// Refuses to go on where somebody else has edited the registry since the last push.
+/// How many of the files that have changed are named where a push stops.
+const NAMED: usize = 20;
+
+/// What has happened to the file of an edit since the last push, in a line.
+fn change_line(rt: &HostRuntime, push: &PushPlan, edit: &Edit) -> Result<String, AllocError> {
+    let target = edit.target(push.resources.as_slice());
+    match edit {
+        Edit::Put(_) => format!(in rt.alloc(); "\n  {target} has changed"),
+        Edit::Remove(_) | Edit::EmptyData => format!(in rt.alloc(); "\n  {target} is gone"),
+    }
+}
+
+/// Which files of the folder have changed since the last push, in lines.
+fn changes_of(rt: &HostRuntime, push: &PushPlan) -> Result<String, AllocError> {
+    if push.edits.is_empty() {
+        return String::from_str(rt.alloc(), "\nthe folder is as it was at the last push");
+    }
+    let mut text = String::from_str(rt.alloc(), "\nin the folder, since the last push:")?;
+    for edit in push.edits.iter().take(NAMED) {
+        let line = change_line(rt, push, edit)?;
+        text.push_str(line.as_str())?;
+    }
+    if push.edits.len() > NAMED {
+        let left = push.edits.len().saturating_sub(NAMED);
+        let line = format!(in rt.alloc(); "\n  and {left} more")?;
+        text.push_str(line.as_str())?;
+    }
+    Ok(text)
+}
+
+/// Refuses to go on where somebody else has edited the registry since the last push, which left this
+/// revision, if there was one. Says which files of the folder have changed since.
 fn test_revision(
     rt: &HostRuntime,
     options: &PushOptions,
-    last: &Option<PushState>,
+    last: Option<u64>,
     revision: u64,
+    push: &PushPlan,
 ) -> Result<(), Failure> {
-    if options.force {
+    if options.force || last == Some(revision) {
         return Ok(());
     }
     let text = match last {
-        Some(last) if last.revision == revision => return Ok(()),
-        Some(last) => {
-            let before = last.revision;
+        Some(before) => {
+            let changes = if options.all {
+                String::new(rt.alloc())
+            } else {
+                changes_of(rt, push)?
+            };
+            let changes = changes.as_str();
             format!(in rt.alloc();
-                "the registry is at revision {revision}, and the last push left {before}: somebody else has edited it. Nothing is put; --force puts all files of the folder"
+                "the registry is at revision {revision}, and the last push left {before}: somebody else has edited it. Nothing is put; --force puts all files of the folder{changes}"
             )?
         }
         None if revision == 0 || options.all => return Ok(()),
@@ -267,8 +303,9 @@ fn put_all(
         // A registry that has just been started has nothing of the last push.
         last = None;
     }
-    test_revision(rt, options, &last, progress.revision)?;
+    let left = last.as_ref().map(|last| last.revision);
     let push = planned(rt, options, files, last)?;
+    test_revision(rt, options, left, progress.revision, &push)?;
     make_all(rt, &mut connection, options, &push, &mut progress)?;
     keep(rt, options, push.resources, progress.revision)?;
     let text = summary(rt, options, findings, &progress)?;
