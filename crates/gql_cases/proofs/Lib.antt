@@ -1,5 +1,6 @@
 pub mod OfFields
 pub mod OfInputs
+pub mod OfRequests
 pub mod OfMisfits
 pub mod TextsInOrder
 pub mod TextsOnce
@@ -11,3 +12,4 @@ pub mod WrittenWords
 pub mod OfCalls
 pub mod OfShapes
 pub mod OfExamples
+pub mod OfErrors

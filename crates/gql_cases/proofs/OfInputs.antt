@@ -27,28 +27,28 @@ use Rattle.gql_cases.specs.Inputs.{Becomes, ItemsBecome, ItemBecomes, MembersBec
 
 -- ---- choices
 
-pick_true : {A : Type 0} (b : Bool) (x y : A) → b ≡ true → (if b then x else y) ≡ x
+pub pick_true : {A : Type 0} (b : Bool) (x y : A) → b ≡ true → (if b then x else y) ≡ x
 pick_true b x y is = ap (λ c. if c then x else y) is
 
-pick_false : {A : Type 0} (b : Bool) (x y : A) → b ≡ false → (if b then x else y) ≡ y
+pub pick_false : {A : Type 0} (b : Bool) (x y : A) → b ≡ false → (if b then x else y) ≡ y
 pick_false b x y is = ap (λ c. if c then x else y) is
 
 -- ---- outcomes that are reached with enough levels
 
-abbrev Ev : {A : Type 0} → (ℕ → Reached A) → Outcome A → Type 0
+abbrev pub Ev : {A : Type 0} → (ℕ → Reached A) → Outcome A → Type 0
 Ev f o = Eventually (λ n. f n ≡ reached o)
 
-always : {A : Type 0} (f : ℕ → Reached A) (o : Outcome A) → ((n : ℕ) → f n ≡ reached o) → Ev f o
+pub always : {A : Type 0} (f : ℕ → Reached A) (o : Outcome A) → ((n : ℕ) → f n ≡ reached o) → Ev f o
 always f o h = (0, λ n. h (0 + n))
 
-mapped : {A B : Type 0} (g : Reached A → Reached B) (f : ℕ → Reached A) (o : Outcome A) (p : Outcome B) → g (reached o) ≡ reached p → Ev f o → Ev (λ n. g (f n)) p
+pub mapped : {A B : Type 0} (g : Reached A → Reached B) (f : ℕ → Reached A) (o : Outcome A) (p : Outcome B) → g (reached o) ≡ reached p → Ev f o → Ev (λ n. g (f n)) p
 mapped g f o p is (k, h) = (k, λ n. ap g (h n) ∙ is)
 
 -- another function with the same values
-instead : {A : Type 0} (f g : ℕ → Reached A) (o : Outcome A) → ((n : ℕ) → g n ≡ f n) → Ev f o → Ev g o
+pub instead : {A : Type 0} (f g : ℕ → Reached A) (o : Outcome A) → ((n : ℕ) → g n ≡ f n) → Ev f o → Ev g o
 instead f g o same (k, h) = (k, λ n. same (k + n) ∙ h n)
 
-then_value : {A B : Type 0} (f : ℕ → Reached A) (h : ℕ → A → Reached B) (x : A) (o : Outcome B) → Ev f (comes.value x) → Ev (λ n. h n x) o → Ev (λ n. after (f n) (h n)) o
+pub then_value : {A B : Type 0} (f : ℕ → Reached A) (h : ℕ → A → Reached B) (x : A) (o : Outcome B) → Ev f (comes.value x) → Ev (λ n. h n x) o → Ev (λ n. after (f n) (h n)) o
 then_value f h x o (k, is) (j, later) = (k + j, λ n. ap (λ p. after p (h (k + j + n))) (first n) ∙ second n) where
   one : (n : ℕ) → k + j + n ≡ k + (j + n)
   one n = omega arith
@@ -62,7 +62,7 @@ then_value f h x o (k, is) (j, later) = (k + j, λ n. ap (λ p. after p (h (k + 
   second : (n : ℕ) → h (k + j + n) x ≡ reached o
   second n = ap (λ m. h m x) (other n) ∙ later (k + n)
 
-then_refused : {A B : Type 0} (f : ℕ → Reached A) (h : ℕ → A → Reached B) (r : Reason) (path : List Segment) → Ev f (comes.refused r path) → Ev {A = B} (λ n. after (f n) (h n)) (comes.refused r path)
+pub then_refused : {A B : Type 0} (f : ℕ → Reached A) (h : ℕ → A → Reached B) (r : Reason) (path : List Segment) → Ev f (comes.refused r path) → Ev {A = B} (λ n. after (f n) (h n)) (comes.refused r path)
 then_refused f h r path (k, is) = (k, λ n. ap (λ o. after o (h (k + n))) (is n))
 
 -- ---- small equations
@@ -92,7 +92,7 @@ object_is : (e : Option Written) (o : Outcome (List (Option (List ℕ × Data)))
 object_is e (comes.value ms) = once_value e (json.object (put_all ms json.no_members))
 object_is e (comes.refused r path) = once_refused e r path
 
-within_is : {A : Type 0} (g : Segment) (o : Outcome A) → within g (reached o) ≡ reached (below g o)
+pub within_is : {A : Type 0} (g : Segment) (o : Outcome A) → within g (reached o) ≡ reached (below g o)
 within_is g (comes.value x) = refl
 within_is g (comes.refused r path) = refl
 
@@ -125,7 +125,7 @@ module _ (s : Schema) where
   unless i x o is h = instead (λ n. after (coerced n s x i) (or_null i)) (λ n. item_at (coerced n s) i x) o (λ n. pick_false (is_list_expected i && not (may_be_list x)) wrong_kind (after (coerced n s x i) (or_null i)) is) h
 
   mutual
-    input : {e : Option Written} {x : Input} {o : Outcome (Option Data)} → Becomes s e x o → Ev (λ n. coerced n s x e) o
+    pub input : {e : Option Written} {x : Input} {o : Outcome (Option Data)} → Becomes s e x o → Ev (λ n. coerced n s x e) o
     input {e} cases.no_variable = up absent e (comes.value None) (always (λ n. value None) (comes.value None) (λ n. refl))
     input {e} (cases.null_variable {d = d} {o = o} is h) = up (given d) e (there o) (always (λ n. some (given_at e d)) (there o) (λ n. some_there o (given_at e d) (pick_true (is_some (as_null d)) (null_at e) (value d) is ∙ null_is h)))
     input {e} (cases.variable {d = d} is) = up (given d) e (comes.value (Some d)) (always (λ n. some (given_at e d)) (comes.value (Some d)) (λ n. ap some (pick_false (is_some (as_null d)) (null_at e) (value d) is)))
@@ -213,13 +213,13 @@ not_too_deep : {A : Type 0} (o : Outcome A) → is_too_deep (reached o) ≡ fals
 not_too_deep (comes.value x) = refl
 not_too_deep (comes.refused r path) = refl
 
-never : {A B : Type 0} (o : Outcome A) → too_deep ≡ reached o → B
+pub never : {A B : Type 0} (o : Outcome A) → too_deep ≡ reached o → B
 never o is = absurd (true≢false (ap is_too_deep is ∙ not_too_deep o))
 
-value_is : {A : Type 0} (x : A) (o : Outcome A) → value x ≡ reached o → comes.value x ≡ o
+pub value_is : {A : Type 0} (x : A) (o : Outcome A) → value x ≡ reached o → comes.value x ≡ o
 value_is x o is = one_reached (comes.value x) o is
 
-refused_is : {A : Type 0} (r : Reason) (path : List Segment) (o : Outcome A) → refused r path ≡ reached o → comes.refused r path ≡ o
+pub refused_is : {A : Type 0} (r : Reason) (path : List Segment) (o : Outcome A) → refused r path ≡ reached o → comes.refused r path ≡ o
 refused_is r path o is = one_reached (comes.refused r path) o is
 
 null_from : (e : Option Written) (o : Outcome Data) → null_at e ≡ reached o → NullComes e o
@@ -364,7 +364,7 @@ module _ (s : Schema) (f : Inner) (each : (x : Input) (e : Option Written) (o : 
     by (unknown n) here so = subst (Becomes s e (object fs)) (refused_is reason.UnknownField (Key n ∷ []) o (sym (once_refused e reason.UnknownField (Key n ∷ [])) ∙ so)) (cases.unknown_field here)
     by no_object here so = subst (Becomes s e (object fs)) (refused_is reason.WrongKind [] o (sym (once_refused e reason.WrongKind []) ∙ so)) (cases.no_object_here here)
 
-back : (s : Schema) (n : ℕ) (x : Input) (e : Option Written) (o : Outcome (Option Data)) → coerced n s x e ≡ reached o → Becomes s e x o
+pub back : (s : Schema) (n : ℕ) (x : Input) (e : Option Written) (o : Outcome (Option Data)) → coerced n s x e ≡ reached o → Becomes s e x o
 back s zero x e o is = never o (sym (no_level s x e) ∙ is)
 back s (suc n) x e o is = level_back s (coerced n s) (back s n) x e o (sym (level n s x e) ∙ is)
 

@@ -1,13 +1,15 @@
-//! Definitions for readers: what an input comes to, what of a value does not fit its type, which
-//! fields a selection set stands for, each in cases, and when two fields are the same call; and for
-//! each a law that it is exactly the definition that contracts cite. The functions do nothing; their
-//! contracts hold.
+//! Definitions for readers: what an input comes to, what variables and arguments come to, what of a
+//! value does not fit its type, which fields a selection set stands for, each in cases; when two
+//! fields are the same call; and which errors a field has; and for each a law that it is exactly the
+//! definition that contracts cite. The functions do nothing; their contracts hold.
 #![tactic(auto)]
 
 ghost use Rattle.gql_cases.specs.CallExamples as examples;
+ghost use Rattle.gql_cases.specs.Errors.{KeepsErrors};
 ghost use Rattle.gql_cases.specs.Fields.{Flattens};
 ghost use Rattle.gql_cases.specs.Inputs.{InCases};
 ghost use Rattle.gql_cases.specs.Misfits.{BadValuesInCases};
+ghost use Rattle.gql_cases.specs.Requests.{ArgumentsInCases, VariablesInCases};
 ghost use Rattle.gql_cases.specs.SameCalls.{
   SameCallHasSameText,
   SameTextForSameCall,
@@ -18,6 +20,13 @@ ghost use Rattle.gql_cases.specs.SameShapes.{SharedShapeIsSameShape};
 /// What an input comes to, in cases, is what it comes to by the contracts of gql_coerce.
 pub fn inputs()
     ensures { InCases }
+{}
+
+/// What the variables of a request and the arguments of a field come to, in cases, is what they come
+/// to by the contracts of gql_coerce.
+pub fn requests()
+    ensures variables { VariablesInCases }
+    ensures arguments { ArgumentsInCases }
 {}
 
 /// What of a value does not fit its type, in cases, is what `bad_values` of gql_inputs finds.
@@ -53,4 +62,10 @@ pub fn call_examples()
     ensures values { examples.ValuesCount }
     ensures fields { examples.TwiceIsNotOnce }
     ensures kinds { examples.EnumIsNotString }
+{}
+
+/// The errors of a field are those of the fields below it, and the first of its own: those that
+/// execution keeps by the contracts of gql_exec.
+pub fn errors()
+    ensures { KeepsErrors }
 {}

@@ -83,7 +83,7 @@ pub fn edit(
     requires { AreInOrder ids.now }
     ensures { IfOk result (λ all. all.items ≡ edited comes ids.now changed.now) }
 {
-    let mut all = Vec::new(alloc);
+    let mut all = Vec::with_capacity(alloc, ids.len().saturating_add(changed.len()))?;
     let mut rest = ids;
     for id in changed {
         let (before, after) = split(rest, id);
