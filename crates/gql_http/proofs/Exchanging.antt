@@ -35,7 +35,7 @@ pub adds_nil : (a : Option (List Passage)) → Adds a a []
 adds_nil None = refl
 adds_nil (Some xs) = ap (λ (ys : List Passage). Some ys) (sym (append-nil xs))
 
-adds_append : (a b c : Option (List Passage)) (xs ys : List Passage) → Adds a b xs → Adds b c ys → Adds a c (xs ++ ys)
+pub adds_append : (a b c : Option (List Passage)) (xs ys : List Passage) → Adds a b xs → Adds b c ys → Adds a c (xs ++ ys)
 adds_append None b c xs ys p q = rw p at q
 adds_append (Some old) b c xs ys p q = let r = rw p at q in r ∙ ap (λ (zs : List Passage). Some zs) (append_assoc old xs ys)
 
@@ -177,7 +177,7 @@ front_then [] qs made = ap (λ n. take n (requests_of qs)) (zero-add made)
 front_then (p ∷ ps) qs made = ap (λ n. take n (requests_of ((p ∷ ps) ++ qs))) (suc-add (length ps) made) ∙ ap (λ rs. p.request ∷ rs) (front_then ps qs made)
 
 module _ (some : SomeSplit) (one : OneSplit) (more_bytes : MoreBytes) where
-  breaks_join : {s u t : State} {a out more_out held : List ℕ} (b : List ℕ) (made : ℕ) → Serves s a out u (Some held) → Breaks u (held ++ b) more_out t made
+  pub breaks_join : {s u t : State} {a out more_out held : List ℕ} (b : List ℕ) (made : ℕ) → Serves s a out u (Some held) → Breaks u (held ++ b) more_out t made
       → (made : ℕ) × Breaks s (a ++ b) (out ++ more_out) t made
   breaks_join {s} {u} {t} {a} {out} {more_out} {held} b made h k =
       let opened = left_open (is_closed (requests_of h.requests)) refl h.left in
@@ -337,12 +337,6 @@ module _ (some : SomeSplit) (one : OneSplit) (more_bytes : MoreBytes) where
       stopped after none,
       subst (λ f. IsExchange (record { before = s; after = u; passed = x.passed; ended = ended; result = Err f })) (sym is) (record { prompt = x.prompt; pieces = x.pieces; sends = (Some x.held, x.serves) }),
     )
-
--- what was fed, whether an allocation failed or not
-pub fed_either : (s t : State) (rests next : Connections) (c : ℕ) (piece out held : List ℕ) (memory : Bool) (e : Event) → IsFeedOf c piece memory e → Does s rests e out t next → rests c ≡ Some held
-    → ((left : Option (List ℕ)) × Serves s (held ++ piece) out t left) ⊎ ((made : ℕ) × Breaks s (held ++ piece) out t made)
-fed_either s t rests next c piece out held false e is does here = inl (next c, fed_serves s t rests next c piece out held e is does here)
-fed_either s t rests next c piece out held true e is does here = inr (fed_breaks s t rests next c piece out held e is does here)
 
 pub none_of : (o : Option (List ℕ)) → is_none o ≡ true → o ≡ None
 none_of None is = refl

@@ -39,6 +39,9 @@ pub not_closed : (rs : List Placed) → StaysOpen rs → is_closed (requests_of 
 not_closed [] h = refl
 not_closed (p ∷ rs) h = rw h.0 (not_closed rs h.1)
 
+pub stays_clash : (ps : List Placed) → is_closed (requests_of ps) ≡ true → StaysOpen ps → ⊥
+stays_clash ps is stays = let clash : true ≡ false = sym is ∙ not_closed ps stays in cc
+
 pub run_append : (s u t : State) (rs qs : List Req) (ls ms : List (List ℕ)) → Run s rs ls u → Run u qs ms t → Run s (rs ++ qs) (ls ++ ms) t
 run_append s _ t _ qs _ ms done run = run
 run_append s u t _ qs _ ms (more first rest) run = more first (run_append _ u t _ qs _ ms rest run)

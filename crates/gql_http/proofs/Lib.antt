@@ -8,6 +8,7 @@ pub mod Joining
 pub mod Names
 pub mod Ordered
 pub mod Pieces
+pub mod Parting
 pub mod PipeConnections
 pub mod Presence
 pub mod Queries

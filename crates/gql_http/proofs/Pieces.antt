@@ -10,7 +10,7 @@ use Rattle.gql_http.specs.Events.{Event, opens, feeds, breaks, closes, connectio
 use Rattle.gql_http.specs.Laws.{FeedsOnly, AllFeed, piece_of, pieces_of, AnyPieces}
 use Rattle.gql_http.specs.Order.{completed_after, Completes, by_open, by_feed, by_break, by_close, by_none, Order, no_events, first, on}
 use Rattle.gql_http.proofs.Framers.{changed, unchanged, some_none}
-use Rattle.gql_http.proofs.Joining.{stays_open, not_closed, requests_append, continued, some_same}
+use Rattle.gql_http.proofs.Joining.{stays_open, stays_clash, requests_append, continued, some_same}
 
 is_open : (o : Option (List ℕ)) (a : List ℕ) → o ≡ Some a → IsSome o
 is_open o a is = rw is refl
@@ -89,9 +89,6 @@ fed_event fed _ _ _ c bytes (by_none {e = opens d} barred) only same here = absu
 fed_event fed _ _ _ c bytes (by_none {e = feeds d piece} barred) only same here = absurd (barred (is_open (fed d) bytes (ap fed (eqb-true d c same) ∙ here)))
 fed_event fed _ _ _ c bytes (by_none {e = breaks d piece made} barred) only same here = absurd (only (eqb-true d c same))
 fed_event fed _ _ _ c bytes (by_none {e = closes d} barred) only same here = absurd (only (eqb-true d c same))
-
-stays_clash : (ps : List Placed) → is_closed (requests_of ps) ≡ true → StaysOpen ps → ⊥
-stays_clash ps is stays = let clash : true ≡ false = sym is ∙ not_closed ps stays in cc
 
 module _ (split : OneSplit) (more_bytes : MoreBytes) (drops : Closed) where
   -- what is fed after a request closed the connection is dropped

@@ -9,6 +9,7 @@ pub mod Events
 pub mod Order
 pub mod History
 pub mod Hubs
+pub mod Parts
 pub mod Pipes
 pub mod Statuses
 pub mod Laws

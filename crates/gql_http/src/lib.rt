@@ -4,6 +4,7 @@
 mod answer;
 mod hub;
 pub mod laws;
+mod parts;
 mod piping;
 mod places;
 mod query;
@@ -17,4 +18,5 @@ mod write;
 mod write_answer;
 
 pub use hub::{CONNECTIONS, Fed, Hub, OpenRefusal};
+pub use parts::part_length;
 pub use piping::{MAX_READS, PipeEnd, PipeFault, pipe, status_of};

@@ -6,8 +6,11 @@ ghost use Rattle.gql_http.specs.Pipes.{IsExchange, failed_reads, failed_writes, 
 ghost use Rattle.gql_http.specs.Statuses.{status};
 
 use crate::hub::Hub;
-use gql_wire::laws::{more_bytes, nothing_is_unfinished, one_split, some_split};
-use gql_wire::{Peer, write_all};
+use crate::parts::{Served, serve_piece};
+use gql_wire::Peer;
+use gql_wire::laws::{
+    more_bytes, nothing_is_unfinished, one_split, rest_is_unfinished, some_split,
+};
 use thiserror::Error;
 
 /// The greatest number of bytes that a read brings.
@@ -68,7 +71,7 @@ fn end_of(hub: &Hub) -> PipeEnd
     }
 }
 
-/// Reads pieces, feeds them to connection 0 and writes the answers to each before the next.
+/// Reads pieces, feeds them to connection 0 and writes the answers to each before the next is read.
 fn exchange<P: Peer>(hub: &mut Hub, peer: &mut P) -> Result<PipeEnd, PipeFault>
     requires open { rests_of hub.old 0 ≡ Some [] }
     requires readable { P.read_failures peer.old < 2 ^ 64 - 1 }
@@ -86,6 +89,7 @@ fn exchange<P: Peer>(hub: &mut Hub, peer: &mut P) -> Result<PipeEnd, PipeFault>
 {
     // The laws by which pieces of a stream are joined.
     nothing_is_unfinished();
+    rest_is_unfinished();
     some_split();
     one_split();
     more_bytes();
@@ -97,24 +101,21 @@ fn exchange<P: Peer>(hub: &mut Hub, peer: &mut P) -> Result<PipeEnd, PipeFault>
         if count == 0 {
             return Ok(end_of(hub));
         }
-        let fed = hub.feed(0, &piece[..count]);
-        let Ok(()) = write_all(peer, fed.out.as_slice()) else {
-            return Err(PipeFault::WriteFailed);
-        };
-        if fed.memory {
-            return Err(PipeFault::Memory);
-        }
-        if fed.closed {
-            return Ok(PipeEnd::Whole);
+        match serve_piece(hub, peer, &piece[..count]) {
+            Served::Open => {}
+            Served::Closed => return Ok(PipeEnd::Whole),
+            Served::WriteFailed => return Err(PipeFault::WriteFailed),
+            Served::Memory => return Err(PipeFault::Memory),
         }
     }
     Err(PipeFault::TooManyReads)
 }
 
-/// Reads pieces of at most 4,096 bytes from the peer, feeds them to connection 0 and writes the
-/// answers to each piece before the next read, up to the end of the input or to a request that
-/// closes the connection. Connection 0 is closed before and after, on every way out, and every
-/// other connection is as it was.
+/// Reads pieces of at most 4,096 bytes from the peer and feeds them to connection 0, up to the end
+/// of the input or to a request that closes the connection. A piece is fed in parts, each up to the
+/// end of a head, and the answers to a part are written before the next part is fed or a piece is
+/// read. Connection 0 is closed before and after, on every way out, and every other connection is
+/// as it was.
 pub fn pipe<P: Peer>(hub: &mut Hub, peer: &mut P) -> Result<PipeEnd, PipeFault>
     requires closed { rests_of hub.old 0 ≡ None }
     requires readable { P.read_failures peer.old < 2 ^ 64 - 1 }

@@ -7,7 +7,7 @@ ghost use Rattle.gql_server.specs.Steps as steps;
 ghost use Rattle.gql_server.specs.Turns as spec;
 
 use crate::socket::{Socket, SocketFailed};
-use gql_http::Hub;
+use gql_http::{Hub, part_length};
 use std::alloc::{AllocError, Global};
 use std::marker::Model;
 use std::mem::swap;
@@ -87,21 +87,6 @@ enum Sending {
     Part,
     /// Some are left, and the socket takes none now.
     Waits,
-}
-
-/// The length of the next part of the bytes that is fed: up to the end of a head, so that a part
-/// completes few requests, and their answers are written before the next part is fed.
-fn part_length(bytes: &[u8]) -> usize
-    requires { 0 < length bytes.now }
-    ensures { (0 < result) × (result ≤ length bytes.now) }
-{
-    let end = bytes
-        .windows(4)
-        .position(|window| *window == *b"\r\n\r\n".as_slice());
-    match end {
-        Some(at) => at + 4,
-        None => bytes.len(),
-    }
 }
 
 impl<S: Socket + Drop> Place<S> {
