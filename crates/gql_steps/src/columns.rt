@@ -1,6 +1,6 @@
 //! Columns of a list of the data: for an argument, the prints of the member of its name of each
-//! item. Where fields of one object filter a list by the same argument many times, all but the first
-//! two of them pass over the items whose print differs.
+//! item. Where fields of one object filter a list by the same argument again, all but the first of
+//! them pass over the items whose print differs.
 ghost use Rattle.std.specs.Prelude.{◌≡◌, map, string_bytes, IfOk, IfSome, OnOk, IsTrue};
 ghost use Rattle.serde_json.specs.Data.{Data};
 ghost use Rattle.serde_json.specs.View.{members_view, view};
