@@ -276,6 +276,11 @@ def runs(program):
         "query User($id: ID!) { user(id: $id) { id name } }",
         '{"query":{"user":[{"id":"1","name":"Ann"},{"id":"2","name":"Bob"}]}}',
         200000, '{"operationName":"User","variables":{"id":"2"}}')
+    users = ",".join(f'{{"id":"{n}","name":"Ann"}}' for n in range(300))
+    run(program, "run that finds one of 300 objects by its id",
+        "type Query { user(id: ID!): User } type User { id: ID! name: String }",
+        "query User($id: ID!) { user(id: $id) { id name } }", '{"query":{"user":[' + users + "]}}",
+        20000, '{"operationName":"User","variables":{"id":"299"}}')
     run(program, "run a short operation without variables",
         "type Query { hello: String }", "{ hello }", '{"query":{"hello":"world"}}', 200000)
     item = '{"x":1,"y":"two","z":true}'

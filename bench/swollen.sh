@@ -49,6 +49,7 @@ faulty 20
 defaults 5000
 variables 400
 filters 1000
+filters 3800
 inputs 500
 input_chain 500
 KINDS

@@ -6,6 +6,7 @@ ghost use Rattle.serde_json.specs.View.{view};
 ghost use Rattle.gql_inputs.specs.InputTypes.{is_non_null, name_in as name_of_type};
 ghost use Rattle.gql_types.specs.Schemas.{kind_named};
 ghost use Rattle.gql_types.specs.Written.{written};
+ghost use Rattle.gql_steps.specs.Columns.{AreColumnsOf};
 ghost use Rattle.gql_steps.specs.Execution as spec;
 ghost use Rattle.gql_steps.specs.Execution.{Plan};
 ghost use Rattle.gql_steps.specs.Objects.{basis, object_of};
@@ -21,6 +22,7 @@ use gql_ast::TypeRef;
 use gql_deep::{call_node, complete_deep};
 use gql_inputs::{is_non_null, item_of};
 use gql_intro::IntroNode;
+use gql_steps::columns::Columns;
 use gql_steps::direct::{direct_value, write_direct};
 use gql_steps::direct_field::direct_field;
 use gql_steps::direct_items::write_direct_items;
@@ -33,7 +35,7 @@ use gql_steps::nulls::{complete_null, without_mark};
 use gql_steps::outcome::Step;
 use gql_steps::planning::{Called, FieldPlan, Source};
 use gql_steps::refusal::ExecRefusal;
-use gql_steps::resolve::{Resolved, resolve};
+use gql_steps::resolve::{Resolved, resolve_by_columns};
 use gql_steps::run::{Reason, Run};
 use gql_steps::setting::Setting;
 use gql_steps::site::Site;
@@ -90,10 +92,20 @@ fn execute_fields<'d>(
 {
     let shared = table.fields(entry)?;
     let fields = shared.get();
+    let mut columns = Columns::new(alloc);
     let mut ended = Ended::Written;
     for i in 0..fields.len() {
         let slot = Slot { entry, field: i };
-        let field_ended = execute_field(alloc, setting, table, slot, &fields[i], object, run)?;
+        let field_ended = execute_field(
+            alloc,
+            setting,
+            table,
+            slot,
+            &fields[i],
+            object,
+            &mut columns,
+            run,
+        )?;
         ended = ended.and(field_ended);
     }
     Ok(ended)
@@ -108,14 +120,17 @@ pub fn execute_field<'d>(
     slot: Slot,
     field: &FieldPlan<'d>,
     object: &Value,
+    columns: &mut Columns,
     run: &mut Run<'d>,
 ) -> Result<Ended, ExecRefusal>
     requires right { IsRight (basis setting.now) table.old }
     requires at { IsAt table.old slot field.now }
+    requires columns { AreColumnsOf (view object.now) columns.old }
     ensures keeps { OnOk result (Keeps (basis setting.now) table.old table.new run.old run.new) }
     ensures does { (q : Pair) → StandsFor (basis setting.now) field.now q
         → Executes (part.field_part (types_of (basis setting.now)) (object_of object.entry)
         (path_of run.old) slot.field q) result run.old run.new }
+    ensures columns { OnOk result (AreColumnsOf (view object.now) columns.new) }
 {
     write_comma(run, slot.field)?;
     count(run)?;
@@ -123,7 +138,7 @@ pub fn execute_field<'d>(
     if let Some(found) = direct_field(field, object) {
         return write_direct(run, found);
     }
-    execute_content(alloc, setting, table, slot, field, object, run)
+    execute_content(alloc, setting, table, slot, field, object, columns, run)
 }
 
 /// The value of a field, at its path. It has its own errors.
@@ -135,20 +150,23 @@ fn execute_content<'d>(
     slot: Slot,
     field: &FieldPlan<'d>,
     object: &Value,
+    columns: &mut Columns,
     run: &mut Run<'d>,
 ) -> Result<Ended, ExecRefusal>
     requires right { IsRight (basis setting.now) table.old }
     requires at { IsAt table.old slot field.now }
+    requires columns { AreColumnsOf (view object.now) columns.old }
     ensures keeps { OnOk result (Keeps (basis setting.now) table.old table.new run.old run.new) }
     ensures does { (q : Pair) → StandsFor (basis setting.now) field.now q
         → Executes (part.content_part (types_of (basis setting.now)) (object_of object.entry) q
         (path_of run.old)) result run.old run.new }
+    ensures columns { OnOk result (AreColumnsOf (view object.now) columns.new) }
 {
     let outer = run.raised;
     let depth = run.path.len();
     run.raised = false;
     run.path.push(Step::Key(field.response_name))?;
-    let ended = place_field(alloc, setting, table, slot, field, object, run)?;
+    let ended = place_field(alloc, setting, table, slot, field, object, columns, run)?;
     run.path.truncate(depth);
     run.raised = outer;
     Ok(ended)
@@ -163,21 +181,24 @@ fn place_field<'d>(
     slot: Slot,
     field: &FieldPlan<'d>,
     object: &Value,
+    columns: &mut Columns,
     run: &mut Run<'d>,
 ) -> Result<Ended, ExecRefusal>
     requires right { IsRight (basis setting.now) table.old }
     requires at { IsAt table.old slot field.now }
+    requires columns { AreColumnsOf (view object.now) columns.old }
     ensures keeps { OnOk result (Keeps (basis setting.now) table.old table.new run.old run.new) }
     ensures does { (q : Pair) → StandsFor (basis setting.now) field.now q
         → Executes (part.placed_part q.0.of_type (part.called_part
         (types_of (basis setting.now)) (object_of object.entry) q (path_of run.old)))
         result run.old run.new }
+    ensures columns { OnOk result (AreColumnsOf (view object.now) columns.new) }
 {
     if is_non_null(field.of_type) {
-        return call_field(alloc, setting, table, slot, field, object, run);
+        return call_field(alloc, setting, table, slot, field, object, columns, run);
     }
     let mark = run.out.len();
-    match call_field(alloc, setting, table, slot, field, object, run)? {
+    match call_field(alloc, setting, table, slot, field, object, columns, run)? {
         Ended::Written => Ok(Ended::Written),
         Ended::Bubbled => {
             cut_to_null(run, mark)?;
@@ -195,14 +216,17 @@ fn call_field<'d>(
     slot: Slot,
     field: &FieldPlan<'d>,
     object: &Value,
+    columns: &mut Columns,
     run: &mut Run<'d>,
 ) -> Result<Ended, ExecRefusal>
     requires right { IsRight (basis setting.now) table.old }
     requires at { IsAt table.old slot field.now }
+    requires columns { AreColumnsOf (view object.now) columns.old }
     ensures keeps { OnOk result (Keeps (basis setting.now) table.old table.new run.old run.new) }
     ensures does { (q : Pair) → StandsFor (basis setting.now) field.now q
         → Executes (part.called_part (types_of (basis setting.now)) (object_of object.entry) q
         (path_of run.old)) result run.old run.new }
+    ensures columns { OnOk result (AreColumnsOf (view object.now) columns.new) }
 {
     match &field.arguments {
         Called::Refused(message) => {
@@ -210,7 +234,9 @@ fn call_field<'d>(
         }
         Called::Given(given) => {
             let arguments = given.get();
-            call_stored(alloc, setting, table, slot, field, arguments, object, run)
+            call_stored(
+                alloc, setting, table, slot, field, arguments, object, columns, run,
+            )
         }
     }
 }
@@ -225,19 +251,24 @@ fn call_stored<'d>(
     field: &FieldPlan<'d>,
     arguments: &Value,
     value: &Value,
+    columns: &mut Columns,
     run: &mut Run<'d>,
 ) -> Result<Ended, ExecRefusal>
     requires right { IsRight (basis setting.now) table.old }
     requires at { IsAt table.old slot field.now }
+    requires columns { AreColumnsOf (view value.now) columns.old }
     ensures keeps { OnOk result (Keeps (basis setting.now) table.old table.new run.old run.new) }
     ensures does { (q : Pair) → StandsFor (basis setting.now) field.now q
         → Executes (part.source_part (types_of (basis setting.now)) (view arguments.now)
         (view value.now) q (path_of run.old)) result run.old run.new }
+    ensures columns { OnOk result (AreColumnsOf (view value.now) columns.new) }
 {
     match &field.source {
         Source::Stored => {
             let of_type = field.of_type;
-            let resolved = resolve(alloc, field.name, of_type, arguments, value)?;
+            let resolved = resolve_by_columns(
+                alloc, field.name, of_type, arguments, value, columns,
+            )?;
             let site = Site {
                 slot,
                 place: field.place,

@@ -2,6 +2,7 @@
 //! 6.2.2). A field with `@append` adds its arguments, as an object, to a list of the data.
 ghost use Rattle.std.specs.Prelude.{◌≡◌, ◌<◌, ◌++◌, List, length, Some, OnOk, IfOk};
 ghost use Rattle.serde_json.specs.View.{view};
+ghost use Rattle.gql_steps.specs.Columns.{AreColumnsOf};
 ghost use Rattle.gql_steps.specs.Execution as spec;
 ghost use Rattle.gql_steps.specs.Execution.{given};
 ghost use Rattle.gql_steps.specs.Objects.{basis};
@@ -18,6 +19,7 @@ ghost use Rattle.gql_steps.specs.ValueParts as values;
 use crate::executor::{complete, execute_field};
 use gql_coerce::CoercedValue;
 use gql_inputs::is_non_null;
+use gql_steps::columns::Columns;
 use gql_steps::ended::Ended;
 use gql_steps::outcome::Step;
 use gql_steps::planning::{Called, FieldPlan};
@@ -223,11 +225,13 @@ fn root_field<'d>(
     slot: Slot,
     field: &FieldPlan<'d>,
     root: Root<'_>,
+    columns: &mut Columns,
     run: &mut Run<'d>,
     effects: &mut Vec<Effect>,
 ) -> Result<Ended, ExecRefusal>
     requires right { IsRight (basis setting.now) table.old }
     requires at { IsAt table.old slot field.now }
+    requires columns { AreColumnsOf (view root.entry.initial.now) columns.old }
     ensures keeps { OnOk result (Keeps (basis setting.now) table.old table.new run.old run.new) }
     ensures does { (q : Pair) → StandsFor (basis setting.now) field.now q
         → Executes (part.root_field (types_of (basis setting.now))
@@ -235,6 +239,7 @@ fn root_field<'d>(
     ensures effects { (q : Pair) → StandsFor (basis setting.now) field.now q
         → OnOk result (seen effects.new.items ≡ seen effects.old.items
         ++ effect_in (root_of (basis setting.now) root.entry) q) }
+    ensures columns { OnOk result (AreColumnsOf (view root.entry.initial.now) columns.new) }
 {
     match addition_of(setting, root.of_type, field) {
         Some(addition) => added_field(
@@ -248,7 +253,16 @@ fn root_field<'d>(
             run,
             effects,
         ),
-        None => execute_field(alloc, setting, table, slot, field, root.initial, run),
+        None => execute_field(
+            alloc,
+            setting,
+            table,
+            slot,
+            field,
+            root.initial,
+            columns,
+            run,
+        ),
     }
 }
 
@@ -275,11 +289,22 @@ fn root_fields<'d>(
 {
     let shared = table.fields(entry)?;
     let fields = shared.get();
+    let mut columns = Columns::new(alloc);
     let mut ended = Ended::Written;
     for i in 0..fields.len() {
         let slot = Slot { entry, field: i };
         let field = &fields[i];
-        let field_ended = root_field(alloc, setting, table, slot, field, root, run, effects)?;
+        let field_ended = root_field(
+            alloc,
+            setting,
+            table,
+            slot,
+            field,
+            root,
+            &mut columns,
+            run,
+            effects,
+        )?;
         ended = ended.and(field_ended);
     }
     Ok(ended)

@@ -11,6 +11,7 @@ pub mod Grouped
 pub mod Leaving
 pub mod Listing
 pub mod Parts
+pub mod Printing
 pub mod Resolving
 pub mod Texting
 pub mod Writing

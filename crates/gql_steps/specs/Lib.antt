@@ -1,3 +1,4 @@
+pub mod Columns
 pub mod Direct
 pub mod DirectParts
 pub mod Ended

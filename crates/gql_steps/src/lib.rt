@@ -4,6 +4,7 @@
 //! are public.
 #![tactic(auto)]
 
+pub mod columns;
 pub mod credit;
 pub mod direct;
 pub mod direct_field;
@@ -18,6 +19,7 @@ pub mod leaves;
 pub mod nulls;
 pub mod outcome;
 pub mod planning;
+mod prints;
 pub mod refusal;
 pub mod resolve;
 pub mod run;

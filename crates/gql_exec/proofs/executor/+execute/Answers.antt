@@ -139,9 +139,12 @@ execute_fields-execute_field-requires t c =
       omega (arith, inv.keeps.left, c.decreases),
       (
         inv.keeps.right,
-        at_slot c.loop-i.table slot c.index.result.now within
-            (subst (λ fs. c.index.result.now ≡ get_or fs c.loop-i.i c.index.result.now) (sym (fields_still c.args.table.now c.loop-i.table c.args.entry inv.keeps.grows c.requires.within))
-            (subst (λ fs. c.index.result.now ≡ get_or fs c.loop-i.i c.index.result.now) (ap (λ (v : Vec FieldPlan Global). v.items) c.get-fields.ensures ∙ c.in_ok-shared.ensures) c.index.ensures)),
+        (
+          at_slot c.loop-i.table slot c.index.result.now within
+              (subst (λ fs. c.index.result.now ≡ get_or fs c.loop-i.i c.index.result.now) (sym (fields_still c.args.table.now c.loop-i.table c.args.entry inv.keeps.grows c.requires.within))
+              (subst (λ fs. c.index.result.now ≡ get_or fs c.loop-i.i c.index.result.now) (ap (λ (v : Vec FieldPlan Global). v.items) c.get-fields.ensures ∙ c.in_ok-shared.ensures) c.index.ensures)),
+          inv.columns,
+        ),
       ),
     )
 
@@ -161,6 +164,7 @@ execute_fields-loop-i-preserved t c =
     record {
       keeps = keeps_twice (basis c.args.setting.now) c.args.table.now c.loop-i.table c.execute_field.new.table c.args.run.now c.loop-i.run c.execute_field.new.run inv.keeps c.in_ok-field_ended.ensures.keeps;
       count = inv.count;
+      columns = c.in_ok-field_ended.ensures.columns;
       done = λ qs h.
           let at = stand_at (basis c.args.setting.now) (fields_at c.args.table.now.entries.items c.args.entry) qs c.loop-i.i c.index.result.now h (omega (arith, inv.count, c.loop-i-test.true))
           (subst (λ fs. c.index.result.now ≡ get_or fs c.loop-i.i c.index.result.now) (ap (λ (v : Vec FieldPlan Global). v.items) c.get-fields.ensures ∙ c.in_ok-shared.ensures) c.index.ensures) in

@@ -2,6 +2,7 @@ use Rattle.std.proofs.Common.{◌≡◌, ◌≤◌, ◌+◌, ◌*◌, List, take
 use Rattle.gql_inputs.specs.InputTypes.{name_in}
 use Rattle.gql_types.specs.Written.{written}
 use Rattle.serde_json.specs.View.{view}
+use Rattle.gql_steps.specs.Columns.{AreColumnsOf}
 use Rattle.gql_steps.specs.Execution.{Plan, stored}
 use Rattle.gql_steps.specs.Objects.{basis}
 use Rattle.gql_steps.specs.Parts.{all, numbered}
@@ -75,6 +76,7 @@ abbrev pub invariant-execute_fields-loop-i : goal.invariant-execute_fields-loop-
 invariant-execute_fields-loop-i l = record {
   keeps : Keeps (basis l.setting) l.initial.table l.table l.initial.run l.run;
   count : l.i-end ≡ length (fields_at l.initial.table.entries.items l.entry);
+  columns : AreColumnsOf (view l.object) l.columns;
   done : (qs : List Pair) → StandFor (basis l.setting) (fields_at l.initial.table.entries.items l.entry) qs
       → Done (all (numbered (field_part (types_of (basis l.setting)) (stored (view l.object)) (path_of l.initial.run)) 0 (take l.i qs)))
       l.ended l.initial.run l.run;

@@ -17,6 +17,9 @@ use Rattle.gql_exec.proofs.mutation.root_fields.Goals as goal
 pub root_field-requires-clause-right : goal.root_field-requires-clause-right
 root_field-requires-clause-right c = c.loop-i.invariant.keeps.right
 
+pub root_field-requires-clause-columns : goal.root_field-requires-clause-columns
+root_field-requires-clause-columns c = c.loop-i.invariant.columns
+
 pub root_field-requires-clause-at : goal.root_field-requires-clause-at
 root_field-requires-clause-at c =
     let inv = c.loop-i.invariant in
@@ -51,6 +54,7 @@ loop-i-preserved c =
     record {
       keeps = keeps_twice g c.args.table.now c.loop-i.table c.root_field.new.table c.args.run.now c.loop-i.run c.root_field.new.run inv.keeps c.in_ok-field_ended.ensures.keeps;
       count = inv.count;
+      columns = c.in_ok-field_ended.ensures.columns;
       done = λ qs h.
           let at = there qs h in
           rw c.and-ended.ensures (loop-more (root_field (types_of g) r) qs c.loop-i.i at.pair c.args.run.now c.loop-i.run c.root_field.new.run
