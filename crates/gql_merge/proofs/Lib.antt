@@ -6,6 +6,7 @@ pub mod Below
 pub mod ByNames
 pub mod BySetsBack
 pub mod CleanNames
+pub mod CleanPairs
 pub mod Cleanness
 pub mod Closed
 pub mod Drawing
@@ -20,5 +21,7 @@ pub mod Ordered
 pub mod Places
 pub mod Resolved
 pub mod SameParts
+pub mod SpreadParts
+pub mod SpreadWalks
 pub mod Together
 pub mod View

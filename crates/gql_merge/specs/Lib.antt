@@ -16,5 +16,8 @@ pub mod MergedNodes
 pub mod Numbers
 pub mod PairFaults
 pub mod Shapes
+pub mod SpreadNames
+pub mod SpreadPlaces
+pub mod SpreadSets
 pub mod V05DifferentCalls
 pub mod V06DifferentShapes

@@ -7,7 +7,7 @@ ghost use Rattle.gql_facts.specs.Worlds.{Facts};
 ghost use Rattle.gql_facts.specs.declared.fact.FragmentFact.{FragmentFact};
 ghost use Rattle.gql_facts.specs.declared.key.Key.{Key};
 ghost use Rattle.gql_merge.specs.Between.{IsBadBetween, PairReads};
-ghost use Rattle.gql_merge.specs.ByFragments.{IsFaultByPairs};
+ghost use Rattle.gql_merge.specs.ByFragments.{IsFaultByPairs, IsPairOf};
 ghost use Rattle.gql_merge.specs.BySets.{IsFaultBySets};
 ghost use Rattle.gql_merge.specs.MergeFaults.{IsMergeFault};
 ghost use Rattle.gql_merge.specs.declared.bad_pair.BadPair.{BadPair};
@@ -33,6 +33,14 @@ pub fn merge_faults_are_of_sets()
 pub fn merge_faults_are_of_fragments()
     ensures { (facts : Facts) → (d : Definition) → (f : Fault)
         → IsMergeFault facts d f ↔ IsFaultByPairs facts d f }
+{}
+
+/// Where a definition has no fault by the rules on the merging of fields, nothing is bad between two
+/// fragments that one of its sets spreads, in any number of steps.
+pub fn nothing_is_bad_without_faults()
+    ensures { (facts : Facts) → (d : Definition) → ((f : Fault) → IsMergeFault facts d f → ⊥)
+        → (g h : FragmentFact) → IsPairOf facts d g h
+        → (p : BadPair) → IsBadBetween facts g h p → ⊥ }
 {}
 
 /// What clashes between two fragments depends only on which fragments have their names, and on what

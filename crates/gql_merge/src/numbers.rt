@@ -47,7 +47,7 @@ fn add_number(
 }
 
 /// The numbers of the fragments of these names.
-fn spreads_of(
+pub fn spreads_of(
     alloc: Global,
     names: &[&Text],
     fragments: &HashMap<&str, usize>,
