@@ -146,9 +146,10 @@ of_variables s values n [] = refl
 of_variables s values n (d ∷ ds) = ap (λ more. named_at n s (of_variable values d) ∷ more) (of_variables s values n ds)
 
 pub variables_in_cases : VariablesInCases
-variables_in_cases s ds values o =
-    (λ h. instead (λ n. object_of (map (named_at n s) (map (of_variable values) ds)) json.no_members) (λ n. variables n s ds values) o (λ n. ap (λ os. object_of os json.no_members) (of_variables s values n ds)) (to_reached s h),
-    λ h. object_back s (h.0 + 0) (map (of_variable values) ds) o (sym (ap (λ os. object_of os json.no_members) (of_variables s values (h.0 + 0) ds)) ∙ h.1 0))
+variables_in_cases s ds values o = (
+  λ h. instead (λ n. object_of (map (named_at n s) (map (of_variable values) ds)) json.no_members) (λ n. variables n s ds values) o (λ n. ap (λ os. object_of os json.no_members) (of_variables s values n ds)) (to_reached s h),
+  λ h. object_back s (h.0 + 0) (map (of_variable values) ds) o (sym (ap (λ os. object_of os json.no_members) (of_variables s values (h.0 + 0) ds)) ∙ h.1 0),
+)
 
 of_arguments : (s : Schema) (values : Data) (given : List Argument) (n : ℕ) (ds : List InputValueDefinition)
     → map (named_argument n s values given) ds ≡ map (named_at n s) (map (of_argument values given) ds)
@@ -156,7 +157,8 @@ of_arguments s values given n [] = refl
 of_arguments s values given n (d ∷ ds) = ap (λ more. named_at n s (of_argument values given d) ∷ more) (of_arguments s values given n ds)
 
 pub arguments_in_cases : ArgumentsInCases
-arguments_in_cases s ds given values o =
-    (λ h. instead (λ n. object_of (map (named_at n s) (map (of_argument values given) ds)) json.no_members) (λ n. arguments n s ds given values) o
-    (λ n. ap (λ os. object_of os json.no_members) (of_arguments s values given n ds)) (to_reached s h),
-    λ h. object_back s (h.0 + 0) (map (of_argument values given) ds) o (sym (ap (λ os. object_of os json.no_members) (of_arguments s values given (h.0 + 0) ds)) ∙ h.1 0))
+arguments_in_cases s ds given values o = (
+  λ h. instead (λ n. object_of (map (named_at n s) (map (of_argument values given) ds)) json.no_members) (λ n. arguments n s ds given values) o
+      (λ n. ap (λ os. object_of os json.no_members) (of_arguments s values given n ds)) (to_reached s h),
+  λ h. object_back s (h.0 + 0) (map (of_argument values given) ds) o (sym (ap (λ os. object_of os json.no_members) (of_arguments s values given (h.0 + 0) ds)) ∙ h.1 0),
+)
