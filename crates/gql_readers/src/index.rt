@@ -224,7 +224,7 @@ impl Index {
         ensures { IfOk result (λ index. (facts : Facts) (old going coming new : List Reader)
             → IsChange facts self.now changes old going coming new → IsIndexOf index new) }
     {
-        let mut all = Vec::with_capacity(alloc, self.entries.len())?;
+        let mut all = Vec::new(alloc);
         let mut rest = self.entries.as_slice();
         for (key, noted) in changes.notes {
             let parts = split(rest, &key.key);
