@@ -231,7 +231,7 @@ fn root_field<'d>(
 ) -> Result<Ended, ExecRefusal>
     requires right { IsRight (basis setting.now) table.old }
     requires at { IsAt table.old slot field.now }
-    requires columns { AreColumnsOf (view root.entry.initial.now) columns.old }
+    requires columns { AreColumnsOf (view root.initial.now) columns.old }
     ensures keeps { OnOk result (Keeps (basis setting.now) table.old table.new run.old run.new) }
     ensures does { (q : Pair) → StandsFor (basis setting.now) field.now q
         → Executes (part.root_field (types_of (basis setting.now))
