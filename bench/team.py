@@ -1,6 +1,5 @@
 """A team's service over `gqlreg pipe`; bench/team.sh says what it measures and starts it."""
 
-import os
 import subprocess
 import sys
 import tempfile
@@ -98,26 +97,26 @@ def files(operations):
 
 
 def used(program, sent):
-    """The processor seconds of the service for these requests, the most memory in KB, and the last
-    answer."""
-    with tempfile.TemporaryFile() as requests, tempfile.TemporaryFile() as answers:
+    """The processor seconds of the service for these requests, and the most memory in KB."""
+    with tempfile.TemporaryFile() as requests, tempfile.TemporaryFile() as answers, \
+            tempfile.NamedTemporaryFile("r") as spent:
         requests.write(b"".join(sent))
         requests.seek(0)
-        process = subprocess.Popen([program, "pipe"], stdin=requests, stdout=answers)
-        _, status, spent = os.wait4(process.pid, 0)
-        process.returncode = status
+        command = ["/usr/bin/time", "-f", "%U %S %M", "-o", spent.name, program, "pipe"]
+        status = subprocess.run(command, stdin=requests, stdout=answers).returncode
         answers.seek(0)
         text = answers.read()
-        last = text[text.rfind(b"HTTP/1.1"):]
         if status or text.count(b"HTTP/1.1 200 ") != len(sent):
+            last = text[text.rfind(b"HTTP/1.1"):]
             sys.exit(f"a wrong answer: status {status}, {last[:300]!r}")
-        return spent.ru_utime + spent.ru_stime, spent.ru_maxrss, last
+        user, system, memory = spent.read().split()
+        return float(user) + float(system), int(memory)
 
 
 def least(program, sent, times=3):
     """The least processor seconds of so many runs, and the memory of the first."""
     found = [used(program, sent) for _ in range(times)]
-    return min(seconds for seconds, _, _ in found), found[0][1]
+    return min(seconds for seconds, _ in found), found[0][1]
 
 
 def each(program, before, edits):
