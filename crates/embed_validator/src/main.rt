@@ -6,6 +6,7 @@ use anyhow::Result;
 use gql_ast::{Definition, Document, Fault, FileName, Files, Shared};
 use gql_facts::{Fragments, Present, SchemaFacts, World};
 use gql_grammar::SyntaxFault;
+use gql_pairs::PairTable;
 use gql_parse_sdl::{parse_any, parse_sdl};
 use gql_reads::NoParts;
 use gql_report::in_order;
@@ -50,7 +51,8 @@ fn add_faults<W: World>(
     faults: &mut Vec<Shared<Fault>>,
 ) -> Result<(), AllocError> {
     // One `SharedWork` for all definitions of a world saves work on fragments that they share.
-    let mut shared = SharedWork::new(alloc);
+    let pairs = PairTable::new(alloc);
+    let mut shared = SharedWork::new(alloc, pairs);
     let mut meter = Meter::new(alloc);
     let kept = NoParts {};
     let verdict = examine(alloc, world, definition, &kept, &mut shared, &mut meter)?;

@@ -16,7 +16,7 @@ const SELECTIONS: [DirectiveLocation; 3] = [
     DirectiveLocation::InlineFragment,
 ];
 
-// (if: Boolean!)
+/// (if: Boolean!)
 #[tactic(auto, unfolding(crate::specs::BuiltIn::condition))]
 fn condition(alloc: Global) -> Result<Items<Shared<InputValueDefinition>>, AllocError>
     ensures { IfOk result (λ xs. xs ≡ spec.condition) }
@@ -24,7 +24,7 @@ fn condition(alloc: Global) -> Result<Items<Shared<InputValueDefinition>>, Alloc
     one_argument(alloc, "if", required_named(alloc, "Boolean")?, None)
 }
 
-// (reason: String = "No longer supported")
+/// (reason: String = "No longer supported")
 #[tactic(auto, unfolding(crate::specs::BuiltIn::reason))]
 fn reason(alloc: Global) -> Result<Items<Shared<InputValueDefinition>>, AllocError>
     ensures { IfOk result (λ xs. xs ≡ spec.reason) }
@@ -33,7 +33,7 @@ fn reason(alloc: Global) -> Result<Items<Shared<InputValueDefinition>>, AllocErr
     one_argument(alloc, "reason", named(alloc, "String")?, Some(default))
 }
 
-// (url: String!)
+/// (url: String!)
 #[tactic(auto, unfolding(crate::specs::BuiltIn::url))]
 fn url(alloc: Global) -> Result<Items<Shared<InputValueDefinition>>, AllocError>
     ensures { IfOk result (λ xs. xs ≡ spec.url) }
@@ -41,7 +41,7 @@ fn url(alloc: Global) -> Result<Items<Shared<InputValueDefinition>>, AllocError>
     one_argument(alloc, "url", required_named(alloc, "String")?, None)
 }
 
-// (to: String!)
+/// (to: String!)
 #[tactic(auto, unfolding(crate::specs::BuiltIn::to))]
 fn to(alloc: Global) -> Result<Items<Shared<InputValueDefinition>>, AllocError>
     ensures { IfOk result (λ xs. xs ≡ spec.to) }
@@ -49,7 +49,7 @@ fn to(alloc: Global) -> Result<Items<Shared<InputValueDefinition>>, AllocError>
     one_argument(alloc, "to", required_named(alloc, "String")?, None)
 }
 
-// `@skip` (GraphQL specification, 3.13.1)
+/// `@skip` (GraphQL specification, 3.13.1)
 #[tactic(auto, unfolding(crate::specs::BuiltIn::skip))]
 fn skip(alloc: Global) -> Result<DirectiveDefinition, AllocError>
     ensures { IfOk result (λ x. x ≡ spec.skip) }
@@ -57,7 +57,7 @@ fn skip(alloc: Global) -> Result<DirectiveDefinition, AllocError>
     directive(alloc, "skip", condition(alloc)?, &SELECTIONS)
 }
 
-// `@include` (GraphQL specification, 3.13.2)
+/// `@include` (GraphQL specification, 3.13.2)
 #[tactic(auto, unfolding(crate::specs::BuiltIn::include))]
 fn include(alloc: Global) -> Result<DirectiveDefinition, AllocError>
     ensures { IfOk result (λ x. x ≡ spec.include) }
@@ -65,8 +65,8 @@ fn include(alloc: Global) -> Result<DirectiveDefinition, AllocError>
     directive(alloc, "include", condition(alloc)?, &SELECTIONS)
 }
 
-// `@deprecated` (GraphQL specification, 3.13.3), on arguments and input fields too, as editions
-// after October 2021 have it.
+/// `@deprecated` (GraphQL specification, 3.13.3), on arguments and input fields too, as editions
+/// after October 2021 have it.
 #[tactic(auto, unfolding(crate::specs::BuiltIn::deprecated))]
 fn deprecated(alloc: Global) -> Result<DirectiveDefinition, AllocError>
     ensures { IfOk result (λ x. x ≡ spec.deprecated) }
@@ -80,7 +80,7 @@ fn deprecated(alloc: Global) -> Result<DirectiveDefinition, AllocError>
     directive(alloc, "deprecated", reason(alloc)?, &locations)
 }
 
-// `@specifiedBy` (GraphQL specification, 3.13.4)
+/// `@specifiedBy` (GraphQL specification, 3.13.4)
 #[tactic(auto, unfolding(crate::specs::BuiltIn::specified_by))]
 fn specified_by(alloc: Global) -> Result<DirectiveDefinition, AllocError>
     ensures { IfOk result (λ x. x ≡ spec.specified_by) }
@@ -89,8 +89,8 @@ fn specified_by(alloc: Global) -> Result<DirectiveDefinition, AllocError>
     directive(alloc, "specifiedBy", url(alloc)?, &locations)
 }
 
-// `@append`, which is this registry's own: a mutation's field with it adds its arguments, as an
-// object, to the list of this name.
+/// `@append`, which is this registry's own: a mutation's field with it adds its arguments, as an
+/// object, to the list of this name.
 #[tactic(auto, unfolding(crate::specs::BuiltIn::append))]
 fn append(alloc: Global) -> Result<DirectiveDefinition, AllocError>
     ensures { IfOk result (λ x. x ≡ spec.append) }

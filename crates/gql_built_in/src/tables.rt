@@ -32,7 +32,7 @@ pub enum FieldRow<'w> {
     ShowsDeprecated(&'w str, TypeWord<'w>),
 }
 
-// (includeDeprecated: Boolean = false)
+/// (includeDeprecated: Boolean = false)
 #[tactic(auto, unfolding(crate::specs::BuiltIn::include_deprecated))]
 fn include_deprecated(alloc: Global) -> Result<Items<Shared<InputValueDefinition>>, AllocError>
     ensures { IfOk result (λ xs. xs ≡ include_deprecated_of) }

@@ -199,7 +199,7 @@ pub fn scalar(alloc: Global, name: &str) -> Result<TypeDefinition, AllocError>
     type_of(alloc, name, TypeParts::Scalar)
 }
 
-// An object without interfaces (GraphQL specification, 3.6).
+/// An object without interfaces (GraphQL specification, 3.6).
 fn object_type(
     alloc: Global,
     name: &str,

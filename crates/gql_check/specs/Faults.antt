@@ -10,26 +10,11 @@ use Rattle.gql_folder.specs.declared.folder.FolderFault.{FolderFault}
 use Rattle.gql_folder.specs.declared.folder.FolderFault.TheVariants as folder
 use Rattle.gql_folder.specs.declared.folder.GivenFile.{GivenFile}
 use Rattle.gql_registry.specs.Loading.{IsRefusedAt}
-use Rattle.gql_registry.specs.Refusals.{syntax_message}
+use Rattle.gql_registry.specs.Refusals.{number_of, syntax_message}
 use Rattle.gql_registry.specs.State as state
 use Rattle.gql_registry.specs.declared.refusal.Refusal.{Refusal}
 use Rattle.gql_registry.specs.declared.refusal.Refusal.TheVariants as refusal
 use Rattle.gql_text.specs.declared.place.Place.{Place}
-
--- the number of a refusal
-abbrev pub number_of : Refusal → ℕ
-number_of (refusal.Syntax number place) = 201
-number_of refusal.NotText = 202
-number_of refusal.TooLong = 203
-number_of refusal.NoFile = 204
-number_of refusal.FilesFull = 205
-number_of (refusal.Stale revision) = 206
-number_of refusal.BadData = 207
-number_of refusal.NoOperation = 208
-number_of (refusal.Faulty faults) = 209
-number_of refusal.TooLarge = 210
-number_of refusal.Memory = 211
-number_of refusal.Spent = 212
 
 -- the place of a refusal in its file, if it has one
 abbrev pub place_in : Refusal → Option Place

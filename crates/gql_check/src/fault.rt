@@ -82,29 +82,6 @@ impl From<FolderFault> for CheckFault {
     }
 }
 
-/// The number of a refusal.
-fn number_of(refusal: &Refusal) -> u16
-    ensures { result ≡ spec.number_of refusal.now }
-{
-    match refusal {
-        Refusal::Syntax {
-            number: _,
-            place: _,
-        } => 201,
-        Refusal::NotText => 202,
-        Refusal::TooLong => 203,
-        Refusal::NoFile => 204,
-        Refusal::FilesFull => 205,
-        Refusal::Stale { revision: _ } => 206,
-        Refusal::BadData => 207,
-        Refusal::NoOperation => 208,
-        Refusal::Faulty { faults: _ } => 209,
-        Refusal::TooLarge => 210,
-        Refusal::Memory => 211,
-        Refusal::Spent => 212,
-    }
-}
-
 /// The place of a refusal in its file, if it has one.
 fn place_in(refusal: &Refusal) -> Option<Place>
     ensures { result ≡ spec.place_in refusal.now }
@@ -137,7 +114,7 @@ pub fn file_fault(file: usize, refusal: &Refusal) -> FileFault
     FileFault {
         file,
         place: place_in(refusal),
-        number: number_of(refusal),
+        number: refusal.number(),
         reason: reason_of(refusal),
     }
 }

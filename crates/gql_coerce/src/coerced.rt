@@ -47,7 +47,7 @@ pub fn refused(alloc: Global, reason: Reason) -> Coerced
     })
 }
 
-// The refusal of a part, under this segment.
+/// The refusal of a part, under this segment.
 fn behind(segment: Segment, stop: Stop) -> Result<Stop, AllocError>
     ensures { IfOk result (λ r. (r.reason ≡ stop.reason)
         × (reverse r.steps.items ≡ segment ∷ reverse stop.steps.items)) }

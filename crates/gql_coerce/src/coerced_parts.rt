@@ -10,7 +10,8 @@ use serde_json::{Map, Value};
 use std::alloc::{AllocError, Global};
 use std::marker::Model;
 
-/// How many levels a list or an object has at most: so many so far, and a part of this many.
+/// The levels of a list or an object whose parts so far make it `levels`, with one more part, which
+/// has `part`.
 fn levels_with(levels: usize, part: usize) -> usize
     ensures { result ≡ max levels (min (part + 1) (2 ^ 64 - 1)) }
 {

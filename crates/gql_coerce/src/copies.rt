@@ -29,7 +29,7 @@ pub enum CopyStep<'v> {
     Copied(CoercedValue),
 }
 
-// A copy of a value that is neither a list nor an object.
+/// A copy of a value that is neither a list nor an object.
 fn leaf_copy(value: &Value) -> Result<Option<Value>, AllocError>
     ensures { IfOk result (λ leaf. IfSome leaf (λ copy. view copy ≡ view value.now)) }
 {
@@ -43,8 +43,8 @@ fn leaf_copy(value: &Value) -> Result<Option<Value>, AllocError>
     })
 }
 
-// The next list or object among the items of a list, with copies of the items before it; or the
-// whole list.
+/// The next list or object among the items of a list, with copies of the items before it; or the
+/// whole list.
 fn next_item<'v>(items: &'v [Value], copies: CoercedItems) -> Result<CopyStep<'v>, AllocError>
     ensures { IfOk result (λ step. array (items_view (copies ++ items.now)) ≡ copied_by step) }
 {
@@ -60,7 +60,7 @@ fn next_item<'v>(items: &'v [Value], copies: CoercedItems) -> Result<CopyStep<'v
     Ok(CopyStep::Copied(copies.into_value()))
 }
 
-// The next member of an object, or the whole object.
+/// The next member of an object, or the whole object.
 fn next_member<'v>(members: Iter<'v, String, Value>, copies: CoercedMembers) -> CopyStep<'v>
     ensures { object (put_each members.entry (members_view copies)) ≡ copied_by result }
 {
@@ -73,7 +73,7 @@ fn next_member<'v>(members: Iter<'v, String, Value>, copies: CoercedMembers) -> 
     }
 }
 
-// A value, by its form.
+/// A value, by its form.
 fn enter<'v>(alloc: Global, value: &'v Value) -> Result<CopyStep<'v>, AllocError>
     ensures { IfOk result (λ step. view value.now ≡ copied_by step) }
 {
@@ -90,7 +90,7 @@ fn enter<'v>(alloc: Global, value: &'v Value) -> Result<CopyStep<'v>, AllocError
     Ok(CopyStep::Copied(CoercedValue::new(leaf)))
 }
 
-// A list or an object, with the copy of its part.
+/// A list or an object, with the copy of its part.
 fn resume<'v>(frame: CopyFrame<'v>, copy: CoercedValue) -> Result<CopyStep<'v>, AllocError>
     ensures { IfOk result (λ step. frame_with frame.entry (view copy) ≡ copied_by step) }
 {

@@ -21,7 +21,7 @@ use gql_ast::TypeRef;
 use gql_types::Schema;
 use std::alloc::{AllocError, Global};
 
-// An item. It is not made a list of one.
+/// An item. It is not made a list of one.
 fn item_focus<'v>(
     alloc: Global,
     schema: &Schema,
@@ -40,7 +40,7 @@ fn item_focus<'v>(
     }
 }
 
-// Adds what an item came to, or returns what the list comes to instead.
+/// Adds what an item came to, or returns what the list comes to instead.
 fn add_item(
     alloc: Global,
     expected: Option<&TypeRef>,
@@ -62,7 +62,7 @@ fn add_item(
     }
 }
 
-// The next item that has parts, or the whole list.
+/// The next item that has parts, or the whole list.
 fn next_item<'v>(
     alloc: Global,
     schema: &Schema,
@@ -107,7 +107,7 @@ pub fn resume_list<'v>(
     }
 }
 
-// A list whose items are these, each at this type or within a custom scalar.
+/// A list whose items are these, each at this type or within a custom scalar.
 fn start_items<'v>(
     alloc: Global,
     schema: &Schema,

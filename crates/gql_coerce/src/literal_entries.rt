@@ -102,7 +102,7 @@ fn defined_entries<'v>(
     Ok(found)
 }
 
-// The first value that is given for a name. Each field is compared.
+/// The first value that is given for a name. Each field is compared.
 fn first_value<'v>(fields: &'v [ObjectField], name: &str) -> Option<&'v Literal>
     ensures { option_map (λ x. x.now) result
         ≡ option_map (λ f. f.value) (find (λ f. bytes_eq name.now f.name.text) fields.now) }
@@ -143,7 +143,7 @@ fn unknown_field<'v>(fields: &'v [ObjectField], of_type: &SchemaType) -> Option<
     None
 }
 
-// Adds a field, unless an earlier one has its name.
+/// Adds a field, unless an earlier one has its name.
 fn add_first<'v>(
     seen: &mut HashMap<&'v str, ()>,
     field: &'v ObjectField,
@@ -211,7 +211,7 @@ fn any_entries<'v>(
     Ok(found)
 }
 
-// The members that a type defines, from many fields.
+/// The members that a type defines, from many fields.
 fn entries_of_many<'v>(
     alloc: Global,
     fields: &'v [ObjectField],
@@ -225,7 +225,7 @@ fn entries_of_many<'v>(
     Ok(found)
 }
 
-// The members that a type defines.
+/// The members that a type defines.
 fn members_of_input<'v>(
     alloc: Global,
     fields: &'v [ObjectField],

@@ -31,7 +31,7 @@ fn whole(text: &str) -> Single<'_>
     }
 }
 
-// The value of a variable.
+/// The value of a variable.
 fn value_of<'v>(variables: Option<&'v Value>, name: &str) -> Option<&'v Value>
     ensures { option_map (λ v. view v.now) result
         ≡ get name.now (values_in (option_map (λ v. view v.now) variables.entry)) }

@@ -25,7 +25,7 @@ use gql_inputs::is_non_null;
 use gql_types::Schema;
 use std::alloc::{AllocError, Global};
 
-// A field that is not given: its default, in which no variable occurs.
+/// A field that is not given: its default, in which no variable occurs.
 fn default_focus<'v>(
     alloc: Global,
     schema: &Schema,
@@ -63,7 +63,7 @@ pub enum EntryFocus<'v> {
     Last(Focus<'v>),
 }
 
-// The value that an entry gives, or the default.
+/// The value that an entry gives, or the default.
 fn entry_focus<'v>(
     alloc: Global,
     schema: &Schema,
@@ -86,7 +86,7 @@ fn entry_focus<'v>(
     }
 }
 
-// Adds what a field came to, or returns what the object comes to instead.
+/// Adds what a field came to, or returns what the object comes to instead.
 fn add_entry(
     alloc: Global,
     name: &str,
@@ -108,7 +108,7 @@ fn add_entry(
     }
 }
 
-// The next field whose value has parts, or the whole object.
+/// The next field whose value has parts, or the whole object.
 fn next_entry<'v>(
     alloc: Global,
     schema: &Schema,
@@ -162,7 +162,7 @@ pub fn resume_default<'v>(
     }
 }
 
-// An object, and the default of its field of this name.
+/// An object, and the default of its field of this name.
 fn start_default<'v>(
     alloc: Global,
     schema: &Schema,

@@ -124,7 +124,7 @@ fn variables(
     Ok(Coerced::Given(members.into_value()))
 }
 
-// What an object comes to, as a result.
+/// What an object comes to, as a result.
 fn of_object(coerced: Coerced) -> Result<CoercedValue, CoerceFault>
     ensures ok { IfOk result (λ v. (o : Reached Data)
         → some o ≡ said coerced → o ≡ reached (value (view v))) }

@@ -12,7 +12,7 @@ use std::mem;
 /// How many levels of lists and objects are dropped with recursion at most.
 const FEW_LEVELS: usize = 64;
 
-// Whether a value is a list or an object that has a part.
+/// Whether a value is a list or an object that has a part.
 fn has_part(value: &Value) -> bool
     ensures { result ≡ spec.has_part (view value.now) }
 {
@@ -23,7 +23,7 @@ fn has_part(value: &Value) -> bool
     }
 }
 
-// Removes a part of a list or an object.
+/// Removes a part of a list or an object.
 fn remove_part(whole: &mut Value) -> Option<Value> {
     match whole {
         Value::Array(items) => items.pop(),
@@ -35,7 +35,7 @@ fn remove_part(whole: &mut Value) -> Option<Value> {
     }
 }
 
-// Exchanges a value for the part of a list or an object that `remove_part` removes last.
+/// Exchanges a value for the part of a list or an object that `remove_part` removes last.
 fn exchange_last(whole: &mut Value, other: &mut Value) {
     match whole {
         Value::Array(items) => {

@@ -21,7 +21,7 @@ use gql_ast::TypeRef;
 use gql_types::Schema;
 use std::alloc::{AllocError, Global};
 
-// A list or an object, a part of which came to this.
+/// A list or an object, a part of which came to this.
 fn resume<'v>(
     alloc: Global,
     schema: &'v Schema,
@@ -41,8 +41,8 @@ fn resume<'v>(
     }
 }
 
-// Whether more defaults are open within one another than the schema has input fields, so that one
-// of them is within itself.
+/// Whether more defaults are open within one another than the schema has input fields, so that one
+/// of them is within itself.
 fn has_cycle(schema: &Schema, stack: &[Frame<'_>]) -> bool {
     let mut open = 0_usize;
     for frame in stack {
@@ -57,8 +57,8 @@ fn has_cycle(schema: &Schema, stack: &[Frame<'_>]) -> bool {
     open > 1
 }
 
-// If defaults lead back to themselves, an input may come to nothing: the walk gives up, although no
-// allocation failed. It checks for this each time the stack has doubled.
+/// If defaults lead back to themselves, an input may come to nothing: the walk gives up, although no
+/// allocation failed. It checks for this each time the stack has doubled.
 fn give_up(schema: &Schema, stack: &[Frame<'_>]) -> Result<(), AllocError> {
     let depth = stack.len();
     if depth >= 1024 && depth.is_power_of_two() && has_cycle(schema, stack) {
@@ -67,7 +67,7 @@ fn give_up(schema: &Schema, stack: &[Frame<'_>]) -> Result<(), AllocError> {
     Ok(())
 }
 
-// Enters a list or an object, or takes the answer.
+/// Enters a list or an object, or takes the answer.
 fn take_step<'v>(
     schema: &Schema,
     step: Step<'v>,

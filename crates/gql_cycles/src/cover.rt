@@ -14,7 +14,7 @@ pub struct Range {
     pub end: usize,
 }
 
-// Adds a segment if the number is odd.
+/// Adds a segment if the number is odd.
 fn add_if_odd(number: usize, segment: usize, segments: &mut Vec<usize>) -> Result<(), AllocError>
     ensures { OnOk result (segments.new.items ≡ segments.old.items ++ if_odd number segment) }
 {
@@ -24,7 +24,7 @@ fn add_if_odd(number: usize, segment: usize, segments: &mut Vec<usize>) -> Resul
     Ok(())
 }
 
-// Adds the segments that cover a range of the numbers.
+/// Adds the segments that cover a range of the numbers.
 fn add_cover(count: usize, range: &Range, segments: &mut Vec<usize>) -> Result<(), AllocError>
     requires { 2 * count < 2 ^ 64 }
     ensures within { OnOk result ((v : ℕ) → Contains segments.new.items v

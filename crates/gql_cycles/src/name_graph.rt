@@ -24,7 +24,7 @@ pub fn nodes_of<'n>(alloc: Global, rows: &[Row<'n>]) -> Result<HashMap<&'n str, 
     Ok(nodes)
 }
 
-// A graph of this many nodes, without edges.
+/// A graph of this many nodes, without edges.
 fn no_edges(alloc: Global, count: usize) -> Result<Vec<Vec<usize>>, AllocError>
     ensures { IfOk result (λ edges. map (λ v. v.items) edges.items ≡ replicate count []) }
 {
@@ -35,7 +35,7 @@ fn no_edges(alloc: Global, count: usize) -> Result<Vec<Vec<usize>>, AllocError>
     Ok(edges)
 }
 
-// Adds the nodes of these names.
+/// Adds the nodes of these names.
 fn add_leads(
     leads: &[&str],
     nodes: &HashMap<&str, usize>,
@@ -53,7 +53,7 @@ fn add_leads(
     Ok(())
 }
 
-// Adds the edges of a row.
+/// Adds the edges of a row.
 fn add_row(
     row: &Row<'_>,
     nodes: &HashMap<&str, usize>,
@@ -72,7 +72,7 @@ fn add_row(
     Ok(())
 }
 
-// Whether one of the names has a node.
+/// Whether one of the names has a node.
 fn is_any_node(leads: &[&str], nodes: &HashMap<&str, usize>) -> bool
     ensures { result ≡ list_any (λ b. is_some
         (hash.get_by (λ k. bytes_eq b.now k.now) nodes.now)) leads.now }

@@ -7,7 +7,7 @@ ghost use Rattle.gql_cycles.specs.Path.{Rises};
 use crate::walk::cycle_marks;
 use std::alloc::{AllocError, Global};
 
-// Adds the end of an edge, if it is a node of the graph.
+/// Adds the end of an edge, if it is a node of the graph.
 fn add_inside(end: usize, count: usize, ends: &mut Vec<usize>) -> Result<(), AllocError>
     ensures { OnOk result (ends.new.items ≡ ends.old.items ++ spec.if_inside count end) }
 {
@@ -17,7 +17,7 @@ fn add_inside(end: usize, count: usize, ends: &mut Vec<usize>) -> Result<(), All
     Ok(())
 }
 
-// The ends that are nodes of the graph.
+/// The ends that are nodes of the graph.
 fn ends_inside(alloc: Global, ends: &[usize], count: usize) -> Result<Vec<usize>, AllocError>
     ensures { IfOk result (λ found. found.items ≡ spec.ends_inside count ends.now) }
 {
@@ -28,7 +28,7 @@ fn ends_inside(alloc: Global, ends: &[usize], count: usize) -> Result<Vec<usize>
     Ok(found)
 }
 
-// The edges that end inside the graph.
+/// The edges that end inside the graph.
 fn edges_inside(
     alloc: Global,
     edges: &[Vec<usize>],
@@ -45,7 +45,7 @@ fn edges_inside(
     Ok(found)
 }
 
-// The marked nodes, from the first to the last.
+/// The marked nodes, from the first to the last.
 fn marked_nodes(alloc: Global, marks: &[bool]) -> Result<Vec<usize>, AllocError>
     ensures once { IfOk result (λ nodes. Rises nodes.items) }
     ensures marked { IfOk result

@@ -11,14 +11,14 @@ use crate::cover::{Range, cover};
 use crate::nodes::nodes_on_cycles;
 use std::alloc::{AllocError, Global};
 
-// Whether no node leads to a range.
+/// Whether no node leads to a range.
 fn are_empty(ranges: &[Vec<Range>]) -> bool
     ensures { result ≡ list_all (λ v. length v.items == 0) ranges.now }
 {
     ranges.iter().all(|ranges_there| ranges_there.is_empty())
 }
 
-// The edges of the first segments: each leads to the two segments below it.
+/// The edges of the first segments: each leads to the two segments below it.
 fn inner_rows(alloc: Global, count: usize) -> Result<Vec<Vec<usize>>, AllocError>
     requires { 2 * count < 2 ^ 64 }
     ensures { IfOk result (λ rows. map (λ v. v.items) rows.items ≡ inner_rows count) }
@@ -33,7 +33,7 @@ fn inner_rows(alloc: Global, count: usize) -> Result<Vec<Vec<usize>>, AllocError
     Ok(rows)
 }
 
-// Adds the node in the graph, if there is a node of this number.
+/// Adds the node in the graph, if there is a node of this number.
 fn add_node(first: usize, nodes: usize, node: usize, row: &mut Vec<usize>) -> Result<(), AllocError>
     requires { first + nodes < 2 ^ 64 }
     ensures { OnOk result (row.new.items ≡ row.old.items ++ node_row first nodes node) }
@@ -44,7 +44,7 @@ fn add_node(first: usize, nodes: usize, node: usize, row: &mut Vec<usize>) -> Re
     Ok(())
 }
 
-// The nodes to which a number leads.
+/// The nodes to which a number leads.
 fn node_row(
     alloc: Global,
     first: usize,
@@ -61,7 +61,7 @@ fn node_row(
     Ok(row)
 }
 
-// The nodes to which each number leads.
+/// The nodes to which each number leads.
 fn node_rows(
     alloc: Global,
     first: usize,
@@ -80,7 +80,7 @@ fn node_rows(
     Ok(rows)
 }
 
-// The segments that cover the ranges of each node.
+/// The segments that cover the ranges of each node.
 fn covers(alloc: Global, count: usize, ranges: &[Vec<Range>]) -> Result<Vec<Vec<usize>>, AllocError>
     requires { 2 * count < 2 ^ 64 }
     ensures length { IfOk result (λ rows. length rows.items ≡ length ranges.now) }
@@ -95,7 +95,7 @@ fn covers(alloc: Global, count: usize, ranges: &[Vec<Range>]) -> Result<Vec<Vec<
     Ok(rows)
 }
 
-// The graph of the segments and the nodes.
+/// The graph of the segments and the nodes.
 fn tree(
     alloc: Global,
     ranges: &[Vec<Range>],
@@ -114,7 +114,7 @@ fn tree(
     Ok(graph)
 }
 
-// Adds the node of this number in the graph, if it has one.
+/// Adds the node of this number in the graph, if it has one.
 fn add_behind(first: usize, number: usize, nodes: &mut Vec<usize>) -> Result<(), AllocError>
     ensures { OnOk result (nodes.new.items ≡ nodes.old.items ++ node_at first number) }
 {
@@ -124,7 +124,7 @@ fn add_behind(first: usize, number: usize, nodes: &mut Vec<usize>) -> Result<(),
     Ok(())
 }
 
-// The nodes among the segments and nodes of the graph.
+/// The nodes among the segments and nodes of the graph.
 fn nodes_at(alloc: Global, first: usize, numbers: &[usize]) -> Result<Vec<usize>, AllocError>
     ensures { IfOk result (λ nodes. nodes.items ≡ flat_map (node_at first) numbers.now) }
 {

@@ -35,7 +35,7 @@ pub struct Walk {
 }
 
 impl State {
-    // Whether the node is on a cycle.
+    /// Whether the node is on a cycle.
     fn is_marked(self) -> bool
         ensures { result ≡ is_marked self }
     {
@@ -43,7 +43,7 @@ impl State {
     }
 }
 
-// A walk that has met nothing.
+/// A walk that has met nothing.
 fn new_walk(alloc: Global, count: usize) -> Result<Walk, AllocError>
     ensures states { IfOk result (λ walk. walk.states.items ≡ replicate count State.New) }
     ensures next_edges { IfOk result (λ walk. walk.next_edges.items ≡ replicate count 0) }
@@ -60,21 +60,21 @@ fn new_walk(alloc: Global, count: usize) -> Result<Walk, AllocError>
     })
 }
 
-// Whether the node is one of these.
+/// Whether the node is one of these.
 fn is_among(nodes: &[usize], node: usize) -> bool
     ensures { IsTrue result ↔ Contains nodes.now node }
 {
     nodes.iter().any(|p| *p == node)
 }
 
-// Whether a component of this many nodes is a cycle. If it is a single node, these are its edges.
+/// Whether a component of this many nodes is a cycle. If it is a single node, these are its edges.
 fn is_cycle(size: usize, node: usize, ends: &[usize]) -> bool
     ensures { IsTrue result ↔ ((1 < size) ⊎ Contains ends.now node) }
 {
     size > 1 || is_among(ends, node)
 }
 
-// Whether the node is the last of these.
+/// Whether the node is the last of these.
 fn is_last(nodes: &[usize], node: usize) -> bool
     ensures { IsTrue result ↔ Ends nodes.now node }
 {
@@ -82,7 +82,7 @@ fn is_last(nodes: &[usize], node: usize) -> bool
     count > 0 && nodes[count - 1] == node
 }
 
-// Puts a new node onto the path, as a component of its own.
+/// Puts a new node onto the path, as a component of its own.
 fn enter(walk: &mut Walk, node: usize) -> Result<(), AllocError>
     requires { node < length walk.old.states.items }
     ensures states { OnOk result (walk.new.states.items
@@ -102,8 +102,8 @@ fn enter(walk: &mut Walk, node: usize) -> Result<(), AllocError>
     Ok(())
 }
 
-// Removes the bounds above a position: the components that begin there are joined with the
-// component below.
+/// Removes the bounds above a position: the components that begin there are joined with the
+/// component below.
 fn keep_up_to(bounds: &mut Vec<usize>, position: usize)
     requires { Rises bounds.old.items }
     ensures { KeepsUpTo position bounds.old.items bounds.new.items }
@@ -115,7 +115,7 @@ fn keep_up_to(bounds: &mut Vec<usize>, position: usize)
     bounds.truncate(keep);
 }
 
-// Goes to the end of an edge, which is new, on the path, or closed.
+/// Goes to the end of an edge, which is new, on the path, or closed.
 fn meet(edges: &[Vec<usize>], walk: &mut Walk, at: usize, end: usize) -> Result<(), AllocError>
     requires walk { IsWalk (map (λ v. v.items) edges.now) walk.old }
     requires at { Ends walk.old.calls.items at }
@@ -137,7 +137,7 @@ fn meet(edges: &[Vec<usize>], walk: &mut Walk, at: usize, end: usize) -> Result<
     }
 }
 
-// Closes the nodes of the path from `start` on.
+/// Closes the nodes of the path from `start` on.
 fn close(states: &mut [State], path: &[usize], start: usize, mark: bool)
     requires start { start ≤ length path.now }
     requires there { (v i : ℕ) → slice_index_or states.old v State.New ≡ State.OnPath i
@@ -152,7 +152,7 @@ fn close(states: &mut [State], path: &[usize], start: usize, mark: bool)
     }
 }
 
-// The node at a position of the path that is still followed.
+/// The node at a position of the path that is still followed.
 fn node_of(edges: &[Vec<usize>], walk: &Walk, at: usize) -> usize
     requires walk { IsWalk (map (λ v. v.items) edges.now) walk.now }
     requires at { Ends walk.now.calls.items at }
@@ -164,7 +164,7 @@ fn node_of(edges: &[Vec<usize>], walk: &Walk, at: usize) -> usize
     walk.path[at]
 }
 
-// The nodes to which a node has edges.
+/// The nodes to which a node has edges.
 fn ends_of(edges: &[Vec<usize>], node: usize) -> &[usize]
     requires { node < length edges.now }
     ensures { result.now ≡ slice_index_or (map (λ v. v.items) edges.now) node [] }
@@ -172,7 +172,7 @@ fn ends_of(edges: &[Vec<usize>], node: usize) -> &[usize]
     &edges[node]
 }
 
-// Follows the next edge of the node at the end of the path.
+/// Follows the next edge of the node at the end of the path.
 fn follow_edge(edges: &[Vec<usize>], walk: &mut Walk, at: usize) -> Result<(), AllocError>
     requires graph { IsGraph (map (λ v. v.items) edges.now) }
     requires walk { IsWalk (map (λ v. v.items) edges.now) walk.old }
@@ -191,7 +191,7 @@ fn follow_edge(edges: &[Vec<usize>], walk: &mut Walk, at: usize) -> Result<(), A
     Ok(())
 }
 
-// Leaves a node whose edges were all followed, and closes the component that begins there.
+/// Leaves a node whose edges were all followed, and closes the component that begins there.
 fn leave(edges: &[Vec<usize>], walk: &mut Walk, at: usize)
     requires walk { IsWalk (map (λ v. v.items) edges.now) walk.old }
     requires at { Ends walk.old.calls.items at }
@@ -210,7 +210,7 @@ fn leave(edges: &[Vec<usize>], walk: &mut Walk, at: usize)
     }
 }
 
-// One step of the walk.
+/// One step of the walk.
 fn step(edges: &[Vec<usize>], walk: &mut Walk, at: usize) -> Result<(), AllocError>
     requires graph { IsGraph (map (λ v. v.items) edges.now) }
     requires walk { IsWalk (map (λ v. v.items) edges.now) walk.old }
@@ -226,7 +226,7 @@ fn step(edges: &[Vec<usize>], walk: &mut Walk, at: usize) -> Result<(), AllocErr
     Ok(())
 }
 
-// Puts a node onto the path that was not met.
+/// Puts a node onto the path that was not met.
 fn begin(edges: &[Vec<usize>], walk: &mut Walk, root: usize) -> Result<(), AllocError>
     requires walk { IsWalk (map (λ v. v.items) edges.now) walk.old }
     requires empty { walk.old.calls.items ≡ [] }
@@ -245,7 +245,7 @@ fn begin(edges: &[Vec<usize>], walk: &mut Walk, root: usize) -> Result<(), Alloc
     }
 }
 
-// Walks along all edges that can be reached from the node.
+/// Walks along all edges that can be reached from the node.
 fn walk_from(edges: &[Vec<usize>], walk: &mut Walk, root: usize) -> Result<(), AllocError>
     requires graph { IsGraph (map (λ v. v.items) edges.now) }
     requires walk { IsWalk (map (λ v. v.items) edges.now) walk.old }
@@ -264,7 +264,7 @@ fn walk_from(edges: &[Vec<usize>], walk: &mut Walk, root: usize) -> Result<(), A
     Ok(())
 }
 
-// Which states are those of nodes on cycles.
+/// Which states are those of nodes on cycles.
 fn marks_of(alloc: Global, states: &[State]) -> Result<Vec<bool>, AllocError>
     ensures { IfOk result (λ marks. marks.items ≡ map is_marked states.now) }
 {

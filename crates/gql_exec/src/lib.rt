@@ -1,10 +1,13 @@
 //! The execution of operations (GraphQL specification, 6).
 #![tactic(auto)]
 
-mod executor;
+mod fields;
 pub mod laws;
+mod lists;
 mod mutation;
+mod objects;
 mod sets;
+mod values;
 mod whole;
 
 pub use gql_steps::outcome::{Outcome, ResponseError, Step};

@@ -16,7 +16,8 @@ ghost use Rattle.gql_steps.specs.Texts.{value_part};
 ghost use Rattle.gql_steps.specs.ValueParts.{IsAt, Keeps, site_of};
 ghost use Rattle.gql_steps.specs.ValueParts as values;
 
-use crate::executor::{complete, execute_field};
+use crate::fields::execute_field;
+use crate::values::complete;
 use gql_coerce::CoercedValue;
 use gql_inputs::is_non_null;
 use gql_steps::columns::Columns;

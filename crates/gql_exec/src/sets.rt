@@ -14,8 +14,8 @@ ghost use Rattle.gql_exec.specs.RootParts.{seen};
 ghost use Rattle.gql_steps.specs.Runs.{Finishes, IsOutcomeOf, came_to};
 ghost use Rattle.gql_steps.specs.States as states;
 
-use crate::executor::execute_object;
 use crate::mutation::{Root, execute_root};
+use crate::objects::execute_object;
 use gql_collect::SelectionSet;
 use gql_steps::ended::Ended;
 use gql_steps::equal_sets::key_of;

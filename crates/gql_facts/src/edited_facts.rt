@@ -64,14 +64,10 @@ fn entry_after(
     ensures { IfOk result (spec.IsEntryAfter before.now edited.now schema.now of_type.now) }
 {
     match kept_entry(schema, before, edited, of_type) {
-        Some(entry) => {
-            let shared = entry.clone()?;
-            Ok(shared)
-        }
+        Some(entry) => entry.clone(),
         None => {
             let made = type_entry(alloc, schema, of_type)?;
-            let made = Shared::new(alloc, made)?;
-            Ok(made)
+            Shared::new(alloc, made)
         }
     }
 }

@@ -201,8 +201,7 @@ fn enter_condition<W: World>(
     match condition {
         Some(condition) => {
             let of_type = Some(condition.text.copy()?);
-            let within = enter(alloc, world, of_type, keys)?;
-            Ok(within)
+            enter(alloc, world, of_type, keys)
         }
         None => match parent {
             Some(parent) => Ok(Some(parent.copy()?)),

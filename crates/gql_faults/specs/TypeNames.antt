@@ -1,6 +1,6 @@
 -- The name within a type (GraphQL 2.11), and which arguments and input fields are required
 -- (GraphQL 3.6.1, 3.10).
-use Rattle.std.specs.Prelude.{◌≡◌, ◌&&◌, Bool, true, false, not, is_some}
+use Rattle.std.specs.Prelude.{◌≡◌, ◌&&◌, Bool, not, is_some}
 use Rattle.std.proofs.Common.{ap, sym, ◌∙◌}
 use Rattle.gql_text.specs.declared.place.Place.{Place}
 use Rattle.gql_ast.specs.declared.text.Name.{Name}
@@ -9,7 +9,8 @@ use Rattle.gql_ast.specs.declared.type_ref.TypeRef.TheOpen.{TypeRef-F}
 use Rattle.gql_ast.specs.declared.type_ref.TypeRef.TheFolds.{fold-roll-TypeRef}
 use Rattle.gql_ast.specs.declared.type_ref.TypeRef.TheVariants as t
 use Rattle.gql_ast.specs.declared.type_system.InputValueDefinition.{InputValueDefinition}
-use Rattle.gql_types.specs.Written.{Written, named, listed, required, written}
+use Rattle.gql_types.specs.Written.{written}
+pub use Rattle.gql_types.specs.RequiredInputs.{is_non_null}
 
 -- the name within a type, from the name of the type in it
 abbrev pub name_at : TypeRef-F Name → Name
@@ -36,12 +37,6 @@ pub name_in_non_null : (x : TypeRef) → name_in (t.NonNull x) ≡ name_in x
 unfolding name_in
 name_in_non_null x = ap name_in (sym (t.rolls-NonNull x))
     ∙ fold-roll-TypeRef Name name_at (TypeRef-F.NonNull x)
-
--- whether a type is Non-Null
-abbrev pub is_non_null : Written → Bool
-is_non_null (required t) = true
-is_non_null (listed t) = false
-is_non_null (named n) = false
 
 -- whether an argument or an input field is required: its type is Non-Null, and it has no default
 abbrev pub is_required : InputValueDefinition → Bool

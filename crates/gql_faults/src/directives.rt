@@ -8,7 +8,7 @@ use gql_built_in::Sited;
 use std::alloc::{AllocError, Global};
 use std::collections::HashMap;
 
-// Adds a definition, unless its name was seen.
+/// Adds a definition, unless its name was seen.
 fn add_first<'d>(
     seen: &mut HashMap<&'d str, ()>,
     definition: &'d Sited<Shared<DirectiveDefinition>>,

@@ -8,7 +8,7 @@ use gql_ast::{Fault, FileName, FilePlace, FileSide, Items, Rule, Text};
 use gql_text::Place;
 use std::alloc::{AllocError, Global};
 
-// A place of a schema file.
+/// A place of a schema file.
 fn in_file(file: &FileName, place: Place) -> FilePlace
     ensures { result ≡ spec.in_file file.now place }
 {
@@ -19,7 +19,7 @@ fn in_file(file: &FileName, place: Place) -> FilePlace
     }
 }
 
-// A fault of the schema, which has no owner.
+/// A fault of the schema, which has no owner.
 fn fault(
     alloc: Global,
     rule: Rule,
@@ -36,7 +36,7 @@ fn fault(
     })
 }
 
-// One place as the places of a fault.
+/// One place as the places of a fault.
 fn one_place(alloc: Global, file: &FileName, place: Place) -> Result<Items<FilePlace>, AllocError>
     ensures { IfOk result (λ places. places ≡ spec.in_file file.now place ∷ []) }
 {
@@ -63,7 +63,7 @@ pub fn add_fault(
     Ok(())
 }
 
-// Two places as the places of a fault.
+/// Two places as the places of a fault.
 fn two_places(
     alloc: Global,
     file: &FileName,

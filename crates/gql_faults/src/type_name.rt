@@ -17,7 +17,7 @@ pub fn named_type(of_type: &TypeRef) -> &Name
     }
 }
 
-// Whether the type is Non-Null.
+/// Whether the type is Non-Null.
 #[tactic(auto, using(gql_types::specs::Written::written_named, gql_types::specs::Written::written_list, gql_types::specs::Written::written_non_null))]
 fn is_non_null(of_type: &TypeRef) -> bool
     ensures { result ≡ spec.is_non_null (written of_type.now) }

@@ -6,6 +6,19 @@ ghost use Rattle.gql_folder.specs.Roles.{file_at, name_at, role_at, role_below, 
 use arrayvec::ArrayString;
 use gql_ast::{FileName, FileSide};
 
+/// The folder of the schema files.
+const SCHEMA: &[u8] = b"schema/";
+
+/// The folder of the document files.
+const DOCUMENTS: &[u8] = b"documents/";
+
+/// The extensions of GraphQL files.
+const GRAPHQL: &[u8] = b".graphql";
+
+const GRAPHQLS: &[u8] = b".graphqls";
+
+const GQL: &[u8] = b".gql";
+
 /// What the file at a path below a folder is.
 #[derive(Drop)]
 pub enum Role {
@@ -50,12 +63,12 @@ fn file_of(side: FileSide, stem: &[u8]) -> Role
 fn role_below(side: FileSide, path: &[u8]) -> Role
     ensures { result ≡ role_below side path.now }
 {
-    if path.ends_with(b".graphql") {
-        file_of(side, &path[..path.len() - 8])
-    } else if path.ends_with(b".graphqls") {
-        file_of(side, &path[..path.len() - 9])
-    } else if path.ends_with(b".gql") {
-        file_of(side, &path[..path.len() - 4])
+    if path.ends_with(GRAPHQL) {
+        file_of(side, &path[..path.len() - GRAPHQL.len()])
+    } else if path.ends_with(GRAPHQLS) {
+        file_of(side, &path[..path.len() - GRAPHQLS.len()])
+    } else if path.ends_with(GQL) {
+        file_of(side, &path[..path.len() - GQL.len()])
     } else {
         Role::Other
     }
@@ -65,10 +78,10 @@ fn role_below(side: FileSide, path: &[u8]) -> Role
 fn role_in(path: &[u8]) -> Role
     ensures { result ≡ role_in path.now }
 {
-    if path.starts_with(b"schema/") {
-        role_below(FileSide::Schema, &path[7..])
-    } else if path.starts_with(b"documents/") {
-        role_below(FileSide::Documents, &path[10..])
+    if path.starts_with(SCHEMA) {
+        role_below(FileSide::Schema, &path[SCHEMA.len()..])
+    } else if path.starts_with(DOCUMENTS) {
+        role_below(FileSide::Documents, &path[DOCUMENTS.len()..])
     } else {
         Role::Other
     }

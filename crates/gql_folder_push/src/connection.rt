@@ -11,6 +11,9 @@ use std::time::Duration;
 /// The greatest number of bytes of an answer that is read.
 const MAX_ANSWER_BYTES: usize = 1_073_741_824;
 
+/// The greatest number of bytes that a read brings.
+const PIECE_BYTES: usize = 16_384;
+
 /// Why there is no answer.
 #[derive(Drop)]
 pub enum NoAnswer {
@@ -69,7 +72,7 @@ impl Connection {
 
     /// Reads more bytes, and returns whether there were some.
     fn read_more(&mut self) -> Result<bool, NoAnswer> {
-        let mut piece = [0u8; 16384];
+        let mut piece = [0u8; PIECE_BYTES];
         match (&self.stream).read(&mut piece) {
             Ok(count) if count <= piece.len() => {
                 self.rest.extend_from_slice(&piece[..count])?;

@@ -13,7 +13,7 @@ use gql_text::{Kind, Place, Token};
 /// How many `{` and `[` may be open at one time.
 pub const MAX_LEVELS: usize = 100;
 
-// How many are open after a token of this kind.
+/// How many are open after a token of this kind.
 fn shifted(level: usize, kind: Kind) -> usize
     requires { level ≤ 100 }
     ensures { result ≡ shift kind level }
@@ -25,7 +25,7 @@ fn shifted(level: usize, kind: Kind) -> usize
     }
 }
 
-// How many of the tokens are read, and whether at most 100 levels are open at one time.
+/// How many of the tokens are read, and whether at most 100 levels are open at one time.
 #[tactic(auto, using(crate::proofs::Levels::deep_none, crate::proofs::Levels::deep_here, crate::proofs::Levels::deep_later))]
 fn look(tokens: &[Token<'_>]) -> (usize, bool)
     ensures within { result.0 ≤ length tokens.now }
@@ -51,7 +51,7 @@ pub fn looked_at(tokens: &[Token<'_>]) -> usize
     look(tokens).0
 }
 
-// The place of the last token, or the end if there is none.
+/// The place of the last token, or the end if there is none.
 #[tactic(auto, using(crate::proofs::Cursors::place_back, crate::proofs::Cursors::place_end))]
 fn last_place(tokens: &[Token<'_>], end: Place) -> Place
     ensures { result ≡ the_last_place end (map lexeme tokens.now) }
@@ -64,7 +64,7 @@ fn last_place(tokens: &[Token<'_>], end: Place) -> Place
     }
 }
 
-// The fault of tokens, if those that are read end too early.
+/// The fault of tokens, if those that are read end too early.
 fn placed_at_end(tokens: &[Token<'_>], end: Place) -> SyntaxFault
     ensures { result ≡ fault_by end (map lexeme tokens.now) [] }
 {

@@ -1,7 +1,7 @@
 -- Data then present: what requests leave as the data, and what a request to run is answered.
 use Rattle.std.proofs.Common.{◌≡◌, ℕ, List, [], ◌∷◌, ◌++◌, Bool, Option, Some, None, Result, Ok, Err, refl, sym, ap, ◌∙◌, subst}
 use Rattle.gql_ast.specs.declared.fault.FileSide.{FileSide}
-use Rattle.gql_bodies.specs.DataBodies.{IsDataText}
+use Rattle.gql_registry.specs.DataBodies.{IsDataText}
 use Rattle.gql_registry.specs.Edits as edit
 use Rattle.gql_registry.specs.Edits.{Edit, Fails, Makes}
 use Rattle.gql_registry.specs.State.{State, next_data, with_effects}

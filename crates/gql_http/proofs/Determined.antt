@@ -1,7 +1,7 @@
 -- A request, a list of requests and an event each have one answer and leave one state.
 use Rattle.std.proofs.Common.{◌≡◌, ℕ, List, ◌∷◌, ◌++◌, take, Option, Some, None, IsSome, Result, Err, refl, sym, ap, ap₂, ◌∙◌, subst}
-use Rattle.gql_bodies.specs.CallBodies as ask
-use Rattle.gql_bodies.specs.CallBodies.{Asked, Asks, asked_by, reads, not_json, not_text}
+use Rattle.gql_http.specs.RunBodies as ask
+use Rattle.gql_http.specs.RunBodies.{Asked, Asks, asked_by, reads, not_json, not_text}
 use Rattle.gql_registry.specs.Calls.{Answers, CallOutcome, effects_in, text_of}
 use Rattle.gql_registry.specs.Edits as edit
 use Rattle.gql_registry.specs.Laws.{OneAnswer as OneCall, OneEdit, OneReport, WasMade}

@@ -1,4 +1,5 @@
 pub mod Appended
+pub mod Asking
 pub mod DataPresence
 pub mod Deeds
 pub mod Determined

@@ -4,8 +4,8 @@ use Rattle.json.specs.Print.{quoted}
 use Rattle.gql_text.specs.declared.place.Place.{Place}
 use Rattle.gql_grammar.specs.Files.{number_of}
 use Rattle.gql_grammar.specs.declared.fault.SyntaxRefusal.{SyntaxRefusal}
-use Rattle.gql_grammar.specs.declared.fault.SyntaxRefusal.TheVariants as syntax
 use Rattle.gql_ast.specs.declared.fault.Fault.{Fault}
+use Rattle.gql_registry.specs.Refusals.{syntax_message}
 use Rattle.gql_registry.specs.declared.refusal.Refusal.{Refusal}
 use Rattle.gql_registry.specs.declared.refusal.Refusal.TheVariants as refusal
 use Rattle.gql_registry.specs.declared.registry.Edited.{Edited}
@@ -37,17 +37,6 @@ answer_bytes closing bodiless a = answer_head_of a.status a.allow (length a.body
 unfoldable pub error_text : List ℕ → ℕ → List ℕ
 error_text message number = codes "{\"errors\":[{\"message\":" ++ quoted message
     ++ codes ",\"extensions\":{\"code\":" ++ decimal number ++ codes "}}]}"
-
--- the message of a syntax refusal
-abbrev pub syntax_message : SyntaxRefusal → List ℕ
-syntax_message syntax.BadCharacter = codes "syntax: bad character"
-syntax_message syntax.BadNumber = codes "syntax: bad number"
-syntax_message syntax.UnfinishedText = codes "syntax: unfinished text"
-syntax_message syntax.BadEscape = codes "syntax: bad escape"
-syntax_message syntax.LoneSurrogate = codes "syntax: lone surrogate"
-syntax_message syntax.TooLong = codes "syntax: too long"
-syntax_message syntax.Unexpected = codes "syntax: unexpected token"
-syntax_message syntax.TooDeep = codes "syntax: too deep"
 
 -- the beginning of a refusal's body: its message and its place
 unfoldable pub located_text : List ℕ → Place → List ℕ

@@ -1,8 +1,8 @@
 -- Helper definitions for private contracts: calls, resources and refusals, as specifications see
 -- them.
-use Rattle.std.specs.Prelude.{Option, Some, None}
-use Rattle.gql_bodies.specs.declared.call.CallFault.{CallFault}
-use Rattle.gql_bodies.specs.declared.call.CallFault.TheVariants as fault
+use Rattle.std.specs.Prelude.{ℕ, Option, Some, None}
+use Rattle.gql_http.specs.declared.run_body.RunBodyFault.{RunBodyFault}
+use Rattle.gql_http.specs.declared.run_body.RunBodyFault.TheVariants as fault
 use Rattle.gql_http.specs.Answers.{Said, bad_query, bad_run_body, no_route, not_allowed, stored_operations_only}
 use Rattle.gql_http.specs.Routes as spec
 use Rattle.gql_http.specs.declared.route.Call.{Call}
@@ -12,6 +12,12 @@ use Rattle.gql_http.specs.declared.route.Resource.TheVariants as resource
 use Rattle.gql_http.specs.declared.route.RouteRefusal.{RouteRefusal}
 use Rattle.gql_http.specs.declared.route.RouteRefusal.TheVariants as refusal
 
+-- the number of the refusal of a request that is not a call
+abbrev pub route_number : RouteRefusal → ℕ
+route_number refusal.NoRoute = 305
+route_number (refusal.NotAllowed methods) = 306
+route_number refusal.BadQuery = 308
+
 -- the answer to a request that is not a call
 abbrev pub route_said : RouteRefusal → Said
 route_said refusal.NoRoute = no_route
@@ -19,7 +25,7 @@ route_said (refusal.NotAllowed methods) = not_allowed methods
 route_said refusal.BadQuery = bad_query
 
 -- the answer to a run whose body is refused; none if an allocation failed
-abbrev pub body_said : CallFault → Option Said
+abbrev pub body_said : RunBodyFault → Option Said
 body_said fault.BadCall = Some bad_run_body
 body_said fault.StoredOnly = Some stored_operations_only
 body_said fault.Memory = None

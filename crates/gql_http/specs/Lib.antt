@@ -1,4 +1,6 @@
 pub mod Json
+pub mod RunBodies
+pub mod ReadBodies
 pub mod Answers
 pub mod Routes
 pub mod Called

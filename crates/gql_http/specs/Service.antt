@@ -1,7 +1,7 @@
 -- The service: what each request answers, and the state that it leaves.
 use Rattle.std.specs.Prelude.{ℕ, ◌≡◌, List, [], ◌∷◌, true, Option, Some, Result}
 use Rattle.gql_ast.specs.declared.fault.Fault.{Fault}
-use Rattle.gql_bodies.specs.CallBodies.{Asks, call, stored_only, bad_call}
+use Rattle.gql_http.specs.RunBodies.{Asks, call, stored_only, bad_call}
 use Rattle.gql_registry.specs.Calls.{Answers, CallOutcome, effects_in, text_of}
 use Rattle.gql_registry.specs.Edits.{Edit, Makes}
 use Rattle.gql_registry.specs.Edits as edit

@@ -12,6 +12,7 @@ mod refusal_answer;
 mod refusal_body;
 mod report_body;
 mod route;
+mod run_body;
 mod serve;
 mod service;
 mod write;
@@ -19,4 +20,4 @@ mod write_answer;
 
 pub use hub::{CONNECTIONS, Fed, Hub, OpenRefusal};
 pub use parts::part_length;
-pub use piping::{MAX_READS, PipeEnd, PipeFault, pipe, status_of};
+pub use piping::{PipeEnd, PipeFault, pipe, status_of};

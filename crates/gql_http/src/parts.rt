@@ -7,6 +7,9 @@ use crate::hub::Hub;
 use gql_wire::laws::{closed_drops, more_bytes, one_split, rest_is_unfinished, some_split};
 use gql_wire::{Peer, write_all};
 
+/// How the head of a request ends: with an empty line.
+const HEAD_END: &[u8] = b"\r\n\r\n";
+
 /// How a piece was served.
 #[derive(Clone, Copy, Debug, PartialEq, Eq)]
 pub enum Served {
@@ -27,10 +30,10 @@ pub fn part_length(bytes: &[u8]) -> usize
     ensures { (0 < result) × (result ≤ length bytes.now) }
 {
     let end = bytes
-        .windows(4)
-        .position(|window| *window == *b"\r\n\r\n".as_slice());
+        .windows(HEAD_END.len())
+        .position(|window| *window == *HEAD_END);
     match end {
-        Some(at) => at + 4,
+        Some(at) => at + HEAD_END.len(),
         None => bytes.len(),
     }
 }

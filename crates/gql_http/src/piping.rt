@@ -17,7 +17,7 @@ use thiserror::Error;
 const PIECE_BYTES: usize = 4096;
 
 /// The greatest number of reads that a pipe makes.
-pub const MAX_READS: u64 = 1_048_576;
+const MAX_READS: u64 = 1_048_576;
 
 /// How a pipe ended if nothing failed.
 #[derive(Clone, Copy, Debug, PartialEq, Eq)]

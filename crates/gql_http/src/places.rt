@@ -25,7 +25,7 @@ fn file_text(alloc: Global, place: &FilePlace) -> Result<String, AllocError>
 
 /// Writes a place.
 #[tactic(auto, unfolding(crate::specs::Json::place_text))]
-pub fn write_place(alloc: Global, out: &mut Vec<u8>, place: &FilePlace) -> Result<(), AllocError>
+fn write_place(alloc: Global, out: &mut Vec<u8>, place: &FilePlace) -> Result<(), AllocError>
     ensures { OnOk result (out.new.items ≡ out.old.items ++ place_text place.now) }
 {
     let file = file_text(alloc, place)?;

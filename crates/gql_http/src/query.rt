@@ -40,10 +40,10 @@ fn has_query(target: &[u8]) -> bool
 fn query_in(bytes: &[u8]) -> Query
     ensures { result ≡ query_in bytes.now }
 {
-    if !bytes.starts_with(b"revision=") {
+    let Some(number) = bytes.strip_prefix(b"revision=".as_slice()) else {
         return Query::Other;
-    }
-    match number_in(&bytes[9..]) {
+    };
+    match number_in(number) {
         Some(revision) => Query::Revision(revision as u64),
         None => Query::Other,
     }

@@ -8,7 +8,7 @@ ghost use Rattle.gql_http.specs.Said.{answer_said};
 use crate::answer::Answer;
 use crate::refusal_body::{error_body, faulty_body, stale_body, syntax_body};
 use crate::route::RouteRefusal;
-use gql_bodies::CallFault;
+use crate::run_body::RunBodyFault;
 use gql_registry::Refusal;
 use gql_wire::HeadRefusal;
 use http::StatusCode;
@@ -50,14 +50,15 @@ pub fn head_answer(alloc: Global, refusal: HeadRefusal) -> Result<Answer, AllocE
 pub fn route_answer(alloc: Global, refusal: RouteRefusal) -> Result<Answer, AllocError>
     ensures { IfOk result (λ a. answer_said a ≡ route_said refusal) }
 {
+    let number = u64::from(refusal.number());
     match refusal {
-        RouteRefusal::NoRoute => simple(alloc, StatusCode::NOT_FOUND, "no such route", 305),
+        RouteRefusal::NoRoute => simple(alloc, StatusCode::NOT_FOUND, "no such route", number),
         RouteRefusal::NotAllowed(methods) => Ok(Answer {
             status: StatusCode::METHOD_NOT_ALLOWED,
             allow: Some(methods),
-            body: error_body(alloc, "method is not allowed", 306)?,
+            body: error_body(alloc, "method is not allowed", number)?,
         }),
-        RouteRefusal::BadQuery => simple(alloc, StatusCode::BAD_REQUEST, "bad query", 308),
+        RouteRefusal::BadQuery => simple(alloc, StatusCode::BAD_REQUEST, "bad query", number),
     }
 }
 
@@ -89,20 +90,15 @@ fn with_body(status: StatusCode, body: Vec<u8>) -> Answer
 }
 
 /// The answer to a run whose body is refused. There is none if an allocation failed.
-pub fn body_answer(alloc: Global, fault: CallFault) -> Result<Answer, AllocError>
+pub fn body_answer(alloc: Global, fault: RunBodyFault) -> Result<Answer, AllocError>
     ensures { IfOk result (λ a. body_said fault ≡ Some (answer_said a)) }
 {
+    let status = StatusCode::BAD_REQUEST;
+    let number = u64::from(fault.number());
     match fault {
-        CallFault::BadCall => simple(alloc, StatusCode::BAD_REQUEST, "bad run body", 310),
-        CallFault::StoredOnly => {
-            simple(
-                alloc,
-                StatusCode::BAD_REQUEST,
-                "stored operations only",
-                311,
-            )
-        }
-        CallFault::Memory => Err(AllocError),
+        RunBodyFault::BadCall => simple(alloc, status, "bad run body", number),
+        RunBodyFault::StoredOnly => simple(alloc, status, "stored operations only", number),
+        RunBodyFault::Memory => Err(AllocError),
     }
 }
 
@@ -110,26 +106,35 @@ pub fn body_answer(alloc: Global, fault: CallFault) -> Result<Answer, AllocError
 pub fn refusal_answer(alloc: Global, refusal: &Refusal) -> Result<Answer, AllocError>
     ensures { IfOk result (λ a. refusal_said refusal.now ≡ Some (answer_said a)) }
 {
+    let number = u64::from(refusal.number());
     match refusal {
-        Refusal::Syntax { number, place } => {
-            let body = syntax_body(alloc, *number, *place)?;
+        Refusal::Syntax {
+            number: of_syntax,
+            place,
+        } => {
+            let body = syntax_body(alloc, *of_syntax, *place)?;
             Ok(with_body(StatusCode::BAD_REQUEST, body))
         }
-        Refusal::NotText => simple(alloc, StatusCode::BAD_REQUEST, "body is not UTF-8", 202),
+        Refusal::NotText => simple(alloc, StatusCode::BAD_REQUEST, "body is not UTF-8", number),
         Refusal::TooLong => simple(
             alloc,
             StatusCode::PAYLOAD_TOO_LARGE,
             "file is too long",
-            203,
+            number,
         ),
-        Refusal::NoFile => simple(alloc, StatusCode::NOT_FOUND, "no such file", 204),
-        Refusal::FilesFull => simple(alloc, StatusCode::CONFLICT, "too many files", 205),
+        Refusal::NoFile => simple(alloc, StatusCode::NOT_FOUND, "no such file", number),
+        Refusal::FilesFull => simple(alloc, StatusCode::CONFLICT, "too many files", number),
         Refusal::Stale { revision } => {
             let body = stale_body(alloc, *revision)?;
             Ok(with_body(StatusCode::CONFLICT, body))
         }
-        Refusal::BadData => simple(alloc, StatusCode::BAD_REQUEST, "data is not accepted", 207),
-        Refusal::NoOperation => simple(alloc, StatusCode::NOT_FOUND, "no such operation", 208),
+        Refusal::BadData => simple(
+            alloc,
+            StatusCode::BAD_REQUEST,
+            "data is not accepted",
+            number,
+        ),
+        Refusal::NoOperation => simple(alloc, StatusCode::NOT_FOUND, "no such operation", number),
         Refusal::Faulty { faults } => {
             let body = faulty_body(alloc, faults.as_slice())?;
             Ok(with_body(StatusCode::UNPROCESSABLE_ENTITY, body))
@@ -138,9 +143,9 @@ pub fn refusal_answer(alloc: Global, refusal: &Refusal) -> Result<Answer, AllocE
             alloc,
             StatusCode::UNPROCESSABLE_ENTITY,
             "answer is too large",
-            210,
+            number,
         ),
         Refusal::Memory => Err(AllocError),
-        Refusal::Spent => simple(alloc, StatusCode::CONFLICT, "revisions are spent", 212),
+        Refusal::Spent => simple(alloc, StatusCode::CONFLICT, "revisions are spent", number),
     }
 }

@@ -1,11 +1,12 @@
 //! The bodies of refusals.
 ghost use Rattle.std.specs.Prelude.{◌≡◌, ◌++◌, OnOk, IfOk};
-ghost use Rattle.gql_http.specs.Answers.{error_text, located_text, syntax_text, stale_text, faulty_text, syntax_message};
+ghost use Rattle.gql_http.specs.Answers.{error_text, located_text, syntax_text, stale_text, faulty_text};
 
 use crate::report_body::write_faults;
 use crate::write::{write_bytes, write_number, write_string};
 use gql_ast::{Fault, Shared};
 use gql_grammar::SyntaxRefusal;
+use gql_registry::syntax_message;
 use gql_text::Place;
 use std::alloc::{AllocError, Global};
 
@@ -21,21 +22,6 @@ pub fn error_body(alloc: Global, message: &str, number: u64) -> Result<Vec<u8>, 
     write_number(&mut out, number)?;
     write_bytes(&mut out, b"}}]}")?;
     Ok(out)
-}
-
-fn message_of(refusal: SyntaxRefusal) -> &'static str
-    ensures { result.now ≡ syntax_message refusal }
-{
-    match refusal {
-        SyntaxRefusal::BadCharacter => "syntax: bad character",
-        SyntaxRefusal::BadNumber => "syntax: bad number",
-        SyntaxRefusal::UnfinishedText => "syntax: unfinished text",
-        SyntaxRefusal::BadEscape => "syntax: bad escape",
-        SyntaxRefusal::LoneSurrogate => "syntax: lone surrogate",
-        SyntaxRefusal::TooLong => "syntax: too long",
-        SyntaxRefusal::Unexpected => "syntax: unexpected token",
-        SyntaxRefusal::TooDeep => "syntax: too deep",
-    }
 }
 
 #[tactic(auto, unfolding(crate::specs::Answers::located_text))]
@@ -67,7 +53,7 @@ pub fn syntax_body(
     ensures { IfOk result (λ body. body.items ≡ syntax_text number place) }
 {
     let mut out = Vec::new(alloc);
-    write_located(alloc, &mut out, message_of(number), place)?;
+    write_located(alloc, &mut out, syntax_message(number), place)?;
     write_bytes(&mut out, b",\"extensions\":{\"code\":201,\"syntax\":")?;
     write_number(&mut out, u64::from(number.number()))?;
     write_bytes(&mut out, b"}}]}")?;

@@ -10,6 +10,12 @@ use gql_ast::{FileName, FileSide};
 use gql_wire::Allow;
 use std::str;
 
+/// How the paths of schema files begin.
+const SCHEMA: &[u8] = b"/schema/";
+
+/// How the paths of document files begin.
+const DOCUMENTS: &[u8] = b"/documents/";
+
 /// Why a request whose head was read is not a call.
 #[derive(Clone, Copy, Debug, PartialEq, Eq)]
 pub enum RouteRefusal {
@@ -19,6 +25,21 @@ pub enum RouteRefusal {
     NotAllowed(Allow),
     /// 308: the query isn't served.
     BadQuery,
+}
+
+impl RouteRefusal {
+    ghost use Rattle.gql_http.specs.Called.{route_number};
+
+    /// The number of the refusal: 305, 306 or 308.
+    pub fn number(self) -> u16
+        ensures { result ≡ route_number self }
+    {
+        match self {
+            RouteRefusal::NoRoute => 305,
+            RouteRefusal::NotAllowed(_) => 306,
+            RouteRefusal::BadQuery => 308,
+        }
+    }
 }
 
 /// A call, or why the request is not one. An edit may expect a revision.
@@ -34,7 +55,7 @@ pub enum Call {
 
 /// What a path names.
 #[derive(Drop)]
-pub enum Resource {
+enum Resource {
     Nothing,
     Report,
     Data,
@@ -64,10 +85,10 @@ fn file_resource(side: FileSide, name: &[u8]) -> Resource
 fn file_of(path: &[u8]) -> Resource
     ensures { resource_said result ≡ file_of path.now }
 {
-    if path.starts_with(b"/schema/") {
-        file_resource(FileSide::Schema, &path[8..])
-    } else if path.starts_with(b"/documents/") {
-        file_resource(FileSide::Documents, &path[11..])
+    if path.starts_with(SCHEMA) {
+        file_resource(FileSide::Schema, &path[SCHEMA.len()..])
+    } else if path.starts_with(DOCUMENTS) {
+        file_resource(FileSide::Documents, &path[DOCUMENTS.len()..])
     } else {
         Resource::Nothing
     }

@@ -20,9 +20,9 @@ use crate::answer::{Answer, Ending};
 use crate::refusal_answer::{body_answer, head_answer, refusal_answer, route_answer};
 use crate::report_body::report_body;
 use crate::route::{Call, call_of};
+use crate::run_body::run_body_in;
 use crate::write_answer::{EDIT_ROOM, write_answer, write_edited, write_reply};
 use gql_ast::{FileName, FileSide};
-use gql_bodies::call_in;
 use gql_registry::{Edited, Refusal, Registry};
 use gql_verdict::Meter;
 use gql_wire::Framed;
@@ -207,7 +207,7 @@ fn answer_run(
     ensures err { OnErr result ((state_of registry.new ≡ state_of registry.old)
         × (out.new.items ≡ out.old.items)) }
 {
-    match call_in(alloc, body) {
+    match run_body_in(alloc, body) {
         Ok(call) => {
             let (name, variables) = (call.name(), call.variables());
             answer_call(alloc, registry, out, name, variables, ending)

@@ -12,7 +12,7 @@ use std::alloc::{AllocError, Global};
 /// The arguments of a field, with look-up.
 pub type Arguments = Named<Sited<Shared<InputValueDefinition>>>;
 
-// These arguments of a file.
+/// These arguments of a file.
 fn sited_arguments(
     alloc: Global,
     file: &SourceFile,

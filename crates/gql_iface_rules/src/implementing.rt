@@ -50,7 +50,7 @@ pub fn field_in<'s>(
     fields.get(name)
 }
 
-// Adds a field of an interface with the type's field of its name, if there is one.
+/// Adds a field of an interface with the type's field of its name, if there is one.
 fn add_paired<'s>(
     of_type: &'s SchemaType,
     expected: &'s Sited<Shared<FieldDefinition>>,

@@ -35,7 +35,7 @@ impl<'s> Model for NameSet<'s> {
         (λ set. is_some (hash.get_by (λ k. bytes_eq q k.now) set) ≡ is_among q d.names.now) };
 }
 
-// The texts of these names.
+/// The texts of these names.
 fn set_of<'s>(alloc: Global, names: &'s [Sited<Name>]) -> Result<HashMap<&'s str, ()>, AllocError>
     ensures { IfOk result
         (λ set. (q : List ℕ) → is_some (hash.get_by (λ k. bytes_eq q k.now) set)
@@ -48,7 +48,7 @@ fn set_of<'s>(alloc: Global, names: &'s [Sited<Name>]) -> Result<HashMap<&'s str
     Ok(set)
 }
 
-// Whether a name is one of these, each compared.
+/// Whether a name is one of these, each compared.
 fn is_listed(names: &[Sited<Name>], name: &str) -> bool
     ensures { result ≡ is_among name.now names.now }
 {

@@ -13,7 +13,7 @@ use gql_faults::{NamePlace, add_fault_of, add_repeated_names};
 use gql_types::{Schema, SchemaType, TypeKind};
 use std::alloc::{AllocError, Global};
 
-// Adds the fault at a name that is known and not that of an interface.
+/// Adds the fault at a name that is known and not that of an interface.
 fn check_name(
     alloc: Global,
     schema: &Schema,
@@ -35,7 +35,7 @@ fn check_name(
     }
 }
 
-// Adds the faults at these names.
+/// Adds the faults at these names.
 fn check_names(
     alloc: Global,
     schema: &Schema,
@@ -51,7 +51,7 @@ fn check_names(
     Ok(())
 }
 
-// Adds the faults of a type.
+/// Adds the faults of a type.
 fn check_type(
     alloc: Global,
     schema: &Schema,

@@ -12,7 +12,7 @@ use gql_faults::{NamePlace, add_fault_of};
 use gql_types::{HasName, Schema, SchemaType, TypeKind};
 use std::alloc::{AllocError, Global};
 
-// Adds the fault at a name, if the type has that name.
+/// Adds the fault at a name, if the type has that name.
 fn check_name(
     alloc: Global,
     of_type: &SchemaType,
@@ -28,7 +28,7 @@ fn check_name(
     Ok(())
 }
 
-// Adds the faults of an interface.
+/// Adds the faults of an interface.
 fn check_interface(
     alloc: Global,
     of_type: &SchemaType,
@@ -43,7 +43,7 @@ fn check_interface(
     Ok(())
 }
 
-// Adds the faults of a type.
+/// Adds the faults of a type.
 fn check_type(
     alloc: Global,
     of_type: &SchemaType,

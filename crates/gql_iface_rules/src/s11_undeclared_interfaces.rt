@@ -19,7 +19,7 @@ use gql_faults::{NamePlace, add_fault};
 use gql_types::{Schema, SchemaType};
 use std::alloc::{AllocError, Global};
 
-// Adds the fault for an interface, unless it is among these names.
+/// Adds the fault for an interface, unless it is among these names.
 fn check_declared(
     alloc: Global,
     schema: &Schema,
@@ -44,7 +44,7 @@ fn check_declared(
     }
 }
 
-// Adds the faults for one interface that a type implements.
+/// Adds the faults for one interface that a type implements.
 fn check_implementation(
     alloc: Global,
     schema: &Schema,
@@ -61,7 +61,7 @@ fn check_implementation(
     Ok(())
 }
 
-// Adds the faults for a name in the list of a type, if an interface has the name.
+/// Adds the faults for a name in the list of a type, if an interface has the name.
 fn check_name(
     alloc: Global,
     schema: &Schema,
@@ -85,7 +85,7 @@ fn check_name(
     Ok(())
 }
 
-// Adds the faults of a type.
+/// Adds the faults of a type.
 fn check_type(
     alloc: Global,
     schema: &Schema,

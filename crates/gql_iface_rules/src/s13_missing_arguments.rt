@@ -17,7 +17,7 @@ use gql_faults::{NamePlace, add_fault_between};
 use gql_types::HasName;
 use std::alloc::{AllocError, Global};
 
-// Whether two types are written the same (GraphQL 2.11).
+/// Whether two types are written the same (GraphQL 2.11).
 #[tactic(auto, using(gql_types::specs::Written::written_named, gql_types::specs::Written::written_list, gql_types::specs::Written::written_non_null, crate::proofs::Types::named_same))]
 fn is_same_type(of_type: &TypeRef, other: &TypeRef) -> bool
     ensures value { result ≡ spec.is_same_type (written of_type.now) (written other.now) }
@@ -39,7 +39,7 @@ fn is_same_type(of_type: &TypeRef, other: &TypeRef) -> bool
     }
 }
 
-// Whether one of these arguments has the argument's name, and the first of them its type.
+/// Whether one of these arguments has the argument's name, and the first of them its type.
 fn has_argument(own: &Arguments, expected: &Sited<Shared<InputValueDefinition>>) -> bool
     ensures { result ≡ spec.has_argument own.now expected.now }
 {
@@ -49,7 +49,7 @@ fn has_argument(own: &Arguments, expected: &Sited<Shared<InputValueDefinition>>)
     }
 }
 
-// Adds the fault for an argument of the interface's field, unless the type's field has it.
+/// Adds the fault for an argument of the interface's field, unless the type's field has it.
 fn check_argument(
     alloc: Global,
     fields: &FieldPair<'_>,
@@ -68,7 +68,7 @@ fn check_argument(
     add_fault_between(alloc, Rule::S13, expected.name(), &first, &second, faults)
 }
 
-// Adds the faults for these arguments of the interface's field.
+/// Adds the faults for these arguments of the interface's field.
 fn check_arguments(
     alloc: Global,
     fields: &FieldPair<'_>,
@@ -85,7 +85,7 @@ fn check_arguments(
     Ok(())
 }
 
-// Adds the faults of two fields.
+/// Adds the faults of two fields.
 fn check_pair(
     alloc: Global,
     fields: &FieldPair<'_>,

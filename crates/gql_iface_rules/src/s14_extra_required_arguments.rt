@@ -16,7 +16,7 @@ use gql_faults::{NamePlace, add_fault_between, is_required};
 use gql_types::HasName;
 use std::alloc::{AllocError, Global};
 
-// Whether the argument is required and none of these arguments has its name.
+/// Whether the argument is required and none of these arguments has its name.
 fn is_extra(expected: &Arguments, argument: &Sited<Shared<InputValueDefinition>>) -> bool
     ensures { result ≡ spec.is_extra expected.now argument.now }
 {
@@ -26,7 +26,7 @@ fn is_extra(expected: &Arguments, argument: &Sited<Shared<InputValueDefinition>>
     }
 }
 
-// Adds the fault of an argument of the type's field.
+/// Adds the fault of an argument of the type's field.
 fn check_argument(
     alloc: Global,
     fields: &FieldPair<'_>,
@@ -45,7 +45,7 @@ fn check_argument(
     add_fault_between(alloc, Rule::S14, argument.name(), &first, &second, faults)
 }
 
-// Adds the faults of these arguments of the type's field.
+/// Adds the faults of these arguments of the type's field.
 fn check_arguments(
     alloc: Global,
     fields: &FieldPair<'_>,
@@ -62,7 +62,7 @@ fn check_arguments(
     Ok(())
 }
 
-// Adds the faults of two fields.
+/// Adds the faults of two fields.
 fn check_pair(
     alloc: Global,
     fields: &FieldPair<'_>,

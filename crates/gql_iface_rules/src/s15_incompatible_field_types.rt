@@ -14,7 +14,7 @@ use gql_faults::{NamePlace, add_fault_between};
 use gql_types::{HasName, Schema};
 use std::alloc::{AllocError, Global};
 
-// Whether the answer is no.
+/// Whether the answer is no.
 fn is_no(answer: Option<bool>) -> bool
     ensures { result ≡ spec.is_no answer }
 {
@@ -24,7 +24,7 @@ fn is_no(answer: Option<bool>) -> bool
     }
 }
 
-// Adds the fault of two fields.
+/// Adds the fault of two fields.
 fn check_pair(
     alloc: Global,
     schema: &Schema,

@@ -17,7 +17,7 @@ use gql_faults::{NamePlace, add_fault_of};
 use gql_types::{HasName, Schema, SchemaType, TypeKind};
 use std::alloc::{AllocError, Global};
 
-// The name of a type, unless it is a list or Non-Null.
+/// The name of a type, unless it is a list or Non-Null.
 #[tactic(auto, using(gql_types::specs::Written::written_named, gql_types::specs::Written::written_list, gql_types::specs::Written::written_non_null))]
 fn name_itself(of_type: &TypeRef) -> Option<&str>
     ensures { option_copied result ≡ spec.name_itself (written of_type.now) }
@@ -28,7 +28,7 @@ fn name_itself(of_type: &TypeRef) -> Option<&str>
     }
 }
 
-// The name that a field of this type needs.
+/// The name that a field of this type needs.
 #[tactic(auto, using(gql_types::specs::Written::written_named, gql_types::specs::Written::written_list, gql_types::specs::Written::written_non_null))]
 fn needed_name(of_type: &TypeRef) -> Option<&str>
     ensures { option_copied result ≡ spec.needed_name (written of_type.now) }
@@ -39,7 +39,7 @@ fn needed_name(of_type: &TypeRef) -> Option<&str>
     }
 }
 
-// Adds the name that a field needs.
+/// Adds the name that a field needs.
 fn add_needed<'s>(
     field: &'s Sited<Shared<InputValueDefinition>>,
     names: &mut Vec<&'s str>,
@@ -53,7 +53,7 @@ fn add_needed<'s>(
     Ok(())
 }
 
-// The names that these fields need.
+/// The names that these fields need.
 fn needs(
     alloc: Global,
     fields: &[Sited<Shared<InputValueDefinition>>],
@@ -67,7 +67,7 @@ fn needs(
     Ok(names)
 }
 
-// Adds the row of a type, if it is an input object.
+/// Adds the row of a type, if it is an input object.
 fn add_input_row<'s>(
     alloc: Global,
     of_type: &'s SchemaType,
@@ -91,7 +91,7 @@ fn add_input_row<'s>(
     }
 }
 
-// The rows of all input objects.
+/// The rows of all input objects.
 fn input_rows(alloc: Global, schema: &Schema) -> Result<Vec<Row<'_>>, AllocError>
     ensures { IfOk result (λ rows. map row_of rows.items ≡ spec.input_rows schema.now) }
 {
@@ -102,7 +102,7 @@ fn input_rows(alloc: Global, schema: &Schema) -> Result<Vec<Row<'_>>, AllocError
     Ok(rows)
 }
 
-// Adds a fault at the first definition of the type of a name.
+/// Adds a fault at the first definition of the type of a name.
 fn add_at_type(
     alloc: Global,
     schema: &Schema,
@@ -121,7 +121,7 @@ fn add_at_type(
     }
 }
 
-// Adds a fault at the first definition of the type of each name.
+/// Adds a fault at the first definition of the type of each name.
 fn add_at_types(
     alloc: Global,
     schema: &Schema,
@@ -137,7 +137,7 @@ fn add_at_types(
     Ok(())
 }
 
-// The names of the input objects that lead back to themselves.
+/// The names of the input objects that lead back to themselves.
 fn input_cycles(alloc: Global, schema: &Schema) -> Result<Vec<&str>, AllocError>
     ensures sound { IfOk result
         (λ names. (n : List ℕ) → Contains (map (λ m. m.now) names.items) n
@@ -147,8 +147,7 @@ fn input_cycles(alloc: Global, schema: &Schema) -> Result<Vec<&str>, AllocError>
         → Contains (map (λ m. m.now) names.items) n) }
 {
     let rows = input_rows(alloc, schema)?;
-    let names = names_on_cycles(alloc, rows.as_slice())?;
-    Ok(names)
+    names_on_cycles(alloc, rows.as_slice())
 }
 
 /// Adds the faults by S17.

@@ -17,7 +17,7 @@ use gql_faults::{NamePlace, add_fault_of};
 use gql_types::Schema;
 use std::alloc::{AllocError, Global};
 
-// Adds a fault at the input field of a number.
+/// Adds a fault at the input field of a number.
 fn add_at_input(
     alloc: Global,
     fields: &[&Input],
@@ -33,7 +33,7 @@ fn add_at_input(
     }
 }
 
-// Adds a fault at the input field of each number.
+/// Adds a fault at the input field of each number.
 fn add_at_inputs(
     alloc: Global,
     fields: &[&Input],

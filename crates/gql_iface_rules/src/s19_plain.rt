@@ -7,7 +7,7 @@ use crate::s19_inputs::Input;
 use gql_ast::Literal;
 use gql_types::SchemaType;
 
-// Whether a value is a list or an object.
+/// Whether a value is a list or an object.
 #[tactic(auto, using(crate::proofs::S19Equations::object_values_variable, crate::proofs::S19Equations::object_values_int, crate::proofs::S19Equations::object_values_float, crate::proofs::S19Equations::object_values_string, crate::proofs::S19Equations::object_values_boolean, crate::proofs::S19Equations::object_values_null, crate::proofs::S19Equations::object_values_enum))]
 fn is_compound(value: &Literal) -> bool
     ensures { result ≡ false → spec.HoldsNone value.now }
@@ -24,7 +24,7 @@ fn is_compound(value: &Literal) -> bool
     }
 }
 
-// Whether one of these values is a list or an object.
+/// Whether one of these values is a list or an object.
 fn is_any_compound(values: &[Literal]) -> bool
     ensures { result ≡ false → All spec.HoldsNone values.now }
 {
@@ -36,7 +36,7 @@ fn is_any_compound(values: &[Literal]) -> bool
     false
 }
 
-// Whether a value may hold an object.
+/// Whether a value may hold an object.
 fn may_hold(value: &Literal) -> bool
     ensures { result ≡ false → spec.HoldsNone value.now }
 {
@@ -53,7 +53,7 @@ fn may_hold(value: &Literal) -> bool
     }
 }
 
-// Whether the default value of a field may hold an object.
+/// Whether the default value of a field may hold an object.
 fn may_need(field: &Input) -> bool
     ensures { result ≡ false → spec.NeedsNone field.now }
 {
@@ -63,7 +63,7 @@ fn may_need(field: &Input) -> bool
     }
 }
 
-// Whether the default value of one of these fields may hold an object.
+/// Whether the default value of one of these fields may hold an object.
 fn may_any_need(fields: &[Input]) -> bool
     ensures { result ≡ false → All spec.NeedsNone fields.now }
 {

@@ -18,7 +18,7 @@ use gql_faults::{NamePlace, add_fault_of};
 use gql_types::Schema;
 use std::alloc::{AllocError, Global};
 
-// These names, borrowed.
+/// These names, borrowed.
 fn borrowed_names(alloc: Global, names: &[Text]) -> Result<Vec<&str>, AllocError>
     ensures { IfOk result (λ found. map (λ n. n.now) found.items ≡ names.now) }
 {
@@ -29,7 +29,7 @@ fn borrowed_names(alloc: Global, names: &[Text]) -> Result<Vec<&str>, AllocError
     Ok(found)
 }
 
-// A row, borrowed.
+/// A row, borrowed.
 fn borrowed_row<'n>(alloc: Global, owned: &'n OwnedRow) -> Result<Row<'n>, AllocError>
     ensures { IfOk result (λ row. row_of row ≡ steps owned.now) }
 {
@@ -38,7 +38,7 @@ fn borrowed_row<'n>(alloc: Global, owned: &'n OwnedRow) -> Result<Row<'n>, Alloc
     Ok(Row { name, leads })
 }
 
-// These rows, borrowed.
+/// These rows, borrowed.
 fn borrowed_rows(alloc: Global, owned: &[OwnedRow]) -> Result<Vec<Row<'_>>, AllocError>
     ensures { IfOk result (λ rows. map row_of rows.items ≡ map steps owned.now) }
 {
@@ -56,7 +56,7 @@ pub fn without_sign(name: &str) -> Option<&str>
     name.strip_prefix('@')
 }
 
-// Adds a fault at the first definition of the directive of a name.
+/// Adds a fault at the first definition of the directive of a name.
 fn add_at_directive(
     alloc: Global,
     schema: &Schema,
@@ -67,14 +67,12 @@ fn add_at_directive(
         ≡ faults.old.items ++ spec.fault_at_directive schema.now name.now) }
 {
     match schema.directive(name) {
-        Some(directive) => {
-            add_fault_of(alloc, Rule::S26, &NamePlace::of_node(directive), faults)
-        }
+        Some(directive) => add_fault_of(alloc, Rule::S26, &NamePlace::of_node(directive), faults),
         None => Ok(()),
     }
 }
 
-// Adds a fault at the first definition of the directive of a name with `@`.
+/// Adds a fault at the first definition of the directive of a name with `@`.
 fn add_at_name(
     alloc: Global,
     schema: &Schema,
@@ -90,7 +88,7 @@ fn add_at_name(
     }
 }
 
-// The same for each of these names.
+/// The same for each of these names.
 fn add_at_names(
     alloc: Global,
     schema: &Schema,
@@ -106,7 +104,7 @@ fn add_at_names(
     Ok(())
 }
 
-// The names that lead back to themselves.
+/// The names that lead back to themselves.
 fn cycle_names<'n>(alloc: Global, owned: &'n [OwnedRow]) -> Result<Vec<&'n str>, AllocError>
     ensures sound { IfOk result
         (λ names. (n : List ℕ) → Contains (map (λ m. m.now) names.items) n
@@ -116,8 +114,7 @@ fn cycle_names<'n>(alloc: Global, owned: &'n [OwnedRow]) -> Result<Vec<&'n str>,
         → Contains (map (λ m. m.now) names.items) n) }
 {
     let rows = borrowed_rows(alloc, owned)?;
-    let names = names_on_cycles(alloc, rows.as_slice())?;
-    Ok(names)
+    names_on_cycles(alloc, rows.as_slice())
 }
 
 /// Adds the faults by S26.

@@ -14,7 +14,7 @@ use gql_faults::first_directives;
 use gql_types::{HasName, Named, Schema, SchemaType};
 use std::alloc::{AllocError, Global};
 
-// Adds these names.
+/// Adds these names.
 fn add_names(names: &[Text], found: &mut Vec<Text>) -> Result<(), AllocError>
     ensures { OnOk result (found.new.items ≡ found.old.items ++ names.now) }
 {
@@ -24,7 +24,7 @@ fn add_names(names: &[Text], found: &mut Vec<Text>) -> Result<(), AllocError>
     Ok(())
 }
 
-// The names to which these rows lead.
+/// The names to which these rows lead.
 fn lead_names(alloc: Global, rows: &[OwnedRow]) -> Result<Named<Text>, AllocError>
     ensures { IfOk result (λ names. names ≡ flat_map (λ row. row.leads) (map steps rows.now)) }
 {
@@ -35,28 +35,28 @@ fn lead_names(alloc: Global, rows: &[OwnedRow]) -> Result<Named<Text>, AllocErro
     Named::new(alloc, found)
 }
 
-// Whether a name begins with `@`.
+/// Whether a name begins with `@`.
 fn has_sign(name: &str) -> bool
     ensures { result ≡ is_some (without_sign name.now) }
 {
     without_sign(name).is_some()
 }
 
-// Whether one of these names begins with `@`.
+/// Whether one of these names begins with `@`.
 fn any_has_sign(names: &[Text]) -> bool
     ensures { result ≡ list_any (λ n. is_some (without_sign n)) names.now }
 {
     names.iter().any(|name| has_sign(name.as_str()))
 }
 
-// Whether a name is one of these.
+/// Whether a name is one of these.
 fn is_listed(names: &Named<Text>, name: &str) -> bool
     ensures { result ≡ is_some (find (λ n. bytes_eq name.now n) names.now) }
 {
     names.get(name).is_some()
 }
 
-// Whether a type has a name with `@`, or one of these names and leads on.
+/// Whether a type has a name with `@`, or one of these names and leads on.
 fn is_led_on(alloc: Global, of_type: &SchemaType, names: &Named<Text>) -> Result<bool, AllocError>
     ensures { IfOk result (λ on. on ≡ false → spec.LeadsNowhere names.now of_type.now) }
 {
@@ -70,7 +70,7 @@ fn is_led_on(alloc: Global, of_type: &SchemaType, names: &Named<Text>) -> Result
     Ok(!row.leads.is_empty())
 }
 
-// The same for one of these types.
+/// The same for one of these types.
 fn is_any_led_on(
     alloc: Global,
     types: &[SchemaType],
@@ -86,7 +86,7 @@ fn is_any_led_on(
     Ok(false)
 }
 
-// The names to which the directives lead.
+/// The names to which the directives lead.
 fn directive_leads(alloc: Global, schema: &Schema) -> Result<Named<Text>, AllocError>
     ensures { IfOk result (λ names. names ≡ spec.directive_leads schema.now) }
 {

@@ -33,7 +33,7 @@ pub fn add_applied(
     Ok(())
 }
 
-// Adds the names to which an argument or an input field leads.
+/// Adds the names to which an argument or an input field leads.
 fn add_input(
     alloc: Global,
     input: &InputValueDefinition,
@@ -60,7 +60,7 @@ pub fn add_inputs(
     Ok(())
 }
 
-// Adds the directives on the arguments of a field.
+/// Adds the directives on the arguments of a field.
 fn add_on_arguments(
     alloc: Global,
     arguments: &[Shared<InputValueDefinition>],
@@ -74,7 +74,7 @@ fn add_on_arguments(
     Ok(())
 }
 
-// Adds the names to which a field leads.
+/// Adds the names to which a field leads.
 fn add_field(
     alloc: Global,
     field: &FieldDefinition,

@@ -35,7 +35,7 @@ pub fn type_row(alloc: Global, of_type: &SchemaType) -> Result<OwnedRow, AllocEr
     Ok(OwnedRow { name, leads })
 }
 
-// The row of a directive.
+/// The row of a directive.
 fn directive_row(
     alloc: Global,
     directive: &Sited<Shared<DirectiveDefinition>>,
@@ -49,7 +49,7 @@ fn directive_row(
     Ok(OwnedRow { name, leads })
 }
 
-// Adds the rows of types.
+/// Adds the rows of types.
 fn add_type_rows(
     alloc: Global,
     types: &[SchemaType],

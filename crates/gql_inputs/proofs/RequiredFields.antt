@@ -1,18 +1,10 @@
 -- The required fields of an input object, by those of the inputs that its fields were made from.
-use Rattle.std.proofs.Common.{◌≡◌, ℕ, List, Bool, Some, filter, map, length, slice_get, option_map, refl, ap, ◌∙◌, sym}
+use Rattle.std.proofs.Common.{◌≡◌, ℕ, List, Bool, Some, filter, map, length, slice_get, option_map, ap, ◌∙◌, sym}
 use Rattle.std.proofs.lemmas.List.{length-map}
 use Rattle.std.proofs.lemmas.List.Elements.{filter_agree}
 use Rattle.std.proofs.lemmas.Option.{slice_get-map}
-use Rattle.gql_types.specs.RequiredInputs.{is_non_null as non_null}
-use Rattle.gql_types.specs.Written.{Written, named, listed, required}
 use Rattle.gql_types.proofs.Filtering.{filter_made}
-use Rattle.gql_inputs.specs.InputTypes.{is_non_null}
 use Rattle.gql_inputs.specs.Lookups.{FieldForm, is_required}
-
-pub same_non_null : (t : Written) → non_null t ≡ is_non_null t
-same_non_null (named n) = refl
-same_non_null (listed t) = refl
-same_non_null (required t) = refl
 
 module _ {A : Type 0} (field : A → FieldForm) (test : A → Bool)
     (same : (x : A) → test x ≡ is_required (field x)) (xs : List A) where

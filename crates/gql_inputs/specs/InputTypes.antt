@@ -8,6 +8,8 @@ use Rattle.gql_types.specs.declared.schema.Schema.{Schema}
 use Rattle.gql_types.specs.declared.schema_type.SchemaType.{SchemaType}
 use Rattle.gql_inputs.specs.declared.scalar.Scalar.{Scalar}
 use Rattle.gql_inputs.specs.declared.scalar.Scalar.TheVariants as scalar
+pub use Rattle.gql_types.specs.RequiredInputs.{is_non_null}
+pub use Rattle.gql_types.specs.Kinds.{is_input}
 
 -- the scalar of a name: one that is built in, or a custom one
 abbrev pub scalar_named : List ℕ → Scalar
@@ -35,12 +37,6 @@ is_list (named n) = false
 is_list (listed t) = true
 is_list (required t) = is_list t
 
--- a Non-Null type
-abbrev pub is_non_null : Written → Bool
-is_non_null (required t) = true
-is_non_null (listed t) = false
-is_non_null (named n) = false
-
 -- the type of a single value within a type, where a Non-Null mark is right around that type or is
 -- not
 abbrev pub one_of_from : Bool → Written → Written
@@ -58,15 +54,6 @@ abbrev pub text_of : Written → List ℕ
 text_of (named n) = n
 text_of (listed t) = codes "[" ++ (text_of t ++ codes "]")
 text_of (required t) = text_of t ++ codes "!"
-
--- scalars, enums and input objects are input types (3.4.2)
-abbrev pub is_input : TypeKind → Bool
-is_input kind.Scalar = true
-is_input kind.Enum = true
-is_input kind.InputObject = true
-is_input kind.Object = false
-is_input kind.Interface = false
-is_input kind.Union = false
 
 -- a type, if it is an input type
 abbrev pub if_input : SchemaType → Option SchemaType

@@ -21,7 +21,7 @@ use gql_ast::{Literal, ObjectField, Rule};
 use gql_text::Place;
 use std::alloc::{AllocError, Global};
 
-// Adds a value that does not fit, if the type is known.
+/// Adds a value that does not fit, if the type is known.
 fn add_if_known<A: InputTypes>(
     alloc: Global,
     place: Place,
@@ -40,7 +40,7 @@ fn add_if_known<A: InputTypes>(
     Ok(())
 }
 
-// Adds null, if the type is Non-Null.
+/// Adds null, if the type is Non-Null.
 fn add_null<A: InputTypes>(
     alloc: Global,
     place: Place,
@@ -59,7 +59,7 @@ fn add_null<A: InputTypes>(
     Ok(())
 }
 
-// Adds a list or an object where another value is expected, about the type of that value.
+/// Adds a list or an object where another value is expected, about the type of that value.
 fn add_at_one(
     alloc: Global,
     place: Place,
@@ -131,7 +131,7 @@ pub fn add_misfits<A: InputTypes>(
     }
 }
 
-// Adds what of a list does not fit.
+/// Adds what of a list does not fit.
 #[cycle(misfits)]
 #[tactic(auto, using(crate::proofs::Judged::items_misfits_is))]
 fn add_list<A: InputTypes>(
@@ -154,7 +154,7 @@ fn add_list<A: InputTypes>(
     }
 }
 
-// Adds what of the items of a list does not fit their type.
+/// Adds what of the items of a list does not fit their type.
 #[cycle(misfits)]
 fn add_items<A: InputTypes>(
     alloc: Global,
@@ -175,7 +175,7 @@ fn add_items<A: InputTypes>(
     Ok(())
 }
 
-// Adds what of one item does not fit. An item is not made a list of one.
+/// Adds what of one item does not fit. An item is not made a list of one.
 #[cycle(misfits)]
 fn add_item<A: InputTypes>(
     alloc: Global,
@@ -196,7 +196,7 @@ fn add_item<A: InputTypes>(
     }
 }
 
-// Adds what of an object does not fit.
+/// Adds what of an object does not fit.
 #[cycle(misfits)]
 #[tactic(auto, using(crate::proofs::Judged::fields_misfits_is))]
 fn add_object<A: InputTypes>(
@@ -249,7 +249,7 @@ pub fn add_to_scalar(
     }
 }
 
-// Adds what of the fields of an object does not fit the fields of its type.
+/// Adds what of the fields of an object does not fit the fields of its type.
 #[cycle(misfits)]
 fn add_fields<A: InputTypes>(
     alloc: Global,
@@ -270,8 +270,8 @@ fn add_fields<A: InputTypes>(
     Ok(())
 }
 
-// Adds what of one field does not fit: a field that the type does not have, or a value that does
-// not fit its type. `null` at a required field is reported by V21 alone, with the missing fields.
+/// Adds what of one field does not fit: a field that the type does not have, or a value that does
+/// not fit its type. `null` at a required field is reported by V21 alone, with the missing fields.
 #[cycle(misfits)]
 fn add_field<A: InputTypes>(
     alloc: Global,

@@ -23,7 +23,7 @@ pub fn is_required(field: &InputField<'_>) -> bool
     field.of_type.is_non_null() && !field.has_default
 }
 
-// The names of the fields.
+/// The names of the fields.
 fn names<'v>(alloc: Global, fields: &'v [ObjectField]) -> Result<HashMap<&'v str, ()>, AllocError>
     ensures { IfOk result (λ names. (q : List ℕ) →
         is_some (hash.get_by (λ k. bytes_eq q k.now) names)
@@ -50,7 +50,7 @@ fn add_if_null<'v>(
     Ok(())
 }
 
-// The names of the fields that are `null`.
+/// The names of the fields that are `null`.
 fn nulls<'v>(alloc: Global, fields: &'v [ObjectField]) -> Result<HashMap<&'v str, ()>, AllocError>
     ensures { IfOk result (λ names. (q : List ℕ) →
         is_some (hash.get_by (λ k. bytes_eq q k.now) names)
@@ -63,7 +63,7 @@ fn nulls<'v>(alloc: Global, fields: &'v [ObjectField]) -> Result<HashMap<&'v str
     Ok(names)
 }
 
-// What fields give: all names, and those that are `null`.
+/// What fields give: all names, and those that are `null`.
 #[derive(Drop)]
 struct Given<'v> {
     names: HashMap<&'v str, ()>,
@@ -80,7 +80,7 @@ impl Given<'_> {
     }
 }
 
-// Adds a required field, if it is missing or `null`.
+/// Adds a required field, if it is missing or `null`.
 fn add_if_missing(
     given: &Given<'_>,
     place: Place,

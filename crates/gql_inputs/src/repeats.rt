@@ -13,7 +13,7 @@ use gql_ast::{Literal, ObjectField, Rule};
 use gql_faults::{NamePlace, repeated};
 use std::alloc::{AllocError, Global};
 
-// The names of the fields, in their order.
+/// The names of the fields, in their order.
 fn names<'v>(alloc: Global, fields: &'v [ObjectField]) -> Result<Vec<NamePlace<'v>>, AllocError>
     ensures { IfOk result (λ names. map named names.items
         ≡ sited None (map (λ (f : AField). f.name) fields.now)) }
@@ -28,7 +28,7 @@ fn names<'v>(alloc: Global, fields: &'v [ObjectField]) -> Result<Vec<NamePlace<'
     Ok(names)
 }
 
-// Adds one field, which occurs more than once.
+/// Adds one field, which occurs more than once.
 fn add_repeat(
     alloc: Global,
     name: &NamePlace<'_>,
@@ -40,7 +40,7 @@ fn add_repeat(
     add_bad(Rule::V20, name.name.place, about, found)
 }
 
-// Adds each of these fields.
+/// Adds each of these fields.
 fn add_all_repeats(
     alloc: Global,
     names: &[NamePlace<'_>],
@@ -55,7 +55,7 @@ fn add_all_repeats(
     Ok(())
 }
 
-// Adds the fields of one object that occur more than once.
+/// Adds the fields of one object that occur more than once.
 #[tactic(auto, using(crate::proofs::Empties::names_of))]
 fn add_field_repeats(
     alloc: Global,
@@ -98,7 +98,7 @@ pub fn add_repeats(
     Ok(())
 }
 
-// Adds those in the items of a list.
+/// Adds those in the items of a list.
 #[cycle(repeats)]
 fn add_repeats_in_all(
     alloc: Global,
@@ -114,7 +114,7 @@ fn add_repeats_in_all(
     Ok(())
 }
 
-// Adds those in the values of an object's fields.
+/// Adds those in the values of an object's fields.
 #[cycle(repeats)]
 fn add_repeats_in_fields(
     alloc: Global,

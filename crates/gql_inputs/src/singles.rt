@@ -90,7 +90,7 @@ pub fn is_custom_type<T: InputType>(of_type: &T) -> bool
     }
 }
 
-// Whether an input type takes a value, if the value has no parts; else true.
+/// Whether an input type takes a value, if the value has no parts; else true.
 #[tactic(auto, using(crate::proofs::ValueForms::value_variable, crate::proofs::ValueForms::value_int, crate::proofs::ValueForms::value_float, crate::proofs::ValueForms::value_string, crate::proofs::ValueForms::value_boolean, crate::proofs::ValueForms::value_null, crate::proofs::ValueForms::value_enum, crate::proofs::ValueForms::value_list, crate::proofs::ValueForms::value_object))]
 fn takes<T: InputType>(of_type: &T, value: &Literal) -> bool
     ensures { result ≡ spec.takes (value_of value.now) (T.form of_type.now) }
@@ -108,8 +108,8 @@ fn takes<T: InputType>(of_type: &T, value: &Literal) -> bool
     }
 }
 
-// The type that a fault is about: a custom scalar by its name, another type as it is written for
-// one value.
+/// The type that a fault is about: a custom scalar by its name, another type as it is written for
+/// one value.
 fn expected_text<T: InputType>(
     alloc: Global,
     of_type: ExpectedType<'_>,
@@ -125,7 +125,7 @@ fn expected_text<T: InputType>(
     }
 }
 
-// Adds a value without parts, unless the type takes it.
+/// Adds a value without parts, unless the type takes it.
 fn add_unless_taken<T: InputType>(
     alloc: Global,
     value: &Literal,

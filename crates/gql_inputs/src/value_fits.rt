@@ -53,7 +53,7 @@ pub fn value_fits<A: InputTypes>(
     }
 }
 
-// Whether a list fits.
+/// Whether a list fits.
 #[cycle(fits)]
 #[tactic(auto, using(crate::proofs::Judged::items_misfits_is))]
 fn list_fits<A: InputTypes>(
@@ -79,7 +79,7 @@ fn list_fits<A: InputTypes>(
     }
 }
 
-// Whether all items of a list fit their type.
+/// Whether all items of a list fit their type.
 #[cycle(fits)]
 fn items_fit<A: InputTypes>(
     alloc: Global,
@@ -101,7 +101,7 @@ fn items_fit<A: InputTypes>(
     Ok(true)
 }
 
-// Whether one item fits. An item is not made a list of one.
+/// Whether one item fits. An item is not made a list of one.
 #[cycle(fits)]
 fn item_fits<A: InputTypes>(
     alloc: Global,
@@ -121,7 +121,7 @@ fn item_fits<A: InputTypes>(
     }
 }
 
-// Whether an object fits.
+/// Whether an object fits.
 #[cycle(fits)]
 #[tactic(auto, using(crate::proofs::Judged::fields_misfits_is))]
 fn object_fits<A: InputTypes>(
@@ -151,7 +151,7 @@ fn object_fits<A: InputTypes>(
     }
 }
 
-// Whether the fields of an object fit those of its type, and none of these is missing.
+/// Whether the fields of an object fit those of its type, and none of these is missing.
 #[cycle(fits)]
 fn input_object_fits<A: InputTypes>(
     alloc: Global,
@@ -173,7 +173,7 @@ fn input_object_fits<A: InputTypes>(
     gives_required(alloc, fields, of_type)
 }
 
-// Whether the fields of an object fit the fields of its type.
+/// Whether the fields of an object fit the fields of its type.
 #[cycle(fits)]
 fn fields_fit<A: InputTypes>(
     alloc: Global,
@@ -195,8 +195,8 @@ fn fields_fit<A: InputTypes>(
     Ok(true)
 }
 
-// Whether one field fits: the type has it, and its value fits the field's type. `null` at a
-// required field is a missing field, and not looked at here.
+/// Whether one field fits: the type has it, and its value fits the field's type. `null` at a
+/// required field is a missing field, and not looked at here.
 #[cycle(fits)]
 fn field_fits<A: InputTypes>(
     alloc: Global,

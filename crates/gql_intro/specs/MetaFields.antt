@@ -1,17 +1,13 @@
 -- The three fields that no type lists, as definitions that are in no file (GraphQL 4.1, 4.2):
 -- `__typename: String!`, `__schema: __Schema!` and `__type(name: String!): __Type`.
 use Rattle.std.specs.Prelude.{ℕ, List, [], ◌∷◌, Option, Some, None, codes, bytes_eq, if◌then◌else◌}
-use Rattle.gql_text.specs.declared.place.Place.{Place}
 use Rattle.gql_ast.specs.declared.text.Name.{Name}
 use Rattle.gql_ast.specs.declared.type_ref.TypeRef.{TypeRef}
 use Rattle.gql_ast.specs.declared.type_ref.TypeRef.TheVariants as r
 use Rattle.gql_ast.specs.declared.type_system.FieldDefinition.{FieldDefinition}
 use Rattle.gql_ast.specs.declared.type_system.InputValueDefinition.{InputValueDefinition}
 use Rattle.gql_intro.specs.declared.meta_fields.MetaFields.{MetaFields}
-
--- the place of what is in no file; places in files have lines from 1
-abbrev pub nowhere : Place
-nowhere = record { line = 0; column = 0; offset = 0 }
+pub use Rattle.gql_built_in.specs.BuiltInWords.{nowhere}
 
 -- Name (2.1.9)
 abbrev pub word : List ℕ → Name

@@ -81,8 +81,7 @@ fn shown_types(
     ensures { IfOk result (λ names. names ≡ spec.shown_types schema.now has_int has_id) }
 {
     let names = shown_names(alloc, schema.types(), has_int, has_id)?;
-    let types = in_order(alloc, names)?;
-    Ok(types)
+    in_order(alloc, names)
 }
 
 /// The first schema definition in a file.

@@ -111,8 +111,7 @@ fn column_of(alloc: Global, aspect: Aspect, all: &[FlatField<'_>]) -> Result<Vec
         (spec.aspects_of aspect all.now) numbers.items) }
 {
     let texts = aspects_of(alloc, aspect, all)?;
-    let numbers = numbers_of(alloc, texts.as_slice())?;
-    Ok(numbers)
+    numbers_of(alloc, texts.as_slice())
 }
 
 /// The numbers of all aspects of these fields.

@@ -29,8 +29,7 @@ fn add_operation<'t, W: World>(
 {
     let parent = root_parent(alloc, world, operation.kind)?;
     let set = operation.selections.as_slice();
-    let number = add_set(alloc, world, file, &parent, set, sets)?;
-    Ok(number)
+    add_set(alloc, world, file, &parent, set, sets)
 }
 
 /// Adds the sets of a fragment. The result is the number of its own set.
@@ -50,8 +49,7 @@ fn add_fragment<'t, W: World>(
 {
     let parent = composite(alloc, world, &fragment.condition.text)?;
     let set = fragment.selections.as_slice();
-    let number = add_set(alloc, world, file, &parent, set, sets)?;
-    Ok(number)
+    add_set(alloc, world, file, &parent, set, sets)
 }
 
 /// The sets of a definition.

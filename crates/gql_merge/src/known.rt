@@ -149,8 +149,7 @@ fn ask_field<W: World>(
         of_type: parent.copy()?,
         field: name.copy()?,
     };
-    let fact = world.fact(alloc, &key)?;
-    Ok(fact)
+    world.fact(alloc, &key)
 }
 
 /// A field of a parent type.

@@ -43,8 +43,7 @@ pub fn merge_faults<W: World>(
         Lists found.items (IsMergeFault (W.facts world.old) definition.now)) }
 {
     let mut clean = CleanFragments::new(alloc);
-    let faults = merge_faults_with(alloc, world, definition, members, &mut clean)?;
-    Ok(faults)
+    merge_faults_with(alloc, world, definition, members, &mut clean)
 }
 
 /// The faults of a definition by V05 and V06, as `merge_faults` finds them, if some fragments are

@@ -37,8 +37,7 @@ pub fn composite<W: World>(
         ≡ nodes.composite (W.facts world.old) (Some of_type.now)) }
 {
     let kind = kind_of(alloc, world, of_type)?;
-    let parent = composite_by_kind(of_type, kind)?;
-    Ok(parent)
+    composite_by_kind(of_type, kind)
 }
 
 /// A copy of the name, if there is one.
@@ -65,14 +64,8 @@ pub fn parent_within<W: World>(
         ≡ nodes.parent_within (W.facts world.old) parent.now condition.now) }
 {
     match condition {
-        Some(condition) => {
-            let within = composite(alloc, world, &condition.text)?;
-            Ok(within)
-        }
-        None => {
-            let within = copied(parent)?;
-            Ok(within)
-        }
+        Some(condition) => composite(alloc, world, &condition.text),
+        None => copied(parent),
     }
 }
 
@@ -100,13 +93,11 @@ fn selected_type<W: World>(
     match kind {
         OperationKind::Query => {
             let fact = world.fact(alloc, &Key::RootOf(OperationKind::Query))?;
-            let name = root_in(&fact)?;
-            Ok(name)
+            root_in(&fact)
         }
         OperationKind::Mutation => {
             let fact = world.fact(alloc, &Key::RootOf(OperationKind::Mutation))?;
-            let name = root_in(&fact)?;
-            Ok(name)
+            root_in(&fact)
         }
         OperationKind::Subscription => Ok(None),
     }
@@ -125,10 +116,7 @@ pub fn root_parent<W: World>(
 {
     let name = selected_type(alloc, world, kind)?;
     match &name {
-        Some(name) => {
-            let parent = composite(alloc, world, name)?;
-            Ok(parent)
-        }
+        Some(name) => composite(alloc, world, name),
         None => Ok(None),
     }
 }

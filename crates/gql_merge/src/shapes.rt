@@ -50,6 +50,5 @@ pub fn shape_text(
     let mut out = String::new(alloc);
     add_steps(of_type.wrappers.as_slice(), &mut out)?;
     out.push_str(leaf_text(kind, &of_type.name))?;
-    let text = Text::from_str(alloc, out.as_str())?;
-    Ok(text)
+    Text::from_str(alloc, out.as_str())
 }

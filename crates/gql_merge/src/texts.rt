@@ -44,8 +44,7 @@ fn object_field_text(alloc: Global, field: &ObjectField) -> Result<Text, AllocEr
     let mut out = String::from_str(alloc, field.name.as_str())?;
     out.push_str(":")?;
     add_value(alloc, &field.value, &mut out)?;
-    let text = Text::from_str(alloc, out.as_str())?;
-    Ok(text)
+    Text::from_str(alloc, out.as_str())
 }
 
 #[cycle(values)]
@@ -98,8 +97,7 @@ fn argument_text(alloc: Global, argument: &Argument) -> Result<Text, AllocError>
     let mut out = String::from_str(alloc, argument.name.as_str())?;
     out.push_str(":")?;
     add_value(alloc, &argument.value, &mut out)?;
-    let text = Text::from_str(alloc, out.as_str())?;
-    Ok(text)
+    Text::from_str(alloc, out.as_str())
 }
 
 fn argument_texts(alloc: Global, arguments: &[Argument]) -> Result<Vec<Text>, AllocError>
@@ -120,6 +118,5 @@ pub fn call_text(alloc: Global, name: &Text, arguments: &[Argument]) -> Result<T
     out.push_str("(")?;
     let texts = argument_texts(alloc, arguments)?;
     add_each_once(alloc, texts.as_slice(), &mut out)?;
-    let text = Text::from_str(alloc, out.as_str())?;
-    Ok(text)
+    Text::from_str(alloc, out.as_str())
 }

@@ -101,7 +101,7 @@ impl HasDirectives for EnumValueDefinition {
     }
 }
 
-// Adds nodes of one location.
+/// Adds nodes of one location.
 fn add_nodes<'t, T: HasDirectives>(
     location: DirectiveLocation,
     nodes: &[Node<'t, T>],
@@ -121,7 +121,7 @@ fn add_nodes<'t, T: HasDirectives>(
     Ok(())
 }
 
-// The location of a type, or of its extension.
+/// The location of a type, or of its extension.
 fn location_of(parts: &TypeParts) -> DirectiveLocation
     ensures { result ≡ spec.location_of parts.now }
 {
@@ -135,7 +135,7 @@ fn location_of(parts: &TypeParts) -> DirectiveLocation
     }
 }
 
-// Adds types.
+/// Adds types.
 fn add_types<'t>(
     types: &[Node<'t, TypeDefinition>],
     found: &mut Vec<Annotated<'t>>,
@@ -153,7 +153,7 @@ fn add_types<'t>(
     Ok(())
 }
 
-// Adds extensions of types.
+/// Adds extensions of types.
 fn add_type_extensions<'t>(
     extensions: &[Node<'t, TypeExtension>],
     found: &mut Vec<Annotated<'t>>,
@@ -171,7 +171,7 @@ fn add_type_extensions<'t>(
     Ok(())
 }
 
-// Adds the schema and its extensions.
+/// Adds the schema and its extensions.
 fn add_schemas<'t>(nodes: &Nodes<'t>, found: &mut Vec<Annotated<'t>>) -> Result<(), AllocError>
     ensures { OnOk result (map annotations found.new.items
         ≡ map annotations found.old.items ++ spec.annotated_schemas (lists nodes.now)) }
@@ -182,7 +182,7 @@ fn add_schemas<'t>(nodes: &Nodes<'t>, found: &mut Vec<Annotated<'t>>) -> Result<
     Ok(())
 }
 
-// Adds types and their extensions.
+/// Adds types and their extensions.
 fn add_all_types<'t>(nodes: &Nodes<'t>, found: &mut Vec<Annotated<'t>>) -> Result<(), AllocError>
     ensures { OnOk result (map annotations found.new.items
         ≡ map annotations found.old.items ++ spec.annotated_types (lists nodes.now)) }
@@ -192,7 +192,7 @@ fn add_all_types<'t>(nodes: &Nodes<'t>, found: &mut Vec<Annotated<'t>>) -> Resul
     Ok(())
 }
 
-// Adds fields, arguments, input fields and enum values.
+/// Adds fields, arguments, input fields and enum values.
 fn add_parts<'t>(nodes: &Nodes<'t>, found: &mut Vec<Annotated<'t>>) -> Result<(), AllocError>
     ensures { OnOk result (map annotations found.new.items
         ≡ map annotations found.old.items ++ spec.annotated_parts (lists nodes.now)) }
@@ -207,7 +207,7 @@ fn add_parts<'t>(nodes: &Nodes<'t>, found: &mut Vec<Annotated<'t>>) -> Result<()
     Ok(())
 }
 
-// How many nodes may have directives. This is for the list's memory alone.
+/// How many nodes may have directives. This is for the list's memory alone.
 fn count(nodes: &Nodes<'_>) -> usize {
     let schemas = nodes
         .schemas
@@ -236,7 +236,7 @@ pub fn all_annotated<'t>(alloc: Global, nodes: &Nodes<'t>) -> Result<Vec<Annotat
     Ok(found)
 }
 
-// Adds the directives of a node.
+/// Adds the directives of a node.
 fn add_applied<'t>(node: &Annotated<'t>, found: &mut Vec<Applied<'t>>) -> Result<(), AllocError>
     ensures { OnOk result (map application found.new.items
         ≡ map application found.old.items ++ spec.applied_at (annotations node.now)) }
@@ -291,7 +291,7 @@ pub fn type_and_extensions(
     Ok(found)
 }
 
-// The first of these.
+/// The first of these.
 fn first_alone<T>(items: &[T]) -> &[T]
     ensures { result.now ≡ take 1 items.now }
 {

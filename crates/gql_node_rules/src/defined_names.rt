@@ -10,7 +10,7 @@ use crate::nodes::Nodes;
 use gql_faults::{HasOwnName, NamePlace};
 use std::alloc::{AllocError, Global};
 
-// Adds the names of these nodes.
+/// Adds the names of these nodes.
 fn add_names<'t, T: HasOwnName>(
     nodes: &[Node<'t, T>],
     found: &mut Vec<NamePlace<'t>>,
@@ -39,7 +39,7 @@ pub fn names_of<'t, T: HasOwnName>(
     Ok(found)
 }
 
-// Adds the names of definitions and of extensions of types.
+/// Adds the names of definitions and of extensions of types.
 fn add_definitions<'t>(nodes: &Nodes<'t>, found: &mut Vec<NamePlace<'t>>) -> Result<(), AllocError>
     ensures { OnOk result (map named found.new.items
         ≡ map named found.old.items ++ spec.definition_names (lists nodes.now)) }
@@ -50,7 +50,7 @@ fn add_definitions<'t>(nodes: &Nodes<'t>, found: &mut Vec<NamePlace<'t>>) -> Res
     Ok(())
 }
 
-// Adds the names of their parts.
+/// Adds the names of their parts.
 fn add_parts<'t>(nodes: &Nodes<'t>, found: &mut Vec<NamePlace<'t>>) -> Result<(), AllocError>
     ensures { OnOk result (map named found.new.items
         ≡ map named found.old.items ++ spec.part_names (lists nodes.now)) }
@@ -62,7 +62,7 @@ fn add_parts<'t>(nodes: &Nodes<'t>, found: &mut Vec<NamePlace<'t>>) -> Result<()
     Ok(())
 }
 
-// How many names there are. This is for the list's memory alone.
+/// How many names there are. This is for the list's memory alone.
 fn count(nodes: &Nodes<'_>) -> usize {
     let types = nodes
         .types

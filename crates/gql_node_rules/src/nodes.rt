@@ -30,7 +30,7 @@ pub struct Nodes<'t> {
     pub arguments: Vec<Node<'t, InputValueDefinition>>,
 }
 
-// Adds these nodes of a file.
+/// Adds these nodes of a file.
 fn add_shared<'t, T: Drop>(
     file: &'t FileName,
     nodes: &'t [Shared<T>],
@@ -86,9 +86,7 @@ impl Holds<InputValueDefinition> for TypeParts {
         found: &mut Vec<Node<'t, InputValueDefinition>>,
     ) -> Result<(), AllocError> {
         match holder.node {
-            TypeParts::InputObject { fields } => {
-                add_shared(holder.file, fields.as_slice(), found)
-            }
+            TypeParts::InputObject { fields } => add_shared(holder.file, fields.as_slice(), found),
             _ => Ok(()),
         }
     }
@@ -116,7 +114,7 @@ impl Holds<InputValueDefinition> for DirectiveDefinition {
     }
 }
 
-// Adds the parts of types.
+/// Adds the parts of types.
 fn add_parts_of_types<'t>(
     types: &[Node<'t, TypeDefinition>],
     found: &mut Vec<Node<'t, TypeParts>>,
@@ -133,7 +131,7 @@ fn add_parts_of_types<'t>(
     Ok(())
 }
 
-// Adds the parts of extensions of types.
+/// Adds the parts of extensions of types.
 fn add_parts_of_extensions<'t>(
     extensions: &[Node<'t, TypeExtension>],
     found: &mut Vec<Node<'t, TypeParts>>,
@@ -150,7 +148,7 @@ fn add_parts_of_extensions<'t>(
     Ok(())
 }
 
-// The nodes that all of these hold.
+/// The nodes that all of these hold.
 fn all_in<'t, A: Holds<T>, T: Drop>(
     alloc: Global,
     holders: &[Node<'t, A>],
@@ -163,7 +161,7 @@ fn all_in<'t, A: Holds<T>, T: Drop>(
     Ok(found)
 }
 
-// The parts of types and of their extensions.
+/// The parts of types and of their extensions.
 fn parts<'t>(
     alloc: Global,
     types: &[Node<'t, TypeDefinition>],
@@ -179,7 +177,7 @@ fn parts<'t>(
     Ok(found)
 }
 
-// The arguments of fields and of directives.
+/// The arguments of fields and of directives.
 fn arguments<'t>(
     alloc: Global,
     fields: &[Node<'t, FieldDefinition>],
@@ -195,7 +193,7 @@ fn arguments<'t>(
     Ok(found)
 }
 
-// The nodes of these definitions.
+/// The nodes of these definitions.
 fn all_nodes<'t>(alloc: Global, trees: &[Node<'t, Tree>]) -> Result<Nodes<'t>, AllocError>
     ensures { IfOk result (λ nodes. lists nodes ≡ spec.nodes_of (map one trees.now)) }
 {
@@ -228,6 +226,5 @@ pub fn nodes_in(alloc: Global, files: &Files) -> Result<Nodes<'_>, AllocError>
     ensures { IfOk result (λ nodes. lists nodes ≡ spec.nodes_of (of_files files.now.schema)) }
 {
     let trees = trees(alloc, files)?;
-    let nodes = all_nodes(alloc, trees.as_slice())?;
-    Ok(nodes)
+    all_nodes(alloc, trees.as_slice())
 }

@@ -20,7 +20,7 @@ use gql_ast::Fault;
 use gql_types::Schema;
 use std::alloc::{AllocError, Global};
 
-// S03.
+/// S03.
 fn check_names(alloc: Global, nodes: &Nodes<'_>, faults: &mut Vec<Fault>) -> Result<(), AllocError>
     ensures { OnOk result (faults.new.items ≡ faults.old.items
         ++ spec.name_faults (lists nodes.now)) }
@@ -30,7 +30,7 @@ fn check_names(alloc: Global, nodes: &Nodes<'_>, faults: &mut Vec<Fault>) -> Res
     Ok(())
 }
 
-// S16, S21 and S22.
+/// S16, S21 and S22.
 fn check_roles(
     alloc: Global,
     references: &References<'_>,
@@ -45,7 +45,7 @@ fn check_roles(
     Ok(())
 }
 
-// S20.
+/// S20.
 fn check_known(
     alloc: Global,
     references: &References<'_>,
@@ -62,7 +62,7 @@ fn check_known(
     Ok(())
 }
 
-// P01.
+/// P01.
 fn check_floats(
     alloc: Global,
     references: &References<'_>,
@@ -79,7 +79,7 @@ fn check_floats(
     Ok(())
 }
 
-// S16, S20 to S22 and P01.
+/// S16, S20 to S22 and P01.
 fn check_references(
     alloc: Global,
     schema: &Schema,
@@ -97,7 +97,7 @@ fn check_references(
     Ok(())
 }
 
-// S29 to S33.
+/// S29 to S33.
 fn check_directives(
     alloc: Global,
     schema: &Schema,
@@ -119,7 +119,7 @@ fn check_directives(
     Ok(())
 }
 
-// S35 and S36.
+/// S35 and S36.
 fn check_built_in_directives(
     alloc: Global,
     schema: &Schema,

@@ -19,7 +19,7 @@ use gql_types::{Schema, SchemaType};
 use std::alloc::{AllocError, Global};
 use std::collections::HashMap;
 
-// The names of these directives.
+/// The names of these directives.
 fn names_of<'t>(alloc: Global, group: &[Applied<'t>]) -> Result<Vec<NamePlace<'t>>, AllocError>
     ensures { IfOk result (λ names. map named names.items
         ≡ spec.names_of (map application group.now)) }
@@ -34,7 +34,7 @@ fn names_of<'t>(alloc: Global, group: &[Applied<'t>]) -> Result<Vec<NamePlace<'t
     Ok(names)
 }
 
-// Adds the fault at a directive, if it is defined and not repeatable.
+/// Adds the fault at a directive, if it is defined and not repeatable.
 fn add_unless_repeatable(
     alloc: Global,
     schema: &Schema,
@@ -56,7 +56,7 @@ fn add_unless_repeatable(
     }
 }
 
-// Adds the fault at one of the directives that were counted.
+/// Adds the fault at one of the directives that were counted.
 fn check_applied(
     alloc: Global,
     schema: &Schema,
@@ -75,7 +75,7 @@ fn check_applied(
     Ok(())
 }
 
-// Adds the faults of directives that count together.
+/// Adds the faults of directives that count together.
 #[tactic(auto, using(crate::proofs::Few::few))]
 fn check_group(
     alloc: Global,
@@ -98,7 +98,7 @@ fn check_group(
     Ok(())
 }
 
-// Adds the faults of nodes whose directives count together.
+/// Adds the faults of nodes whose directives count together.
 fn check_together(
     alloc: Global,
     schema: &Schema,
@@ -113,7 +113,7 @@ fn check_together(
     Ok(())
 }
 
-// Adds the faults of a node.
+/// Adds the faults of a node.
 #[tactic(auto, using(crate::proofs::Few::few_alone))]
 fn check_node(
     alloc: Global,
@@ -132,7 +132,7 @@ fn check_node(
     Ok(())
 }
 
-// Adds the faults of nodes, each alone.
+/// Adds the faults of nodes, each alone.
 fn check_nodes(
     alloc: Global,
     schema: &Schema,
@@ -148,7 +148,7 @@ fn check_nodes(
     Ok(())
 }
 
-// Adds the faults of a type with its extensions.
+/// Adds the faults of a type with its extensions.
 #[tactic(auto, using(crate::proofs::Few::few_on_type))]
 fn check_type(
     alloc: Global,
@@ -169,7 +169,7 @@ fn check_type(
     Ok(())
 }
 
-// Adds the faults of types, each with its extensions.
+/// Adds the faults of types, each with its extensions.
 fn check_types(alloc: Global, schema: &Schema, faults: &mut Vec<Fault>) -> Result<(), AllocError>
     ensures { OnOk result (faults.new.items
         ≡ faults.old.items ++ flat_map (spec.faults_of_type schema.now) schema.now.types) }
@@ -180,7 +180,7 @@ fn check_types(alloc: Global, schema: &Schema, faults: &mut Vec<Fault>) -> Resul
     Ok(())
 }
 
-// Adds the faults of the schema with its extensions.
+/// Adds the faults of the schema with its extensions.
 fn check_schema(
     alloc: Global,
     schema: &Schema,

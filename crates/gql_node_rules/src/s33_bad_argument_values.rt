@@ -16,7 +16,7 @@ use gql_ast::{Argument, Fault, Rule};
 use gql_types::Schema;
 use std::alloc::{AllocError, Global};
 
-// Adds the fault of one value that is given to a directive.
+/// Adds the fault of one value that is given to a directive.
 fn check_value(
     alloc: Global,
     schema: &Schema,
@@ -38,7 +38,7 @@ fn check_value(
     Ok(())
 }
 
-// Adds the faults of a directive that is defined.
+/// Adds the faults of a directive that is defined.
 fn check_known(
     alloc: Global,
     schema: &Schema,
@@ -56,7 +56,7 @@ fn check_known(
     Ok(())
 }
 
-// Adds the faults of a directive.
+/// Adds the faults of a directive.
 fn check_applied(
     alloc: Global,
     schema: &Schema,

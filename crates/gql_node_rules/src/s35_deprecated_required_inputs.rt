@@ -13,7 +13,7 @@ use gql_ast::{Directive, Fault, InputValueDefinition, Rule};
 use gql_faults::{Spot, add_fault, is_required};
 use std::alloc::{AllocError, Global};
 
-// Adds the fault of a directive on a required argument or input field.
+/// Adds the fault of a directive on a required argument or input field.
 fn check_directive(
     alloc: Global,
     input: &Node<'_, InputValueDefinition>,
@@ -33,7 +33,7 @@ fn check_directive(
     Ok(())
 }
 
-// Adds the faults of a required argument or input field.
+/// Adds the faults of a required argument or input field.
 fn check_required(
     alloc: Global,
     input: &Node<'_, InputValueDefinition>,

@@ -21,7 +21,7 @@ use gql_faults::{NamePlace, Spot, add_fault};
 use gql_types::{Schema, SchemaType, TypeKind};
 use std::alloc::{AllocError, Global};
 
-// The mutation root type, if the schema has one and it is an object.
+/// The mutation root type, if the schema has one and it is an object.
 fn mutation_root(schema: &Schema) -> Option<&SchemaType>
     ensures { option_copied result ≡ spec.mutation_root schema.now }
 {
@@ -34,7 +34,7 @@ fn mutation_root(schema: &Schema) -> Option<&SchemaType>
     }
 }
 
-// Whether two definitions are in the same file. A built-in definition is in none.
+/// Whether two definitions are in the same file. A built-in definition is in none.
 fn is_same_file(file: Option<&FileName>, other: Option<&FileName>) -> bool
     ensures { result ≡ spec.is_same_file (option_copied file.entry) (option_copied other.entry) }
 {
@@ -47,7 +47,7 @@ fn is_same_file(file: Option<&FileName>, other: Option<&FileName>) -> bool
     }
 }
 
-// Whether two names are the same name in the same place.
+/// Whether two names are the same name in the same place.
 fn is_same_name(name: &NamePlace<'_>, other: &NamePlace<'_>) -> bool
     ensures { result ≡ spec.is_same_name (named name.now) (named other.now) }
 {
@@ -56,7 +56,7 @@ fn is_same_name(name: &NamePlace<'_>, other: &NamePlace<'_>) -> bool
             && name.name.place.offset == other.name.place.offset)
 }
 
-// Whether a definition is that of the mutation root type, and not a second one of its name.
+/// Whether a definition is that of the mutation root type, and not a second one of its name.
 fn is_definition_of(root: Option<&SchemaType>, definition: &Node<'_, TypeDefinition>) -> bool
     ensures { result ≡ spec.is_definition_of (option_copied root.entry) (one definition.now) }
 {
@@ -72,7 +72,7 @@ fn is_definition_of(root: Option<&SchemaType>, definition: &Node<'_, TypeDefinit
     }
 }
 
-// Whether an extension is one of the mutation root type.
+/// Whether an extension is one of the mutation root type.
 fn is_extension_of(root: Option<&SchemaType>, extension: &Node<'_, TypeExtension>) -> bool
     ensures { result ≡ spec.is_extension_of (option_copied root.entry) (one extension.now) }
 {
@@ -86,7 +86,7 @@ fn is_extension_of(root: Option<&SchemaType>, extension: &Node<'_, TypeExtension
     }
 }
 
-// Adds the fault of a directive on a field.
+/// Adds the fault of a directive on a field.
 fn check_directive(
     alloc: Global,
     field: &Node<'_, FieldDefinition>,
@@ -106,7 +106,7 @@ fn check_directive(
     Ok(())
 }
 
-// Adds the faults of a field that is not one of the mutation root type.
+/// Adds the faults of a field that is not one of the mutation root type.
 fn check_field(
     alloc: Global,
     field: &Node<'_, FieldDefinition>,
@@ -121,7 +121,7 @@ fn check_field(
     Ok(())
 }
 
-// Adds the faults of these fields.
+/// Adds the faults of these fields.
 fn check_fields(
     alloc: Global,
     file: &FileName,
@@ -141,7 +141,7 @@ fn check_fields(
     Ok(())
 }
 
-// Adds the faults of the fields of another definition or extension.
+/// Adds the faults of the fields of another definition or extension.
 fn check_parts(
     alloc: Global,
     file: &FileName,
@@ -189,7 +189,7 @@ fn check_extension(
     Ok(())
 }
 
-// Adds the faults of definitions of types.
+/// Adds the faults of definitions of types.
 fn check_definitions(
     alloc: Global,
     root: Option<&SchemaType>,
@@ -206,7 +206,7 @@ fn check_definitions(
     Ok(())
 }
 
-// Adds the faults of extensions of types.
+/// Adds the faults of extensions of types.
 fn check_extensions(
     alloc: Global,
     root: Option<&SchemaType>,

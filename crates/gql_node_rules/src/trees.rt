@@ -11,7 +11,7 @@ use gql_ast::{
 };
 use std::alloc::{AllocError, Global};
 
-// Adds the definitions of a file.
+/// Adds the definitions of a file.
 fn add_file<'t>(
     definitions: &'t [Definition],
     found: &mut Vec<Node<'t, Tree>>,

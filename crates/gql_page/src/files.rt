@@ -9,10 +9,7 @@ use std::alloc::{AllocError, Global};
 
 /// For each column of a line, counted from 1, whether a fault is there.
 fn marked_columns(alloc: Global, line: &str, faults: &[&Finding]) -> Result<Vec<bool>, AllocError> {
-    let mut columns = Vec::new(alloc);
-    for _column in 0..line.len() {
-        columns.push(false)?;
-    }
+    let mut columns = vec![in alloc; false; line.len()]?;
     for fault in faults {
         if let Some(spot) = fault.spots.first() {
             if let Some(column) = columns.get_mut(spot.column.saturating_sub(1)) {

@@ -1,5 +1,6 @@
 //! A check as a summary for a pull request, in Markdown.
 
+use crate::parts::MOST_PLACES;
 use gql_findings::{
     Affected, Cause, Finding, Findings, Rule, Source, Spot, label_at, sentence, title,
 };
@@ -86,7 +87,7 @@ fn write_rule(out: &mut String, rule: Rule, about: &str) -> Result<(), AllocErro
     write_markdown(out, sentence(rule))
 }
 
-/// Writes the first places of a cause, at most three.
+/// Writes the first places of a cause.
 fn write_first_places(
     alloc: Global,
     out: &mut String,
@@ -94,7 +95,7 @@ fn write_first_places(
     members: &[usize],
 ) -> Result<(), AllocError> {
     let faults = picked(alloc, findings.findings.as_slice(), members)?;
-    for (number, fault) in faults.as_slice().iter().take(3).enumerate() {
+    for (number, fault) in faults.as_slice().iter().take(MOST_PLACES).enumerate() {
         if let Some(spot) = fault.spots.first() {
             if number > 0 {
                 write_text(out, ", ")?;
@@ -102,7 +103,7 @@ fn write_first_places(
             write_place(alloc, out, findings.sources.as_slice(), spot)?;
         }
     }
-    if faults.len() > 3 {
+    if faults.len() > MOST_PLACES {
         write_text(out, " ..")?;
     }
     Ok(())

@@ -9,6 +9,9 @@ use gql_render::picking::picked;
 use gql_render::write::{write_number, write_text};
 use std::alloc::{AllocError, Global};
 
+/// How many places of a cause are shown.
+pub const MOST_PLACES: usize = 3;
+
 /// Writes a text as code.
 pub fn write_code(out: &mut String, text: &str) -> Result<(), AllocError> {
     write_text(out, "<code>")?;
@@ -76,7 +79,7 @@ pub fn write_fault(alloc: Global, out: &mut String, fault: &Finding) -> Result<(
     Ok(())
 }
 
-/// Writes the first places of a cause, at most three.
+/// Writes the first places of a cause.
 fn write_first_places(
     alloc: Global,
     out: &mut String,
@@ -84,7 +87,7 @@ fn write_first_places(
     members: &[usize],
 ) -> Result<(), AllocError> {
     let faults = picked(alloc, findings.findings.as_slice(), members)?;
-    for (number, fault) in faults.as_slice().iter().take(3).enumerate() {
+    for (number, fault) in faults.as_slice().iter().take(MOST_PLACES).enumerate() {
         if let Some(spot) = fault.spots.first() {
             if number > 0 {
                 write_text(out, ", ")?;
@@ -92,7 +95,7 @@ fn write_first_places(
             write_link(alloc, out, findings.sources.as_slice(), spot)?;
         }
     }
-    if faults.len() > 3 {
+    if faults.len() > MOST_PLACES {
         write_text(out, " ..")?;
     }
     Ok(())

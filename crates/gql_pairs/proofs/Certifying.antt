@@ -1,5 +1,5 @@
 -- What was observed of a fragment, and of two, is right wherever the observations hold.
-use Rattle.std.specs.Prelude.{◌≡◌, ◌⊎◌, ℕ, List, [], ◌∷◌, ◌++◌, map, flat_map, Bool, true, false, ◌&&◌, bytes_eq, if◌then◌else◌, find, Some, None, refl, MatchBool, Contains}
+use Rattle.std.specs.Prelude.{◌≡◌, ◌⊎◌, ℕ, List, [], ◌∷◌, ◌++◌, map, flat_map, Bool, true, false, ◌&&◌, bytes_eq, if◌then◌else◌, find, Option, Some, None, refl, IfSome, MatchBool, MatchOption, Contains}
 use Rattle.std.proofs.Common.{ap, sym, ◌∙◌, subst, inl, inr, true≢false}
 use Rattle.std.proofs.lemmas.List.Elements.{Contains-append_left, Contains-append_right, Contains-append_cases}
 use Rattle.std.proofs.lemmas.Slice.Eq.{bytes_eq-Decides}
@@ -25,7 +25,7 @@ use Rattle.gql_reads.specs.declared.observation.Observation.{Observation}
 use Rattle.gql_pairs.specs.Fragments.{FragmentReads, IsRight, KeptFragment, with_reached}
 use Rattle.gql_pairs.specs.Fragments.{IsCertified as IsFragmentCertified}
 use Rattle.gql_pairs.specs.Gathering.{Gathers}
-use Rattle.gql_pairs.specs.Groups.{AreClashesOf, IsCertified, IsPairCertified, HasMember, IsPairIn, KeptGroup, KeptPair, MembersHold, bad_if_named, bad_under, named_clash, pair_of}
+use Rattle.gql_pairs.specs.Groups.{AreClashesOf, AreSomewhereClean, IsCertified, IsPairCertified, HasMember, IsPairIn, KeptGroup, KeptPair, MembersHold, bad_if_named, bad_under, named_clash, pair_of}
 
 -- ---- one fragment
 
@@ -178,6 +178,16 @@ module _ (F : Facts) (xs : List KeptFragment) (clashes : List FragmentClash) (ea
   pub group_certified : IsCertified (record { members = xs; clashes = clashes })
   group_certified = record { each = each; two = clashes_of }
 
+-- the same of members between which nothing is bad
+pub clean_certified : (xs : List KeptFragment) → AreSomewhereClean xs → ((x : KeptFragment) → Contains xs x → IsFragmentCertified x) → IsCertified (record { members = xs; clashes = [] })
+clean_certified xs c each = group_certified c.0 xs [] each c.1 (record {
+  sound = λ k h. absurd (Contains-nil k h);
+  complete = λ k t. absurd (
+      let x = Contains-map_from (λ (x : KeptFragment). x.fragment) xs t.0 t.2 in
+      let y = Contains-map_from (λ (x : KeptFragment). x.fragment) xs t.1 t.3 in
+      c.2 x.0 y.0 x.1 y.1 k.bad (subst (λ z. IsBadBetween c.0 z y.0.fragment k.bad) (sym x.2) (subst (λ z. IsBadBetween c.0 t.0 z k.bad) (sym y.2) t.6)));
+})
+
 -- the same of some of the members
 pub fewer_certified : (group : KeptGroup) (xs : List KeptFragment) → ((x : KeptFragment) → Contains xs x → Contains group.members x) → IsCertified group
     → IsCertified (record { members = xs; clashes = group.clashes })
@@ -275,6 +285,15 @@ none_found p (y ∷ ys) x e c t = elim (either (p y)) [
 
 pub not_named : (n : List ℕ) (xs : List KeptFragment) (x : KeptFragment) → find (λ (y : KeptFragment). bytes_eq n (name_of y.fragment)) xs ≡ None → Contains xs x → name_of x.fragment ≡ n → ⊥
 not_named n xs x e c i = none_found (λ (y : KeptFragment). bytes_eq n (name_of y.fragment)) xs x e c ((bytes_eq-Decides n (name_of x.fragment)).1 (sym i))
+
+-- what is found is right
+pub if_found : (n : List ℕ) (xs : List KeptFragment) (o : Option KeptFragment) → MatchOption o (HasMember xs n → ⊥) (λ m. Contains xs m × (name_of m.fragment ≡ n)) → IfSome o (λ m. Contains xs m × (name_of m.fragment ≡ n))
+if_found n xs (Some x) v = v
+if_found n xs None v = tt
+
+pub found_certified : (group : KeptGroup) (n : List ℕ) (o : Option KeptFragment) → IsCertified group → IfSome o (λ m. Contains group.members m × (name_of m.fragment ≡ n)) → IfSome o IsFragmentCertified
+found_certified group n (Some x) c v = c.each x v.0
+found_certified group n None c v = tt
 
 abbrev kept_pair : List BadPair → KeptFragment → KeptFragment → KeptPair
 kept_pair b x y = record { bad = b; observations = x.observations ++ y.observations }

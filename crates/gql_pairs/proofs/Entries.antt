@@ -12,7 +12,7 @@ use Rattle.gql_reads.specs.Observations.{Hold}
 use Rattle.gql_reads.specs.declared.observation.Observation.{Observation}
 use Rattle.gql_pairs.specs.Fragments.{KeptFragment}
 use Rattle.gql_pairs.specs.Groups.{IsPairIn, KeptGroup, KeptPair, MembersHold, bad_under, pair_of}
-use Rattle.gql_pairs.specs.Sweeps.{AreGroupsKept, IsGroupKept, IsKeptOf, KeepsMember}
+use Rattle.gql_pairs.specs.Sweeps.{AreGroupsKept, IsGroupKept, IsKeptOf, KeepsGroup, KeepsMember}
 use Rattle.gql_pairs.specs.Tables.{AllHold, HasPair, IsEntry, Keeps, KeepsHolding}
 
 -- ---- one group
@@ -107,22 +107,44 @@ members_none F xs old e = rw e (record {
   none [] y c = c
   none (x ∷ xs) y c = c
 
-module _ (F : Facts) (xs : List KeptGroup) (i : ℕ) (x : KeptGroup) (lt : i < length xs) (is : x ≡ get_or xs i x) (old : List KeptGroup) (y : KeptGroup) (new : List KeptGroup) (pushed : new ≡ old ++ y ∷ []) where
-  pub groups_more : AreGroupsKept F (take i xs) old → IsGroupKept F x y → AreGroupsKept F (take (i + 1) xs) new
-  groups_more k g = rw pushed (record {
-    kept = λ z c. elim (seen_more xs i x lt is z c) [
-      | inl s ↦ let r = k.kept z s in (r.0, Contains-append_left old (y ∷ []) r.0 r.1, r.2)
-      | inr e ↦ (y, Contains-push old y, subst (λ w. IsGroupKept F w y) e g)
-    ];
-    from = λ z c. elim (Contains-push_cases old y z c) [
-      | inl o ↦ let r = k.from z o in (r.0, subst (λ zs. Contains zs r.0) (sym (one_more xs i x lt is)) (Contains-append_left (take i xs) (x ∷ []) r.0 r.1), r.2)
-      | inr e ↦ (x, subst (λ zs. Contains zs x) (sym (one_more xs i x lt is)) (Contains-push (take i xs) x), subst (IsGroupKept F x) e g)
-    ];
+-- a group is kept
+module _ (F : Facts) (x : KeptGroup) where
+  pub whole_kept : MembersHold F x.members → IsGroupKept F x x
+  whole_kept hold = record {
+    members = record { sound = λ m c. (c, hold m c); complete = λ m h. h.0 };
+    clashes = refl;
+  }
+
+  pub group_pushed : (y : KeptGroup) → IsGroupKept F x y → (old new : List KeptGroup) → new ≡ old ++ y ∷ [] → KeepsGroup F x old new
+  group_pushed y k old new is = rw is (record {
+    kept = λ z c. Contains-append_left old (y ∷ []) z c;
+    here = λ m h. (y, Contains-push old y, k);
+    from = λ z c. elim (Contains-push_cases old y z c) [ inl o ↦ inl o | inr e ↦ inr (subst (IsGroupKept F x) e k) ];
   })
+
+  pub group_left : (y : KeptGroup) → IsGroupKept F x y → y.members ≡ [] → (old new : List KeptGroup) → new ≡ old → KeepsGroup F x old new
+  group_left y k none old new is = rw is (record {
+    kept = λ z c. c;
+    here = λ m h. absurd (Contains-nil m (subst (λ l. Contains l m) none (k.members.complete m h)));
+    from = λ z c. inl c;
+  })
+
+module _ (F : Facts) (xs : List KeptGroup) (i : ℕ) (x : KeptGroup) (lt : i < length xs) (is : x ≡ get_or xs i x) (old new : List KeptGroup) where
+  pub groups_more : AreGroupsKept F (take i xs) old → KeepsGroup F x old new → AreGroupsKept F (take (i + 1) xs) new
+  groups_more k g = record {
+    kept = λ z c m h. elim (seen_more xs i x lt is z c) [
+      | inl s ↦ let r = k.kept z s m h in (r.0, g.kept r.0 r.1, r.2)
+      | inr e ↦ let r = g.here m (subst (λ (w : KeptGroup). IsKeptOf F w.members m) (sym e) h) in (r.0, r.1, subst (λ w. IsGroupKept F w r.0) e r.2)
+    ];
+    from = λ z c. elim (g.from z c) [
+      | inl o ↦ let r = k.from z o in (r.0, subst (λ zs. Contains zs r.0) (sym (one_more xs i x lt is)) (Contains-append_left (take i xs) (x ∷ []) r.0 r.1), r.2)
+      | inr e ↦ (x, subst (λ zs. Contains zs x) (sym (one_more xs i x lt is)) (Contains-push (take i xs) x), e)
+    ];
+  }
 
 pub groups_none : (F : Facts) (xs old : List KeptGroup) → old ≡ [] → AreGroupsKept F (take 0 xs) old
 groups_none F xs old e = rw e (record {
-  kept = λ z c. absurd (Contains-nil z (none xs z c));
+  kept = λ z c m h. absurd (Contains-nil z (none xs z c));
   from = λ z c. absurd (Contains-nil z c);
 }) where
   none : (xs : List KeptGroup) (y : KeptGroup) → Contains (take 0 xs) y → Contains [] y
@@ -143,15 +165,16 @@ module _ (F : Facts) (old new : List KeptGroup) (groups : AreGroupsKept F old ne
 
   pub kept_keep : KeepsHolding F old new
   kept_keep n m k e holds =
-      let r = groups.kept e.0 e.1 in
       let p = e.2 in
-      let h : Hold F (p.left.observations ++ p.right.observations) = subst (λ (z : KeptPair). Hold F z.observations) p.is holds in (
+      let h : Hold F (p.left.observations ++ p.right.observations) = subst (λ (z : KeptPair). Hold F z.observations) p.is holds in
+      let left : Hold F p.left.observations = λ o i. h o (Contains-append_left p.left.observations p.right.observations o i) in
+      let r = groups.kept e.0 e.1 p.left (p.is_left, left) in (
         r.0,
         r.1,
         record {
           left = p.left;
           right = p.right;
-          is_left = r.2.members.complete p.left (p.is_left, λ o i. h o (Contains-append_left p.left.observations p.right.observations o i));
+          is_left = r.2.members.complete p.left (p.is_left, left);
           is_right = r.2.members.complete p.right (p.is_right, λ o i. h o (Contains-append_right p.left.observations p.right.observations o i));
           first = p.first;
           second = p.second;

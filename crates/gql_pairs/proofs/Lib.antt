@@ -1,5 +1,9 @@
 pub mod Certifying
+pub mod Covered
+pub mod Doubting
 pub mod Entries
 pub mod Gathered
+pub mod Grown
 pub mod Holding
+pub mod Results
 pub mod Searching

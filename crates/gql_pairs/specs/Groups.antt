@@ -85,7 +85,28 @@ pub record JudgesPair (facts : Facts) (n m : List ℕ) (k : KeptPair) : Type 0 w
 abbrev pub IsPairCertified : List ℕ → List ℕ → KeptPair → Type 0
 IsPairCertified n m k = (facts : Facts) → Hold facts k.observations → JudgesPair facts n m k
 
+-- nothing is bad between any two of these fragments
+abbrev pub AreCleanBetween : Facts → List FragmentFact → Type 0
+AreCleanBetween facts fragments = (g h : FragmentFact) → Contains fragments g
+    → Contains fragments h → (p : BadPair) → IsBadBetween facts g h p → ⊥
+
 -- the observations of each member hold
 abbrev pub MembersHold : Facts → List KeptFragment → Type 0
 MembersHold facts members =
     (x : KeptFragment) → Contains members x → Hold facts x.observations
+
+-- the members are of exactly these fragments
+pub record AreMembersFor (fragments : List FragmentFact) (members : List KeptFragment)
+    : Type 0 where
+  pub from : (x : KeptFragment) → Contains members x → Contains fragments x.fragment
+  pub all : (g : FragmentFact) → Contains fragments g
+      → (x : KeptFragment) × Contains members x × (x.fragment ≡ g)
+
+-- nothing is bad between any two of these members
+abbrev pub AreClean : Facts → List KeptFragment → Type 0
+AreClean facts members = (x y : KeptFragment) → Contains members x → Contains members y
+    → (p : BadPair) → IsBadBetween facts x.fragment y.fragment p → ⊥
+
+-- there are facts with which the observations of each member hold, and nothing is bad between any two
+abbrev pub AreSomewhereClean : List KeptFragment → Type 0
+AreSomewhereClean members = (facts : Facts) × MembersHold facts members × AreClean facts members

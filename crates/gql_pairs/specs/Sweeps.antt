@@ -23,9 +23,16 @@ pub record IsGroupKept (facts : Facts) (old new : KeptGroup) : Type 0 where
   pub members : Lists new.members (IsKeptOf facts old.members)
   pub clashes : new.clashes ≡ old.clashes
 
--- each group of a table, without the members that do not hold
+-- a group was added without the members that do not hold, if there is one that does
+pub record KeepsGroup (facts : Facts) (x : KeptGroup) (old new : List KeptGroup) : Type 0 where
+  pub kept : (y : KeptGroup) → Contains old y → Contains new y
+  pub here : (m : KeptFragment) → IsKeptOf facts x.members m
+      → (y : KeptGroup) × Contains new y × IsGroupKept facts x y
+  pub from : (y : KeptGroup) → Contains new y → Contains old y ⊎ IsGroupKept facts x y
+
+-- each group of a table that has a member which holds, without the members that do not
 pub record AreGroupsKept (facts : Facts) (old new : List KeptGroup) : Type 0 where
-  pub kept : (x : KeptGroup) → Contains old x
+  pub kept : (x : KeptGroup) → Contains old x → (m : KeptFragment) → IsKeptOf facts x.members m
       → (y : KeptGroup) × Contains new y × IsGroupKept facts x y
   pub from : (y : KeptGroup) → Contains new y
       → (x : KeptGroup) × Contains old x × IsGroupKept facts x y

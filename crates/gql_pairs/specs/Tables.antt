@@ -1,10 +1,11 @@
 -- A table of what clashes between fragments: a list of groups. An entry of two fragments is what a
 -- group keeps of the two.
-use Rattle.std.specs.Prelude.{ℕ, List, Contains}
+use Rattle.std.specs.Prelude.{◌≡◌, ℕ, List, Contains}
 use Rattle.gql_facts.specs.Worlds.{Facts}
 use Rattle.gql_facts.specs.declared.fact.FragmentFact.{FragmentFact}
 use Rattle.gql_merge.specs.Between.{name_of}
 use Rattle.gql_reads.specs.Observations.{Hold}
+use Rattle.gql_pairs.specs.Fragments.{KeptFragment}
 use Rattle.gql_pairs.specs.Groups.{IsPairIn, KeptGroup, KeptPair}
 
 -- the table keeps this of two fragments of these names
@@ -19,6 +20,11 @@ HasPair table n m = (k : KeptPair) × IsEntry table n m k
 abbrev pub HasPairs : List KeptGroup → List FragmentFact → Type 0
 HasPairs table fragments = (g h : FragmentFact) → Contains fragments g → Contains fragments h
     → HasPair table (name_of g) (name_of h)
+
+-- the member of a group, of this name
+abbrev pub IsKnown : List KeptGroup → List ℕ → KeptFragment → Type 0
+IsKnown table n x = (group : KeptGroup) × Contains table group × Contains group.members x
+    × (name_of x.fragment ≡ n)
 
 -- the observations of all entries hold
 abbrev pub AllHold : Facts → List KeptGroup → Type 0

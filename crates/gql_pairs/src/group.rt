@@ -1,5 +1,5 @@
 //! Fragments, with all that clashes between any two of them.
-ghost use Rattle.std.specs.Prelude.{◌≡◌, ◌++◌, ◌↔◌, IfOk, IfSome, IsTrue, MatchBool, MatchOption, OnOk, Contains};
+ghost use Rattle.std.specs.Prelude.{◌≡◌, ◌++◌, ◌↔◌, [], IfOk, IfSome, IsTrue, MatchBool, MatchOption, OnOk, Contains};
 ghost use Rattle.std.specs.Option.{option_copied};
 ghost use Rattle.gql_facts.specs.declared.fact.FragmentFact.{FragmentFact as AFragment};
 ghost use Rattle.gql_merge.specs.Between.{name_of};
@@ -169,8 +169,47 @@ impl Group {
         Some(found)
     }
 
+    /// Copies of the members, which share what these have. Wherever what was observed of one holds,
+    /// it is right.
+    pub fn copies(&self, alloc: Global) -> Result<Vec<Member>, AllocError>
+        ensures members { IfOk result (λ copies. copies.items ≡ self.now.members) }
+        ensures certificate { IfOk result (λ copies. (x : KeptFragment)
+            → Contains copies.items x → IsFragmentCertified x) }
+    {
+        let members = self.members.as_slice();
+        let mut copies = Vec::with_capacity(alloc, members.len())?;
+        for member in members {
+            copies.push(member.copy()?)?;
+        }
+        Ok(copies)
+    }
+
+    /// Whether it has no members.
+    pub fn has_none(&self) -> bool
+        ensures { IsTrue result → self.now.members ≡ [] }
+    {
+        self.members.as_slice().is_empty()
+    }
+
+    /// Whether it has no clashes.
+    pub fn is_clean(&self) -> bool
+        ensures { IsTrue result → self.now.clashes ≡ [] }
+    {
+        self.clashes.get().is_empty()
+    }
+
+    /// The member of this name. Wherever what was observed of it holds, it is right.
+    pub fn known(&self, name: &str) -> Option<&Member>
+        ensures value { IfSome (option_copied result) (λ m.
+            Contains self.now.members m × (name_of m.fragment ≡ name.now)) }
+        ensures certificate { IfSome (option_copied result) IsFragmentCertified }
+    {
+        let _ = &self.members;
+        self.member(name)
+    }
+
     /// Whether it has a fragment of this name.
-    fn has_name(&self, name: &str) -> bool
+    pub fn has_name(&self, name: &str) -> bool
         ensures { MatchBool result (spec.HasMember self.now.members name.now)
             (spec.HasMember self.now.members name.now → ⊥) }
     {
@@ -243,6 +282,18 @@ impl Group {
             clashes: self.clashes.clone()?,
         })
     }
+}
+
+/// The group of these fragments, between any two of which nothing is bad. Nothing is searched.
+pub fn clean_group(alloc: Global, members: Vec<Member>) -> Result<Group, AllocError>
+    requires clean { spec.AreSomewhereClean members.items }
+    requires certified { (x : KeptFragment) → Contains members.items x → IsFragmentCertified x }
+    ensures members { IfOk result (λ g. g.members ≡ members.items) }
+    ensures clashes { IfOk result (λ g. g.clashes ≡ []) }
+{
+    let clashes = Shared::new(alloc, Vec::new(alloc))?;
+    let members = Named::new(alloc, members)?;
+    Ok(Group { members, clashes })
 }
 
 /// The group of these fragments: searches what clashes between each two of them.

@@ -1,11 +1,9 @@
 //! A fragment, with all that was observed of it.
-ghost use Rattle.std.specs.Prelude.{◌≡◌, ◌∷◌, Contains, IfOk, map};
-ghost use Rattle.gql_facts.specs.declared.fact.FragmentFact.{FragmentFact as AFragment};
+ghost use Rattle.std.specs.Prelude.{◌≡◌, ◌∷◌, IfOk, map};
 ghost use Rattle.gql_merge.specs.Between.{definition_of};
-ghost use Rattle.gql_pairs.specs.Groups.{MembersHold};
 ghost use Rattle.gql_reads.specs.Observations.{Hold};
 ghost use Rattle.gql_reads.specs.Readings.{flat, members_of as fragments_in, own_name};
-ghost use Rattle.gql_reads.specs.Tables.{AllHold};
+ghost use Rattle.gql_reads.specs.Tables.{AllHold, Keeps};
 ghost use Rattle.gql_pairs.specs.Fragments as spec;
 ghost use Rattle.gql_pairs.specs.Fragments.{KeptFragment};
 
@@ -120,6 +118,7 @@ pub fn member_of<W: World, K: KeptParts>(
     ensures names { W.names world.new ≡ W.names world.old }
     ensures lent { W.lent world.new ≡ W.lent world.old }
     ensures holds { AllHold (W.facts world.old) reads.new }
+    ensures reads_keep { Keeps reads.old reads.new }
     ensures fragment { IfOk result (λ m. m.fragment ≡ fragment.now) }
     ensures hold { IfOk result (λ m. Hold (W.facts world.old) m.observations) }
     ensures certificate { IfOk result spec.IsCertified }
@@ -129,35 +128,6 @@ pub fn member_of<W: World, K: KeptParts>(
     let reading = Shared::new(alloc, read)?;
     let fragment = fragment.copy()?;
     Ok(Member { fragment, reading })
-}
-
-/// Reads these fragments, each of which is the one of its name.
-pub fn members_of<W: World, K: KeptParts>(
-    alloc: Global,
-    world: &mut W,
-    kept: &K,
-    reads: &mut ReadTable,
-    fragments: &[FragmentFact],
-) -> Result<Vec<Member>, AllocError>
-    requires holds { AllHold (W.facts world.old) reads.old }
-    requires named { (g : AFragment) → Contains fragments.now g
-        → spec.IsFragmentOfName (W.facts world.old) g }
-    ensures facts { W.facts world.new ≡ W.facts world.old }
-    ensures names { W.names world.new ≡ W.names world.old }
-    ensures lent { W.lent world.new ≡ W.lent world.old }
-    ensures holds { AllHold (W.facts world.old) reads.new }
-    ensures fragments { IfOk result (λ members.
-        map (λ (m : KeptFragment). m.fragment) members.items ≡ fragments.now) }
-    ensures hold { IfOk result (λ members. MembersHold (W.facts world.old) members.items) }
-    ensures certified { IfOk result (λ members.
-        (m : KeptFragment) → Contains members.items m → spec.IsCertified m) }
-{
-    let mut known = KnownAnswers::new(alloc);
-    let mut members = Vec::with_capacity(alloc, fragments.len())?;
-    for fragment in fragments {
-        members.push(member_of(alloc, world, kept, reads, &mut known, fragment)?)?;
-    }
-    Ok(members)
 }
 
 /// The fragments of these members.

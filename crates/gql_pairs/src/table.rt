@@ -1,20 +1,18 @@
 //! The table of what clashes between fragments.
-ghost use Rattle.std.specs.Prelude.{◌≡◌, ◌↔◌, ◌⊎◌, [], map, Contains, IfOk, IfSome, IsTrue, MatchOption, OnOk};
+ghost use Rattle.std.specs.Prelude.{◌≡◌, ◌↔◌, ◌⊎◌, [], Contains, IfOk, IfSome, IsTrue, MatchOption, OnOk};
 ghost use Rattle.gql_facts.specs.Members.{Lists};
 ghost use Rattle.gql_facts.specs.Worlds.{Facts};
 ghost use Rattle.gql_facts.specs.declared.fact.FragmentFact.{FragmentFact as AFragment};
 ghost use Rattle.gql_merge.specs.Between.{IsBadBetween, PairReads, definition_of, name_of};
-ghost use Rattle.gql_pairs.specs.Fragments.{IsFragmentOfName, KeptFragment};
-ghost use Rattle.gql_pairs.specs.Groups.{IsPairCertified, KeptPair, MembersHold};
+ghost use Rattle.gql_pairs.specs.Fragments.{IsFragmentOfName};
+ghost use Rattle.gql_pairs.specs.Groups.{IsPairCertified, KeptPair};
 ghost use Rattle.gql_pairs.specs.Tables as spec;
 ghost use Rattle.gql_reads.specs.Observations.{Hold, keys_of};
-ghost use Rattle.gql_reads.specs.Tables as of_reads;
 
-use crate::group::{Group, PairBad, group_of};
-use crate::member::members_of;
+use crate::group::{Group, PairBad};
 use gql_ast::{Definition, Same, Shared, Tree};
 use gql_facts::{FragmentFact, World};
-use gql_reads::{KeptParts, NoParts, ReadTable};
+use gql_reads::{KnownAnswers, NoParts, ReadTable};
 use std::alloc::{AllocError, Global};
 use std::marker::Model;
 
@@ -87,30 +85,6 @@ fn both_of(
     Ok(both)
 }
 
-/// The group of these fragments.
-fn group_of_fragments<W: World, K: KeptParts>(
-    alloc: Global,
-    world: &mut W,
-    kept: &K,
-    reads: &mut ReadTable,
-    fragments: &[FragmentFact],
-) -> Result<Group, AllocError>
-    requires reads { of_reads.AllHold (W.facts world.old) reads.old }
-    requires named { (g : AFragment) → Contains fragments.now g
-        → IsFragmentOfName (W.facts world.old) g }
-    ensures facts { W.facts world.new ≡ W.facts world.old }
-    ensures names { W.names world.new ≡ W.names world.old }
-    ensures lent { W.lent world.new ≡ W.lent world.old }
-    ensures reads { of_reads.AllHold (W.facts world.old) reads.new }
-    ensures hold { IfOk result (λ group. MembersHold (W.facts world.old) group.members) }
-    ensures members { IfOk result (λ group.
-        map (λ (m : KeptFragment). m.fragment) group.members ≡ fragments.now) }
-{
-    let members = members_of(alloc, world, kept, reads, fragments)?;
-    let group = group_of(alloc, world, members)?;
-    Ok(group)
-}
-
 /// What some group keeps of the two fragments of these names.
 fn pair_in(
     alloc: Global,
@@ -174,47 +148,19 @@ impl PairTable {
         Ok(found)
     }
 
-    /// Whether there is one group of all these fragments.
-    fn has_all(&self, fragments: &[FragmentFact]) -> bool
+    /// Whether there is one group of all these fragments, or none of these.
+    pub(crate) fn has_all(&self, fragments: &[FragmentFact]) -> bool
         ensures { IsTrue result → spec.HasPairs self.now fragments.now }
     {
+        if fragments.is_empty() {
+            return true;
+        }
         for group in self.groups.as_slice() {
             if group.get().has_all(fragments) {
                 return true;
             }
         }
         false
-    }
-
-    /// Keeps an entry for each two of these fragments, and for each one with itself. If there is no
-    /// group of all of them, what clashes between them is searched. Whether it succeeds or an
-    /// allocation fails, no entry is lost, and all entries hold.
-    pub fn cover<W: World, K: KeptParts>(
-        &mut self,
-        alloc: Global,
-        world: &mut W,
-        kept: &K,
-        reads: &mut ReadTable,
-        fragments: &[FragmentFact],
-    ) -> Result<(), AllocError>
-        requires holds { spec.AllHold (W.facts world.old) self.old }
-        requires reads { of_reads.AllHold (W.facts world.old) reads.old }
-        requires named { (g : AFragment) → Contains fragments.now g
-            → IsFragmentOfName (W.facts world.old) g }
-        ensures facts { W.facts world.new ≡ W.facts world.old }
-        ensures names { W.names world.new ≡ W.names world.old }
-        ensures lent { W.lent world.new ≡ W.lent world.old }
-        ensures reads { of_reads.AllHold (W.facts world.old) reads.new }
-        ensures holds { spec.AllHold (W.facts world.old) self.new }
-        ensures keeps { spec.Keeps self.old self.new }
-        ensures has { OnOk result (spec.HasPairs self.new fragments.now) }
-    {
-        if self.has_all(fragments) {
-            return Ok(());
-        }
-        let group = group_of_fragments(alloc, world, kept, reads, fragments)?;
-        self.groups.push(Shared::new(alloc, group)?)?;
-        Ok(())
     }
 
     /// The bad pairs between two fragments: those that are reached from a field of the one's own
@@ -258,7 +204,15 @@ impl PairTable {
         let other = second.fragment.get().name.text.copy()?;
         let both = both_of(alloc, first, second)?;
         let mut reads = ReadTable::new(alloc);
-        self.cover(alloc, world, &NoParts {}, &mut reads, both.as_slice())?;
+        let mut known = KnownAnswers::new(alloc);
+        self.cover(
+            alloc,
+            world,
+            &NoParts {},
+            &mut reads,
+            &mut known,
+            both.as_slice(),
+        )?;
         let found = self.get(alloc, name.as_str(), other.as_str())?;
         Ok(found.unwrap())
     }

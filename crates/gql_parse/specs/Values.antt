@@ -11,6 +11,13 @@ use Rattle.gql_grammar.specs.Symbol.{Phrase, ◌>>=◌, ◌>>◌, pure, refuse, 
 use Rattle.gql_grammar.specs.Repetition.{any_while}
 use Rattle.gql_grammar.specs.Recursion.{recursive}
 use Rattle.gql_parse.specs.Names.{name}
+use Rattle.gql_parse.specs.declared.literal.ValueForm.{ValueForm}
+use Rattle.gql_parse.specs.declared.literal.ValueForm.TheVariants.{Constant, WithVariables}
+
+-- whether values of this form are constant (2.9)
+abbrev pub is_constant : ValueForm → Bool
+is_constant Constant = true
+is_constant WithVariables = false
 
 -- Variable: $ Name (2.10)
 unfoldable pub variable : Phrase Literal

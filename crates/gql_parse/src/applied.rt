@@ -5,8 +5,9 @@ ghost use Rattle.gql_text.specs.declared.token.Kind.TheVariants as k;
 ghost use Rattle.gql_grammar.specs.Symbol.{IsRest, Reads, before};
 ghost use Rattle.gql_grammar.specs.Repetition.{some_while};
 ghost use Rattle.gql_parse.specs.Directives as spec;
+ghost use Rattle.gql_parse.specs.Values.{is_constant};
 
-use crate::literal::value;
+use crate::literal::{ValueForm, value};
 use crate::names::name;
 use gql_ast::{Argument, Directive, Items};
 use gql_grammar::{Cursor, ParseError};
@@ -14,14 +15,14 @@ use gql_text::Kind;
 use std::alloc::Global;
 
 #[tactic(auto, using(gql_grammar::proofs::Rests::rests), unfolding(crate::specs::Directives::argument))]
-fn argument(alloc: Global, cursor: &mut Cursor<'_>, constant: bool) -> Result<Argument, ParseError>
-    ensures value { Reads ((spec.argument constant).read cursor.old) result cursor.new }
+fn argument(alloc: Global, cursor: &mut Cursor<'_>, form: ValueForm) -> Result<Argument, ParseError>
+    ensures value { Reads ((spec.argument (is_constant form)).read cursor.old) result cursor.new }
     ensures shorter { OnOk result (length cursor.new < length cursor.old) }
     ensures rest { IsRest cursor.new cursor.old }
 {
     let name = name(alloc, cursor)?;
     cursor.expect(Kind::Colon)?;
-    let value = value(alloc, cursor, constant)?;
+    let value = value(alloc, cursor, form)?;
     Ok(Argument { name, value })
 }
 
@@ -29,18 +30,18 @@ fn argument(alloc: Global, cursor: &mut Cursor<'_>, constant: bool) -> Result<Ar
 fn argument_list(
     alloc: Global,
     cursor: &mut Cursor<'_>,
-    constant: bool,
+    form: ValueForm,
 ) -> Result<Items<Argument>, ParseError>
     ensures value { Reads
-        ((some_while (before k.RightParenthesis) (spec.argument constant)).read cursor.old)
-        result cursor.new }
+        ((some_while (before k.RightParenthesis)
+        (spec.argument (is_constant form))).read cursor.old) result cursor.new }
     ensures shorter { OnOk result (length cursor.new < length cursor.old) }
     ensures rest { IsRest cursor.new cursor.old }
 {
     let mut found = Items::new(alloc);
-    found.push(argument(alloc, cursor, constant)?)?;
+    found.push(argument(alloc, cursor, form)?)?;
     'arguments: while cursor.before(Kind::RightParenthesis) {
-        found.push(argument(alloc, cursor, constant)?)?;
+        found.push(argument(alloc, cursor, form)?)?;
     }
     Ok(found)
 }
@@ -49,48 +50,49 @@ fn argument_list(
 fn arguments(
     alloc: Global,
     cursor: &mut Cursor<'_>,
-    constant: bool,
+    form: ValueForm,
 ) -> Result<Items<Argument>, ParseError>
-    ensures value { Reads ((spec.arguments constant).read cursor.old) result cursor.new }
+    ensures value { Reads ((spec.arguments (is_constant form)).read cursor.old) result cursor.new }
     ensures shorter { OnOk result (length cursor.new < length cursor.old) }
     ensures rest { IsRest cursor.new cursor.old }
 {
     cursor.expect(Kind::LeftParenthesis)?;
-    let found = argument_list(alloc, cursor, constant)?;
+    let found = argument_list(alloc, cursor, form)?;
     cursor.expect(Kind::RightParenthesis)?;
     Ok(found)
 }
 
-/// The arguments of a field or a directive, or none (2.6).
+/// The arguments of a field or a directive, or none (2.6). Their values are of this form.
 #[tactic(auto, using(gql_grammar::proofs::Rests::rests))]
 pub fn optional_arguments(
     alloc: Global,
     cursor: &mut Cursor<'_>,
-    constant: bool,
+    form: ValueForm,
 ) -> Result<Items<Argument>, ParseError>
-    ensures value { Reads ((spec.optional_arguments constant).read cursor.old) result cursor.new }
+    ensures value { Reads
+        ((spec.optional_arguments (is_constant form)).read cursor.old) result cursor.new }
     ensures shorter { OnOk result (length cursor.new ≤ length cursor.old) }
     ensures rest { IsRest cursor.new cursor.old }
 {
     if !cursor.sees(Kind::LeftParenthesis) {
         return Ok(Items::new(alloc));
     }
-    arguments(alloc, cursor, constant)
+    arguments(alloc, cursor, form)
 }
 
 #[tactic(auto, using(gql_grammar::proofs::Rests::rests), unfolding(crate::specs::Directives::directive))]
 fn directive(
     alloc: Global,
     cursor: &mut Cursor<'_>,
-    constant: bool,
+    form: ValueForm,
 ) -> Result<Directive, ParseError>
-    ensures value { Reads ((spec.directive constant).read cursor.old) result cursor.new }
+    ensures value { Reads ((spec.directive (is_constant form)).read cursor.old) result cursor.new }
     ensures shorter { OnOk result (length cursor.new < length cursor.old) }
     ensures rest { IsRest cursor.new cursor.old }
 {
     let mark = cursor.expect(Kind::At)?;
     let name = name(alloc, cursor)?;
-    let arguments = optional_arguments(alloc, cursor, constant)?;
+    let arguments = optional_arguments(alloc, cursor, form)?;
     Ok(Directive {
         place: mark.place,
         name,
@@ -98,20 +100,20 @@ fn directive(
     })
 }
 
-/// The directives that follow, possibly none (2.12). The values of constant ones have no variables.
+/// The directives that follow, possibly none (2.12). Values of their arguments are of this form.
 #[tactic(auto, unfolding(crate::specs::Directives::directives), using(gql_grammar::proofs::Rests::rests, gql_grammar::proofs::Loops::going_init, gql_grammar::proofs::Loops::going_on))]
 pub fn directives(
     alloc: Global,
     cursor: &mut Cursor<'_>,
-    constant: bool,
+    form: ValueForm,
 ) -> Result<Items<Directive>, ParseError>
-    ensures value { Reads ((spec.directives constant).read cursor.old) result cursor.new }
+    ensures value { Reads ((spec.directives (is_constant form)).read cursor.old) result cursor.new }
     ensures shorter { OnOk result (length cursor.new ≤ length cursor.old) }
     ensures rest { IsRest cursor.new cursor.old }
 {
     let mut found = Items::new(alloc);
     'directives: while cursor.sees(Kind::At) {
-        found.push(directive(alloc, cursor, constant)?)?;
+        found.push(directive(alloc, cursor, form)?)?;
     }
     Ok(found)
 }

@@ -12,6 +12,7 @@ ghost use Rattle.gql_parse.specs.Selections as of_selections;
 ghost use Rattle.gql_parse.specs.Types as of_types;
 ghost use Rattle.gql_parse.specs.Values as of_values;
 
+use crate::literal::ValueForm;
 use crate::{applied, executable, literal, names, operations, selections, types};
 use gql_ast::{Directive, Items, Literal, Name, Selection, Tree, TypeRef};
 use gql_grammar::{Cursor, ParseError};
@@ -27,29 +28,35 @@ pub fn definition(alloc: Global, cursor: &mut Cursor<'_>) -> Result<Tree, ParseE
     executable::definition(alloc, cursor)
 }
 
-/// The directives that follow, possibly none (GraphQL specification, 2.12).
+/// The directives that follow, possibly none (GraphQL specification, 2.12). Values of their
+/// arguments are of this form.
 pub fn directives(
     alloc: Global,
     cursor: &mut Cursor<'_>,
-    constant: bool,
+    form: ValueForm,
 ) -> Result<Items<Directive>, ParseError>
-    ensures answers { Answers (of_directives.directives constant) cursor.old result cursor.new }
-    ensures value { Reads ((of_directives.directives constant).read cursor.old) result cursor.new }
+    ensures answers { Answers
+        (of_directives.directives (of_values.is_constant form)) cursor.old result cursor.new }
+    ensures value { Reads
+        ((of_directives.directives (of_values.is_constant form)).read cursor.old)
+        result cursor.new }
     ensures shorter { OnOk result (length cursor.new ≤ length cursor.old) }
     ensures rest { IsRest cursor.new cursor.old }
 {
-    applied::directives(alloc, cursor, constant)
+    applied::directives(alloc, cursor, form)
 }
 
-/// A value (GraphQL specification, 2.9). It nests as deep as its brackets: a whole file has at most
-/// 100 of them open at one time, a bare cursor as many as its tokens have.
-pub fn value(alloc: Global, cursor: &mut Cursor<'_>, constant: bool) -> Result<Literal, ParseError>
-    ensures answers { Answers (of_values.value constant) cursor.old result cursor.new }
-    ensures value { Reads ((of_values.value constant).read cursor.old) result cursor.new }
+/// A value of this form (GraphQL specification, 2.9). It nests as deep as its brackets: a whole
+/// file has at most 100 of them open at one time, a bare cursor as many as its tokens have.
+pub fn value(alloc: Global, cursor: &mut Cursor<'_>, form: ValueForm) -> Result<Literal, ParseError>
+    ensures answers { Answers
+        (of_values.value (of_values.is_constant form)) cursor.old result cursor.new }
+    ensures value { Reads
+        ((of_values.value (of_values.is_constant form)).read cursor.old) result cursor.new }
     ensures shorter { OnOk result (length cursor.new < length cursor.old) }
     ensures rest { IsRest cursor.new cursor.old }
 {
-    literal::value(alloc, cursor, constant)
+    literal::value(alloc, cursor, form)
 }
 
 /// A type reference (GraphQL specification, 2.11). It nests as deep as its brackets: a whole file

@@ -15,7 +15,7 @@ use gql_grammar::{Cursor, SyntaxFault, looked_at, placed};
 use gql_text::{Place, Token, end_place, lex};
 use std::alloc::Global;
 
-// No token after the one that opens level 101 is read, which also bounds how deep the calls nest.
+/// No token after the one that opens level 101 is read, which also bounds how deep the calls nest.
 fn parse_looked_at(
     alloc: Global,
     tokens: &[Token<'_>],

@@ -15,3 +15,4 @@ mod types;
 
 pub use calls::{definition, directives, name, optional_default, set, type_ref, value};
 pub use document::{one_answer, parse, parse_tokens};
+pub use literal::ValueForm;

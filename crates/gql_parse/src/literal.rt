@@ -11,6 +11,15 @@ use gql_grammar::{Cursor, ParseError};
 use gql_text::{Kind, text_value};
 use std::alloc::Global;
 
+/// Whether a value may have variables in it (GraphQL specification, 2.9).
+#[derive(Clone, Copy, Debug, PartialEq, Eq)]
+pub enum ValueForm {
+    /// The value has no variables.
+    Constant,
+    /// The value may be a variable, or have variables in its items and fields.
+    WithVariables,
+}
+
 #[tactic(auto, using(gql_grammar::proofs::Rests::rests), unfolding(crate::specs::Values::variable))]
 fn variable(alloc: Global, cursor: &mut Cursor<'_>) -> Result<Literal, ParseError>
     ensures value { Reads (spec.variable.read cursor.old) result cursor.new }
@@ -105,53 +114,56 @@ fn word(alloc: Global, cursor: &mut Cursor<'_>) -> Result<Literal, ParseError>
     })
 }
 
-// A variable, unless the value is constant.
+/// A variable, if values of this form may have one.
 #[tactic(auto, using(gql_grammar::proofs::Rests::rests))]
-fn variable_unless(
+fn allowed_variable(
     alloc: Global,
     cursor: &mut Cursor<'_>,
-    constant: bool,
+    form: ValueForm,
 ) -> Result<Literal, ParseError>
-    ensures value { Reads ((spec.variable_unless constant).read cursor.old) result cursor.new }
+    ensures value { Reads
+        ((spec.variable_unless (spec.is_constant form)).read cursor.old) result cursor.new }
     ensures shorter { OnOk result (length cursor.new < length cursor.old) }
     ensures rest { IsRest cursor.new cursor.old }
 {
-    if constant {
-        return Err(ParseError::Unexpected);
+    match form {
+        ValueForm::Constant => Err(ParseError::Unexpected),
+        ValueForm::WithVariables => variable(alloc, cursor),
     }
-    variable(alloc, cursor)
 }
 
-/// A value (GraphQL specification, 2.9). A constant one has no variables.
+/// A value of this form (GraphQL specification, 2.9).
 #[cycle(value)]
 #[tactic(auto, using(gql_grammar::proofs::Rests::rests, crate::proofs::Rules::value_is))]
-pub fn value(alloc: Global, cursor: &mut Cursor<'_>, constant: bool) -> Result<Literal, ParseError>
-    ensures value { Reads ((spec.value constant).read cursor.old) result cursor.new }
+pub fn value(alloc: Global, cursor: &mut Cursor<'_>, form: ValueForm) -> Result<Literal, ParseError>
+    ensures value { Reads
+        ((spec.value (spec.is_constant form)).read cursor.old) result cursor.new }
     ensures shorter { OnOk result (length cursor.new < length cursor.old) }
     ensures rest { IsRest cursor.new cursor.old }
 {
     match cursor.kind() {
-        Kind::Dollar => variable_unless(alloc, cursor, constant),
+        Kind::Dollar => allowed_variable(alloc, cursor, form),
         Kind::IntValue => int(alloc, cursor),
         Kind::FloatValue => float(alloc, cursor),
         Kind::StringValue => string(alloc, cursor),
         Kind::BlockString => block_string(alloc, cursor),
         Kind::Name => word(alloc, cursor),
-        Kind::LeftBracket => list(alloc, cursor, constant),
-        Kind::LeftBrace => object(alloc, cursor, constant),
+        Kind::LeftBracket => list(alloc, cursor, form),
+        Kind::LeftBrace => object(alloc, cursor, form),
         _ => Err(ParseError::Unexpected),
     }
 }
 
 #[cycle(value)]
 #[tactic(auto, using(gql_grammar::proofs::Rests::rests), unfolding(crate::specs::Values::list_of))]
-fn list(alloc: Global, cursor: &mut Cursor<'_>, constant: bool) -> Result<Literal, ParseError>
-    ensures value { Reads ((spec.list_of (spec.value constant)).read cursor.old) result cursor.new }
+fn list(alloc: Global, cursor: &mut Cursor<'_>, form: ValueForm) -> Result<Literal, ParseError>
+    ensures value { Reads
+        ((spec.list_of (spec.value (spec.is_constant form))).read cursor.old) result cursor.new }
     ensures shorter { OnOk result (length cursor.new < length cursor.old) }
     ensures rest { IsRest cursor.new cursor.old }
 {
     let mark = cursor.expect(Kind::LeftBracket)?;
-    let items = items(alloc, cursor, constant)?;
+    let items = items(alloc, cursor, form)?;
     cursor.expect(Kind::RightBracket)?;
     Ok(Literal::List {
         place: mark.place,
@@ -164,31 +176,32 @@ fn list(alloc: Global, cursor: &mut Cursor<'_>, constant: bool) -> Result<Litera
 fn items(
     alloc: Global,
     cursor: &mut Cursor<'_>,
-    constant: bool,
+    form: ValueForm,
 ) -> Result<Items<Literal>, ParseError>
     ensures value { Reads
-        ((any_while (before k.RightBracket) (spec.value constant)).read cursor.old)
+        ((any_while (before k.RightBracket) (spec.value (spec.is_constant form))).read cursor.old)
         result cursor.new }
     ensures shorter { OnOk result (length cursor.new ≤ length cursor.old) }
     ensures rest { IsRest cursor.new cursor.old }
 {
     let mut items = Items::new(alloc);
     'items: while cursor.before(Kind::RightBracket) {
-        items.push(value(alloc, cursor, constant)?)?;
+        items.push(value(alloc, cursor, form)?)?;
     }
     Ok(items)
 }
 
 #[cycle(value)]
 #[tactic(auto, using(gql_grammar::proofs::Rests::rests), unfolding(crate::specs::Values::object_of))]
-fn object(alloc: Global, cursor: &mut Cursor<'_>, constant: bool) -> Result<Literal, ParseError>
+fn object(alloc: Global, cursor: &mut Cursor<'_>, form: ValueForm) -> Result<Literal, ParseError>
     ensures value { Reads
-        ((spec.object_of (spec.value constant)).read cursor.old) result cursor.new }
+        ((spec.object_of (spec.value (spec.is_constant form))).read cursor.old)
+        result cursor.new }
     ensures shorter { OnOk result (length cursor.new < length cursor.old) }
     ensures rest { IsRest cursor.new cursor.old }
 {
     let mark = cursor.expect(Kind::LeftBrace)?;
-    let fields = fields(alloc, cursor, constant)?;
+    let fields = fields(alloc, cursor, form)?;
     cursor.expect(Kind::RightBrace)?;
     Ok(Literal::Object {
         place: mark.place,
@@ -201,17 +214,18 @@ fn object(alloc: Global, cursor: &mut Cursor<'_>, constant: bool) -> Result<Lite
 fn fields(
     alloc: Global,
     cursor: &mut Cursor<'_>,
-    constant: bool,
+    form: ValueForm,
 ) -> Result<Items<ObjectField>, ParseError>
     ensures value { Reads
         ((any_while (before k.RightBrace)
-        (spec.object_field_of (spec.value constant))).read cursor.old) result cursor.new }
+        (spec.object_field_of (spec.value (spec.is_constant form)))).read cursor.old)
+        result cursor.new }
     ensures shorter { OnOk result (length cursor.new ≤ length cursor.old) }
     ensures rest { IsRest cursor.new cursor.old }
 {
     let mut fields = Items::new(alloc);
     'fields: while cursor.before(Kind::RightBrace) {
-        fields.push(object_field(alloc, cursor, constant)?)?;
+        fields.push(object_field(alloc, cursor, form)?)?;
     }
     Ok(fields)
 }
@@ -221,15 +235,16 @@ fn fields(
 fn object_field(
     alloc: Global,
     cursor: &mut Cursor<'_>,
-    constant: bool,
+    form: ValueForm,
 ) -> Result<ObjectField, ParseError>
     ensures value { Reads
-        ((spec.object_field_of (spec.value constant)).read cursor.old) result cursor.new }
+        ((spec.object_field_of (spec.value (spec.is_constant form))).read cursor.old)
+        result cursor.new }
     ensures shorter { OnOk result (length cursor.new < length cursor.old) }
     ensures rest { IsRest cursor.new cursor.old }
 {
     let name = name(alloc, cursor)?;
     cursor.expect(Kind::Colon)?;
-    let value = value(alloc, cursor, constant)?;
+    let value = value(alloc, cursor, form)?;
     Ok(ObjectField { name, value })
 }

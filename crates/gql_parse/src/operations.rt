@@ -7,7 +7,7 @@ ghost use Rattle.gql_grammar.specs.Repetition.{some_while};
 ghost use Rattle.gql_parse.specs.Operations as spec;
 
 use crate::applied::directives;
-use crate::literal::value;
+use crate::literal::{ValueForm, value};
 use crate::names::{name, optional_name};
 use crate::selections::{fragment_name, selections, set, type_condition};
 use crate::types::type_ref;
@@ -30,7 +30,7 @@ pub fn optional_default(
         return Ok(None);
     }
     cursor.expect(Kind::Equals)?;
-    Ok(Some(value(alloc, cursor, true)?))
+    Ok(Some(value(alloc, cursor, ValueForm::Constant)?))
 }
 
 #[tactic(auto, using(gql_grammar::proofs::Rests::rests), unfolding(crate::specs::Operations::variable_definition))]
@@ -47,7 +47,7 @@ fn variable_definition(
     cursor.expect(Kind::Colon)?;
     let of_type = type_ref(alloc, cursor)?;
     let default = optional_default(alloc, cursor)?;
-    let directives = directives(alloc, cursor, true)?;
+    let directives = directives(alloc, cursor, ValueForm::Constant)?;
     Ok(VariableDefinition {
         place: mark.place,
         name,
@@ -94,7 +94,7 @@ fn optional_variables(
     Ok(found)
 }
 
-// Whether this text is the keyword of an operation.
+/// Whether this text is the keyword of an operation.
 fn is_operation_type(text: &str) -> bool
     ensures { result ≡ spec.is_operation_type text.now }
 {
@@ -132,7 +132,7 @@ fn named_operation(alloc: Global, cursor: &mut Cursor<'_>) -> Result<Operation, 
     let word = operation_word(cursor)?;
     let name = optional_name(alloc, cursor)?;
     let variables = optional_variables(alloc, cursor)?;
-    let directives = directives(alloc, cursor, false)?;
+    let directives = directives(alloc, cursor, ValueForm::WithVariables)?;
     let selections = set(alloc, cursor)?;
     Ok(Operation {
         place: word.place,
@@ -187,7 +187,7 @@ pub fn fragment(alloc: Global, cursor: &mut Cursor<'_>) -> Result<Fragment, Pars
     let mark = cursor.expect_word("fragment")?;
     let name = fragment_name(alloc, cursor)?;
     let condition = type_condition(alloc, cursor)?;
-    let directives = directives(alloc, cursor, false)?;
+    let directives = directives(alloc, cursor, ValueForm::WithVariables)?;
     let selections = set(alloc, cursor)?;
     Ok(Fragment {
         place: mark.place,

@@ -6,6 +6,7 @@ ghost use Rattle.gql_grammar.specs.Symbol.{IsRest, Reads, optional, sees, sees_n
 ghost use Rattle.gql_parse.specs.Selections as spec;
 
 use crate::applied::{directives, optional_arguments};
+use crate::literal::ValueForm;
 use crate::names::name;
 use gql_ast::{Field, InlineFragment, Items, Name, Selection, Spread, Text};
 use gql_grammar::{Cursor, ParseError};
@@ -27,7 +28,7 @@ fn aliased(
     Ok((Some(alias), name))
 }
 
-// The alias, if there is one, and the name.
+/// The alias, if there is one, and the name.
 #[tactic(auto, using(gql_grammar::proofs::Rests::rests), unfolding(crate::specs::Selections::names))]
 fn names(alloc: Global, cursor: &mut Cursor<'_>) -> Result<(Option<Name>, Name), ParseError>
     ensures value { Reads (spec.names.read cursor.old) result cursor.new }
@@ -41,7 +42,7 @@ fn names(alloc: Global, cursor: &mut Cursor<'_>) -> Result<(Option<Name>, Name),
     aliased(alloc, cursor, first)
 }
 
-// Whether the next token is a name that a fragment may have.
+/// Whether the next token is a name that a fragment may have.
 #[tactic(auto, unfolding(gql_grammar::specs::Symbol::sees_name))]
 fn sees_fragment_name(cursor: &Cursor<'_>) -> bool
     ensures { result ≡ sees_name spec.is_fragment_name cursor.now }
@@ -94,7 +95,7 @@ fn spread(alloc: Global, cursor: &mut Cursor<'_>, mark: Token<'_>) -> Result<Spr
     ensures rest { IsRest cursor.new cursor.old }
 {
     let name = fragment_name(alloc, cursor)?;
-    let directives = directives(alloc, cursor, false)?;
+    let directives = directives(alloc, cursor, ValueForm::WithVariables)?;
     Ok(Spread {
         place: mark.place,
         name,
@@ -156,8 +157,8 @@ fn field(alloc: Global, cursor: &mut Cursor<'_>) -> Result<Field, ParseError>
     ensures rest { IsRest cursor.new cursor.old }
 {
     let (alias, name) = names(alloc, cursor)?;
-    let arguments = optional_arguments(alloc, cursor, false)?;
-    let directives = directives(alloc, cursor, false)?;
+    let arguments = optional_arguments(alloc, cursor, ValueForm::WithVariables)?;
+    let directives = directives(alloc, cursor, ValueForm::WithVariables)?;
     let selections = optional_set(alloc, cursor)?;
     Ok(Field {
         alias,
@@ -168,7 +169,7 @@ fn field(alloc: Global, cursor: &mut Cursor<'_>) -> Result<Field, ParseError>
     })
 }
 
-// The selections below a field, or none.
+/// The selections below a field, or none.
 #[cycle(set)]
 #[tactic(auto, using(gql_grammar::proofs::Rests::rests))]
 fn optional_set(alloc: Global, cursor: &mut Cursor<'_>) -> Result<Items<Selection>, ParseError>
@@ -196,7 +197,7 @@ fn inline_fragment(
     ensures rest { IsRest cursor.new cursor.old }
 {
     let condition = optional_condition(alloc, cursor)?;
-    let directives = directives(alloc, cursor, false)?;
+    let directives = directives(alloc, cursor, ValueForm::WithVariables)?;
     let selections = set(alloc, cursor)?;
     Ok(InlineFragment {
         place: mark.place,

@@ -61,7 +61,7 @@ fn list_type(alloc: Global, cursor: &mut Cursor<'_>) -> Result<TypeRef, ParseErr
     })
 }
 
-// The type, with the `!` after it if there is one.
+/// The type, with the `!` after it if there is one.
 #[tactic(auto, using(gql_grammar::proofs::Rests::rests), unfolding(crate::specs::Types::non_null))]
 fn marked(alloc: Global, cursor: &mut Cursor<'_>, nullable: TypeRef) -> Result<TypeRef, ParseError>
     ensures value { Reads ((spec.marked nullable).read cursor.old) result cursor.new }

@@ -66,7 +66,7 @@ fn type_system_location(text: &str) -> Option<DirectiveLocation>
     }
 }
 
-// The location of this name, of the nineteen.
+/// The location of this name, of the nineteen.
 fn location_named(text: &str) -> Option<DirectiveLocation>
     ensures { result ≡ spec.location_named text.now }
 {

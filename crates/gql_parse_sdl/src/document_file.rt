@@ -18,7 +18,7 @@ use gql_parse::definition as executable;
 use gql_text::{Kind, Place, Token, end_place, lex};
 use std::alloc::Global;
 
-// Whether an operation or a fragment begins with this word.
+/// Whether an operation or a fragment begins with this word.
 fn is_executable_word(text: &str) -> bool
     ensures { result ≡ spec.is_executable_word text.now }
 {

@@ -8,11 +8,11 @@ ghost use Rattle.gql_parse_sdl.specs.Enums as spec;
 use crate::description::{optional_description, text_of};
 use gql_ast::{EnumValueDefinition, Items, Name, Shared, Text};
 use gql_grammar::{Cursor, ParseError};
-use gql_parse::directives;
+use gql_parse::{ValueForm, directives};
 use gql_text::Kind;
 use std::alloc::Global;
 
-// Whether this name may be an enum value.
+/// Whether this name may be an enum value.
 fn is_enum_value(text: &str) -> bool
     ensures { result ≡ spec.is_enum_value text.now }
 {
@@ -44,7 +44,7 @@ fn enum_value(
 {
     let description = optional_description(alloc, cursor)?;
     let name = enum_name(alloc, cursor)?;
-    let directives = directives(alloc, cursor, true)?;
+    let directives = directives(alloc, cursor, ValueForm::Constant)?;
     let definition = EnumValueDefinition {
         description: text_of(description),
         name,

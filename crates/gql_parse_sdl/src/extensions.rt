@@ -8,7 +8,7 @@ use crate::type_body::body;
 use crate::type_keyword::TypeKeyword;
 use gql_ast::{SchemaExtension, Shared, Tree, TypeExtension};
 use gql_grammar::{Cursor, ParseError};
-use gql_parse::{directives, name};
+use gql_parse::{ValueForm, directives, name};
 use gql_text::{Kind, Place};
 use std::alloc::Global;
 
@@ -18,7 +18,7 @@ fn begins_braces(cursor: &Cursor<'_>) -> bool
     cursor.sees(Kind::At) || cursor.sees(Kind::LeftBrace)
 }
 
-// Whether a part that a type of this keyword may have follows.
+/// Whether a part that a type of this keyword may have follows.
 fn begins_part(cursor: &Cursor<'_>, keyword: TypeKeyword) -> bool
     ensures { result ≡ spec.begins_part keyword cursor.now }
 {
@@ -71,7 +71,7 @@ fn schema_extension(
     if !begins_braces(cursor) {
         return Err(ParseError::Unexpected);
     }
-    let directives = directives(alloc, cursor, true)?;
+    let directives = directives(alloc, cursor, ValueForm::Constant)?;
     let roots = optional_roots(alloc, cursor)?;
     Ok(SchemaExtension {
         place,

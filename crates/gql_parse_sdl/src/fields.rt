@@ -9,7 +9,7 @@ use crate::description::{optional_description, text_of};
 use crate::input_values::optional_argument_definitions;
 use gql_ast::{FieldDefinition, Items, Name, Shared};
 use gql_grammar::{Cursor, ParseError, Unexpected};
-use gql_parse::{directives, name, type_ref};
+use gql_parse::{ValueForm, directives, name, type_ref};
 use gql_text::Kind;
 use std::alloc::Global;
 
@@ -79,7 +79,7 @@ fn field(alloc: Global, cursor: &mut Cursor<'_>) -> Result<Shared<FieldDefinitio
     let arguments = optional_argument_definitions(alloc, cursor)?;
     cursor.expect(Kind::Colon)?;
     let of_type = type_ref(alloc, cursor)?;
-    let directives = directives(alloc, cursor, true)?;
+    let directives = directives(alloc, cursor, ValueForm::Constant)?;
     let definition = FieldDefinition {
         description: text_of(description),
         name,

@@ -6,7 +6,7 @@ ghost use Rattle.gql_parse_sdl.specs.InputValues as spec;
 use crate::description::{optional_description, text_of};
 use gql_ast::{InputValueDefinition, Items, Shared};
 use gql_grammar::{Cursor, ParseError};
-use gql_parse::{directives, name, optional_default, type_ref};
+use gql_parse::{ValueForm, directives, name, optional_default, type_ref};
 use gql_text::Kind;
 use std::alloc::Global;
 
@@ -24,7 +24,7 @@ fn input_value(
     cursor.expect(Kind::Colon)?;
     let of_type = type_ref(alloc, cursor)?;
     let default = optional_default(alloc, cursor)?;
-    let directives = directives(alloc, cursor, true)?;
+    let directives = directives(alloc, cursor, ValueForm::Constant)?;
     let definition = InputValueDefinition {
         description: text_of(description),
         name,
@@ -35,7 +35,7 @@ fn input_value(
     Ok(Shared::new(alloc, definition)?)
 }
 
-// One or more input values, up to the closing mark.
+/// One or more input values, up to the closing mark.
 #[tactic(auto, using(gql_grammar::proofs::Rests::rests, gql_grammar::proofs::Loops::going_init, gql_grammar::proofs::Loops::going_on))]
 fn input_values(
     alloc: Global,

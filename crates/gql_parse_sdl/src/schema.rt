@@ -10,11 +10,11 @@ ghost use Rattle.gql_parse_sdl.specs.Schemas as spec;
 use crate::description::{Description, start, text_of};
 use gql_ast::{Items, OperationKind, RootOperation, SchemaDefinition};
 use gql_grammar::{Cursor, ParseError, Unexpected};
-use gql_parse::{directives, name};
+use gql_parse::{ValueForm, directives, name};
 use gql_text::{Kind, Token};
 use std::alloc::Global;
 
-// Whether this text is the keyword of an operation.
+/// Whether this text is the keyword of an operation.
 fn is_operation_type(text: &str) -> bool
     ensures { result ≡ operations.is_operation_type text.now }
 {
@@ -114,7 +114,7 @@ pub fn schema(
     ensures rest { IsRest cursor.new cursor.old }
 {
     let mark = cursor.expect_word("schema")?;
-    let directives = directives(alloc, cursor, true)?;
+    let directives = directives(alloc, cursor, ValueForm::Constant)?;
     let roots = roots(alloc, cursor)?;
     Ok(SchemaDefinition {
         place: start(&description, mark.place),

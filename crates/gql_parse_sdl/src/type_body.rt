@@ -11,7 +11,7 @@ use crate::type_keyword::TypeKeyword;
 use crate::unions::optional_members;
 use gql_ast::{Directive, Items, TypeParts};
 use gql_grammar::{Cursor, ParseError};
-use gql_parse::directives;
+use gql_parse::{ValueForm, directives};
 use std::alloc::Global;
 
 /// The directives and the parts of a type.
@@ -27,7 +27,7 @@ fn scalar_body(alloc: Global, cursor: &mut Cursor<'_>) -> Result<TypeBody, Parse
     ensures shorter { OnOk result (length cursor.new ≤ length cursor.old) }
     ensures rest { IsRest cursor.new cursor.old }
 {
-    let directives = directives(alloc, cursor, true)?;
+    let directives = directives(alloc, cursor, ValueForm::Constant)?;
     Ok(TypeBody {
         directives,
         parts: TypeParts::Scalar,
@@ -41,7 +41,7 @@ fn object_body(alloc: Global, cursor: &mut Cursor<'_>) -> Result<TypeBody, Parse
     ensures rest { IsRest cursor.new cursor.old }
 {
     let interfaces = optional_interfaces(alloc, cursor)?;
-    let directives = directives(alloc, cursor, true)?;
+    let directives = directives(alloc, cursor, ValueForm::Constant)?;
     let fields = optional_fields(alloc, cursor)?;
     Ok(TypeBody {
         directives,
@@ -56,7 +56,7 @@ fn interface_body(alloc: Global, cursor: &mut Cursor<'_>) -> Result<TypeBody, Pa
     ensures rest { IsRest cursor.new cursor.old }
 {
     let interfaces = optional_interfaces(alloc, cursor)?;
-    let directives = directives(alloc, cursor, true)?;
+    let directives = directives(alloc, cursor, ValueForm::Constant)?;
     let fields = optional_fields(alloc, cursor)?;
     Ok(TypeBody {
         directives,
@@ -70,7 +70,7 @@ fn union_body(alloc: Global, cursor: &mut Cursor<'_>) -> Result<TypeBody, ParseE
     ensures shorter { OnOk result (length cursor.new ≤ length cursor.old) }
     ensures rest { IsRest cursor.new cursor.old }
 {
-    let directives = directives(alloc, cursor, true)?;
+    let directives = directives(alloc, cursor, ValueForm::Constant)?;
     let members = optional_members(alloc, cursor)?;
     Ok(TypeBody {
         directives,
@@ -84,7 +84,7 @@ fn enum_body(alloc: Global, cursor: &mut Cursor<'_>) -> Result<TypeBody, ParseEr
     ensures shorter { OnOk result (length cursor.new ≤ length cursor.old) }
     ensures rest { IsRest cursor.new cursor.old }
 {
-    let directives = directives(alloc, cursor, true)?;
+    let directives = directives(alloc, cursor, ValueForm::Constant)?;
     let values = optional_enum_values(alloc, cursor)?;
     Ok(TypeBody {
         directives,
@@ -98,7 +98,7 @@ fn input_object_body(alloc: Global, cursor: &mut Cursor<'_>) -> Result<TypeBody,
     ensures shorter { OnOk result (length cursor.new ≤ length cursor.old) }
     ensures rest { IsRest cursor.new cursor.old }
 {
-    let directives = directives(alloc, cursor, true)?;
+    let directives = directives(alloc, cursor, ValueForm::Constant)?;
     let fields = optional_input_fields(alloc, cursor)?;
     Ok(TypeBody {
         directives,

@@ -13,7 +13,7 @@ use gql_ast::{Shared, Tree};
 use gql_grammar::{Cursor, ParseError};
 use std::alloc::Global;
 
-// A definition, after its description.
+/// A definition, after its description.
 #[tactic(auto, using(gql_grammar::proofs::Rests::rests))]
 fn defined(
     alloc: Global,

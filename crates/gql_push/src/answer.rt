@@ -15,9 +15,12 @@ pub struct AnswerSpan {
 /// The greatest number of fields of an answer that is read.
 const MAX_FIELDS: usize = 32;
 
-/// The number that a field has, if it is one of at most 15 digits.
+/// The greatest number of digits of a length that is read.
+const MAX_DIGITS: usize = 15;
+
+/// The number that a field has, if it is one of at most `MAX_DIGITS` digits.
 fn number_in(value: &[u8]) -> Option<usize> {
-    if value.is_empty() || value.len() > 15 {
+    if value.is_empty() || value.len() > MAX_DIGITS {
         return None;
     }
     match str::from_utf8(value) {

@@ -4,6 +4,9 @@ use serde_json::Value;
 use std::alloc::{AllocError, Global};
 use std::str;
 
+/// The error code of an edit that expects another revision than the present one.
+const STALE: u64 = 206;
+
 /// What a registry answers to an edit, or to a call for the report.
 #[derive(Debug, Drop)]
 pub enum Reply {
@@ -50,7 +53,7 @@ fn refusal_in(alloc: Global, error: &Value) -> Result<Reply, AllocError> {
     let Some(number) = number_at(extensions, "code") else {
         return Ok(Reply::Strange);
     };
-    if number == 206 {
+    if number == STALE {
         return match number_at(extensions, "revision") {
             Some(revision) => Ok(Reply::Stale { revision }),
             None => Ok(Reply::Strange),

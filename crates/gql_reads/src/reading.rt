@@ -114,8 +114,7 @@ fn part_of<W: World, K: KeptParts>(
     if let Some(part) = table.get(&fragment.fragment.get().name.text) {
         return part.copy();
     }
-    let part = add_part(alloc, world, kept, table, known, fragment)?;
-    Ok(part)
+    add_part(alloc, world, kept, table, known, fragment)
 }
 
 /// Adds the part of a fragment, unless it was met.

@@ -94,9 +94,6 @@ pub fn part_for<W: World, K: KeptParts>(
 {
     match older_part(alloc, world, kept, fragment)? {
         Some(part) => Ok(part),
-        None => {
-            let part = walk_fragment(alloc, world, fragment, known)?;
-            Ok(part)
-        }
+        None => walk_fragment(alloc, world, fragment, known),
     }
 }

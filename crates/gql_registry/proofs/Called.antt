@@ -11,8 +11,8 @@ use Rattle.gql_ast.specs.declared.files.Files.{Files}
 use Rattle.gql_ast.specs.declared.text.Name.{Name}
 use Rattle.gql_steps.specs.Requests.{Executes, Response, request_of}
 use Rattle.gql_facts.specs.ListMembers.{Contains-nil, Contains-here, Contains-cases, Contains-flat_map, Contains-flat_map_from, found_in}
-use Rattle.gql_operations.specs.Chosen.{chosen, operations, named_operations, operation_in, operation_by, named_in, named_of, named_by, only}
-use Rattle.gql_operations.specs.declared.operations.NamedOperation.{NamedOperation}
+use Rattle.gql_registry.specs.Chosen.{chosen, operations, named_operations, operation_in, operation_by, named_in, named_of, named_by, only}
+use Rattle.gql_registry.specs.declared.operations.NamedOperation.{NamedOperation}
 use Rattle.gql_serving.specs.Laws.{SomeAnswer, HasNoFault}
 use Rattle.gql_registry.specs.Calling.{IsOver, IsOutcomeOf}
 use Rattle.gql_registry.specs.Calls.{AreAgainst, Answers, IsResponse, StandsAgainst, of_schema, of_documents, too_large, served, memory}

@@ -1,5 +1,5 @@
 -- Which check an edit fails first, once it has passed those before.
-use Rattle.std.proofs.Common.{◌≡◌, ◌<◌, ◌≤◌, ◌≢◌, ◌||◌, ℕ, List, length, Bool, true, false, nat_lt, Result, Ok, Err, Option, Some, None, is_some, refl, sym, ap, subst, arith}
+use Rattle.std.proofs.Common.{◌≡◌, ◌<◌, ◌≤◌, ◌≢◌, ◌||◌, ℕ, List, length, true, false, nat_lt, Result, Ok, Err, Option, Some, None, is_some, refl, sym, subst, arith}
 use Rattle.std.proofs.lemmas.Bool.Decides.{nat_tests}
 use Rattle.std.specs.Prelude.{IsUtf8}
 use Rattle.std.specs.Result.{IsErrAnd}
@@ -11,7 +11,7 @@ use Rattle.gql_grammar.specs.declared.fault.SyntaxFault.TheVariants as fault
 use Rattle.gql_ast.specs.FileMaps.{file_named}
 use Rattle.gql_ast.specs.declared.definition.Document.{Document}
 use Rattle.gql_ast.specs.declared.fault.FileSide.{FileSide}
-use Rattle.gql_bodies.specs.DataBodies.{IsDataText}
+use Rattle.gql_registry.specs.DataBodies.{IsDataText}
 use Rattle.gql_registry.specs.Checks.{IsExpected}
 use Rattle.gql_registry.specs.Edits.{Edit, put, remove, put_data, Fails, stale, spent, too_long, not_text, data_not_text, bad_data, syntax, no_file, files_full, rank, IsFirstRefusal, IsAccepted, Makes}
 use Rattle.gql_registry.specs.Refusals.{refusal_of}

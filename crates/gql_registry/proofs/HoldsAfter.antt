@@ -1,5 +1,5 @@
 -- What each name holds after an accepted edit.
-use Rattle.std.proofs.Common.{◌≡◌, ◌≢◌, ◌⊎◌, inl, inr, ℕ, List, Bool, true, false, Option, Some, None, refl, sym, ap, subst, ◌∙◌, bytes_eq}
+use Rattle.std.proofs.Common.{◌≡◌, ◌≢◌, ◌⊎◌, inl, inr, ℕ, List, Bool, true, false, refl, sym, ap, subst, ◌∙◌, bytes_eq}
 use Rattle.std.specs.List.Sorted.{IsStrictlySortedBy}
 use Rattle.std.specs.Map.{keys_of}
 use Rattle.std.specs.Ordering.{is_eq}
@@ -8,7 +8,7 @@ use Rattle.gql_ast.specs.FileMaps.{file_named, name_order, with_file, without_fi
 use Rattle.gql_ast.specs.declared.definition.Document.{Document}
 use Rattle.gql_ast.specs.declared.fault.FileSide.{FileSide}
 use Rattle.gql_ast.specs.declared.fault.FileSide.TheVariants.{Schema, Documents}
-use Rattle.gql_registry.specs.Edits.{Edit, put, remove, put_data, EditsFile, Leaves}
+use Rattle.gql_registry.specs.Edits.{Edit, put, remove, put_data, EditsFile}
 use Rattle.gql_registry.specs.Laws.{LeavesUnder, by_put, by_removal, elsewhere, HoldsAfter}
 use Rattle.gql_registry.specs.Sides.{IsFileOn}
 use Rattle.gql_registry.specs.State.{State}

@@ -4,9 +4,13 @@ use Rattle.gql_ast.specs.declared.definition.Definition.{Definition}
 use Rattle.gql_ast.specs.declared.files.Files.{Files}
 use Rattle.gql_facts.specs.Facts.{fact_of}
 use Rattle.gql_facts.specs.ListMembers.{Contains-nil}
-use Rattle.gql_registry.specs.Keeping.{IsKept, IsKnownBefore, IsShelfOf}
+use Rattle.gql_facts.specs.Worlds.{Facts}
+use Rattle.gql_pairs.specs.Groups.{KeptGroup}
+use Rattle.gql_pairs.specs.Tables.{AllHold}
+use Rattle.gql_registry.specs.Keeping.{ArePairsBefore, ArePairsOf, IsKept, IsKnownBefore, IsShelfOf}
 use Rattle.gql_verdict.specs.DocumentEdits.{ChangesOnly}
 use Rattle.gql_verdict.specs.FileOrder.{AreFilesPlaced}
+use Rattle.gql_verdict.specs.Shelves.{Shelved, nothing_shelved}
 use Rattle.gql_verdict.specs.Verdicts.{Judgement}
 use Rattle.gql_verdict.specs.declared.touched.Touched.{Touched}
 use Rattle.gql_verdict.specs.declared.touched.Touched.TheVariants.{All, File}
@@ -21,10 +25,20 @@ known before after shelf (File edit) placed current only = (
   record { held = current.holds; unchanged = only.answers },
 )
 
+-- what is kept of pairs of fragments held in the files before the edit, which changes no other answers
+pub pairs_known : (before after : Files) (pairs : List KeptGroup) (t : Touched) → ArePairsOf before pairs → ChangesOnly t before after → ArePairsBefore after pairs t
+pairs_known before after pairs All hold only = tt
+pairs_known before after pairs (File edit) hold only = (fact_of before, hold, only.answers)
+
+-- without entries all hold
+pub no_pairs : (facts : Facts) → AllHold facts []
+no_pairs facts n m k (group, there, is) = absurd (Contains-nil group there)
+
 -- without files nothing is to be kept
-pub none_kept : (shelf : List Judgement) → shelf ≡ [] → IsKept (record { schema = []; documents = [] }) None shelf
+pub none_kept : (shelf : Shelved) → shelf ≡ nothing_shelved → IsKept (record { schema = []; documents = [] }) None shelf
 none_kept shelf is = rw is (record {
   placed = λ file h. absurd (Contains-nil file h);
   known = tt;
   current = record { each = refl; holds = λ v h. absurd (Contains-nil v h) };
+  pairs = no_pairs (fact_of (record { schema = []; documents = [] }));
 })

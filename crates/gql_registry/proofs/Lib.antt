@@ -10,6 +10,7 @@ pub mod Mapped
 pub mod OneEdit
 pub mod OneReport
 pub mod PlacedFiles
+pub mod PlannedFiles
 pub mod Reports
 pub mod Working
 pub mod SameSchema

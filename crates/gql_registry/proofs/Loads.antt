@@ -1,5 +1,5 @@
 -- Edits that are made in turn.
-use Rattle.std.proofs.Common.{◌≡◌, ◌<◌, ◌+◌, ◌∙◌, ℕ, List, [], ◌∷◌, ◌++◌, length, map, take, get_or, Option, Some, None, Result, Ok, Err, inl, inr, refl, sym, ap, ap₂, subst}
+use Rattle.std.proofs.Common.{◌≡◌, ◌<◌, ◌+◌, ◌∙◌, ℕ, List, [], ◌∷◌, ◌++◌, length, take, get_or, Some, None, Result, Ok, Err, inl, inr, refl, sym, ap, ap₂, subst}
 use Rattle.std.proofs.lemmas.List.{map-append, take-map, take_more}
 use Rattle.std.proofs.lemmas.Option.{slice_get-map, slice_get_read}
 use Rattle.std.specs.Prelude.{option_map, slice_get, IsUtf8}
@@ -7,9 +7,9 @@ use Rattle.std.specs.Result.{IsErrAnd}
 use Rattle.gql_ast.specs.declared.definition.DefinitionId.{DefinitionId}
 use Rattle.gql_ast.specs.declared.fault.FileSide.{FileSide}
 use Rattle.gql_ast.specs.declared.files.Files.{Files}
-use Rattle.gql_bodies.specs.DataBodies.{IsDataText}
-use Rattle.gql_registry.specs.Changes.{IsChangeOf}
-use Rattle.gql_registry.specs.Edits.{Edit, put, put_data, IsAccepted, Leaves, Reports}
+use Rattle.gql_registry.specs.DataBodies.{IsDataText}
+use Rattle.gql_registry.specs.EditPlans.{IsEditPlanOf}
+use Rattle.gql_registry.specs.Edits.{Edit, put, put_data, Reports}
 use Rattle.gql_registry.specs.Keeping.{IsWorkOn}
 use Rattle.gql_registry.specs.Laws.{OneLoad}
 use Rattle.gql_registry.specs.Loading.{MakesAll, done, step, IsLoadRefusal, Loads, LoadsInVain, LoadWorks, edit_of, edits_of}
@@ -108,8 +108,8 @@ one_load one s t u (e ∷ edits) (step {t = a} accepted leaves more) (step {t = 
 -- ---- the change
 
 -- a change that may have changed everything, and leaves files whose definitions are in order
-pub whole_change : (before after : Files) → AreFilesPlaced after.documents → IsChangeOf before (record { files = after; touched = All; schema = None })
-whole_change before after placed = record {
+pub whole_plan : (before after : Files) → AreFilesPlaced after.documents → IsEditPlanOf before (record { files = after; touched = All; schema = None })
+whole_plan before after placed = record {
   placed = placed;
   touched = record {
     answers = λ k untouched. absurd (cc untouched);

@@ -1,5 +1,5 @@
 -- A call has one answer.
-use Rattle.std.proofs.Common.{◌≡◌, ◌<◌, ◌≤◌, List, [], ◌∷◌, Contains, Option, Some, None, Result, Ok, Err, refl, sym, ap, subst, ◌∙◌, ℕ, arith}
+use Rattle.std.proofs.Common.{◌≡◌, ◌<◌, ◌≤◌, List, [], ◌∷◌, Option, Some, None, Result, Ok, Err, refl, sym, ap, subst, ◌∙◌, ℕ, arith}
 use Rattle.gql_ast.specs.declared.definition.Definition.{Definition}
 use Rattle.gql_ast.specs.declared.definition.Tree.TheVariants as tree
 use Rattle.gql_ast.specs.declared.executable.Operation.{Operation}
@@ -8,7 +8,7 @@ use Rattle.gql_ast.specs.declared.files.Files.{Files}
 use Rattle.gql_exec.specs.Laws.{OneResponse}
 use Rattle.gql_steps.specs.Requests.{Executes, Response, most_values, request_of}
 use Rattle.gql_facts.specs.ListMembers.{Contains-here}
-use Rattle.gql_operations.specs.Chosen.{chosen}
+use Rattle.gql_registry.specs.Chosen.{chosen}
 use Rattle.gql_report.specs.Laws.{OneOrder}
 use Rattle.gql_registry.specs.Calls.{AreAgainst, Answers, CallOutcome, outcome_of, IsResponse, StandsAgainst, no_operation, faulty, too_large, served, memory}
 use Rattle.gql_registry.specs.Laws.{OneAnswer}

@@ -1,7 +1,4 @@
 -- Files have one report.
-use Rattle.std.proofs.Common.{◌≡◌, List}
-use Rattle.gql_ast.specs.declared.fault.Fault.{Fault}
-use Rattle.gql_ast.specs.declared.files.Files.{Files}
 use Rattle.gql_report.specs.Laws.{OneOrder}
 use Rattle.gql_registry.specs.Laws.{OneReport}
 

@@ -1,5 +1,5 @@
 -- The definitions of document files stand at rising places, after each edit too.
-use Rattle.std.proofs.Common.{◌≡◌, inl, inr, ℕ, List, [], ◌∷◌, Bool, true, false, refl, sym, ap, subst, ◌∙◌, Contains, IfSome}
+use Rattle.std.proofs.Common.{◌≡◌, inl, inr, ℕ, List, [], ◌∷◌, Bool, true, false, refl, sym, ap, subst, ◌∙◌, IfSome}
 use Rattle.std.specs.Ordering.{is_eq}
 use Rattle.std.specs.declared.cmp.Ordering.{Ordering}
 use Rattle.std.specs.declared.cmp.Ordering.TheVariants.{Less, Equal, Greater}
@@ -10,13 +10,13 @@ use Rattle.gql_ast.specs.declared.definition.Document.{Document}
 use Rattle.gql_ast.specs.declared.fault.FileSide.{FileSide}
 use Rattle.gql_ast.specs.declared.fault.FileSide.TheVariants.{Schema, Documents}
 use Rattle.gql_ast.specs.declared.files.Files.{Files}
-use Rattle.gql_facts.specs.ListMembers.{Contains-nil, Contains-here, Contains-there, Contains-cases}
+use Rattle.gql_facts.specs.ListMembers.{Contains-here, Contains-there, Contains-cases}
 use Rattle.gql_parse_sdl.specs.Placed as parsed
-use Rattle.gql_registry.specs.Changes.{IsChangeOf, IsChangeTo}
+use Rattle.gql_registry.specs.EditPlans.{IsEditPlanOf, IsEditPlanTo}
 use Rattle.gql_registry.specs.Checks.{IsPlacedOn}
 use Rattle.gql_registry.specs.Keeping.{IsSideOf}
 use Rattle.gql_registry.specs.Sides.{with_put, with_removed}
-use Rattle.gql_registry.specs.declared.change.Change.{Change}
+use Rattle.gql_registry.specs.declared.edit_plan.EditPlan.{EditPlan}
 use Rattle.gql_verdict.specs.DocumentEdits.{ChangesOnly}
 use Rattle.gql_verdict.specs.FileOrder.{ArePlaced, AreFilesPlaced}
 
@@ -67,15 +67,15 @@ removal_placed_on Schema files name all = all
 removal_placed_on Documents files name all = removal_placed files.documents name all
 
 -- the change of an edit can be taken
-change_of : (before after : Files) (c : Change) → AreFilesPlaced after.documents → IsChangeTo before after c → IsChangeOf before c
-change_of before after c placed to = record {
+plan_of : (before after : Files) (c : EditPlan) → AreFilesPlaced after.documents → IsEditPlanTo before after c → IsEditPlanOf before c
+plan_of before after c placed to = record {
   placed = subst (λ (f : Files). AreFilesPlaced f.documents) (sym to.files) placed;
   touched = subst (λ (f : Files). ChangesOnly c.touched before f) (sym to.files) to.touched;
   schema = subst (λ (f : Files). IfSome c.schema (IsSideOf f)) (sym to.files) to.schema;
 }
 
-pub put_change_of : (side : FileSide) (files : Files) (name : List ℕ) (d : Document) (c : Change) → AreFilesPlaced files.documents → IsPlacedOn side name d → IsChangeTo files (with_put side files name d) c → IsChangeOf files c
-put_change_of side files name d c all here to = change_of files _ c (put_placed_on side files name d all here) to
+pub put_plan_of : (side : FileSide) (files : Files) (name : List ℕ) (d : Document) (c : EditPlan) → AreFilesPlaced files.documents → IsPlacedOn side name d → IsEditPlanTo files (with_put side files name d) c → IsEditPlanOf files c
+put_plan_of side files name d c all here to = plan_of files _ c (put_placed_on side files name d all here) to
 
-pub removal_change_of : (side : FileSide) (files : Files) (name : List ℕ) (c : Change) → AreFilesPlaced files.documents → IsChangeTo files (with_removed side files name) c → IsChangeOf files c
-removal_change_of side files name c all to = change_of files _ c (removal_placed_on side files name all) to
+pub removal_plan_of : (side : FileSide) (files : Files) (name : List ℕ) (c : EditPlan) → AreFilesPlaced files.documents → IsEditPlanTo files (with_removed side files name) c → IsEditPlanOf files c
+removal_plan_of side files name c all to = plan_of files _ c (removal_placed_on side files name all) to

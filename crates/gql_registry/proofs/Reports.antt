@@ -1,5 +1,5 @@
 -- The members of a report.
-use Rattle.std.proofs.Common.{◌≡◌, ◌≢◌, ◌↔◌, ◌⊎◌, ◌==◌, ℕ, suc, arith, inl, inr, List, [], ◌∷◌, ◌++◌, length, true, false, refl, sym, subst, Contains, Bool, IsTrue}
+use Rattle.std.proofs.Common.{◌≡◌, ◌≢◌, ◌↔◌, ◌==◌, ℕ, suc, arith, inl, inr, List, [], ◌∷◌, ◌++◌, length, true, false, refl, sym, subst, Contains, Bool, IsTrue}
 use Rattle.std.proofs.lemmas.Bool.Decides.{nat_tests}
 use Rattle.std.proofs.lemmas.List.Elements.{Contains-append_left, Contains-append_right, Contains-append_cases}
 use Rattle.gql_ast.specs.declared.fault.Fault.{Fault}
@@ -68,3 +68,8 @@ of_documents files names ofs all report sound are lists is same f = (
 pub none_iff_sound : (files : Files) (faults : List Fault) (is : Bool) → is ≡ (length faults == 0) → AreSchemaFaults files faults → IsTrue is ↔ IsSound files
 none_iff_sound files faults true is lists = (λ t. sound_if_none files faults (none_if faults (sym is)) lists, λ sound. refl)
 none_iff_sound files faults false is lists = (λ t. absurd (cc t), λ sound. absurd (unsound_if_some files faults (some_if faults (sym is)) lists sound))
+
+-- where the faults of a schema are not none, it is not sound
+pub unsound : {files : Files} (b : Bool) → IsTrue b ↔ IsSound files → b ≡ false → IsSound files → ⊥
+unsound true same is sound = cc is
+unsound false same is sound = cc (same.1 sound)

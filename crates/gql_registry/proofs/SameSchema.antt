@@ -3,9 +3,8 @@ use Rattle.std.proofs.Common.{◌≡◌, ℕ, List, Option, Some, None, IfSome, 
 use Rattle.gql_ast.specs.declared.definition.Document.{Document}
 use Rattle.gql_ast.specs.declared.fault.Fault.{Fault}
 use Rattle.gql_ast.specs.declared.files.Files.{Files}
-use Rattle.gql_schema_rules.specs.SchemaFaults.{IsSchemaFault, FaultsBy, by_s01, by_s02, by_s03, by_s04, by_s05, by_s06, by_s07, by_s08, by_s09, by_s10, by_s11, by_s12, by_s13, by_s14, by_s15, by_s16, by_s17, by_s18, by_s19, by_s20, by_s21, by_s22, by_s23, by_s24, by_s25, by_s26, by_s27, by_s28, by_s29, by_s30, by_s31, by_s32, by_s33, by_s34, by_s35, by_s36, by_p01, by_p02}
-use Rattle.gql_ast.specs.declared.fault.FileSide.{FileSide}
-use Rattle.gql_registry.specs.Changes.{ChangesTypes, IsKnownBeforeEdit, IsSideBefore}
+use Rattle.gql_schema_rules.specs.SchemaFaults.{FaultsBy, by_s01, by_s02, by_s03, by_s04, by_s05, by_s06, by_s07, by_s08, by_s09, by_s10, by_s11, by_s12, by_s13, by_s14, by_s15, by_s16, by_s17, by_s18, by_s19, by_s20, by_s21, by_s22, by_s23, by_s24, by_s25, by_s26, by_s27, by_s28, by_s29, by_s30, by_s31, by_s32, by_s33, by_s34, by_s35, by_s36, by_p01, by_p02}
+use Rattle.gql_registry.specs.EditPlans.{IsSideAfterDocuments, IsSideBeforeEdit}
 use Rattle.gql_types.specs.Edits.{KeepsOthers}
 use Rattle.gql_types.specs.Schemas.{schema_of}
 use Rattle.gql_types.specs.declared.schema.Schema.{Schema}
@@ -119,14 +118,11 @@ same_schema : (before after : Files) (side : SchemaSide) → before.schema ≡ a
 same_schema before after side e is = subst (λ schema. IsSideOf (record { schema = schema; documents = after.documents }) side) e (same_side before after.documents side is)
 
 -- so an edit of a document file keeps the schema that is known
-pub kept_side : (before after : Files) (known : Known) → IsKnownOf before known → before.schema ≡ after.schema → IsSideOf after known.schema
-kept_side before after known is e = same_schema before after known.schema e is.schema
+pub kept_side : (known : Known) → IsSideAfterDocuments (Some known) (Some known.schema)
+kept_side known before after is e = same_schema before after known.schema e is.schema
 
-pub side_before : (before after : Files) (names : List (List ℕ)) (known : Known) → IsKnownOf before known → KeepsOthers names (schema_of before) (schema_of after)
-    → IsSideBefore names after known.schema
-side_before before after names known is keeps = (before, is.schema, keeps)
-
-pub known_before : (side : FileSide) (names : List (List ℕ)) (before after : Files) (known : Option Known) → IfSome known (IsKnownOf before)
-    → ChangesTypes side names before after → IfSome known (IsKnownBeforeEdit side names after)
-known_before side names before after None is changes = is
-known_before side names before after (Some known) is changes = (before, is, changes)
+-- what is known before an edit has the schema before it
+pub known_before : (names : List (List ℕ)) (before after : Files) (known : Option Known) → IfSome known (IsKnownOf before)
+    → KeepsOthers names (schema_of before) (schema_of after) → IfSome known (IsSideBeforeEdit names after)
+known_before names before after None is keeps = is
+known_before names before after (Some known) is keeps = (before, is.schema, keeps)

@@ -1,15 +1,15 @@
 -- What an edit examines, where it is refused.
-use Rattle.std.proofs.Common.{◌≡◌, ◌⊎◌, inl, inr, ℕ, List, Option, Result, Ok, Err, IfErr, OnErr, refl, sym, subst}
+use Rattle.std.proofs.Common.{◌≡◌, inl, ℕ, List, Option, Result, Ok, Err, IfErr, OnErr, refl, sym, subst}
 use Rattle.std.specs.Result.{IsErrAnd}
 use Rattle.gql_ast.specs.declared.definition.DefinitionId.{DefinitionId}
 use Rattle.gql_ast.specs.declared.files.Files.{Files}
 use Rattle.gql_facts.specs.Facts.{fact_of}
-use Rattle.gql_registry.specs.Changes.{IsChangeBy, IsRefusedBy}
+use Rattle.gql_registry.specs.EditPlans.{IsEditPlanBy, IsRefusedBy}
 use Rattle.gql_registry.specs.Checks.{IsBadData, IsInTime}
 use Rattle.gql_registry.specs.Edits.{Edit, put_data, IsFirstRefusal, Leaves, Makes, Reports}
 use Rattle.gql_registry.specs.Keeping.{IsWorkOn}
 use Rattle.gql_registry.specs.State.{State, next}
-use Rattle.gql_registry.specs.declared.change.Change.{Change}
+use Rattle.gql_registry.specs.declared.edit_plan.EditPlan.{EditPlan}
 use Rattle.gql_registry.specs.Works.{Works, WorksInVain}
 use Rattle.gql_registry.specs.declared.refusal.Refusal.{Refusal}
 use Rattle.gql_registry.specs.declared.refusal.Refusal.TheVariants as refusal
@@ -66,12 +66,12 @@ bad_data_answer s expected bytes (Ok edited) q is h time = absurd is
 bad_data_answer s expected bytes (Err x) q is h time = subst (λ y. Makes s expected (put_data bytes) (Err y) s) (sym is) (h s expected time)
 
 -- an edit that failed for memory before it came to be taken
-pub in_vain : (s : State) (e : Edit) (r : Result Change Refusal) → IsErrAnd r (λ x. x ≡ refusal.Memory) → IfErr r (IsRefusedBy s e)
+pub in_vain : (s : State) (e : Edit) (r : Result EditPlan Refusal) → IsErrAnd r (λ x. x ≡ refusal.Memory) → IfErr r (IsRefusedBy s e)
 in_vain s e (Ok c) is = absurd is
 in_vain s e (Err x) is = subst (IsRefusedBy s e) (sym is) (λ expected time. refl)
 
 -- an edit that comes in time, and whose change was taken
-pub accepted_answer : (s t : State) (expected : Option ℕ) (e : Edit) (c : Change) (edited : Edited) → IsChangeBy s e c → IsInTime s expected → t ≡ next s c.files
+pub accepted_answer : (s t : State) (expected : Option ℕ) (e : Edit) (c : EditPlan) (edited : Edited) → IsEditPlanBy s e c → IsInTime s expected → t ≡ next s c.files
     → Reports (next s c.files) edited → Makes s expected e (Ok edited) t
 accepted_answer s t expected e c edited by time is reports = (
   by.accepted expected time,

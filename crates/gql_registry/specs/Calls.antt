@@ -10,7 +10,7 @@ use Rattle.gql_ast.specs.declared.fault.Fault.{Fault}
 use Rattle.gql_ast.specs.declared.files.Files.{Files}
 use Rattle.gql_steps.specs.Requests.{Executes, Response, most_values, request_of}
 use Rattle.gql_facts.specs.Facts.{fact_of}
-use Rattle.gql_operations.specs.Chosen as operations
+use Rattle.gql_registry.specs.Chosen as operations
 use Rattle.gql_reply.specs.ReplyText.{reply_text}
 use Rattle.gql_report.specs.Order.{fault_order}
 use Rattle.gql_schema_rules.specs.SchemaFaults.{IsSchemaFault}

@@ -8,7 +8,7 @@ use Rattle.gql_ast.specs.FileMaps.{file_named}
 use Rattle.gql_ast.specs.declared.definition.Document.{Document}
 use Rattle.gql_ast.specs.declared.fault.Fault.{Fault}
 use Rattle.gql_ast.specs.declared.fault.FileSide.{FileSide}
-use Rattle.gql_bodies.specs.DataBodies.{IsDataText}
+use Rattle.gql_registry.specs.DataBodies.{IsDataText}
 use Rattle.gql_registry.specs.Report.{IsReport}
 use Rattle.gql_registry.specs.Sides.{IsFileOn, IsFaultOn, files_on, with_put, with_removed}
 use Rattle.gql_registry.specs.State.{State, next, next_data, last_revision, file_limit, most_files}

@@ -8,7 +8,9 @@ use Rattle.gql_facts.specs.Tables.{tables_of}
 use Rattle.gql_facts.specs.declared.schema_facts.SchemaFacts.{SchemaFacts}
 use Rattle.gql_ast.specs.declared.definition.DefinitionId.{DefinitionId}
 use Rattle.gql_intro.specs.Made.{made_of}
-use Rattle.gql_operations.specs.Indexed.{IsIndexOf as IsOperationIndex}
+use Rattle.gql_pairs.specs.Groups.{KeptGroup}
+use Rattle.gql_pairs.specs.Tables.{AllHold, KeepsHolding}
+use Rattle.gql_registry.specs.Indexed.{IsIndexOf as IsOperationIndex}
 use Rattle.gql_schema_rules.specs.SchemaFaults.{IsSchemaFault}
 use Rattle.gql_registry.specs.Report.{IsReport}
 use Rattle.gql_registry.specs.declared.index.DocumentIndex.{DocumentIndex}
@@ -19,23 +21,37 @@ use Rattle.gql_types.specs.Schemas.{schema_of}
 use Rattle.gql_verdict.specs.Definitions.{all_definitions}
 use Rattle.gql_verdict.specs.FileOrder.{AreFilesPlaced}
 use Rattle.gql_verdict.specs.Plans.{IsPlanned, Preparation}
-use Rattle.gql_verdict.specs.Shelves.{IsCurrent, IsWork, IsFaultOfAny}
-use Rattle.gql_verdict.specs.TouchedFacts.{IsKnown}
+use Rattle.gql_verdict.specs.Shelves.{IsCurrent, IsWork, IsFaultOfAny, Shelved}
+use Rattle.gql_verdict.specs.TouchedFacts.{ArePairsKnown, IsKnown}
 use Rattle.gql_verdict.specs.Verdicts.{Judgement}
 use Rattle.gql_verdict.specs.declared.touched.Touched.{Touched}
 
--- files, and the verdicts that are kept
+-- files, the verdicts that are kept, and what is kept of pairs of fragments
 pub record Keeping : Type 0 where
   pub files : Files
   pub shelf : List Judgement
+  pub pairs : List KeptGroup
 
--- no files, and no verdicts
+-- no files, and nothing kept
 abbrev pub nothing_kept : Keeping
-nothing_kept = record { files = record { schema = []; documents = [] }; shelf = [] }
+nothing_kept =
+    record { files = record { schema = []; documents = [] }; shelf = []; pairs = [] }
 
 -- one verdict for each definition of the document files; each holds
 abbrev pub IsShelfOf : Files → List Judgement → Type 0
 IsShelfOf files = IsCurrent (fact_of files) (all_definitions files.documents)
+
+-- what is kept of each two fragments holds: what was observed of them is still so
+abbrev pub ArePairsOf : Files → List KeptGroup → Type 0
+ArePairsOf files = AllHold (fact_of files)
+
+-- of what was kept of two fragments, all that holds for these files is still kept
+abbrev pub KeepsPairs : Files → List KeptGroup → List KeptGroup → Type 0
+KeepsPairs files = KeepsHolding (fact_of files)
+
+-- what is known of pairs of fragments before an edit that makes these files
+abbrev pub ArePairsBefore : Files → List KeptGroup → Touched → Type 0
+ArePairsBefore files = ArePairsKnown (fact_of files)
 
 -- what is known of an edit that makes these files, from the verdicts before it
 abbrev pub IsKnownBefore : Files → List Judgement → Touched → Type 0
@@ -80,9 +96,10 @@ pub record IsKnownOf (files : Files) (known : Known) : Type 0 where
   pub report : IsReport files known.report.items
   pub owners : AreOwnersOf known.report.items known.owners
 
--- what is known and the verdicts are those of the files, and the definitions of the files are in
--- order
-pub record IsKept (files : Files) (o : Option Known) (shelf : List Judgement) : Type 0 where
+-- what is known and the verdicts are those of the files, what is kept of pairs of fragments holds,
+-- and the definitions of the files are in order
+pub record IsKept (files : Files) (o : Option Known) (shelf : Shelved) : Type 0 where
   pub placed : AreFilesPlaced files.documents
   pub known : IfSome o (IsKnownOf files)
-  pub current : IsShelfOf files shelf
+  pub current : IsShelfOf files shelf.verdicts
+  pub pairs : ArePairsOf files shelf.pairs

@@ -1,5 +1,5 @@
 -- The laws of the registry's report and edits. `src/laws.rt` has a function for each.
-use Rattle.std.specs.Prelude.{ℕ, ◌≡◌, List, Option, Some, None, Result, Ok, Err}
+use Rattle.std.specs.Prelude.{ℕ, ◌≡◌, List, Option, Some, None, Result, Err}
 use Rattle.std.specs.List.Sorted.{IsStrictlySortedBy}
 use Rattle.std.specs.Map.{keys_of}
 use Rattle.gql_ast.specs.FileMaps.{file_named, name_order}

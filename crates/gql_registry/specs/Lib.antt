@@ -1,4 +1,7 @@
 pub mod Refusals
+pub mod DataBodies
+pub mod Chosen
+pub mod Indexed
 pub mod Report
 pub mod Sides
 pub mod Keeping
@@ -12,5 +15,5 @@ pub mod Calling
 pub mod Prepared
 pub mod Checks
 pub mod Laws
-pub mod Changes
-pub mod Plans
+pub mod EditPlans
+pub mod Examining

@@ -8,13 +8,10 @@ use Rattle.gql_ast.specs.declared.files.Files.{Files}
 use Rattle.gql_facts.specs.Facts.{fact_of}
 use Rattle.gql_report.specs.Order.{fault_order}
 use Rattle.gql_schema_rules.specs.SchemaFaults.{IsSchemaFault}
+pub use Rattle.gql_serving.specs.SoundSchemas.{IsSound}
 use Rattle.gql_verdict.specs.Definitions.{all_definitions}
 use Rattle.gql_verdict.specs.Faults.{IsFaultIn}
 use Rattle.gql_verdict.specs.NameFaults.{name_faults}
-
--- the schema of the schema files has no fault
-abbrev pub IsSound : Files → Type 0
-IsSound files = (f : Fault) → IsSchemaFault files f → ⊥
 
 -- The files have this fault: it is one of the schema; or, if the schema has none, one of the names
 -- in all document files or of a definition in them.

@@ -1,6 +1,7 @@
 -- What the registry holds.
 use Rattle.std.specs.Prelude.{ℕ, ◌+◌, ◌^◌, ◌-◌, List, []}
 use Rattle.gql_ast.specs.declared.files.Files.{Files}
+use Rattle.gql_pairs.specs.Groups.{KeptGroup}
 use Rattle.gql_registry.specs.declared.registry.Registry.{Registry}
 use Rattle.gql_stored.specs.Effects.{Effect, after}
 use Rattle.gql_verdict.specs.Verdicts.{Judgement}
@@ -21,6 +22,10 @@ state_of r = record { files = r.kept.files; stored = view r.stored; revision = r
 -- the verdicts that a registry keeps
 abbrev pub shelf_of : Registry → List Judgement
 shelf_of r = r.kept.shelf
+
+-- what a registry keeps of pairs of fragments
+abbrev pub pairs_of : Registry → List KeptGroup
+pairs_of r = r.kept.pairs
 
 -- the state without files, with data that has no members, before any edit
 abbrev pub empty : State

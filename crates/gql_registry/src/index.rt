@@ -2,9 +2,9 @@
 ghost use Rattle.std.specs.Prelude.{IfOk};
 ghost use Rattle.gql_registry.specs.Keeping.{IsIndexOf};
 
+use crate::operations::Operations;
 use gql_ast::Files;
 use gql_facts::Fragments;
-use gql_operations::Operations;
 use std::alloc::{AllocError, Global};
 
 /// The fragments and the operations of the document files.

@@ -4,32 +4,32 @@ ghost use Rattle.std.specs.Option.{option_copied};
 ghost use Rattle.serde_json.specs.View.{view};
 ghost use Rattle.gql_registry.specs.Calls.{Answers};
 ghost use Rattle.gql_registry.specs.Prepared.{ran_of};
-ghost use Rattle.gql_registry.specs.Changes.{IsChangeOf, IsChangeTo, IsReportLength};
-ghost use Rattle.gql_registry.specs.Keeping.{AreFactsOf, AreSchemaFaults, IsPlanFor, IsShelfOf};
+ghost use Rattle.gql_registry.specs.EditPlans.{IsEditPlanOf, IsEditPlanTo, IsReportLength};
+ghost use Rattle.gql_registry.specs.Examining.{IsExaminedFor};
+ghost use Rattle.gql_registry.specs.Keeping.{ArePairsBefore, ArePairsOf, KeepsPairs};
+ghost use Rattle.gql_registry.specs.Keeping.{AreSchemaFaults, IsDefinitionFault, IsPlanFor, IsShelfOf};
 ghost use Rattle.gql_registry.specs.Keeping.{IsIndexOf, IsKnownBefore, IsKnownOf, IsSideOf, IsWorkOn};
 ghost use Rattle.gql_registry.specs.Keeping.{nothing_kept};
-ghost use Rattle.gql_registry.specs.Plans.{IsPlannedFor};
 ghost use Rattle.gql_ast.specs.declared.files.Files.{Files as TheFiles};
 ghost use Rattle.gql_registry.specs.Report.{IsReport, IsSound};
-ghost use Rattle.gql_facts.specs.Facts as facts;
+ghost use Rattle.gql_facts.specs.Members.{Lists};
 ghost use Rattle.gql_registry.specs.Sides as spec;
 ghost use Rattle.gql_verdict.specs.FileOrder.{AreFilesPlaced};
 
 use crate::calling::{Ran, answer_call};
-use crate::change::{Change, change_by_put, change_by_removal};
+use crate::edit_plan::{EditPlan, edit_plan};
 use crate::index::{DocumentIndex, document_index};
 use crate::refusal::Refusal;
-use crate::report::{Known, SchemaSide, documents_report, schema_report, schema_side, sharing};
+use crate::report::{Known, SchemaSide, known_with, schema_side, sharing};
 use gql_ast::{Document, Fault, FileName, FileSide, Files, Shared};
-use gql_facts::{Fragments, Present, SchemaFacts};
-use gql_serving::Owners;
-use gql_verdict::{Meter, Prepared, Shelf, Touched};
+use gql_facts::Present;
+use gql_verdict::{Meter, Prepared, Shelf};
 use serde_json::Value;
 use std::alloc::{AllocError, Global};
 use std::marker::Model;
 
-/// The files that are present, what is known of them once there was an edit, and the verdicts on
-/// their definitions. Contracts see the files and the verdicts.
+/// The files that are present, what is known of them once there was an edit, the verdicts on their
+/// definitions, and what clashes between their fragments. Contracts see all but what is known.
 #[derive(Drop)]
 pub struct Kept {
     files: Files,
@@ -44,6 +44,8 @@ impl Model for Kept {
     ghost use Rattle.gql_ast.specs.contracts.files.Files as present;
     ghost use Rattle.gql_facts.specs.contracts.key.Key as key;
     ghost use Rattle.gql_facts.specs.contracts.fact.Fact as fact;
+    ghost use Rattle.gql_facts.specs.contracts.fact.FragmentFact as fragment_fact;
+    ghost use Rattle.gql_merge.specs.contracts.two_fragments.FragmentClash as clash;
     ghost use Rattle.gql_registry.specs.Keeping.{Keeping, IsKept};
 
     ghost Value = { Keeping };
@@ -55,16 +57,22 @@ impl Model for Kept {
       fault.the_row.coded,
       key.the_row.coded,
       fact.the_row.coded,
+      fragment_fact.the_row.coded,
+      clash.the_row.coded,
     ) };
 
-    ghost view = { λ k. record { files = k.files; shelf = k.shelf } };
+    ghost view = { λ k. record {
+      files = k.files;
+      shelf = k.shelf.verdicts;
+      pairs = k.shelf.pairs;
+    } };
 
     ghost invariant = { λ k. IsKept k.files k.known k.shelf };
 }
 
-/// What an edit changes besides the files.
+/// What is known of the files of a plan, and the verdicts that are prepared for them.
 #[derive(Drop)]
-struct Planned {
+struct Examined {
     known: Known,
     verdicts: Prepared,
 }
@@ -88,72 +96,27 @@ fn known_side(
     }
 }
 
-/// Prepares the verdicts for files that are to be present.
-fn prepared_verdicts(
+/// Prepares the verdicts for the files of a plan, which have this schema.
+fn verdicts_for(
     alloc: Global,
     shelf: &Shelf,
-    schema: &SchemaFacts,
-    fragments: &Fragments,
-    files: &Files,
-    touched: &Touched,
+    schema: &SchemaSide,
+    index: &DocumentIndex,
+    plan: &EditPlan,
     meter: &mut Meter,
 ) -> Result<Prepared, AllocError>
-    requires schema { AreFactsOf files.now schema.now }
-    requires fragments { fragments.now.all ≡ facts.fragments files.now.documents }
-    requires placed { AreFilesPlaced files.now.documents }
-    requires known { IsKnownBefore files.now shelf.now touched.now }
-    ensures planned { IfOk result (IsPlanFor files.now shelf.now) }
-    ensures work { IsWorkOn files.now shelf.now meter.old meter.new }
+    requires schema { IsSideOf plan.now.files schema.now }
+    requires index { IsIndexOf plan.now.files index.now }
+    requires placed { AreFilesPlaced plan.now.files.documents }
+    requires known { IsKnownBefore plan.now.files shelf.now.verdicts plan.now.touched }
+    requires pairs { ArePairsBefore plan.now.files shelf.now.pairs plan.now.touched }
+    ensures planned { IfOk result (IsPlanFor plan.now.files shelf.now.verdicts) }
+    ensures pairs { IfOk result (λ p. KeepsPairs plan.now.files shelf.now.pairs p.pairs) }
+    ensures work { IsWorkOn plan.now.files shelf.now.verdicts meter.old meter.new }
 {
-    let mut world = Present::new(schema, fragments);
-    let prepared = shelf.prepare(alloc, &mut world, files, touched, meter)?;
+    let mut world = Present::new(&schema.facts, &index.fragments);
+    let prepared = shelf.prepare(alloc, &mut world, &plan.files, &plan.touched, meter)?;
     Ok(prepared)
-}
-
-/// The report of files that are to be present.
-fn prepared_report(
-    alloc: Global,
-    shelf: &Shelf,
-    verdicts: &Prepared,
-    schema_faults: &[Shared<Fault>],
-    files: &Files,
-) -> Result<Vec<Shared<Fault>>, AllocError>
-    requires planned { IsPlanFor files.now shelf.now verdicts.now }
-    requires schema { AreSchemaFaults files.now schema_faults.now }
-    ensures { IfOk result (λ report. IsReport files.now report.items) }
-{
-    if !schema_faults.is_empty() {
-        let report = schema_report(alloc, schema_faults)?;
-        return Ok(report);
-    }
-    let of_definitions = shelf.prepared_faults(alloc, verdicts)?;
-    let report = documents_report(alloc, files, of_definitions)?;
-    Ok(report)
-}
-
-/// What is known of files that are to be present and have this schema.
-fn known_then(
-    alloc: Global,
-    shelf: &Shelf,
-    verdicts: &Prepared,
-    schema: Shared<SchemaSide>,
-    index: DocumentIndex,
-    files: &Files,
-) -> Result<Known, AllocError>
-    requires planned { IsPlanFor files.now shelf.now verdicts.now }
-    requires schema { IsSideOf files.now schema }
-    requires index { IsIndexOf files.now index }
-    ensures { IfOk result (IsKnownOf files.now) }
-{
-    let faults = schema.get().faults.as_slice();
-    let report = prepared_report(alloc, shelf, verdicts, faults, files)?;
-    let owners = Owners::new(alloc, report.as_slice())?;
-    Ok(Known {
-        schema,
-        index,
-        report,
-        owners,
-    })
 }
 
 /// Whether a schema with these faults has none.
@@ -164,95 +127,78 @@ fn has_none(faults: &[Shared<Fault>]) -> bool
     faults.is_empty()
 }
 
-/// The report of files that are present.
-fn present_report(
+/// The faults of the verdicts that are prepared, if the schema has none: else they do not count.
+fn prepared_faults(
     alloc: Global,
     shelf: &Shelf,
-    schema_faults: &[Shared<Fault>],
-    files: &Files,
+    verdicts: &Prepared,
+    schema: &SchemaSide,
 ) -> Result<Vec<Shared<Fault>>, AllocError>
-    requires shelf { IsShelfOf files.now shelf.now }
-    requires schema { AreSchemaFaults files.now schema_faults.now }
-    ensures { IfOk result (λ report. IsReport files.now report.items) }
+    ensures { IfOk result (λ found. (files : TheFiles) → IsPlanFor files shelf.now.verdicts verdicts.now
+        → IsSideOf files schema.now → IsSound files
+        → Lists found.items (IsDefinitionFault files)) }
 {
-    if !schema_faults.is_empty() {
-        let report = schema_report(alloc, schema_faults)?;
-        return Ok(report);
+    if !has_none(schema.faults.as_slice()) {
+        return Ok(Vec::new(alloc));
     }
-    let of_definitions = shelf.faults(alloc)?;
-    let report = documents_report(alloc, files, of_definitions)?;
-    Ok(report)
+    shelf.prepared_faults(alloc, verdicts)
+}
+
+/// The faults of the verdicts on the shelf, if the schema has none: else they do not count.
+fn present_faults(
+    alloc: Global,
+    shelf: &Shelf,
+    schema: &SchemaSide,
+) -> Result<Vec<Shared<Fault>>, AllocError>
+    ensures { IfOk result (λ found. (files : TheFiles) → IsShelfOf files shelf.now.verdicts
+        → IsSideOf files schema.now → IsSound files
+        → Lists found.items (IsDefinitionFault files)) }
+{
+    if !has_none(schema.faults.as_slice()) {
+        return Ok(Vec::new(alloc));
+    }
+    shelf.faults(alloc)
 }
 
 /// What is known of files that are present.
 fn known_of(alloc: Global, shelf: &Shelf, files: &Files) -> Result<Known, AllocError>
-    requires { IsShelfOf files.now shelf.now }
+    requires { IsShelfOf files.now shelf.now.verdicts }
     ensures { IfOk result (IsKnownOf files.now) }
 {
-    let schema = schema_side(alloc, files)?;
-    let report = present_report(alloc, shelf, schema.faults.as_slice(), files)?;
+    let schema = known_side(alloc, &None, files)?;
     let index = document_index(alloc, files)?;
-    let schema = Shared::new(alloc, schema)?;
-    let owners = Owners::new(alloc, report.as_slice())?;
-    Ok(Known {
-        schema,
-        index,
-        report,
-        owners,
-    })
+    let faults = present_faults(alloc, shelf, schema.get())?;
+    known_with(alloc, files, schema, index, faults)
 }
 
-/// Prepares the verdicts for files that are to be present and have this schema.
-fn verdicts_for(
+/// Examines the definitions whose verdicts do not hold for the files of a plan, and makes the report
+/// of these files.
+fn examine(
     alloc: Global,
     shelf: &Shelf,
-    schema: &SchemaSide,
-    index: &DocumentIndex,
-    change: &Change,
+    plan: &EditPlan,
     meter: &mut Meter,
-) -> Result<Prepared, AllocError>
-    requires schema { IsSideOf change.now.files schema.now }
-    requires index { IsIndexOf change.now.files index.now }
-    requires placed { AreFilesPlaced change.now.files.documents }
-    requires known { IsKnownBefore change.now.files shelf.now change.now.touched }
-    ensures planned { IfOk result (IsPlanFor change.now.files shelf.now) }
-    ensures work { IsWorkOn change.now.files shelf.now meter.old meter.new }
+) -> Result<Examined, AllocError>
+    requires schema { IfSome plan.now.schema (IsSideOf plan.now.files) }
+    requires placed { AreFilesPlaced plan.now.files.documents }
+    requires known { IsKnownBefore plan.now.files shelf.now.verdicts plan.now.touched }
+    requires pairs { ArePairsBefore plan.now.files shelf.now.pairs plan.now.touched }
+    ensures examined { IfOk result (IsExaminedFor plan.now.files shelf.now.verdicts) }
+    ensures pairs { IfOk result (λ e.
+        KeepsPairs plan.now.files shelf.now.pairs e.verdicts.pairs) }
+    ensures work { IsWorkOn plan.now.files shelf.now.verdicts meter.old meter.new }
 {
-    let files = &change.files;
-    let verdicts = prepared_verdicts(
-        alloc,
-        shelf,
-        &schema.facts,
-        &index.fragments,
-        files,
-        &change.touched,
-        meter,
-    )?;
-    Ok(verdicts)
-}
-
-/// All that an edit changes besides the files.
-fn plan_change(
-    alloc: Global,
-    shelf: &Shelf,
-    change: &Change,
-    meter: &mut Meter,
-) -> Result<Planned, AllocError>
-    requires schema { IfSome change.now.schema (IsSideOf change.now.files) }
-    requires placed { AreFilesPlaced change.now.files.documents }
-    requires known { IsKnownBefore change.now.files shelf.now change.now.touched }
-    ensures planned { IfOk result (IsPlannedFor change.now.files shelf.now) }
-    ensures work { IsWorkOn change.now.files shelf.now meter.old meter.new }
-{
-    let schema = known_side(alloc, &change.schema, &change.files)?;
-    let index = document_index(alloc, &change.files)?;
-    let verdicts = verdicts_for(alloc, shelf, schema.get(), &index, change, meter)?;
-    let known = known_then(alloc, shelf, &verdicts, schema, index, &change.files)?;
-    Ok(Planned { known, verdicts })
+    let schema = known_side(alloc, &plan.schema, &plan.files)?;
+    let index = document_index(alloc, &plan.files)?;
+    let verdicts = verdicts_for(alloc, shelf, schema.get(), &index, plan, meter)?;
+    let faults = prepared_faults(alloc, shelf, &verdicts, schema.get())?;
+    let known = known_with(alloc, &plan.files, schema, index, faults)?;
+    Ok(Examined { known, verdicts })
 }
 
 impl Kept {
     /// No files.
+    #[tactic(auto, using(crate::proofs::Knowing::none_kept))]
     pub fn new(alloc: Global) -> Kept
         ensures { result ≡ nothing_kept }
     {
@@ -271,10 +217,13 @@ impl Kept {
         &self.files
     }
 
-    /// The verdicts, one for each definition of the document files.
+    /// The verdicts, one for each definition of the document files, and what is kept of pairs of
+    /// fragments.
     pub fn shelf(&self) -> &Shelf
-        ensures shelf { result.now ≡ self.now.shelf }
+        ensures shelf { result.now.verdicts ≡ self.now.shelf }
         ensures current { IsShelfOf self.now.files self.now.shelf }
+        ensures pairs { result.now.pairs ≡ self.now.pairs }
+        ensures hold { ArePairsOf self.now.files self.now.pairs }
     {
         &self.shelf
     }
@@ -286,9 +235,8 @@ impl Kept {
         if let Some(known) = &self.known {
             return sharing(alloc, known.report.as_slice());
         }
-        let side = schema_side(alloc, &self.files)?;
-        let report = present_report(alloc, &self.shelf, side.faults.as_slice(), &self.files)?;
-        Ok(report)
+        let known = known_of(alloc, &self.shelf, &self.files)?;
+        sharing(alloc, known.report.as_slice())
     }
 
     /// Whether the schema of the files has no faults.
@@ -298,8 +246,8 @@ impl Kept {
         if let Some(known) = &self.known {
             return Ok(has_none(known.schema.get().faults.as_slice()));
         }
-        let side = schema_side(alloc, &self.files)?;
-        Ok(has_none(side.faults.as_slice()))
+        let known = known_of(alloc, &self.shelf, &self.files)?;
+        Ok(has_none(known.schema.get().faults.as_slice()))
     }
 
     /// How many faults the report has.
@@ -332,53 +280,43 @@ impl Kept {
         answer_call(alloc, &known, name, variables, stored)
     }
 
-    /// The change that puts a file on a side.
-    pub fn change_by_put(
+    /// The plan of an edit that replaces the file of a name on a side by this one, or removes it if
+    /// there is none to put.
+    pub fn plan(
         &self,
         alloc: Global,
         side: FileSide,
         name: FileName,
-        document: Document,
-    ) -> Result<Change, AllocError>
-        ensures { IfOk result (IsChangeTo self.now.files
-            (spec.with_put side self.now.files name document)) }
+        document: Option<Document>,
+    ) -> Result<EditPlan, AllocError>
+        ensures { IfOk result (IsEditPlanTo self.now.files
+            (spec.with_file side self.now.files name document)) }
     {
-        change_by_put(alloc, &self.files, &self.known, side, name, document)
+        edit_plan(alloc, &self.files, &self.known, side, name, document)
     }
 
-    /// The change that removes the file of a name from a side.
-    pub fn change_by_removal(
-        &self,
-        alloc: Global,
-        side: FileSide,
-        name: &FileName,
-    ) -> Result<Change, AllocError>
-        ensures { IfOk result (IsChangeTo self.now.files
-            (spec.with_removed side self.now.files name.now)) }
-    {
-        change_by_removal(alloc, &self.files, &self.known, side, name)
-    }
-
-    /// Replaces the files that are present by those of a change, and returns how many faults the
-    /// report then has. If an allocation fails, nothing is changed.
+    /// Commits a plan: examines what its edit touches, replaces the files that are present by those
+    /// of the plan, and returns how many faults the report then has. If an allocation fails, nothing
+    /// is changed.
     #[tactic(none)]
-    pub fn take(
+    pub fn commit(
         &mut self,
         alloc: Global,
-        change: Change,
+        plan: EditPlan,
         meter: &mut Meter,
     ) -> Result<u64, AllocError>
-        requires { IsChangeOf self.old.files change }
-        ensures files { OnOk result (self.new.files ≡ change.files) }
-        ensures count { IfOk result (IsReportLength change.files) }
+        requires { IsEditPlanOf self.old.files plan }
+        ensures files { OnOk result (self.new.files ≡ plan.files) }
+        ensures count { IfOk result (IsReportLength plan.files) }
+        ensures pairs { OnOk result (KeepsPairs plan.files self.old.pairs self.new.pairs) }
         ensures err { OnErr result (self.new ≡ self.old) }
-        ensures work { IsWorkOn change.files self.old.shelf meter.old meter.new }
+        ensures work { IsWorkOn plan.files self.old.shelf meter.old meter.new }
     {
-        let planned = plan_change(alloc, &self.shelf, &change, meter)?;
-        let count = planned.known.report.len() as u64;
-        self.shelf.commit(planned.verdicts);
-        self.known = Some(planned.known);
-        self.files = change.files;
+        let found = examine(alloc, &self.shelf, &plan, meter)?;
+        let count = found.known.report.len() as u64;
+        self.shelf.commit(found.verdicts);
+        self.known = Some(found.known);
+        self.files = plan.files;
         Ok(count)
     }
 }

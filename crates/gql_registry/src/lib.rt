@@ -3,11 +3,14 @@
 #![tactic(auto)]
 
 mod calling;
-mod change;
+mod data;
+mod edit_plan;
 mod index;
+mod integers;
 mod kept;
 pub mod laws;
 mod loading;
+mod operations;
 mod present;
 mod reading;
 mod refusal;

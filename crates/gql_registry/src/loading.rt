@@ -8,7 +8,7 @@ ghost use Rattle.gql_verdict.specs.FileOrder.{AreFilesPlaced};
 ghost use Rattle.serde_json.specs.Data.{Data as TheData};
 ghost use Rattle.serde_json.specs.View.{view};
 
-use crate::change::Change;
+use crate::edit_plan::EditPlan;
 use crate::reading::{has_room, read_data, read_file};
 use crate::refusal::Refusal;
 use crate::registry::{Edited, Registry};
@@ -213,20 +213,21 @@ fn load_all(
 impl Registry {
     ghost use Rattle.std.specs.Prelude.{◌≡◌, IfOk, OnErr, OnOk};
     ghost use Rattle.gql_registry.specs.Edits.{Reports};
-    ghost use Rattle.gql_registry.specs.Keeping.{IsWorkOn};
+    ghost use Rattle.gql_registry.specs.Keeping.{IsWorkOn, KeepsPairs};
     ghost use Rattle.gql_registry.specs.Loading.{LoadWorks, Loads, edits_of};
-    ghost use Rattle.gql_registry.specs.State.{state_of, shelf_of};
+    ghost use Rattle.gql_registry.specs.State.{pairs_of, shelf_of, state_of};
     ghost use Rattle.gql_registry.specs.Working.{state_in};
     ghost use Rattle.gql_verdict.specs.FileOrder.{AreFilesPlaced};
 
-    /// Takes what was put together.
-    fn take_loading(&mut self, loading: Loading, meter: &mut Meter) -> Result<Edited, AllocError>
+    /// Commits what was put together.
+    fn commit_loading(&mut self, loading: Loading, meter: &mut Meter) -> Result<Edited, AllocError>
         requires { AreFilesPlaced loading.files.documents }
         ensures state { OnOk result (state_of self.new
             ≡ state_in (state_of self.old).stored loading) }
         ensures reports { IfOk result (Reports (state_in (state_of self.old).stored loading)) }
         ensures err { OnErr result (state_of self.new ≡ state_of self.old) }
         ensures shelf { OnErr result (shelf_of self.new ≡ shelf_of self.old) }
+        ensures pairs { KeepsPairs (state_of self.new).files (pairs_of self.old) (pairs_of self.new) }
         ensures work { IsWorkOn loading.files (shelf_of self.old) meter.old meter.new }
     {
         let Loading {
@@ -234,12 +235,12 @@ impl Registry {
             new_data,
             revision,
         } = loading;
-        let change = Change {
+        let plan = EditPlan {
             files,
             touched: Touched::All,
             schema: None,
         };
-        let faults = self.kept.take(self.alloc, change, meter)?;
+        let faults = self.kept.commit(self.alloc, plan, meter)?;
         replace_data(&mut self.stored, new_data);
         self.revision = revision;
         Ok(Edited { revision, faults })
@@ -257,11 +258,12 @@ impl Registry {
         ensures loads { Loads (state_of self.old) (edits_of puts.now) result
             (state_of self.new) }
         ensures shelf { OnErr result (shelf_of self.new ≡ shelf_of self.old) }
+        ensures pairs { KeepsPairs (state_of self.new).files (pairs_of self.old) (pairs_of self.new) }
         ensures works { LoadWorks (state_of self.old) (shelf_of self.old) (edits_of puts.now)
             result (state_of self.new) meter.old meter.new }
     {
         let loading = load_all(self.alloc, self.kept.files(), self.revision, puts)?;
-        match self.take_loading(loading, meter) {
+        match self.commit_loading(loading, meter) {
             Ok(edited) => Ok(edited),
             Err(_) => Err(out_of_memory(puts.len())),
         }

@@ -1,8 +1,8 @@
 //! What is present in a registry: its files, the verdicts and the report.
 ghost use Rattle.std.specs.Prelude.{◌≡◌, ◌↔◌, IfOk, IsTrue};
-ghost use Rattle.gql_registry.specs.Keeping.{IsShelfOf};
+ghost use Rattle.gql_registry.specs.Keeping.{ArePairsOf, IsShelfOf};
 ghost use Rattle.gql_registry.specs.Report as spec;
-ghost use Rattle.gql_registry.specs.State.{state_of, shelf_of};
+ghost use Rattle.gql_registry.specs.State.{pairs_of, shelf_of, state_of};
 
 use crate::registry::Registry;
 use crate::report::copies;
@@ -12,9 +12,9 @@ use std::alloc::AllocError;
 
 impl Registry {
     ghost use Rattle.std.specs.Prelude.{◌≡◌, ◌↔◌, IfOk, IsTrue};
-    ghost use Rattle.gql_registry.specs.Keeping.{IsShelfOf};
+    ghost use Rattle.gql_registry.specs.Keeping.{ArePairsOf, IsShelfOf};
     ghost use Rattle.gql_registry.specs.Report as spec;
-    ghost use Rattle.gql_registry.specs.State.{state_of, shelf_of};
+    ghost use Rattle.gql_registry.specs.State.{pairs_of, shelf_of, state_of};
 
     /// The files that are present.
     pub fn files(&self) -> &Files
@@ -23,10 +23,13 @@ impl Registry {
         self.kept.files()
     }
 
-    /// The verdicts, one for each definition of the document files that are present. Each holds.
+    /// The verdicts, one for each definition of the document files that are present, and what is
+    /// kept of pairs of fragments. Each verdict holds, and so does each entry for two fragments.
     pub fn shelf(&self) -> &Shelf
-        ensures shelf { result.now ≡ shelf_of self.now }
+        ensures shelf { result.now.verdicts ≡ shelf_of self.now }
         ensures current { IsShelfOf (state_of self.now).files (shelf_of self.now) }
+        ensures pairs { result.now.pairs ≡ pairs_of self.now }
+        ensures hold { ArePairsOf (state_of self.now).files (pairs_of self.now) }
     {
         self.kept.shelf()
     }

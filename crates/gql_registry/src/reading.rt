@@ -1,14 +1,14 @@
 //! Bytes that are put, read as a file of a side or as data.
 ghost use Rattle.std.specs.Prelude.{◌≡◌, ◌||◌, IfErr, IfOk, IsUtf8, is_some, nat_lt, length};
 ghost use Rattle.gql_ast.specs.FileMaps.{file_named};
-ghost use Rattle.gql_bodies.specs.DataBodies.{IsDataText};
+ghost use Rattle.gql_registry.specs.DataBodies.{IsDataText};
 ghost use Rattle.gql_registry.specs.Checks.{IsBadData, IsRead, IsUnread};
 ghost use Rattle.serde_json.specs.View.{view};
 
+use crate::data::{DataFault, data_in};
 use crate::refusal::Refusal;
 use crate::sides::parse_on;
 use gql_ast::{Document, FileMap, FileName, FileSide, Shared};
-use gql_bodies::{DataFault, data_in};
 use serde_json::Value;
 use std::alloc::Global;
 use std::str;

@@ -53,6 +53,30 @@ pub enum Refusal {
     Spent,
 }
 
+impl Refusal {
+    ghost use Rattle.gql_registry.specs.Refusals.{number_of};
+
+    /// The number of the refusal, from 201 to 212.
+    pub fn number(&self) -> u16
+        ensures { result ≡ number_of self.now }
+    {
+        match self {
+            Refusal::Syntax { .. } => 201,
+            Refusal::NotText => 202,
+            Refusal::TooLong => 203,
+            Refusal::NoFile => 204,
+            Refusal::FilesFull => 205,
+            Refusal::Stale { .. } => 206,
+            Refusal::BadData => 207,
+            Refusal::NoOperation => 208,
+            Refusal::Faulty { .. } => 209,
+            Refusal::TooLarge => 210,
+            Refusal::Memory => 211,
+            Refusal::Spent => 212,
+        }
+    }
+}
+
 impl fmt::Debug for Refusal {
     fn fmt<W: fmt::Write>(&self, f: &mut fmt::Formatter<W>) -> fmt::Result {
         fmt::Display::fmt(self, f)

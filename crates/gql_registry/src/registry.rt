@@ -4,7 +4,7 @@ ghost use Rattle.std.specs.Option.{option_copied};
 ghost use Rattle.serde_json.specs.View.{view};
 
 use crate::calling::Ran;
-use crate::change::Change;
+use crate::edit_plan::EditPlan;
 use crate::kept::Kept;
 use crate::reading::{has_room, read_data, read_file};
 use crate::refusal::Refusal;
@@ -75,9 +75,9 @@ impl Registry {
     ghost use Rattle.gql_registry.specs.Edits as edit;
     ghost use Rattle.gql_registry.specs.Calls.{Answers, CallResult, effects_in, text_of};
     ghost use Rattle.gql_registry.specs.Prepared.{IsPreparedFor, added_by, answer_of, body_of, prepared_of};
-    ghost use Rattle.gql_registry.specs.Changes.{IsChangeBy, IsChangeOf, IsRefusedBy};
-    ghost use Rattle.gql_registry.specs.Keeping.{IsWorkOn};
-    ghost use Rattle.gql_registry.specs.State.{state_of, shelf_of, empty, next, with_effects};
+    ghost use Rattle.gql_registry.specs.EditPlans.{IsEditPlanBy, IsEditPlanOf, IsRefusedBy};
+    ghost use Rattle.gql_registry.specs.Keeping.{IsWorkOn, KeepsPairs};
+    ghost use Rattle.gql_registry.specs.State.{empty, next, pairs_of, shelf_of, state_of, with_effects};
     ghost use Rattle.gql_registry.specs.Works.{Works};
     ghost use Rattle.std.specs.Prelude.{[]};
 
@@ -85,6 +85,7 @@ impl Registry {
     pub fn new(alloc: Global) -> Registry
         ensures state { state_of result ≡ empty }
         ensures shelf { shelf_of result ≡ [] }
+        ensures pairs { pairs_of result ≡ [] }
     {
         Registry {
             alloc,
@@ -122,12 +123,12 @@ impl Registry {
         }
     }
 
-    /// The change that puts bytes as the file of a name on a side. The refusals are 203, 202, 201
-    /// and 205, in this order.
+    /// The plan of an edit that puts bytes as the file of a name on a side. The refusals are 203, 202,
+    /// 201 and 205, in this order.
     #[tactic(none)]
-    fn change_by_put(&self, side: FileSide, name: FileName, bytes: &[u8]) -> Result<Change, Refusal>
-        ensures change { IfOk result
-            (IsChangeBy (state_of self.now) (edit.put side name bytes.now)) }
+    fn plan_put(&self, side: FileSide, name: FileName, bytes: &[u8]) -> Result<EditPlan, Refusal>
+        ensures plan { IfOk result
+            (IsEditPlanBy (state_of self.now) (edit.put side name bytes.now)) }
         ensures err { IfErr result
             (IsRefusedBy (state_of self.now) (edit.put side name bytes.now)) }
     {
@@ -138,42 +139,39 @@ impl Registry {
         if !has_room(files_on(self.kept.files(), side), &name) {
             return Err(Refusal::FilesFull);
         }
-        let change = self.kept.change_by_put(self.alloc, side, name, document)?;
-        Ok(change)
+        Ok(self.kept.plan(self.alloc, side, name, Some(document))?)
     }
 
-    /// The change that removes the file of a name from a side. The refusal is 204.
+    /// The plan of an edit that removes the file of a name from a side. The refusal is 204.
     #[tactic(none)]
-    fn change_by_removal(&self, side: FileSide, name: &FileName) -> Result<Change, Refusal>
-        ensures change { IfOk result
-            (IsChangeBy (state_of self.now) (edit.remove side name.now)) }
-        ensures err { IfErr result
-            (IsRefusedBy (state_of self.now) (edit.remove side name.now)) }
+    fn plan_removal(&self, side: FileSide, name: FileName) -> Result<EditPlan, Refusal>
+        ensures plan { IfOk result (IsEditPlanBy (state_of self.now) (edit.remove side name)) }
+        ensures err { IfErr result (IsRefusedBy (state_of self.now) (edit.remove side name)) }
     {
-        if !files_on(self.kept.files(), side).has(name) {
+        if !files_on(self.kept.files(), side).has(&name) {
             return Err(Refusal::NoFile);
         }
-        let change = self.kept.change_by_removal(self.alloc, side, name)?;
-        Ok(change)
+        Ok(self.kept.plan(self.alloc, side, name, None)?)
     }
 
-    /// Takes a change, at this revision.
+    /// Commits the plan of an edit, at this revision.
     #[tactic(none)]
-    fn accept(
+    fn commit_edit(
         &mut self,
-        change: Change,
+        plan: EditPlan,
         revision: u64,
         meter: &mut Meter,
     ) -> Result<Edited, AllocError>
         requires revision { revision ≡ (state_of self.old).revision + 1 }
-        requires change { IsChangeOf (state_of self.old).files change }
-        ensures next { OnOk result (state_of self.new ≡ next (state_of self.old) change.files) }
-        ensures reports { IfOk result (Reports (next (state_of self.old) change.files)) }
+        requires plan { IsEditPlanOf (state_of self.old).files plan }
+        ensures next { OnOk result (state_of self.new ≡ next (state_of self.old) plan.files) }
+        ensures reports { IfOk result (Reports (next (state_of self.old) plan.files)) }
         ensures err { OnErr result (state_of self.new ≡ state_of self.old) }
         ensures shelf { OnErr result (shelf_of self.new ≡ shelf_of self.old) }
-        ensures work { IsWorkOn change.files (shelf_of self.old) meter.old meter.new }
+        ensures pairs { KeepsPairs (state_of self.new).files (pairs_of self.old) (pairs_of self.new) }
+        ensures work { IsWorkOn plan.files (shelf_of self.old) meter.old meter.new }
     {
-        let faults = self.kept.take(self.alloc, change, meter)?;
+        let faults = self.kept.commit(self.alloc, plan, meter)?;
         self.revision = revision;
         Ok(Edited { revision, faults })
     }
@@ -191,12 +189,13 @@ impl Registry {
         ensures makes { Makes (state_of self.old) expected (edit.put side name bytes.now) result
             (state_of self.new) }
         ensures shelf { OnErr result (shelf_of self.new ≡ shelf_of self.old) }
+        ensures pairs { KeepsPairs (state_of self.new).files (pairs_of self.old) (pairs_of self.new) }
         ensures works { Works (state_of self.old) expected (shelf_of self.old)
             (edit.put side name bytes.now) result (state_of self.new) meter.old meter.new }
     {
         let revision = self.next_revision(expected)?;
-        let change = self.change_by_put(side, name, bytes)?;
-        let edited = self.accept(change, revision, meter)?;
+        let plan = self.plan_put(side, name, bytes)?;
+        let edited = self.commit_edit(plan, revision, meter)?;
         Ok(edited)
     }
 
@@ -212,12 +211,13 @@ impl Registry {
         ensures makes { Makes (state_of self.old) expected (edit.remove side name) result
             (state_of self.new) }
         ensures shelf { OnErr result (shelf_of self.new ≡ shelf_of self.old) }
+        ensures pairs { KeepsPairs (state_of self.new).files (pairs_of self.old) (pairs_of self.new) }
         ensures works { Works (state_of self.old) expected (shelf_of self.old)
             (edit.remove side name) result (state_of self.new) meter.old meter.new }
     {
         let revision = self.next_revision(expected)?;
-        let change = self.change_by_removal(side, &name)?;
-        Ok(self.accept(change, revision, meter)?)
+        let plan = self.plan_removal(side, name)?;
+        Ok(self.commit_edit(plan, revision, meter)?)
     }
 
     /// Puts bytes as the schema file of a name, in place of any of that name, and returns the new
@@ -236,6 +236,7 @@ impl Registry {
         ensures makes { Makes (state_of self.old) expected
             (edit.put side.Schema name bytes.now) result (state_of self.new) }
         ensures shelf { OnErr result (shelf_of self.new ≡ shelf_of self.old) }
+        ensures pairs { KeepsPairs (state_of self.new).files (pairs_of self.old) (pairs_of self.new) }
         ensures works { Works (state_of self.old) expected (shelf_of self.old)
             (edit.put side.Schema name bytes.now) result (state_of self.new)
             meter.old meter.new }
@@ -258,6 +259,7 @@ impl Registry {
         ensures makes { Makes (state_of self.old) expected
             (edit.put side.Documents name bytes.now) result (state_of self.new) }
         ensures shelf { OnErr result (shelf_of self.new ≡ shelf_of self.old) }
+        ensures pairs { KeepsPairs (state_of self.new).files (pairs_of self.old) (pairs_of self.new) }
         ensures works { Works (state_of self.old) expected (shelf_of self.old)
             (edit.put side.Documents name bytes.now) result (state_of self.new)
             meter.old meter.new }
@@ -277,6 +279,7 @@ impl Registry {
         ensures makes { Makes (state_of self.old) expected (edit.remove side.Schema name)
             result (state_of self.new) }
         ensures shelf { OnErr result (shelf_of self.new ≡ shelf_of self.old) }
+        ensures pairs { KeepsPairs (state_of self.new).files (pairs_of self.old) (pairs_of self.new) }
         ensures works { Works (state_of self.old) expected (shelf_of self.old)
             (edit.remove side.Schema name) result (state_of self.new)
             meter.old meter.new }
@@ -296,6 +299,7 @@ impl Registry {
         ensures makes { Makes (state_of self.old) expected (edit.remove side.Documents name)
             result (state_of self.new) }
         ensures shelf { OnErr result (shelf_of self.new ≡ shelf_of self.old) }
+        ensures pairs { KeepsPairs (state_of self.new).files (pairs_of self.old) (pairs_of self.new) }
         ensures works { Works (state_of self.old) expected (shelf_of self.old)
             (edit.remove side.Documents name) result (state_of self.new)
             meter.old meter.new }
@@ -318,6 +322,7 @@ impl Registry {
         ensures makes { Makes (state_of self.old) expected (edit.put_data bytes.now) result
             (state_of self.new) }
         ensures shelf { shelf_of self.new ≡ shelf_of self.old }
+        ensures pairs { pairs_of self.new ≡ pairs_of self.old }
         ensures meter { _meter.new ≡ _meter.old }
     {
         let revision = self.next_revision(expected)?;
@@ -352,6 +357,7 @@ impl Registry {
         ensures reply { result.body.items ≡ body_of prepared }
         ensures state { state_of self.new ≡ with_effects (state_of self.old) (added_by prepared) }
         ensures shelf { shelf_of self.new ≡ shelf_of self.old }
+        ensures pairs { pairs_of self.new ≡ pairs_of self.old }
     {
         let Prepared { reply, additions } = prepared;
         self.stored.commit(additions);
@@ -367,6 +373,7 @@ impl Registry {
             × (text_of r ≡ answer_of result)
             × (state_of self.new ≡ with_effects (state_of self.old) (effects_in r)) }
         ensures shelf { shelf_of self.new ≡ shelf_of self.old }
+        ensures pairs { pairs_of self.new ≡ pairs_of self.old }
     {
         let prepared = self.prepare(name, variables)?;
         Ok(self.commit(prepared))

@@ -2,10 +2,10 @@
 ghost use Rattle.std.specs.Prelude.{◌≡◌, ◌≢◌, ◌++◌, [], IfOk, OnOk};
 ghost use Rattle.gql_ast.specs.declared.files.Files.{Files as TheFiles};
 ghost use Rattle.gql_facts.specs.Members.{Lists};
-ghost use Rattle.gql_registry.specs.Changes.{IsSideBefore};
+ghost use Rattle.gql_registry.specs.EditPlans.{IsSideBefore};
 ghost use Rattle.gql_types.specs.Schemas.{schema_of};
 ghost use Rattle.gql_registry.specs.Keeping.{AreFactsOf, AreSchemaFaults, IsDefinitionFault};
-ghost use Rattle.gql_registry.specs.Keeping.{IsSideOf};
+ghost use Rattle.gql_registry.specs.Keeping.{IsIndexOf, IsKnownOf, IsSideOf};
 ghost use Rattle.gql_registry.specs.Report.{IsReport, IsSound};
 
 use crate::index::DocumentIndex;
@@ -110,10 +110,7 @@ pub fn sharing(alloc: Global, faults: &[Shared<Fault>]) -> Result<Vec<Shared<Fau
 }
 
 /// The report of a schema with these faults: they alone are reported.
-pub fn schema_report(
-    alloc: Global,
-    faults: &[Shared<Fault>],
-) -> Result<Vec<Shared<Fault>>, AllocError>
+fn schema_report(alloc: Global, faults: &[Shared<Fault>]) -> Result<Vec<Shared<Fault>>, AllocError>
     requires { faults.now ≢ [] }
     ensures { IfOk result (λ report. (files : TheFiles) → AreSchemaFaults files faults.now
         → IsReport files report.items) }
@@ -124,7 +121,7 @@ pub fn schema_report(
 }
 
 /// The report if the schema has no faults, and the definitions of the document files have these.
-pub fn documents_report(
+fn documents_report(
     alloc: Global,
     files: &Files,
     of_definitions: Vec<Shared<Fault>>,
@@ -139,4 +136,45 @@ pub fn documents_report(
     faults.append(&mut of_definitions)?;
     let report = in_order(alloc, faults)?;
     Ok(report)
+}
+
+/// The report of files whose schema has these faults, and whose definitions have those. If the
+/// schema has faults, they alone are reported.
+fn report_of(
+    alloc: Global,
+    files: &Files,
+    schema_faults: &[Shared<Fault>],
+    of_definitions: Vec<Shared<Fault>>,
+) -> Result<Vec<Shared<Fault>>, AllocError>
+    requires schema { AreSchemaFaults files.now schema_faults.now }
+    requires faults { IsSound files.now → Lists of_definitions.items (IsDefinitionFault files.now) }
+    ensures { IfOk result (λ report. IsReport files.now report.items) }
+{
+    if !schema_faults.is_empty() {
+        return schema_report(alloc, schema_faults);
+    }
+    documents_report(alloc, files, of_definitions)
+}
+
+/// What is known of files with this schema and these definitions, which have these faults.
+pub fn known_with(
+    alloc: Global,
+    files: &Files,
+    schema: Shared<SchemaSide>,
+    index: DocumentIndex,
+    of_definitions: Vec<Shared<Fault>>,
+) -> Result<Known, AllocError>
+    requires schema { IsSideOf files.now schema }
+    requires index { IsIndexOf files.now index }
+    requires faults { IsSound files.now → Lists of_definitions.items (IsDefinitionFault files.now) }
+    ensures { IfOk result (IsKnownOf files.now) }
+{
+    let report = report_of(alloc, files, schema.get().faults.as_slice(), of_definitions)?;
+    let owners = Owners::new(alloc, report.as_slice())?;
+    Ok(Known {
+        schema,
+        index,
+        report,
+        owners,
+    })
 }

@@ -22,13 +22,7 @@ pub struct Check<'c> {
 pub fn shown(alloc: Global, check: &Check<'_>) -> Result<Vec<usize>, AllocError> {
     match &check.base {
         Some(base) => base.comparison.brought.clone(),
-        None => {
-            let mut places = Vec::new(alloc);
-            for place in 0..check.now.findings.len() {
-                places.push(place)?;
-            }
-            Ok(places)
-        }
+        None => (0..check.now.findings.len()).collect(alloc),
     }
 }
 
@@ -43,12 +37,6 @@ pub fn shown_causes(alloc: Global, check: &Check<'_>) -> Result<Vec<Cause>, Allo
 pub fn broken(alloc: Global, check: &Check<'_>) -> Result<Vec<usize>, AllocError> {
     match &check.base {
         Some(base) => base.comparison.broken.clone(),
-        None => {
-            let mut places = Vec::new(alloc);
-            for place in 0..check.now.affected.len() {
-                places.push(place)?;
-            }
-            Ok(places)
-        }
+        None => (0..check.now.affected.len()).collect(alloc),
     }
 }

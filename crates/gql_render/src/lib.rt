@@ -6,6 +6,7 @@ pub mod caret;
 pub mod check;
 pub mod escapes;
 mod github;
+mod json_entries;
 mod json_report;
 pub mod json_write;
 pub mod phrases;

@@ -23,12 +23,10 @@ fn rules_of(alloc: Global, faults: &[&Finding]) -> Result<Vec<Rule>, AllocError>
 /// The place of a rule in a list, which has each of at most 70 rules once; its length where it has
 /// not the rule.
 fn place_of(rules: &[Rule], rule: Rule) -> usize {
-    for place in 0..rules.len() {
-        if rules[place] == rule {
-            return place;
-        }
-    }
-    rules.len()
+    rules
+        .iter()
+        .position(|known| *known == rule)
+        .unwrap_or(rules.len())
 }
 
 /// Writes a rule.

@@ -11,7 +11,6 @@ use Rattle.gql_types.specs.declared.written_type.Wrapper.TheVariants as wrapper
 use Rattle.gql_types.proofs.Filtering.{found_in_these}
 use Rattle.gql_facts.specs.declared.fact.InputFact.{InputFact}
 use Rattle.gql_inputs.specs.Lookups.{is_required as is_required_field}
-use Rattle.gql_inputs.proofs.RequiredFields.{same_non_null}
 use Rattle.gql_rules.specs.Answers.{is_required, starts_non_null}
 use Rattle.gql_rules.specs.KnownInputs.{field_of}
 use Rattle.gql_rules.specs.V10RequiredArguments.{fault_about}
@@ -27,7 +26,7 @@ first_step (wrapper.NonNull ∷ steps) n = refl
 
 -- as the field that is made from it
 pub same_required : (i : InputFact) → required_fact i ≡ is_required_field (field_of i)
-same_required i = ap (λ b. b && not i.has_default) (same_non_null (typed_of i.of_type))
+same_required i = refl
 
 -- as an argument
 pub same_argument : (i : InputFact) → required_fact i ≡ is_required i

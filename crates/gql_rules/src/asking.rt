@@ -43,8 +43,7 @@ pub fn ask_field<W: World>(
         of_type: parent.copy()?,
         field: name.copy()?,
     };
-    let fact = world.fact(alloc, &key)?;
-    Ok(fact)
+    world.fact(alloc, &key)
 }
 
 /// The answer for the possible types of a parent type; absent if that is not known.
@@ -62,8 +61,7 @@ pub fn ask_possible<W: World>(
     let Some(parent) = parent else {
         return Ok(Fact::Absent);
     };
-    let fact = world.fact(alloc, &Key::PossibleOf(parent.copy()?))?;
-    Ok(fact)
+    world.fact(alloc, &Key::PossibleOf(parent.copy()?))
 }
 
 /// The answer for a directive.
@@ -78,8 +76,7 @@ pub fn ask_directive<W: World>(
     ensures answer { IfOk result (λ f. spec.directive_in f
         ≡ spec.directive_of (W.facts world.old) name.now) }
 {
-    let fact = world.fact(alloc, &Key::DirectiveOf(name.copy()?))?;
-    Ok(fact)
+    world.fact(alloc, &Key::DirectiveOf(name.copy()?))
 }
 
 /// The answer for a fragment.
@@ -90,6 +87,5 @@ pub fn ask_fragment<W: World>(alloc: Global, world: &mut W, name: &Text) -> Resu
     ensures answer { IfOk result (λ f. spec.fragment_in f
         ≡ spec.fragment_of (W.facts world.old) name.now) }
 {
-    let fact = world.fact(alloc, &Key::FragmentOf(name.copy()?))?;
-    Ok(fact)
+    world.fact(alloc, &Key::FragmentOf(name.copy()?))
 }

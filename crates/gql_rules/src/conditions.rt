@@ -51,8 +51,7 @@ pub fn check_condition<W: World>(
     let kind = kind_of(alloc, world, &condition.text)?;
     v12_fragment_spread_type_existence::check(alloc, owner, condition, kind, faults)?;
     v13_fragments_on_composite_types::check(alloc, owner, condition, kind, faults)?;
-    let within = composite_by(&condition.text, kind)?;
-    Ok(within)
+    composite_by(&condition.text, kind)
 }
 
 /// Adds the fault of a type condition at a place within a parent type, if it is impossible.

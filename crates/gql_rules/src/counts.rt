@@ -70,8 +70,7 @@ pub fn counts<'t, T: IsNamed>(
     if all.len() < 2 {
         return Ok(HashMap::new(alloc));
     }
-    let counts = all_counts(alloc, all)?;
-    Ok(counts)
+    all_counts(alloc, all)
 }
 
 /// Whether a name occurs more than once, by these counts.

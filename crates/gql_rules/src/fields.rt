@@ -39,10 +39,7 @@ fn kind_of_field<W: World>(
         ≡ answers.kind_of_field (W.facts world.old) (option_copied known.entry)) }
 {
     match known {
-        Some(known) => {
-            let kind = kind_of(alloc, world, &known.of_type.name)?;
-            Ok(kind)
-        }
+        Some(known) => kind_of(alloc, world, &known.of_type.name),
         None => Ok(None),
     }
 }

@@ -173,7 +173,6 @@ impl<'w, W: World> InputTypes for OfWorld<'w, W> {
         alloc: Global,
         name: &Text,
     ) -> Result<Option<KnownInputType>, AllocError> {
-        let found = known_input(alloc, self.world, name)?;
-        Ok(found)
+        known_input(alloc, self.world, name)
     }
 }

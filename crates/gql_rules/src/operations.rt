@@ -43,8 +43,7 @@ fn composite<W: World>(
         return Ok(None);
     };
     let kind = kind_of(alloc, world, of_type)?;
-    let parent = composite_by(of_type, kind)?;
-    Ok(parent)
+    composite_by(of_type, kind)
 }
 
 fn check_variable<W: World>(

@@ -12,7 +12,7 @@ use gql_faults::{NamePlace, add_fault_of};
 use gql_types::{Root, Schema};
 use std::alloc::{AllocError, Global};
 
-// Adds the fault of a root operation type.
+/// Adds the fault of a root operation type.
 fn check_root(alloc: Global, root: &Root, faults: &mut Vec<Fault>) -> Result<(), AllocError>
     ensures { OnOk result (faults.new.items ≡ faults.old.items ++ spec.fault_of_root root.now) }
 {

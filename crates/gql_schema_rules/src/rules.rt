@@ -18,7 +18,7 @@ use gql_node_rules::{Nodes, node_faults, nodes_in};
 use gql_types::Schema;
 use std::alloc::{AllocError, Global};
 
-// S01, S02, S04, S27 and S28.
+/// S01, S02, S04, S27 and S28.
 fn add_definition_faults(
     alloc: Global,
     schema: &Schema,
@@ -36,7 +36,7 @@ fn add_definition_faults(
     Ok(())
 }
 
-// S05, S06, S07, S08 and S18.
+/// S05, S06, S07, S08 and S18.
 fn add_type_faults(
     alloc: Global,
     schema: &Schema,
@@ -52,7 +52,7 @@ fn add_type_faults(
     Ok(())
 }
 
-// S23, S24, S25, S34 and P02.
+/// S23, S24, S25, S34 and P02.
 fn add_root_faults(
     alloc: Global,
     schema: &Schema,
@@ -70,7 +70,7 @@ fn add_root_faults(
     Ok(())
 }
 
-// Moves faults to the end of others.
+/// Moves faults to the end of others.
 fn add_all(faults: &mut Vec<Fault>, more: Vec<Fault>) -> Result<(), AllocError>
     ensures { OnOk result (faults.new.items ≡ faults.old.items ++ more.items) }
 {
@@ -80,7 +80,7 @@ fn add_all(faults: &mut Vec<Fault>, more: Vec<Fault>) -> Result<(), AllocError>
     Ok(())
 }
 
-// The faults by all rules.
+/// The faults by all rules.
 fn faults_by(alloc: Global, files: &Files, schema: &Schema) -> Result<Vec<Fault>, AllocError>
     ensures { IfOk result (λ faults. (f : TheFault)
         → Contains faults.items f ↔ FaultsBy files.now schema.now f) }

@@ -14,7 +14,7 @@ use gql_node_rules::{Nodes, is_float, names_of};
 use gql_types::is_same_name;
 use std::alloc::{AllocError, Global};
 
-// Whether a built-in scalar, or Float, has this name.
+/// Whether a built-in scalar, or Float, has this name.
 #[tactic(auto, unfolding(gql_built_in::specs::BuiltIn::scalars, gql_built_in::specs::BuiltInWords::type_of, gql_built_in::specs::BuiltInWords::word))]
 fn is_scalar_name(name: &str) -> bool
     ensures { result ≡ spec.is_scalar_name name.now }
@@ -26,7 +26,7 @@ fn is_scalar_name(name: &str) -> bool
         || is_float(name)
 }
 
-// Whether a built-in directive has this name.
+/// Whether a built-in directive has this name.
 #[tactic(auto, unfolding(gql_built_in::specs::BuiltIn::directives, gql_built_in::specs::BuiltIn::skip, gql_built_in::specs::BuiltIn::include, gql_built_in::specs::BuiltIn::deprecated, gql_built_in::specs::BuiltIn::specified_by, gql_built_in::specs::BuiltIn::append, gql_built_in::specs::BuiltInWords::directive, gql_built_in::specs::BuiltInWords::word))]
 fn is_directive_name(name: &str) -> bool
     ensures { result ≡ spec.is_directive_name name.now }
@@ -38,7 +38,7 @@ fn is_directive_name(name: &str) -> bool
         || name == "append"
 }
 
-// Adds the fault at the name of a type.
+/// Adds the fault at the name of a type.
 fn check_type(
     alloc: Global,
     name: &NamePlace<'_>,
@@ -53,7 +53,7 @@ fn check_type(
     Ok(())
 }
 
-// Adds the faults at the names of types.
+/// Adds the faults at the names of types.
 fn check_types(
     alloc: Global,
     names: &[NamePlace<'_>],
@@ -68,7 +68,7 @@ fn check_types(
     Ok(())
 }
 
-// Adds the fault at the name of a directive.
+/// Adds the fault at the name of a directive.
 fn check_directive(
     alloc: Global,
     name: &NamePlace<'_>,
@@ -83,7 +83,7 @@ fn check_directive(
     Ok(())
 }
 
-// Adds the faults at the names of directives.
+/// Adds the faults at the names of directives.
 fn check_directives(
     alloc: Global,
     names: &[NamePlace<'_>],

@@ -15,7 +15,7 @@ use gql_faults::{NamePlace, add_fault_of};
 use gql_types::{Schema, SchemaType, TypeKind};
 use std::alloc::{AllocError, Global};
 
-// Whether a type has none of the parts that its kind needs.
+/// Whether a type has none of the parts that its kind needs.
 fn is_empty(of_type: &SchemaType) -> bool
     ensures { result ≡ spec.is_empty of_type.now.kind of_type.now }
 {
@@ -28,7 +28,7 @@ fn is_empty(of_type: &SchemaType) -> bool
     }
 }
 
-// Adds the fault of a type.
+/// Adds the fault of a type.
 fn check_type(
     alloc: Global,
     of_type: &SchemaType,

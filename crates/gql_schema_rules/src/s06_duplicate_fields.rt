@@ -13,7 +13,7 @@ use gql_faults::add_repeated_nodes;
 use gql_types::{Schema, SchemaType};
 use std::alloc::{AllocError, Global};
 
-// Adds the faults of a type.
+/// Adds the faults of a type.
 fn check_type(
     alloc: Global,
     of_type: &SchemaType,

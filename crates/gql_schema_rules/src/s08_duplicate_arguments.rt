@@ -14,7 +14,7 @@ use gql_faults::{NamePlace, add_repeated, first_directives};
 use gql_types::{Schema, SchemaType};
 use std::alloc::{AllocError, Global};
 
-// The names of arguments.
+/// The names of arguments.
 fn names_in<'t>(
     alloc: Global,
     file: &'t SourceFile,
@@ -32,7 +32,7 @@ fn names_in<'t>(
     Ok(names)
 }
 
-// Adds the faults of the arguments of one field or directive.
+/// Adds the faults of the arguments of one field or directive.
 fn check_arguments(
     alloc: Global,
     file: &SourceFile,
@@ -51,7 +51,7 @@ fn check_arguments(
     Ok(())
 }
 
-// Adds the faults of fields.
+/// Adds the faults of fields.
 fn check_fields(
     alloc: Global,
     fields: &[Sited<Shared<FieldDefinition>>],
@@ -67,7 +67,7 @@ fn check_fields(
     Ok(())
 }
 
-// Adds the faults of the fields of types.
+/// Adds the faults of the fields of types.
 fn check_types(
     alloc: Global,
     types: &[SchemaType],
@@ -82,7 +82,7 @@ fn check_types(
     Ok(())
 }
 
-// Adds the faults of directives.
+/// Adds the faults of directives.
 fn check_directives(
     alloc: Global,
     directives: &[&Sited<Shared<DirectiveDefinition>>],

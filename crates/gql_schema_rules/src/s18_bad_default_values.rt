@@ -13,7 +13,7 @@ use gql_node_rules::{ValuePlace, add_unless_fits};
 use gql_types::{Schema, SchemaType};
 use std::alloc::{AllocError, Global};
 
-// Adds the fault of the default value of an argument or an input field, if it has one.
+/// Adds the fault of the default value of an argument or an input field, if it has one.
 fn check_default(
     alloc: Global,
     schema: &Schema,
@@ -34,7 +34,7 @@ fn check_default(
     Ok(())
 }
 
-// Adds the faults of arguments.
+/// Adds the faults of arguments.
 fn check_arguments(
     alloc: Global,
     schema: &Schema,
@@ -51,7 +51,7 @@ fn check_arguments(
     Ok(())
 }
 
-// Adds the faults of input fields.
+/// Adds the faults of input fields.
 fn check_input_fields(
     alloc: Global,
     schema: &Schema,
@@ -67,7 +67,7 @@ fn check_input_fields(
     Ok(())
 }
 
-// Adds the faults of the arguments of fields.
+/// Adds the faults of the arguments of fields.
 fn check_fields(
     alloc: Global,
     schema: &Schema,
@@ -84,7 +84,7 @@ fn check_fields(
     Ok(())
 }
 
-// Adds the faults of a type.
+/// Adds the faults of a type.
 fn check_type(
     alloc: Global,
     schema: &Schema,
@@ -99,7 +99,7 @@ fn check_type(
     Ok(())
 }
 
-// Adds the faults of types.
+/// Adds the faults of types.
 fn check_types(
     alloc: Global,
     schema: &Schema,
@@ -115,7 +115,7 @@ fn check_types(
     Ok(())
 }
 
-// Adds the faults of the arguments of directives.
+/// Adds the faults of the arguments of directives.
 fn check_directives(
     alloc: Global,
     schema: &Schema,

@@ -10,7 +10,7 @@ use gql_ast::{Fault, Items, OperationKind, Rule, Text};
 use gql_types::Schema;
 use std::alloc::{AllocError, Global};
 
-// The fault of a schema without a query root.
+/// The fault of a schema without a query root.
 fn missing_query_root(alloc: Global) -> Result<Fault, AllocError>
     ensures { IfOk result (λ fault. fault ≡ spec.missing_query_root) }
 {

@@ -11,7 +11,7 @@ use gql_faults::{NamePlace, add_fault_of};
 use gql_types::{Root, Schema, TypeKind};
 use std::alloc::{AllocError, Global};
 
-// Adds the fault of a root operation type.
+/// Adds the fault of a root operation type.
 fn check_root(
     alloc: Global,
     schema: &Schema,

@@ -16,10 +16,10 @@ use gql_types::{Root, Schema};
 use std::alloc::{AllocError, Global};
 use std::collections::HashMap;
 
-// Root operation types by kind and name, in their order.
+/// Root operation types by kind and name, in their order.
 type Groups<'s> = HashMap<String, Vec<&'s Root>>;
 
-// The key of a group.
+/// The key of a group.
 fn key(alloc: Global, kind: OperationKind, name: &str) -> Result<String, AllocError>
     ensures { IfOk result (λ key. string_bytes key ≡ grouped.key_of kind name.now) }
 {
@@ -28,7 +28,7 @@ fn key(alloc: Global, kind: OperationKind, name: &str) -> Result<String, AllocEr
     Ok(key)
 }
 
-// Adds the faults of a root with those of a group.
+/// Adds the faults of a root with those of a group.
 fn check_each(
     alloc: Global,
     root: &Root,
@@ -47,7 +47,7 @@ fn check_each(
     Ok(())
 }
 
-// Adds the faults of a root with those of the group of a key.
+/// Adds the faults of a root with those of the group of a key.
 fn check_group(
     alloc: Global,
     root: &Root,
@@ -66,7 +66,7 @@ fn check_group(
     }
 }
 
-// Adds the faults of a root with the earlier ones of a kind, unless it is of that kind.
+/// Adds the faults of a root with the earlier ones of a kind, unless it is of that kind.
 fn check_kind(
     alloc: Global,
     root: &Root,
@@ -85,7 +85,7 @@ fn check_kind(
     Ok(())
 }
 
-// Adds the faults of a root with the earlier ones of all other kinds.
+/// Adds the faults of a root with the earlier ones of all other kinds.
 fn check_earlier(
     alloc: Global,
     root: &Root,
@@ -102,7 +102,7 @@ fn check_earlier(
     Ok(())
 }
 
-// Adds the faults of a root, if its type is known.
+/// Adds the faults of a root, if its type is known.
 fn check_root(
     alloc: Global,
     schema: &Schema,
@@ -120,7 +120,7 @@ fn check_root(
     Ok(())
 }
 
-// Adds a root to its group.
+/// Adds a root to its group.
 fn remember<'s>(alloc: Global, root: &'s Root, groups: &mut Groups<'s>) -> Result<(), AllocError>
     ensures { OnOk result ((q : List ℕ) → option_map_or
         (λ group. map (λ x. x.now) group.items) (hash.get_by_text groups.new q) []

@@ -14,7 +14,7 @@ use gql_node_rules::{Nodes, names_of};
 use gql_types::Schema;
 use std::alloc::{AllocError, Global};
 
-// Adds the fault at the name of the type in an extension.
+/// Adds the fault at the name of the type in an extension.
 fn check_name(
     alloc: Global,
     schema: &Schema,
@@ -30,7 +30,7 @@ fn check_name(
     Ok(())
 }
 
-// Adds the faults at these names.
+/// Adds the faults at these names.
 fn check_names(
     alloc: Global,
     schema: &Schema,

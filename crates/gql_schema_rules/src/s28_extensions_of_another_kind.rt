@@ -13,7 +13,7 @@ use gql_node_rules::{Node, Nodes};
 use gql_types::{Schema, TypeKind};
 use std::alloc::{AllocError, Global};
 
-// Adds the fault of an extension.
+/// Adds the fault of an extension.
 fn check_extension(
     alloc: Global,
     schema: &Schema,

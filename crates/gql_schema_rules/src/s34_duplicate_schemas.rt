@@ -22,7 +22,7 @@ use gql_node_rules::Nodes;
 use gql_types::{Root, Schema};
 use std::alloc::{AllocError, Global};
 
-// The places of the words `schema` of definitions.
+/// The places of the words `schema` of definitions.
 fn keywords<'t>(alloc: Global, nodes: &Nodes<'t>) -> Result<Vec<Spot<'t>>, AllocError>
     ensures { IfOk result (λ words. map spot words.items ≡ spec.keywords (lists nodes.now)) }
 {
@@ -36,7 +36,7 @@ fn keywords<'t>(alloc: Global, nodes: &Nodes<'t>) -> Result<Vec<Spot<'t>>, Alloc
     Ok(words)
 }
 
-// Adds a fault at each of these words.
+/// Adds a fault at each of these words.
 fn add_each_keyword(
     alloc: Global,
     words: &[Spot<'_>],
@@ -51,7 +51,7 @@ fn add_each_keyword(
     Ok(())
 }
 
-// Adds a fault at each of these words, if there are two or more.
+/// Adds a fault at each of these words, if there are two or more.
 fn check_keywords(
     alloc: Global,
     words: &[Spot<'_>],
@@ -75,7 +75,7 @@ pub struct KindsSeen {
 }
 
 impl KindsSeen {
-    // Whether the kind was seen.
+    /// Whether the kind was seen.
     fn has(self, kind: OperationKind) -> bool
         ensures { result ≡ has self kind }
     {
@@ -86,7 +86,7 @@ impl KindsSeen {
         }
     }
 
-    // These kinds and one more.
+    /// These kinds and one more.
     #[tactic(auto, using(crate::proofs::SeenKinds::with_query, crate::proofs::SeenKinds::with_mutation, crate::proofs::SeenKinds::with_subscription))]
     fn with(self, kind: OperationKind) -> KindsSeen
         ensures { (k : TheKind) → has result k ≡ (has self k || same_operation k kind) }
@@ -108,7 +108,7 @@ impl KindsSeen {
     }
 }
 
-// Adds the fault at the entry of a root, if it has one.
+/// Adds the fault at the entry of a root, if it has one.
 fn add_at_entry(alloc: Global, root: &Root, faults: &mut Vec<Fault>) -> Result<(), AllocError>
     ensures { OnOk result (faults.new.items ≡ faults.old.items
         ++ spec.fault_at_entry root.now.kind root.now.name.file root.now.entry) }
@@ -123,7 +123,7 @@ fn add_at_entry(alloc: Global, root: &Root, faults: &mut Vec<Fault>) -> Result<(
     Ok(())
 }
 
-// Adds the fault of a root, if its kind was seen.
+/// Adds the fault of a root, if its kind was seen.
 fn check_root(
     alloc: Global,
     seen: KindsSeen,
@@ -139,7 +139,7 @@ fn check_root(
     Ok(())
 }
 
-// Adds the faults of roots.
+/// Adds the faults of roots.
 fn check_roots(alloc: Global, roots: &[Root], faults: &mut Vec<Fault>) -> Result<(), AllocError>
     ensures { OnOk result (faults.new.items ≡ faults.old.items ++ spec.faults_of_roots roots.now) }
 {

@@ -5,3 +5,12 @@ pub mod BuiltIns
 pub mod Roots
 pub mod Owning
 pub mod Places
+pub mod Taking
+pub mod Numbering
+pub mod Needing
+pub mod Leading
+pub mod InFiles
+pub mod Sound
+pub mod Known
+pub mod Referring
+pub mod Introspecting

@@ -44,7 +44,7 @@ use Rattle.gql_schema_rules.specs.S24NonObjectRoots as s24
 use Rattle.gql_schema_rules.specs.SchemaFaults.{by_p01, by_s20, by_s23, by_s24, nodes_in}
 use Rattle.gql_serving.specs.Laws.{HasNoFault}
 use Rattle.gql_serving.specs.Owned as owned
-use Rattle.gql_sound.specs.Laws.{IsSound}
+use Rattle.gql_serving.specs.SoundSchemas.{IsSound}
 use Rattle.gql_types.specs.Definitions.{definitions, in_order_of, of_file, of_files, schema_definitions, schema_extensions, schema_in, schema_extension_in, type_definitions, type_extensions, type_in}
 use Rattle.gql_types.specs.Kinds.{same_kind, same_operation}
 use Rattle.gql_types.specs.Parts.{sited}

@@ -7,7 +7,7 @@ use Rattle.gql_ast.specs.declared.fault.Fault.{Fault}
 use Rattle.gql_ast.specs.declared.files.Files.{Files}
 use Rattle.gql_steps.specs.Requests.{Executes, Response, request_of}
 use Rattle.gql_facts.specs.Facts.{fact_of}
-use Rattle.gql_sound.specs.Laws.{IsSound}
+use Rattle.gql_serving.specs.SoundSchemas.{IsSound}
 use Rattle.gql_serving.specs.Owned.{IsOwned}
 use Rattle.gql_verdict.specs.Definitions.{all_definitions}
 use Rattle.gql_verdict.specs.Faults.{IsFaultIn}

@@ -1,3 +1,4 @@
+pub mod SoundSchemas
 pub mod Owned
 pub mod OwnedAmong
 pub mod Owners

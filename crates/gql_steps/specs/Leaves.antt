@@ -1,5 +1,5 @@
 -- The values of leaves in an answer (GraphQL 3.5, 3.9 and 6.4.3, CompleteValue).
-use Rattle.std.specs.Prelude.{◌^◌, ◌&&◌, ℕ, ℤ, pos, neg_ℤ, int_le, int_lt, List, Bool, bytes_eq, Option, Some, None, option_map, option_and_then, if◌then◌else◌}
+use Rattle.std.specs.Prelude.{ℕ, ℤ, List, bytes_eq, Option, Some, None, option_map, option_and_then, if◌then◌else◌}
 use Rattle.std.specs.Fmt.{signed_decimal}
 use Rattle.std.specs.List.{list_any}
 use Rattle.gql_inputs.specs.InputTypes.{scalar_named}
@@ -8,14 +8,11 @@ use Rattle.gql_inputs.specs.declared.scalar.Scalar.TheVariants as scalar
 use Rattle.serde_json.specs.Data as json
 use Rattle.serde_json.specs.Data.{Data}
 use Rattle.serde_json.specs.Find.{as_bool, as_i64, as_number, as_str, of_integer}
+pub use Rattle.gql_coerce.specs.Scalars.{is_of_32_bits}
 
 -- the integer that a value is, if it is one
 abbrev pub whole_in : Data → Option ℤ
 whole_in d = option_and_then as_i64 (as_number d)
-
--- whether an integer is from -2^31 to 2^31 - 1
-abbrev pub is_of_32_bits : ℤ → Bool
-is_of_32_bits z = int_le (neg_ℤ (pos (2 ^ 31))) z && int_lt z (pos (2 ^ 31))
 
 -- an integer, if it has 32 bits
 abbrev pub int_of : ℤ → Option Data

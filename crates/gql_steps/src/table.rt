@@ -56,8 +56,8 @@ pub struct Table<'d> {
     pub links: Vec<Link>,
     /// For each field, how many links there were with its last one; or 0.
     pub last: Vec<usize>,
-    /// The last entry that was made for a key of selection sets and a type, but for the first
-    /// entries. It may be one for others.
+    /// The last entry that was made under a key of selection sets and a type, but for the first
+    /// entries. Two can have one key: compare before use.
     pub made: HashMap<usize, usize>,
     /// How much of selections may still be compared.
     pub credit: usize,

@@ -18,7 +18,7 @@ pub enum Change {
     Add(CoercedValue),
 }
 
-// The items of a list with a change.
+/// The items of a list with a change.
 fn items_with(items: Vec<Value>, change: Change) -> Vec<Value>
     requires { IsReady change (Array items) }
     ensures { IsChanged change (Array items) (Array result) }
@@ -29,7 +29,7 @@ fn items_with(items: Vec<Value>, change: Change) -> Vec<Value>
     }
 }
 
-// A list with a change. Any other value stays as it is.
+/// A list with a change. Any other value stays as it is.
 fn with_change(list: Value, change: Change) -> Value
     requires { IsReady change list }
     ensures { IsChanged change list result }
@@ -40,7 +40,7 @@ fn with_change(list: Value, change: Change) -> Value
     }
 }
 
-// Members, with a change to the list of this name.
+/// Members, with a change to the list of this name.
 fn members_with(members: Map<String, Value>, to: &str, change: Change) -> Map<String, Value>
     requires { IfSome (get_by_text members to.now) (IsReady change) }
     ensures { AreChangedAt to.now (IsChanged change) members result }
@@ -54,7 +54,7 @@ fn members_with(members: Map<String, Value>, to: &str, change: Change) -> Map<St
     members
 }
 
-// An object, with a change to the list of this name.
+/// An object, with a change to the list of this name.
 fn object_with(object: Value, to: &str, change: Change) -> Value
     requires { IfMember to.now (IsReady change) object }
     ensures { IsChangedAt to.now (IsChanged change) object result }
@@ -65,7 +65,7 @@ fn object_with(object: Value, to: &str, change: Change) -> Value
     }
 }
 
-// The members of the data, with a change to the list of this name.
+/// The members of the data, with a change to the list of this name.
 fn data_members_with(members: Map<String, Value>, to: &str, change: Change) -> Map<String, Value>
     requires { IfSome (get_by_text members (codes "query")) (IfMember to.now (IsReady change)) }
     ensures { AreChangedAt (codes "query") (IsChangedAt to.now (IsChanged change)) members result }

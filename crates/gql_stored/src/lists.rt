@@ -6,7 +6,7 @@ ghost use Rattle.gql_stored.specs.Effects.{list_named};
 
 use serde_json::Value;
 
-// The member of this name, if a value is an object that has one.
+/// The member of this name, if a value is an object that has one.
 fn member<'v>(value: &'v Value, name: &str) -> Option<&'v Value>
     ensures { option_map (λ v. v.now) result ≡ member_of name.now value.now }
 {

@@ -12,8 +12,8 @@ use serde_json::Value;
 use std::alloc::{AllocError, Global};
 use std::collections::HashMap;
 
-// A buffer for these items and so many more, and for as many again as there are items. So the items
-// move seldom, if one is added at a time.
+/// A buffer for these items and so many more, and for as many again as there are items. So the items
+/// move seldom, if one is added at a time.
 fn buffer_for(alloc: Global, items: &Vec<Value>, count: usize) -> Result<Vec<Value>, AllocError>
     ensures is_empty { IfOk result (λ buffer. buffer.items ≡ []) }
     ensures has_room { IfOk result (λ buffer. vec_len items.now + count ≤ vec_capacity buffer) }
@@ -24,7 +24,7 @@ fn buffer_for(alloc: Global, items: &Vec<Value>, count: usize) -> Result<Vec<Val
     Vec::with_capacity(alloc, least.saturating_add(items.len()))
 }
 
-// Adds a room for the list of this name, if it does not take so many more items as it is.
+/// Adds a room for the list of this name, if it does not take so many more items as it is.
 fn add_room(
     alloc: Global,
     stored: &Value,
@@ -50,7 +50,7 @@ fn add_room(
     Ok(())
 }
 
-// Rooms for so many more items in the list of each name.
+/// Rooms for so many more items in the list of each name.
 fn rooms_by(
     alloc: Global,
     stored: &Value,

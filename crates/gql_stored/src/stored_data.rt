@@ -41,7 +41,7 @@ impl Drop for StoredData {
     }
 }
 
-// The data, with each list in the room that there is for it.
+/// The data, with each list in the room that there is for it.
 fn with_rooms(stored: Value, rooms: Vec<Room>) -> Value
     requires { AllByRecursion IsEmptyRoom rooms.items }
     ensures value { view result ≡ view stored }
@@ -56,7 +56,7 @@ fn with_rooms(stored: Value, rooms: Vec<Room>) -> Value
     stored
 }
 
-// The data after these effects.
+/// The data after these effects.
 fn with_effects(stored: Value, effects: Vec<Effect>) -> Value
     requires { (to : List ℕ) → IfList to (HasRoom (count_to to effects.items)) stored }
     ensures { view result ≡ after (map effect_of effects.items) (view stored) }

@@ -54,6 +54,5 @@ pub fn edited_names(
     let mut names = Vec::new(alloc);
     add_file(before, &mut names)?;
     add_file(after, &mut names)?;
-    let named = Named::new(alloc, names)?;
-    Ok(named)
+    Named::new(alloc, names)
 }

@@ -120,8 +120,7 @@ pub fn assemble(alloc: Global, files: &Files) -> Result<Schema, AllocError>
 {
     let definitions = definitions(alloc, files)?;
     let types = types(alloc, definitions.as_slice())?;
-    let schema = schema_with(alloc, definitions.as_slice(), types)?;
-    Ok(schema)
+    schema_with(alloc, definitions.as_slice(), types)
 }
 
 /// The schema of all schema files after an edit, by the schema before it. The edit changed types of

@@ -54,13 +54,11 @@ fn unwrapped(of_type: &TypeRef, wrappers: &mut Items<Wrapper>) -> Result<Text, A
         TypeRef::Named(name) => name.text.copy(),
         TypeRef::List { place: _, item } => {
             wrappers.push(Wrapper::List)?;
-            let name = unwrapped(item.get(), wrappers)?;
-            Ok(name)
+            unwrapped(item.get(), wrappers)
         }
         TypeRef::NonNull(of_type) => {
             wrappers.push(Wrapper::NonNull)?;
-            let name = unwrapped(of_type.get(), wrappers)?;
-            Ok(name)
+            unwrapped(of_type.get(), wrappers)
         }
     }
 }

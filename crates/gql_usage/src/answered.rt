@@ -86,7 +86,7 @@ fn is_abstract(kind: TypeKind) -> bool
 
 /// Whether this is an interface or a union that is read.
 fn is_read(shelf: &Shelf, of_type: &SchemaType) -> Result<bool, AllocError>
-    ensures { IfOk result (λ r. r ≡ spec.is_abstract_read shelf.now of_type.now) }
+    ensures { IfOk result (λ r. r ≡ spec.is_abstract_read shelf.now.verdicts of_type.now) }
 {
     if !is_abstract(of_type.kind) {
         return Ok(false);
@@ -102,7 +102,8 @@ fn add_answered(
     of_type: &SchemaType,
     answered: &mut Answered,
 ) -> Result<(), AllocError>
-    ensures { OnOk result (HasMore answered.old (spec.answered_by schema.now shelf.now of_type.now)
+    ensures { OnOk result (HasMore answered.old
+        (spec.answered_by schema.now shelf.now.verdicts of_type.now)
         answered.new) }
 {
     if !is_read(shelf, of_type)? {
@@ -120,7 +121,7 @@ pub fn answered_objects(
     schema: &Schema,
     shelf: &Shelf,
 ) -> Result<Answered, AllocError>
-    ensures { IfOk result (HasMore [] (spec.answered schema.now shelf.now)) }
+    ensures { IfOk result (HasMore [] (spec.answered schema.now shelf.now.verdicts)) }
 {
     let mut answered = Answered::new(alloc);
     for of_type in schema.types() {

@@ -71,11 +71,11 @@ fn add_reader(
     key: &Key,
     readers: &mut Vec<Reader>,
 ) -> Result<(), AllocError>
-    requires at { Contains (all_readers key.now shelf.now) id.now }
+    requires at { Contains (all_readers key.now shelf.now.verdicts) id.now }
     ensures ids { OnOk result (spec.ids_of readers.new.items
         ≡ spec.ids_of readers.old.items ++ id.now ∷ []) }
     ensures each { (r : AReader) → Contains readers.new.items r
-        → Contains readers.old.items r ⊎ spec.IsReaderAmong key.now shelf.now r }
+        → Contains readers.old.items r ⊎ spec.IsReaderAmong key.now shelf.now.verdicts r }
 {
     if let Some(verdict) = shelf.get(id) {
         readers.push(reader_of(alloc, verdict, key)?)?;
@@ -90,10 +90,11 @@ fn readers_at(
     key: &Key,
     ids: &[DefinitionId],
 ) -> Result<Vec<Reader>, AllocError>
-    requires { (i : AnId) → Contains ids.now i → Contains (all_readers key.now shelf.now) i }
+    requires { (i : AnId) → Contains ids.now i
+        → Contains (all_readers key.now shelf.now.verdicts) i }
     ensures ids { IfOk result (λ found. spec.ids_of found.items ≡ ids.now) }
     ensures each { IfOk result (λ found. (r : AReader) → Contains found.items r
-        → spec.IsReaderAmong key.now shelf.now r) }
+        → spec.IsReaderAmong key.now shelf.now.verdicts r) }
 {
     let mut readers = Vec::new(alloc);
     for id in ids {
@@ -104,9 +105,10 @@ fn readers_at(
 
 /// The definitions whose verdicts observe a key, by file and offset.
 pub fn readers_of(alloc: Global, shelf: &Shelf, key: &Key) -> Result<Vec<Reader>, AllocError>
-    ensures ids { IfOk result (λ found. spec.ids_of found.items ≡ all_readers key.now shelf.now) }
+    ensures ids { IfOk result (λ found.
+        spec.ids_of found.items ≡ all_readers key.now shelf.now.verdicts) }
     ensures each { IfOk result (λ found. (r : AReader) → Contains found.items r
-        → spec.IsReaderAmong key.now shelf.now r) }
+        → spec.IsReaderAmong key.now shelf.now.verdicts r) }
 {
     readers_at(alloc, shelf, key, shelf.readers(key))
 }

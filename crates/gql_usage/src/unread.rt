@@ -34,14 +34,15 @@ pub struct Unread {
 
 /// Whether no definition reads the answer to this key.
 pub fn is_unread(shelf: &Shelf, key: &Key) -> bool
-    ensures { result ≡ spec.is_unread shelf.now key.now }
+    ensures { result ≡ spec.is_unread shelf.now.verdicts key.now }
 {
     shelf.readers(key).is_empty()
 }
 
 /// Whether no definition reads this field of a type.
 fn is_own_field_unread(shelf: &Shelf, of_type: &Text, field: &Text) -> Result<bool, AllocError>
-    ensures { IfOk result (λ r. r ≡ spec.is_unread shelf.now (key.FieldOf of_type.now field.now)) }
+    ensures { IfOk result (λ r.
+        r ≡ spec.is_unread shelf.now.verdicts (key.FieldOf of_type.now field.now)) }
 {
     Ok(is_unread(
         shelf,
@@ -59,7 +60,7 @@ fn is_unread_in_all(
     field: &Text,
 ) -> Result<bool, AllocError>
     ensures { IfOk result (λ r.
-        r ≡ spec.is_unread_in_all shelf.now interfaces.now field.now) }
+        r ≡ spec.is_unread_in_all shelf.now.verdicts interfaces.now field.now) }
 {
     for interface in interfaces {
         if !is_own_field_unread(shelf, &interface.node.text, field)? {
@@ -77,7 +78,7 @@ fn is_field_unread(
     field: &Text,
 ) -> Result<bool, AllocError>
     ensures { IfOk result (λ r.
-        r ≡ spec.is_field_unread shelf.now of_type.now interfaces.now field.now) }
+        r ≡ spec.is_field_unread shelf.now.verdicts of_type.now interfaces.now field.now) }
 {
     if !is_own_field_unread(shelf, of_type, field)? {
         return Ok(false);
@@ -114,7 +115,7 @@ fn add_field(
     unread: &mut Vec<Unread>,
 ) -> Result<(), AllocError>
     ensures { OnOk result (unread.new.items
-        ≡ unread.old.items ++ spec.unread_field shelf.now of_type.now field.now) }
+        ≡ unread.old.items ++ spec.unread_field shelf.now.verdicts of_type.now field.now) }
 {
     let type_name = &of_type.definition.node.get().name.text;
     let name = &field.node.get().name;
@@ -135,7 +136,7 @@ fn add_fields(
     unread: &mut Vec<Unread>,
 ) -> Result<(), AllocError>
     ensures { OnOk result (unread.new.items
-        ≡ unread.old.items ++ spec.unread_fields shelf.now of_type.now) }
+        ≡ unread.old.items ++ spec.unread_fields shelf.now.verdicts of_type.now) }
 {
     for field in of_type.fields.as_slice() {
         add_field(shelf, of_type, field, unread)?;
@@ -161,8 +162,8 @@ fn is_type_unread(
     answered: &Answered,
     name: &Text,
 ) -> Result<bool, AllocError>
-    requires { HasMore [] (spec.answered schema.now shelf.now) answered.now }
-    ensures { IfOk result (λ r. r ≡ spec.is_type_unread schema.now shelf.now name.now) }
+    requires { HasMore [] (spec.answered schema.now shelf.now.verdicts) answered.now }
+    ensures { IfOk result (λ r. r ≡ spec.is_type_unread schema.now shelf.now.verdicts name.now) }
 {
     if is_root(schema, name) || answered.has(name) {
         return Ok(false);
@@ -178,9 +179,9 @@ fn add_type_of_file(
     of_type: &SchemaType,
     unread: &mut Vec<Unread>,
 ) -> Result<(), AllocError>
-    requires { HasMore [] (spec.answered schema.now shelf.now) answered.now }
+    requires { HasMore [] (spec.answered schema.now shelf.now.verdicts) answered.now }
     ensures { OnOk result (unread.new.items
-        ≡ unread.old.items ++ spec.unread_in_file schema.now shelf.now of_type.now) }
+        ≡ unread.old.items ++ spec.unread_in_file schema.now shelf.now.verdicts of_type.now) }
 {
     let name = &of_type.definition.node.get().name;
     if !is_type_unread(schema, shelf, answered, &name.text)? {
@@ -198,9 +199,9 @@ fn add_type(
     of_type: &SchemaType,
     unread: &mut Vec<Unread>,
 ) -> Result<(), AllocError>
-    requires { HasMore [] (spec.answered schema.now shelf.now) answered.now }
+    requires { HasMore [] (spec.answered schema.now shelf.now.verdicts) answered.now }
     ensures { OnOk result (unread.new.items
-        ≡ unread.old.items ++ spec.unread_type schema.now shelf.now of_type.now) }
+        ≡ unread.old.items ++ spec.unread_type schema.now shelf.now.verdicts of_type.now) }
 {
     if name_of_source(&of_type.definition.file).is_none() {
         return Ok(());
@@ -215,7 +216,7 @@ fn add_directive(
     unread: &mut Vec<Unread>,
 ) -> Result<(), AllocError>
     ensures { OnOk result (unread.new.items
-        ≡ unread.old.items ++ spec.unread_directive shelf.now directive.now) }
+        ≡ unread.old.items ++ spec.unread_directive shelf.now.verdicts directive.now) }
 {
     let name = &directive.node.get().name;
     if !is_unread(shelf, &Key::DirectiveOf(name.text.copy()?)) {
@@ -232,9 +233,9 @@ fn add_types(
     answered: &Answered,
     unread: &mut Vec<Unread>,
 ) -> Result<(), AllocError>
-    requires { HasMore [] (spec.answered schema.now shelf.now) answered.now }
+    requires { HasMore [] (spec.answered schema.now shelf.now.verdicts) answered.now }
     ensures { OnOk result (unread.new.items
-        ≡ unread.old.items ++ spec.unread_types schema.now shelf.now) }
+        ≡ unread.old.items ++ spec.unread_types schema.now shelf.now.verdicts) }
 {
     for of_type in schema.types() {
         add_type(schema, shelf, answered, of_type, unread)?;
@@ -249,7 +250,7 @@ fn add_directives(
     unread: &mut Vec<Unread>,
 ) -> Result<(), AllocError>
     ensures { OnOk result (unread.new.items
-        ≡ unread.old.items ++ spec.unread_directives schema.now shelf.now) }
+        ≡ unread.old.items ++ spec.unread_directives schema.now shelf.now.verdicts) }
 {
     for directive in schema.directives() {
         add_directive(shelf, directive, unread)?;
@@ -264,7 +265,7 @@ pub fn unread_parts(
     schema: &Schema,
     shelf: &Shelf,
 ) -> Result<Vec<Unread>, AllocError>
-    ensures { IfOk result (λ unread. unread.items ≡ spec.unread_in schema.now shelf.now) }
+    ensures { IfOk result (λ unread. unread.items ≡ spec.unread_in schema.now shelf.now.verdicts) }
 {
     let answered = answered_objects(alloc, schema, shelf)?;
     let mut unread = Vec::new(alloc);

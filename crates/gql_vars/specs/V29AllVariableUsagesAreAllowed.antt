@@ -19,6 +19,7 @@ use Rattle.gql_vars.specs.Faults.{fault_of_use}
 use Rattle.gql_vars.specs.P04FloatVariables.{is_float}
 use Rattle.gql_vars.specs.Usages.{Location, Usage, Usages}
 use Rattle.gql_vars.specs.Variables.{type_name, variable_named}
+pub use Rattle.gql_types.specs.Covariance.{nullable}
 
 -- The type of a variable, the first, fits that of a location (AreTypesCompatible): it is Non-Null
 -- if that of the location is, a list exactly if that is, and names the same type.
@@ -32,12 +33,6 @@ fits (listed t) (listed u) = fits t u
 fits (named n) (listed u) = false
 fits (listed t) (named m) = false
 fits (named n) (named m) = bytes_eq n m
-
--- a type without its Non-Null
-abbrev pub nullable : Written → Written
-nullable (required t) = t
-nullable (listed t) = listed t
-nullable (named n) = named n
 
 -- whether there is a default value other than null
 abbrev pub has_value : Option Literal → Bool

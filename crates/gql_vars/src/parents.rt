@@ -61,10 +61,7 @@ pub fn parent_within<W: World>(
         ≡ spec.parent_within (W.facts world.old) parent.now condition.now) }
 {
     match condition {
-        Some(condition) => {
-            let within = composite(alloc, world, Some(&condition.text))?;
-            Ok(within)
-        }
+        Some(condition) => composite(alloc, world, Some(&condition.text)),
         None => match parent {
             Some(parent) => Ok(Some(parent.copy()?)),
             None => Ok(None),
@@ -97,6 +94,5 @@ pub fn parent_of_operation<W: World>(
     ensures parent { IfOk result (λ t. t ≡ root_parent (W.facts world.old) kind) }
 {
     let root = world.fact(alloc, &Key::RootOf(kind))?;
-    let parent = composite(alloc, world, selected_root(kind, &root))?;
-    Ok(parent)
+    composite(alloc, world, selected_root(kind, &root))
 }

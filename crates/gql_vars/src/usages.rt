@@ -50,8 +50,7 @@ fn input_type<W: World>(
         ≡ known.known_inputs (W.facts world.old) name.now) }
 {
     let mut types = OfWorld { world };
-    let found = types.input_type(alloc, name)?;
-    Ok(found)
+    types.input_type(alloc, name)
 }
 
 /// Adds the fault of a variable at a location.

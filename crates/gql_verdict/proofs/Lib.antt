@@ -7,6 +7,7 @@ pub mod Filled
 pub mod LedTo
 pub mod Marking
 pub mod Ordered
+pub mod PairsKnown
 pub mod Picked
 pub mod Refreshed
 pub mod Seen

@@ -8,10 +8,20 @@ use Rattle.gql_ast.specs.declared.fault.Fault.{Fault}
 use Rattle.gql_facts.specs.Keys.{is_key}
 use Rattle.gql_facts.specs.Worlds.{Facts}
 use Rattle.gql_facts.specs.declared.key.Key.{Key}
+use Rattle.gql_pairs.specs.Groups.{KeptGroup}
 use Rattle.gql_verdict.specs.Faults.{IsFaultIn}
 use Rattle.gql_verdict.specs.Verdicts.{Judgement}
 use Rattle.gql_reads.specs.Observations.{Hold, IsBroken}
 use Rattle.gql_reads.specs.declared.observation.Observation.{Observation}
+
+-- what is on a shelf: verdicts, and what is kept of pairs of fragments
+pub record Shelved : Type 0 where
+  pub verdicts : List Judgement
+  pub pairs : List KeptGroup
+
+-- a shelf with nothing on it
+abbrev pub nothing_shelved : Shelved
+nothing_shelved = record { verdicts = []; pairs = [] }
 
 -- ---- what a shelf answers
 

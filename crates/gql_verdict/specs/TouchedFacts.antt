@@ -4,6 +4,8 @@ use Rattle.gql_ast.specs.declared.definition.Definition.{Definition}
 use Rattle.gql_facts.specs.Worlds.{Facts}
 use Rattle.gql_facts.specs.declared.key.Key.{Key}
 use Rattle.gql_facts.specs.declared.key.Key.TheVariants as key
+use Rattle.gql_pairs.specs.Groups.{KeptGroup}
+use Rattle.gql_pairs.specs.Tables.{AllHold}
 use Rattle.gql_verdict.specs.Shelves.{defs}
 use Rattle.gql_reads.specs.Observations.{Hold}
 use Rattle.gql_verdict.specs.Verdicts.{Judgement}
@@ -51,3 +53,11 @@ IsKnown facts definitions kept touched.All = Unit {0}
 IsKnown facts definitions kept (touched.File edit) =
     AreOthersKept definitions kept (touched.File edit)
     × (before : Facts) × IsEarlier facts kept (touched.File edit) before
+
+-- What is known of pairs of fragments before an edit: there were such facts, in which all entries
+-- held, and no answer has changed but those that are touched. Nothing is known of an edit that may
+-- have changed everything.
+abbrev pub ArePairsKnown : Facts → List KeptGroup → Touched → Type 0
+ArePairsKnown facts pairs touched.All = Unit {0}
+ArePairsKnown facts pairs (touched.File edit) = (before : Facts) × AllHold before pairs
+    × ((k : Key) → touches (touched.File edit) k ≡ false → facts k ≡ before k)

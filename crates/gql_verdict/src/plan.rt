@@ -4,6 +4,7 @@ ghost use Rattle.std.specs.List.{AllZip};
 ghost use Rattle.gql_verdict.specs.Definitions.{all_definitions as definitions_of};
 ghost use Rattle.gql_verdict.specs.FileOrder.{AreFilesPlaced, InFileOrder};
 ghost use Rattle.gql_facts.specs.Worlds.{Facts};
+ghost use Rattle.gql_pairs.specs.Tables.{Keeps};
 ghost use Rattle.gql_verdict.specs.Marks.{AreMarks};
 ghost use Rattle.gql_verdict.specs.SharedWorks.{Holds};
 ghost use Rattle.gql_verdict.specs.Shelves.{IsDue, IsDueWork, IsStepWork};
@@ -91,6 +92,7 @@ fn step<W: World, K: KeptParts>(
     ensures names { W.names world.new ≡ W.names world.old }
     ensures lent { W.lent world.new ≡ W.lent world.old }
     ensures holds { Holds (W.facts world.old) shared.new }
+    ensures pairs { Keeps shared.old.pairs shared.new.pairs }
     ensures step { IfOk result (IsStep (W.facts world.old) kept.now definition.now) }
     ensures work { IsStepWork (W.facts world.old) (verdicts kept.now) definition.now
         meter.old meter.new }
@@ -133,6 +135,7 @@ fn plan_all<W: World, K: KeptParts>(
     ensures names { W.names world.new ≡ W.names world.old }
     ensures lent { W.lent world.new ≡ W.lent world.old }
     ensures holds { Holds (W.facts world.old) shared.new }
+    ensures pairs { Keeps shared.old.pairs shared.new.pairs }
     ensures steps { IfOk result (λ steps. AllZip (IsStep (W.facts world.old) kept.now)
         (map (λ d. d.now) definitions.now) steps.items) }
     ensures work { IsDueWork (W.facts world.old) (verdicts kept.now)
@@ -172,6 +175,7 @@ pub fn plan<W: World, K: KeptParts>(
     ensures names { W.names world.new ≡ W.names world.old }
     ensures lent { W.lent world.new ≡ W.lent world.old }
     ensures holds { Holds (W.facts world.old) shared.new }
+    ensures pairs { Keeps shared.old.pairs shared.new.pairs }
     ensures order { AreFilesPlaced files.now.documents
         → InFileOrder (definitions_of files.now.documents) }
     ensures steps { IfOk result (λ steps. AllZip (IsStep (W.facts world.old) kept.now)
@@ -180,7 +184,7 @@ pub fn plan<W: World, K: KeptParts>(
         (definitions_of files.now.documents) meter.old meter.new }
 {
     let definitions = all_definitions(alloc, &files.documents)?;
-    let steps = plan_all(
+    plan_all(
         alloc,
         world,
         kept,
@@ -190,6 +194,5 @@ pub fn plan<W: World, K: KeptParts>(
         parts,
         shared,
         meter,
-    )?;
-    Ok(steps)
+    )
 }

@@ -1,15 +1,19 @@
 //! The verdicts that are kept, one for each definition that is present.
-ghost use Rattle.std.specs.Prelude.{◌≡◌, ◌++◌, [], List, IfOk, OnOk, OnErr, flat_map};
+ghost use Rattle.gql_facts.specs.declared.key.Key.{Key as AKey};
+ghost use Rattle.gql_pairs.specs.Doubts.{in_doubt};
+ghost use Rattle.std.specs.Prelude.{◌≡◌, ◌++◌, List, IfOk, OnOk, OnErr, flat_map};
 ghost use Rattle.std.specs.Option.{option_copied};
 ghost use Rattle.gql_ast.specs.declared.definition.Definition.{Definition};
 ghost use Rattle.gql_facts.specs.Members.{Lists};
 ghost use Rattle.gql_facts.specs.Worlds.{Facts};
 ghost use Rattle.gql_verdict.specs.Definitions.{all_definitions as definitions_of};
 ghost use Rattle.gql_verdict.specs.FileOrder.{AreFilesPlaced};
+ghost use Rattle.gql_pairs.specs.Tables.{AllHold, KeepsHolding};
+ghost use Rattle.gql_verdict.specs.Shelves.{nothing_shelved};
 ghost use Rattle.gql_verdict.specs.Shelves.{Answers, IsCurrent, IsFaultOfAny, IsVerdictAt, IsWork, readers_of};
 ghost use Rattle.gql_verdict.specs.Plans.{IsPlanned, IsPrepared};
 ghost use Rattle.gql_verdict.specs.Slots.{IsSlotCertified, slot_faults};
-ghost use Rattle.gql_verdict.specs.TouchedFacts.{IsKnown};
+ghost use Rattle.gql_verdict.specs.TouchedFacts.{ArePairsKnown, IsKnown, touches};
 
 use crate::indexing::index_after;
 use crate::marks::broken_marks;
@@ -21,6 +25,7 @@ use crate::touched::Touched;
 use crate::verdict::Verdict;
 use gql_ast::{DefinitionId, Fault, Files, Shared};
 use gql_facts::{FragmentFact, Key, World};
+use gql_pairs::{Doubt, PairTable};
 use gql_readers::Index;
 use gql_reads::{KeptParts, Part};
 use std::alloc::{AllocError, Global};
@@ -47,16 +52,21 @@ fn add_slot(slot: &Slot, found: &mut Vec<Shared<Fault>>) -> Result<(), AllocErro
     }
 }
 
-/// A verdict for each definition of the document files, in their order. Contracts see the list of
-/// the verdicts.
+/// A verdict for each definition of the document files, in their order, and what clashes between
+/// fragments. Contracts see the list of the verdicts, and what is kept of pairs of fragments.
 pub struct Shelf {
     slots: Vec<Slot>,
     index: Index,
+    pairs: PairTable,
 }
 
 impl Drop for Shelf {
     fn drop(self) {
-        let Shelf { slots: _, index: _ } = self;
+        let Shelf {
+            slots: _,
+            index: _,
+            pairs: _,
+        } = self;
     }
 }
 
@@ -66,12 +76,13 @@ impl Model for Shelf {
     ghost use Rattle.gql_ast.specs.contracts.fault.Fault as fault;
     ghost use Rattle.gql_facts.specs.contracts.key.Key as key;
     ghost use Rattle.gql_facts.specs.contracts.fact.Fact as fact;
-    ghost use Rattle.std.specs.Prelude.{List};
-    ghost use Rattle.gql_verdict.specs.Verdicts.{Judgement};
+    ghost use Rattle.gql_facts.specs.contracts.fact.FragmentFact as fragment_fact;
+    ghost use Rattle.gql_merge.specs.contracts.two_fragments.FragmentClash as clash;
+    ghost use Rattle.gql_verdict.specs.Shelves.{Shelved};
     ghost use Rattle.gql_verdict.specs.Marks.{IsShelved};
     ghost use Rattle.gql_verdict.specs.Slots.{verdicts};
 
-    ghost Value = { List Judgement };
+    ghost Value = { Shelved };
 
     ghost coded = { Prim.hlevel (
       codes,
@@ -79,9 +90,11 @@ impl Model for Shelf {
       fault.the_row.coded,
       key.the_row.coded,
       fact.the_row.coded,
+      fragment_fact.the_row.coded,
+      clash.the_row.coded,
     ) };
 
-    ghost view = { λ s. verdicts s.slots.items };
+    ghost view = { λ s. record { verdicts = verdicts s.slots.items; pairs = s.pairs } };
 
     ghost invariant = { λ s. IsShelved s.slots.items s.index };
 }
@@ -100,11 +113,12 @@ impl KeptParts for Shelf {
 }
 
 /// What makes a shelf current: for each definition a new verdict, or the index of one on the shelf;
-/// and who reads each key afterwards.
+/// who reads each key afterwards, and what clashes between fragments.
 #[derive(Drop)]
 pub struct Prepared {
     steps: Vec<Slot>,
     index: Index,
+    pairs: PairTable,
 }
 
 impl Model for Prepared {
@@ -112,6 +126,8 @@ impl Model for Prepared {
     ghost use Rattle.gql_ast.specs.contracts.definition.DefinitionId as of_id;
     ghost use Rattle.gql_facts.specs.contracts.key.Key as of_key;
     ghost use Rattle.gql_facts.specs.contracts.fact.Fact as of_fact;
+    ghost use Rattle.gql_facts.specs.contracts.fact.FragmentFact as of_fragment;
+    ghost use Rattle.gql_merge.specs.contracts.two_fragments.FragmentClash as of_clash;
     ghost use Rattle.gql_verdict.specs.Plans.{Preparation};
     ghost use Rattle.gql_verdict.specs.contracts.slot.Slot as slot;
 
@@ -123,26 +139,62 @@ impl Model for Prepared {
       of_id.the_row.coded,
       of_key.the_row.coded,
       of_fact.the_row.coded,
+      of_fragment.the_row.coded,
+      of_clash.the_row.coded,
     ) };
 
-    ghost view = { λ p. record { steps = p.steps.items; index = p.index } };
+    ghost view = { λ p. record {
+      steps = p.steps.items;
+      index = p.index;
+      pairs = p.pairs;
+    } };
+}
+
+/// Which answers an edit may have changed.
+fn doubt_of(touched: &Touched) -> Result<Doubt, AllocError>
+    ensures { IfOk result (λ d. (k : AKey) → in_doubt d k ≡ touches touched.now k) }
+{
+    match touched {
+        Touched::All => Ok(Doubt::All),
+        Touched::File(edit) => Ok(Doubt::Fragments(edit.fragments.copy()?)),
+    }
+}
+
+/// What clashes between fragments, without the entries that no longer hold after an edit.
+fn held_pairs<W: World>(
+    alloc: Global,
+    world: &mut W,
+    pairs: &PairTable,
+    touched: &Touched,
+) -> Result<PairTable, AllocError>
+    requires { ArePairsKnown (W.facts world.old) pairs.now touched.now }
+    ensures facts { W.facts world.new ≡ W.facts world.old }
+    ensures names { W.names world.new ≡ W.names world.old }
+    ensures lent { W.lent world.new ≡ W.lent world.old }
+    ensures holds { IfOk result (λ held. AllHold (W.facts world.old) held) }
+    ensures kept { IfOk result (λ held. KeepsHolding (W.facts world.old) pairs.now held) }
+{
+    let doubt = doubt_of(touched)?;
+    pairs.holding(alloc, world, &doubt)
 }
 
 impl Shelf {
-    /// A shelf with no verdicts.
+    /// A shelf with nothing on it.
     pub fn new(alloc: Global) -> Shelf
-        ensures { result ≡ [] }
+        ensures { result ≡ nothing_shelved }
     {
         Shelf {
             slots: Vec::new(alloc),
             index: Index::new(alloc),
+            pairs: PairTable::new(alloc),
         }
     }
 
     /// Prepares to make the shelf current after an edit: examines each definition that has no
     /// verdict, or whose verdict no longer holds. The answer to each key that is read and that the
-    /// edit touches is asked once for all its readers, and each fragment is walked at most once. The
-    /// shelf stays as it is.
+    /// edit touches is asked once for all its readers, and each fragment is walked at most once. Of
+    /// what is kept of pairs of fragments, only what no longer holds is left out. The shelf stays as
+    /// it is.
     pub fn prepare<W: World>(
         &self,
         alloc: Global,
@@ -153,18 +205,22 @@ impl Shelf {
     ) -> Result<Prepared, AllocError>
         requires placed { AreFilesPlaced files.now.documents }
         requires known { IsKnown (W.facts world.old) (definitions_of files.now.documents)
-            self.now touched.now }
+            self.now.verdicts touched.now }
+        requires pairs { ArePairsKnown (W.facts world.old) self.now.pairs touched.now }
         ensures facts { W.facts world.new ≡ W.facts world.old }
         ensures names { W.names world.new ≡ W.names world.old }
         ensures lent { W.lent world.new ≡ W.lent world.old }
         ensures planned { IfOk result (λ prepared. IsPlanned (W.facts world.old)
-            (definitions_of files.now.documents) self.now prepared) }
-        ensures work { IsWork (W.facts world.old) self.now
+            (definitions_of files.now.documents) self.now.verdicts prepared) }
+        ensures pairs { IfOk result (λ prepared.
+            KeepsHolding (W.facts world.old) self.now.pairs prepared.pairs) }
+        ensures work { IsWork (W.facts world.old) self.now.verdicts
             (definitions_of files.now.documents) meter.old meter.new }
     {
         let kept = self.slots.as_slice();
         let marks = broken_marks(alloc, world, kept, &self.index, touched)?;
-        let mut shared = SharedWork::new(alloc);
+        let held = held_pairs(alloc, world, &self.pairs, touched)?;
+        let mut shared = SharedWork::new(alloc, held);
         let steps = plan(
             alloc,
             world,
@@ -177,7 +233,12 @@ impl Shelf {
             meter,
         )?;
         let index = index_after(alloc, &self.index, kept, steps.as_slice())?;
-        Ok(Prepared { steps, index })
+        let pairs = shared.pairs;
+        Ok(Prepared {
+            steps,
+            index,
+            pairs,
+        })
     }
 
     /// The faults of the verdicts that will be on the shelf once it is current. The list shares
@@ -188,7 +249,7 @@ impl Shelf {
         prepared: &Prepared,
     ) -> Result<Vec<Shared<Fault>>, AllocError>
         ensures { IfOk result (λ found. (facts : Facts) (definitions : List Definition)
-            → IsPlanned facts definitions self.now prepared.now
+            → IsPlanned facts definitions self.now.verdicts prepared.now
             → Lists found.items (IsFaultOfAny facts definitions)) }
     {
         let kept = self.slots.as_slice();
@@ -202,15 +263,17 @@ impl Shelf {
     /// Makes the shelf current: new verdicts take their places, those that still hold keep theirs,
     /// and those on definitions that are gone are dropped. It allocates nothing and cannot fail.
     pub fn commit(&mut self, prepared: Prepared)
-        requires { IsPrepared self.old prepared }
-        ensures { (facts : Facts) (definitions : List Definition)
-            → IsPlanned facts definitions self.old prepared
-            → IsCurrent facts definitions self.new }
+        requires { IsPrepared self.old.verdicts prepared }
+        ensures current { (facts : Facts) (definitions : List Definition)
+            → IsPlanned facts definitions self.old.verdicts prepared
+            → IsCurrent facts definitions self.new.verdicts }
+        ensures pairs { self.new.pairs ≡ prepared.pairs }
     {
         let mut steps = prepared.steps;
         fill(&mut steps, &mut self.slots);
         self.slots = steps;
         self.index = prepared.index;
+        self.pairs = prepared.pairs;
     }
 
     /// Makes the shelf current, whatever changed since: the answer to each key that is read is asked
@@ -228,9 +291,12 @@ impl Shelf {
         ensures names { W.names world.new ≡ W.names world.old }
         ensures lent { W.lent world.new ≡ W.lent world.old }
         ensures current { OnOk result (IsCurrent (W.facts world.old)
-            (definitions_of files.now.documents) self.new) }
+            (definitions_of files.now.documents) self.new.verdicts) }
+        ensures pairs { OnOk result (AllHold (W.facts world.old) self.new.pairs) }
+        ensures kept { OnOk result
+            (KeepsHolding (W.facts world.old) self.old.pairs self.new.pairs) }
         ensures err { OnErr result (self.new ≡ self.old) }
-        ensures work { IsWork (W.facts world.old) self.old
+        ensures work { IsWork (W.facts world.old) self.old.verdicts
             (definitions_of files.now.documents) meter.old meter.new }
     {
         let prepared = self.prepare(alloc, world, files, &Touched::All, meter)?;
@@ -240,9 +306,9 @@ impl Shelf {
 
     /// The verdict on the definition of that name.
     pub fn get(&self, id: &DefinitionId) -> Option<&Verdict>
-        ensures value { IsVerdictAt self.now id.now (option_copied result) }
+        ensures value { IsVerdictAt self.now.verdicts id.now (option_copied result) }
         ensures current { (facts : Facts) (definitions : List Definition)
-            → IsCurrent facts definitions self.now
+            → IsCurrent facts definitions self.now.verdicts
             → Answers facts definitions id.now (option_copied result) }
     {
         let Some(j) = find(self.slots.as_slice(), id) else {
@@ -256,17 +322,25 @@ impl Shelf {
 
     /// The definitions whose verdicts observe a key, by file and offset. It takes no memory.
     pub fn readers(&self, key: &Key) -> &[DefinitionId]
-        ensures { result.now ≡ readers_of key.now self.now }
+        ensures { result.now ≡ readers_of key.now self.now.verdicts }
     {
         self.index.readers(key)
+    }
+
+    /// What clashes between fragments: an entry for each two that were spread by one set of a
+    /// definition, as long as it holds.
+    pub fn pairs(&self) -> &PairTable
+        ensures { result.now ≡ self.now.pairs }
+    {
+        &self.pairs
     }
 
     /// The faults of all verdicts. The list shares them with the verdicts.
     pub fn faults(&self, alloc: Global) -> Result<Vec<Shared<Fault>>, AllocError>
         ensures value { IfOk result (λ found.
-            found.items ≡ flat_map (λ v. v.faults) self.now) }
+            found.items ≡ flat_map (λ v. v.faults) self.now.verdicts) }
         ensures current { IfOk result (λ found. (facts : Facts) (definitions : List Definition)
-            → IsCurrent facts definitions self.now
+            → IsCurrent facts definitions self.now.verdicts
             → Lists found.items (IsFaultOfAny facts definitions)) }
     {
         let mut found = Vec::new(alloc);

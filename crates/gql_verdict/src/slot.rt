@@ -41,7 +41,7 @@ fn has_same_id(definition: &Definition, other: &Definition) -> bool
 }
 
 impl Slot {
-    /// Whether the slot has the verdict on a definition of the name of this one.
+    /// Whether the slot has the verdict on the definition in the file and at the offset of this one.
     fn has_id(&self, definition: &Definition) -> bool
         ensures { IsTrue result ↔ HasId self.now (id_of definition.now) }
     {
@@ -70,7 +70,7 @@ pub fn find(slots: &[Slot], id: &DefinitionId) -> Option<usize>
     slots.binary_search_by(|slot| slot.order_to(id)).ok()
 }
 
-/// Whether the verdict at an index is on the definition of the name of this one.
+/// Whether the verdict at an index is on the definition in the file and at the offset of this one.
 fn is_near(slots: &[Slot], near: usize, definition: &Definition) -> bool
     ensures { IsTrue result → IsFound slots.now (id_of definition.now) (Some near) }
 {
@@ -81,8 +81,8 @@ fn is_near(slots: &[Slot], near: usize, definition: &Definition) -> bool
     }
 }
 
-/// The index of the verdict on the definition of the name of this one. The index `near`, where the
-/// verdict is likely to be, is tried first.
+/// The index of the verdict on the definition in the file and at the offset of this one. The index
+/// `near`, where the verdict is likely to be, is tried first.
 pub fn find_near(slots: &[Slot], near: usize, definition: &Definition) -> Option<usize>
     requires { IsInOrder slots.now }
     ensures { IsFound slots.now (id_of definition.now) result }

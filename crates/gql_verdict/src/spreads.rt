@@ -100,6 +100,5 @@ pub fn spread_names<'t>(
         ≡ is_spread (spec.spreads_in (map (λ d. d.now) definitions.now)) q) }
 {
     let names = all_spreads(alloc, definitions)?;
-    let set = name_set(alloc, names.as_slice())?;
-    Ok(set)
+    name_set(alloc, names.as_slice())
 }

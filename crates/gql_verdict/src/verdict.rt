@@ -4,7 +4,13 @@ ghost use Rattle.gql_ast.specs.Trees.{id_of};
 ghost use Rattle.gql_facts.specs.Members.{Lists};
 ghost use Rattle.gql_facts.specs.Reads.{Reaches};
 ghost use Rattle.gql_reads.specs.Readings.{flat};
+ghost use Rattle.gql_ast.specs.declared.fault.Fault.{Fault as AFault};
+ghost use Rattle.gql_facts.specs.declared.fact.FragmentFact.{FragmentFact as AFragment};
+ghost use Rattle.gql_merge.specs.Between.{name_of};
+ghost use Rattle.gql_merge.specs.ByFragments.{IsPairOf};
 ghost use Rattle.gql_merge.specs.Clean.{AreClean};
+ghost use Rattle.gql_merge.specs.MergeFaults.{IsMergeFault};
+ghost use Rattle.gql_pairs.specs.Tables as of_pairs;
 ghost use Rattle.gql_reads.specs.Tables.{Keeps};
 ghost use Rattle.gql_verdict.specs.SharedWorks.{Holds};
 ghost use Rattle.gql_verdict.specs.Faults.{IsFaultIn};
@@ -105,6 +111,20 @@ impl Verdict {
     }
 }
 
+/// The faults of a definition, and whether none of them is by the merging of fields.
+#[derive(Drop)]
+struct Found {
+    faults: Vec<Shared<Fault>>,
+    is_clean: bool,
+}
+
+/// Whether there are no faults.
+fn are_none(faults: &[Fault]) -> bool
+    ensures { IsTrue result → faults.now ≡ [] }
+{
+    faults.is_empty()
+}
+
 /// The faults of a definition by all rules on one definition, where these are the fragments that it
 /// reaches.
 fn faults_in<W: World>(
@@ -113,7 +133,7 @@ fn faults_in<W: World>(
     definition: &Definition,
     members: &[FragmentFact],
     clean: &mut CleanFragments,
-) -> Result<Vec<Shared<Fault>>, AllocError>
+) -> Result<Found, AllocError>
     requires clean { AreClean (W.facts world.old) clean.old }
     requires members { Lists members.now (Reaches (W.facts world.old) definition.now) }
     ensures facts { W.facts world.new ≡ W.facts world.old }
@@ -121,21 +141,25 @@ fn faults_in<W: World>(
     ensures lent { W.lent world.new ≡ W.lent world.old }
     ensures clean { AreClean (W.facts world.old) clean.new }
     ensures faults { IfOk result (λ found.
-        Lists found.items (IsFaultIn (W.facts world.old) definition.now)) }
+        Lists found.faults.items (IsFaultIn (W.facts world.old) definition.now)) }
+    ensures merging { IfOk result (λ found. IsTrue found.is_clean
+        → (f : AFault) → IsMergeFault (W.facts world.old) definition.now f → ⊥) }
 {
     let of_nodes = local_faults(alloc, world, definition, members)?;
     let mut faults = shared_faults(alloc, of_nodes)?;
     let of_variables = variable_faults(alloc, world, definition, members)?;
     share_into(alloc, of_variables, &mut faults)?;
     let of_merging = merge_faults_with(alloc, world, definition, members, clean)?;
+    let is_clean = are_none(of_merging.as_slice());
     share_into(alloc, of_merging, &mut faults)?;
-    Ok(faults)
+    Ok(Found { faults, is_clean })
 }
 
 /// Examines a definition: records the answers to all keys that it reads, and finds its faults. What
 /// a fragment reads alone is recorded once, in what the examinations share. A part that is kept from
-/// before serves if it still holds. If an allocation fails, nothing is added to the meter. The world answers as before
-/// either way, and no record is lost.
+/// before serves if it still holds. An entry is kept for each two fragments that one of the
+/// definition's sets spreads. If an allocation fails, nothing is added to the meter. The world answers
+/// as before either way, and no record and no entry is lost.
 pub fn examine<W: World, K: KeptParts>(
     alloc: Global,
     world: &mut W,
@@ -150,6 +174,9 @@ pub fn examine<W: World, K: KeptParts>(
     ensures lent { W.lent world.new ≡ W.lent world.old }
     ensures holds { Holds (W.facts world.old) shared.new }
     ensures keeps { Keeps shared.old.reads shared.new.reads }
+    ensures pairs { of_pairs.Keeps shared.old.pairs shared.new.pairs }
+    ensures has { OnOk result ((g h : AFragment) → IsPairOf (W.facts world.old) definition.now g h
+        → of_pairs.HasPair shared.new.pairs (name_of g) (name_of h)) }
     ensures verdict { IfOk result (Judges (W.facts world.old) definition.now) }
     ensures ok { OnOk result (meter.new ≡ meter.old ++ id_of definition.now ∷ []) }
     ensures err { OnErr result (meter.new ≡ meter.old) }
@@ -163,18 +190,28 @@ pub fn examine<W: World, K: KeptParts>(
         definition,
     )?;
     let members = reading.members(alloc)?;
-    let faults = faults_in(
+    let found = faults_in(
         alloc,
         world,
         definition,
         members.as_slice(),
         &mut shared.clean,
     )?;
+    shared.pairs.cover_definition(
+        alloc,
+        world,
+        kept,
+        &mut shared.reads,
+        &mut shared.known,
+        definition,
+        members.as_slice(),
+        found.is_clean,
+    )?;
     let def = definition.copy()?;
     meter.add(definition.id())?;
     Ok(Verdict {
         def,
-        faults,
+        faults: found.faults,
         reading,
     })
 }

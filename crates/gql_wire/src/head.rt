@@ -12,6 +12,12 @@ use crate::part::{front, rest_from};
 use httparse::Status;
 use httparse::spans::{EMPTY_HEADER_SPAN, HeaderSpan, RequestSpans, Span, parse_request};
 
+/// The most fields that a head may have.
+const MAX_FIELDS: usize = 32;
+
+/// The most bytes that a body may have (`body_limit` in contracts).
+const MAX_BODY_BYTES: usize = 262_144;
+
 /// Why a head is refused. After each refusal the connection closes.
 #[derive(Clone, Copy, Debug, PartialEq, Eq)]
 pub enum HeadRefusal {
@@ -182,7 +188,7 @@ fn is_head_method(method: &[u8]) -> bool
 
 /// Where the parts of the head are, if the bytes are one head and nothing more.
 fn whole_head(head: &[u8], fields: &mut [HeaderSpan]) -> Option<RequestSpans>
-    requires { length fields.old ≤ 32 }
+    requires { length fields.old ≤ MAX_FIELDS }
     ensures some { IfSome result (λ spans. IsWholeHead head.now fields.new spans) }
     ensures none { IfNone result (IsNoHead (length fields.old) head.now) }
     ensures within { IfSome result (λ spans. IsRequestWithin head.now fields.new spans) }
@@ -214,7 +220,7 @@ fn outcome_of_parts(head: &[u8], spans: RequestSpans, fields: &[HeaderSpan]) -> 
             refusal: HeadRefusal::BadLength,
             bodiless,
         },
-        Some(length) if length > 262_144 => HeadOutcome::Refuse {
+        Some(length) if length > MAX_BODY_BYTES => HeadOutcome::Refuse {
             refusal: HeadRefusal::LongBody,
             bodiless,
         },
@@ -232,7 +238,7 @@ pub fn read_head(head: &[u8]) -> HeadOutcome
     ensures outcome_is { HasOutcome head.now (outcome_from head.now result) }
     ensures within { AreSpansWithin (length head.now) result }
 {
-    let mut fields = [EMPTY_HEADER_SPAN; 32];
+    let mut fields = [EMPTY_HEADER_SPAN; MAX_FIELDS];
     match whole_head(head, &mut fields) {
         None => HeadOutcome::Refuse {
             refusal: HeadRefusal::BadHead,

@@ -9,6 +9,9 @@ use httparse::spans::Span;
 use std::alloc::{AllocError, Global};
 use std::marker::Model;
 
+/// The most bytes that a head may have (`head_limit` in contracts).
+const MAX_HEAD_BYTES: usize = 8192;
+
 /// A request, or a refused head.
 #[derive(Debug, Drop, PartialEq, Eq)]
 pub enum Framed {
@@ -34,17 +37,17 @@ pub enum Framed {
 
 /// A whole head: its length, where its parts are, and the length of its body.
 #[derive(Clone, Copy)]
-pub struct Pending {
-    pub head: usize,
-    pub method: Span,
-    pub target: Span,
-    pub length: usize,
-    pub closing: bool,
+struct Pending {
+    head: usize,
+    method: Span,
+    target: Span,
+    length: usize,
+    closing: bool,
 }
 
 /// What to do after more bytes of a head.
 #[derive(Clone, Copy)]
-pub enum Advance {
+enum Advance {
     /// The bytes are CR LF before a head: drop them.
     Blank,
     /// The head is not complete: wait for more.
@@ -116,7 +119,7 @@ fn advance_head(bytes: &[u8]) -> Advance
                 }
             }
         }
-    } else if bytes.len() == 8192 {
+    } else if bytes.len() == MAX_HEAD_BYTES {
         Advance::Refuse {
             refusal: HeadRefusal::LongHead,
             bodiless: false,
@@ -162,7 +165,7 @@ fn push_head(
         × IsRequest (bytes.old.items ++ take taken.0 piece.now) (req framed))) }
     ensures emptied { OnErr result (bytes.new.items ≡ []) }
 {
-    let count = line_len(piece).min(8192 - bytes.len());
+    let count = line_len(piece).min(MAX_HEAD_BYTES - bytes.len());
     let Ok(()) = bytes.extend_from_slice(front(piece, count)) else {
         bytes.clear();
         return Err(AllocError);

@@ -3,7 +3,7 @@ use gql_ast::{
     Document, Field, FileName, Files, Literal, Operation, Selection, Shared, Tree, TypeRef,
 };
 use gql_grammar::Cursor;
-use gql_parse::{parse, type_ref, value};
+use gql_parse::{ValueForm, parse, type_ref, value};
 use gql_parse_sdl::parse_sdl;
 use gql_text::{Kind, lex};
 use serde_json::Value;
@@ -25,7 +25,7 @@ pub fn type_in(alloc: Global, text: &str) -> Option<TypeRef> {
 pub fn literal_in(alloc: Global, text: &str) -> Option<Literal> {
     let tokens = lex(alloc, text).ok()?;
     let mut cursor = Cursor::new(tokens.as_slice());
-    let found = value(alloc, &mut cursor, false).ok()?;
+    let found = value(alloc, &mut cursor, ValueForm::WithVariables).ok()?;
     if cursor.sees(Kind::EndOfText) {
         Some(found)
     } else {

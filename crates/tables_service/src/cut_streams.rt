@@ -6,7 +6,7 @@ use gql_registry::Registry;
 use std::alloc::Global;
 
 /// Feeds a piece to a connection unless it is closed; `None` if an allocation fails.
-fn feed(hub: &mut Hub, out: &mut Vec<u8>, piece: &[u8]) -> Option<()> {
+pub fn feed(hub: &mut Hub, out: &mut Vec<u8>, piece: &[u8]) -> Option<()> {
     if hub.is_open(0) {
         let fed = hub.feed(0, piece);
         if fed.memory {

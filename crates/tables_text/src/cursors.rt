@@ -3,7 +3,7 @@ use crate::steps::{Stepped, parts_of, steps_answer, yes_or_no};
 use crate::tokens::written_token;
 use crate::trees::Written;
 use gql_grammar::{Cursor, ParseError, Unexpected};
-use gql_parse::{definition, directives, name, optional_default, set, type_ref, value};
+use gql_parse::{ValueForm, definition, directives, name, optional_default, set, type_ref, value};
 use gql_text::{Kind, lex};
 use std::alloc::{AllocError, Global};
 use table_rows::quoted;
@@ -94,10 +94,18 @@ fn part(alloc: Global, cursor: &mut Cursor<'_>, word: &str) -> Option<String> {
         "name" => written_read(alloc, &name(alloc, cursor), cursor),
         "type" => written_read(alloc, &type_ref(alloc, cursor), cursor),
         "default" => written_read(alloc, &optional_default(alloc, cursor), cursor),
-        "directives" => written_read(alloc, &directives(alloc, cursor, true), cursor),
+        "directives" => written_read(
+            alloc,
+            &directives(alloc, cursor, ValueForm::Constant),
+            cursor,
+        ),
         "set" => written_read(alloc, &set(alloc, cursor), cursor),
-        "value" => written_read(alloc, &value(alloc, cursor, false), cursor),
-        "constant" => written_read(alloc, &value(alloc, cursor, true), cursor),
+        "value" => written_read(
+            alloc,
+            &value(alloc, cursor, ValueForm::WithVariables),
+            cursor,
+        ),
+        "constant" => written_read(alloc, &value(alloc, cursor, ValueForm::Constant), cursor),
         "definition" => written_read(alloc, &definition(alloc, cursor), cursor),
         _ => None,
     }

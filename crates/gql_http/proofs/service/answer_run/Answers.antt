@@ -1,6 +1,6 @@
 use Rattle.std.proofs.Common.{◌≡◌, [], Result, Ok, Err, refl, subst}
 use Rattle.std.specs.Prelude.{OnOk}
-use Rattle.gql_bodies.specs.Calls.{name_of}
+use Rattle.gql_http.specs.ReadBodies.{name_of}
 use Rattle.gql_registry.specs.Calls.{Answers, effects_in}
 use Rattle.gql_registry.specs.State.{State, state_of}
 use Rattle.gql_http.specs.Said.{answer_said}

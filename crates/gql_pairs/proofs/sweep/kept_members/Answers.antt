@@ -1,8 +1,13 @@
-use Rattle.std.proofs.Common.{◌∙◌, subst}
+use Rattle.std.proofs.Common.{◌∙◌, subst, sym}
 use Rattle.gql_facts.specs.Worlds.{Facts}
+use Rattle.gql_pairs.specs.Doubts.{HoldUndoubted}
 use Rattle.gql_pairs.specs.Sweeps.{KeepsMember}
 use Rattle.gql_pairs.proofs.Entries.{members_more}
 use Rattle.gql_pairs.proofs.sweep.kept_members.Goals as goal
+
+pub keep_member-requires : goal.keep_member-requires
+keep_member-requires g c = subst (λ (G : Facts). HoldUndoubted G c.args.doubt.now c.member-item.result.observations) (sym c.loop-member.invariant.same_facts)
+    (c.requires c.member-item.result (c.loop-member.member-index, c.loop-member-test.true, sym c.member-item.is))
 
 pub loop-member-preserved : goal.loop-member-preserved
 loop-member-preserved g c =

@@ -2,7 +2,7 @@ use Rattle.std.proofs.Common.{◌+◌, ◌*◌, [], length}
 use Rattle.gql_text.specs.declared.token.Kind.TheVariants.{RightBracket, RightBrace}
 use Rattle.gql_grammar.specs.Symbol.{before}
 use Rattle.gql_grammar.proofs.Loops.{Going}
-use Rattle.gql_parse.specs.Values.{value, object_field_of}
+use Rattle.gql_parse.specs.Values.{is_constant, value, object_field_of}
 use Rattle.gql_parse.proofs.literal.+value.Given as goal
 
 abbrev pub decreases-value : goal.decreases-value
@@ -30,7 +30,7 @@ abbrev pub decreases-fields-fields : goal.decreases-fields-fields
 decreases-fields-fields l = length l.cursor
 
 abbrev pub invariant-items-items : goal.invariant-items-items
-invariant-items-items l = Going (before RightBracket) (value l.constant) [] l.initial.cursor l.items l.cursor
+invariant-items-items l = Going (before RightBracket) (value (is_constant l.form)) [] l.initial.cursor l.items l.cursor
 
 abbrev pub invariant-fields-fields : goal.invariant-fields-fields
-invariant-fields-fields l = Going (before RightBrace) (object_field_of (value l.constant)) [] l.initial.cursor l.fields l.cursor
+invariant-fields-fields l = Going (before RightBrace) (object_field_of (value (is_constant l.form))) [] l.initial.cursor l.fields l.cursor

@@ -2,16 +2,13 @@ use Rattle.std.proofs.Common.{◌≡◌, Vec, Global, map, ap, ◌∙◌}
 use Rattle.gql_stored.specs.Rooms.{effect_of}
 use Rattle.gql_stored.specs.declared.effect.Effect.{Effect}
 use Rattle.gql_ast.specs.declared.files.Files.{Files}
-use Rattle.gql_facts.specs.declared.fragments.Fragments.{Fragments}
 use Rattle.gql_steps.specs.Requests.{IsKeptOf}
-use Rattle.gql_intro.specs.Made.{made_of}
 use Rattle.gql_reply.specs.ReplyText.{reply_text}
 use Rattle.gql_steps.specs.Outcomes.{AnOutcome}
 use Rattle.gql_registry.specs.Calls.{CallOutcome}
 use Rattle.gql_registry.specs.Keeping.{IsKnownOf}
 use Rattle.gql_registry.specs.declared.report.Known.{Known}
 use Rattle.gql_registry.specs.declared.report.SchemaSide.{SchemaSide}
-use Rattle.gql_types.specs.Schemas.{schema_of}
 use Rattle.gql_registry.proofs.calling.executed.Goals as goal
 
 -- what is known of files is what execution takes as kept of them

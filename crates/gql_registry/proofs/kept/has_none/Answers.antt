@@ -1,4 +1,3 @@
-use Rattle.std.proofs.Common.{◌==◌, List, length, Bool, true, false, refl, sym}
 use Rattle.gql_registry.proofs.Reports.{none_iff_sound}
 use Rattle.gql_registry.proofs.kept.has_none.Goals as goal
 

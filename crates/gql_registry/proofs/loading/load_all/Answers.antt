@@ -1,4 +1,4 @@
-use Rattle.std.proofs.Common.{refl, sym, ap, subst}
+use Rattle.std.proofs.Common.{sym, subst}
 use Rattle.gql_ast.specs.declared.files.Files.{Files}
 use Rattle.gql_registry.specs.Loading.{MakesAll, IsLoadRefusal, edits_of}
 use Rattle.gql_registry.specs.State.{State}

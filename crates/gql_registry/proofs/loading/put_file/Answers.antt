@@ -1,4 +1,4 @@
-use Rattle.std.proofs.Common.{◌≡◌, ◌≤◌, ◌∙◌, rules, refl, sym, ap, subst, length, None}
+use Rattle.std.proofs.Common.{◌≡◌, ◌≤◌, ◌∙◌, refl, sym, ap, subst, length, None}
 use Rattle.gql_ast.specs.FileMaps.{file_named}
 use Rattle.gql_registry.specs.Sides.{files_on}
 use Rattle.gql_registry.specs.State.{most_files}

@@ -1,6 +1,4 @@
-use Rattle.std.proofs.Common.{◌≡◌, rules, refl, subst}
-use Rattle.gql_bodies.specs.DataBodies.{IsDataText}
-use Rattle.serde_json.specs.Data.{Data}
+use Rattle.std.proofs.Common.{rules, refl}
 use Rattle.gql_registry.proofs.FirstRefusals.{first_data_not_text, first_bad_data}
 use Rattle.gql_registry.proofs.reading.read_data.Goals as goal
 

@@ -4,4 +4,4 @@ use Rattle.gql_usage.specs.Unread.{answered_by}
 use Rattle.gql_usage.proofs.answered.answered_objects.Given as goal
 
 abbrev pub invariant-loop-of_type : goal.invariant-loop-of_type
-invariant-loop-of_type l = HasMore [] (flat_map (answered_by l.schema l.shelf) (take l.of_type-index l.of_type-items)) l.answered
+invariant-loop-of_type l = HasMore [] (flat_map (answered_by l.schema l.shelf.verdicts) (take l.of_type-index l.of_type-items)) l.answered

@@ -5,4 +5,4 @@ use Rattle.gql_usage.proofs.reader.readers_at.Given as goal
 
 abbrev pub invariant-loop-id : goal.invariant-loop-id
 invariant-loop-id l = (ids_of l.readers.items ≡ take l.id-index l.ids)
-    × ((r : Reader) → Contains l.readers.items r → IsReaderAmong l.key l.shelf r)
+    × ((r : Reader) → Contains l.readers.items r → IsReaderAmong l.key l.shelf.verdicts r)

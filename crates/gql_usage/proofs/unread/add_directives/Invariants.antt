@@ -4,4 +4,4 @@ use Rattle.gql_usage.proofs.unread.add_directives.Given as goal
 
 abbrev pub invariant-loop-directive : goal.invariant-loop-directive
 invariant-loop-directive l = l.unread.items ≡ l.initial.unread.items
-    ++ flat_map (unread_directive l.shelf) (take l.directive-index l.directive-items)
+    ++ flat_map (unread_directive l.shelf.verdicts) (take l.directive-index l.directive-items)

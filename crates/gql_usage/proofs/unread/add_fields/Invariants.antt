@@ -4,4 +4,4 @@ use Rattle.gql_usage.proofs.unread.add_fields.Given as goal
 
 abbrev pub invariant-loop-field : goal.invariant-loop-field
 invariant-loop-field l = l.unread.items ≡ l.initial.unread.items
-    ++ flat_map (unread_field l.shelf l.of_type) (take l.field-index l.field-items)
+    ++ flat_map (unread_field l.shelf.verdicts l.of_type) (take l.field-index l.field-items)

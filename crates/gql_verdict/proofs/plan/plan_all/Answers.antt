@@ -21,6 +21,7 @@ loop-definition-init g c =
       same_names = refl;
       same_lent = refl;
       holds = c.requires.holds;
+      pairs = λ n m k e. e;
       steps = subst (λ (ss : List Slot). AllZip (IsStep F c.args.kept.now) [] ss) (sym c.new-steps.ensures.items) tt;
       work = work_none F (verdicts c.args.kept.now) (map (λ (b : Bor Definition). b.now) c.args.definitions.now) c.args.meter.now;
     }
@@ -79,8 +80,12 @@ loop-definition-preserved g c =
       same_names = c.step.ensures.names ∙ c.loop-definition.invariant.same_names;
       same_lent = c.step.ensures.lent ∙ c.loop-definition.invariant.same_lent;
       holds = subst (λ (G : Facts). Holds G c.step.new.shared) same c.step.ensures.holds;
+      pairs = λ n m k e. c.step.ensures.pairs n m k (c.loop-definition.invariant.pairs n m k e);
       steps = zip_more (IsStep F K) ds c.loop-definition.steps.items _ i d c.in_ok-next.next lt item c.loop-definition.invariant.steps
           (subst (λ (G : Facts). IsStep G K d c.in_ok-next.next) same c.in_ok-next.ensures.step) c.in_ok-push.ensures.items;
       work = work_more F (verdicts K) ds i d lt item _ c.loop-definition.meter _ c.loop-definition.invariant.work
           (subst (λ (G : Facts). IsStepWork G (verdicts K) d c.loop-definition.meter c.step.new.meter) same c.step.ensures.work);
     }
+
+pub returns-in_err-push-clause-pairs : goal.returns-in_err-push-clause-pairs
+returns-in_err-push-clause-pairs g c = λ n m k e. c.step.ensures.pairs n m k (c.loop-definition.invariant.pairs n m k e)

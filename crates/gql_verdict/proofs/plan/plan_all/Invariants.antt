@@ -1,5 +1,6 @@
 use Rattle.std.proofs.Common.{◌≡◌, map, take}
 use Rattle.std.specs.List.{AllZip}
+use Rattle.gql_pairs.specs.Tables.{Keeps}
 use Rattle.gql_verdict.specs.SharedWorks.{Holds}
 use Rattle.gql_verdict.specs.Shelves.{IsDueWork}
 use Rattle.gql_verdict.specs.Plans.{IsStep}
@@ -12,6 +13,7 @@ invariant-loop-definition g l = record {
   same_names : g.W.World.names l.world ≡ g.W.World.names l.fn.world;
   same_lent : g.W.World.lent l.world ≡ g.W.World.lent l.fn.world;
   holds : Holds (g.W.World.facts l.fn.world) l.shared;
+  pairs : Keeps l.fn.shared.pairs l.shared.pairs;
   steps : AllZip (IsStep (g.W.World.facts l.fn.world) l.kept) (take l.definition-index (map (λ d. d.now) l.definitions)) l.steps.items;
   work : IsDueWork (g.W.World.facts l.fn.world) (verdicts l.kept) (take l.definition-index (map (λ d. d.now) l.definitions)) l.fn.meter l.meter;
 }

@@ -1,5 +1,6 @@
-use Rattle.std.specs.Prelude.{◌⊎◌}
+use Rattle.std.specs.Prelude.{◌⊎◌, Contains}
 use Rattle.std.proofs.Common.{◌∙◌, sym, subst}
+use Rattle.gql_facts.specs.ListMembers.{Contains-nil}
 use Rattle.gql_facts.specs.Members.{Lists}
 use Rattle.gql_merge.specs.MergeFaults.{IsMergeFault}
 use Rattle.gql_rules.specs.LocalFaults.{IsFault}
@@ -16,3 +17,10 @@ returns-clause-faults g c =
     let of_merging = subst (λ f. Lists c.in_ok-of_merging.of_merging.items (IsMergeFault f d)) (c.variable_faults.ensures.facts ∙ c.local_faults.ensures.facts) c.in_ok-of_merging.ensures.found in
     let both = Lists-append _ _ _ of_nodes of_variables c.in_ok-share_into.ensures in
     by_all F d _ (Lists-append {P = λ f. IsFault F d f ⊎ IsVariableFault F d f} _ _ _ both of_merging c.in_ok-share_into-2.ensures)
+
+pub returns-clause-merging : goal.returns-clause-merging
+returns-clause-merging g c =
+    let F = g.W.World.facts c.args.world.now in
+    let d = c.args.definition.now in
+    let of_merging = subst (λ f. Lists c.in_ok-of_merging.of_merging.items (IsMergeFault f d)) (c.variable_faults.ensures.facts ∙ c.local_faults.ensures.facts) c.in_ok-of_merging.ensures.found in
+    λ t f m. Contains-nil f (subst (λ l. Contains l f) (sym c.as_slice.ensures.value ∙ c.are_none-is_clean.ensures t) (of_merging.complete f m))

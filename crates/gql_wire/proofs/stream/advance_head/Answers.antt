@@ -19,10 +19,10 @@ returns-then-length-eq0 c = done c.args.bytes.now _ refl c.if-length-eq0.true (h
 pub returns-else-length-eq0 : goal.returns-else-length-eq0
 returns-else-length-eq0 c = (body_open c.args.bytes.now _ refl c.if-length-eq0.false (head (goal.at.returns-else-length-eq0 c).In-Expects) c.in-Expects.ensures.outcome_is c.in-Expects.ensures.within, skip_same c.args.bytes.now (sym c.begins_with_blank.ensures ∙ c.if-begins_with_blank.false))
 
-pub returns-then-bytes-eq8192 : goal.returns-then-bytes-eq8192
-returns-then-bytes-eq8192 c = long (still_open _ c.args.bytes.now c.requires.1 (sym c.begins_with_blank.ensures ∙ c.if-begins_with_blank.false) (sym c.ends_with.ensures.value ∙ c.if-ends_with.false)) c.if-bytes-eq8192.true
+pub returns-then-bytes-eq-MAX_HEAD_BYTES : goal.returns-then-bytes-eq-MAX_HEAD_BYTES
+returns-then-bytes-eq-MAX_HEAD_BYTES c = long (still_open _ c.args.bytes.now c.requires.1 (sym c.begins_with_blank.ensures ∙ c.if-begins_with_blank.false) (sym c.ends_with.ensures.value ∙ c.if-ends_with.false)) c.if-bytes-eq-MAX_HEAD_BYTES.true
 
-pub returns-else-bytes-eq8192 : goal.returns-else-bytes-eq8192
-returns-else-bytes-eq8192 c =
+pub returns-else-bytes-eq-MAX_HEAD_BYTES : goal.returns-else-bytes-eq-MAX_HEAD_BYTES
+returns-else-bytes-eq-MAX_HEAD_BYTES c =
     let begun = sym c.begins_with_blank.ensures ∙ c.if-begins_with_blank.false in
     ((still_open _ c.args.bytes.now c.requires.1 begun (sym c.ends_with.ensures.value ∙ c.if-ends_with.false), omega (arith, c.requires.1.within)), skip_same c.args.bytes.now begun)

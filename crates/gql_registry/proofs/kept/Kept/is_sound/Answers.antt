@@ -13,4 +13,4 @@ returns-in-Some c =
 pub returns : goal.returns
 returns c =
     subst (λ (k : Keeping). IsTrue c.has_none-2.result ↔ IsSound k.files) c.self.view_is
-    (c.has_none-2.ensures c.self.inside.files (subst (AreSchemaFaults c.self.inside.files) (sym c.as_slice-2.ensures.value) c.in_ok-side.ensures.faults))
+    (c.has_none-2.ensures c.self.inside.files (subst (AreSchemaFaults c.self.inside.files) (sym (c.as_slice-2.ensures.value ∙ ap (λ (s : SchemaSide). s.faults.items) c.get-2.ensures)) c.in_ok-known.ensures.schema.faults))

@@ -1,4 +1,3 @@
-use Rattle.gql_registry.specs.Edits.{Edit}
 use Rattle.gql_registry.specs.Working.{IsPutRefusal, state_in}
 use Rattle.gql_registry.specs.declared.refusal.Refusal.{Refusal}
 use Rattle.gql_registry.proofs.Loads.{file_placed, spent_refusal}

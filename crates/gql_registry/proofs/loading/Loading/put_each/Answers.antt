@@ -1,4 +1,4 @@
-use Rattle.std.proofs.Common.{ap, subst, sym, take}
+use Rattle.std.proofs.Common.{subst}
 use Rattle.std.proofs.lemmas.List.{take_all}
 use Rattle.gql_registry.specs.Loading.{MakesAll, done, edits_of}
 use Rattle.gql_registry.specs.Working.{state_in}

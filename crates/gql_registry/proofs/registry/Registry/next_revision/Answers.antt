@@ -1,4 +1,4 @@
-use Rattle.std.proofs.Common.{rules, arith}
+use Rattle.std.proofs.Common.{rules}
 use Rattle.gql_registry.proofs.FirstRefusals.{first_stale, first_spent}
 use Rattle.gql_registry.proofs.registry.Registry.next_revision.Goals as goal
 

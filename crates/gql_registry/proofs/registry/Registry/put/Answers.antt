@@ -1,5 +1,5 @@
-use Rattle.std.proofs.Common.{◌≡◌, ◌∙◌, refl, sym, ap, subst, inr}
-use Rattle.gql_registry.specs.Edits.{put, Reports}
+use Rattle.std.proofs.Common.{refl, sym, ap, subst, inr}
+use Rattle.gql_registry.specs.Edits.{put}
 use Rattle.gql_registry.specs.Keeping.{IsWorkOn}
 use Rattle.gql_registry.specs.State.{State, state_of, shelf_of, next}
 use Rattle.gql_registry.proofs.Working.{first_answer, idle_answer, makes_memory, on_err_of, refused_answer, accepted_answer, works_in_vain}
@@ -14,20 +14,20 @@ returns-in_err-revision-clause-shelf c = on_err_of _ refl
 pub returns-in_err-revision-clause-works : goal.returns-in_err-revision-clause-works
 returns-in_err-revision-clause-works c = idle_answer (state_of c.args.self.now) (state_of c.args.self.now) c.args.expected (shelf_of c.args.self.now) (put c.args.side c.args.name c.args.bytes.now) _ c.in_err-revision.field-0.0 c.args.meter.now c.args.meter.now c.from_residual.ensures.1 refl
 
-pub returns-in_err-change-clause-makes : goal.returns-in_err-change-clause-makes
-returns-in_err-change-clause-makes c = refused_answer (state_of c.args.self.now) c.args.expected (put c.args.side c.args.name c.args.bytes.now) _ _ c.from_residual-in_err-change.ensures.1 c.in_err-change.ensures.err c.in_ok-revision.ensures.time
+pub returns-in_err-plan-clause-makes : goal.returns-in_err-plan-clause-makes
+returns-in_err-plan-clause-makes c = refused_answer (state_of c.args.self.now) c.args.expected (put c.args.side c.args.name c.args.bytes.now) _ _ c.from_residual-in_err-plan.ensures.1 c.in_err-plan.ensures.err c.in_ok-revision.ensures.time
 
-pub returns-in_err-change-clause-shelf : goal.returns-in_err-change-clause-shelf
-returns-in_err-change-clause-shelf c = on_err_of _ refl
+pub returns-in_err-plan-clause-shelf : goal.returns-in_err-plan-clause-shelf
+returns-in_err-plan-clause-shelf c = on_err_of _ refl
 
-pub returns-in_err-change-clause-works : goal.returns-in_err-change-clause-works
-returns-in_err-change-clause-works c = idle_answer (state_of c.args.self.now) (state_of c.args.self.now) c.args.expected (shelf_of c.args.self.now) (put c.args.side c.args.name c.args.bytes.now) _ c.in_err-change.field-0.0 c.args.meter.now c.args.meter.now c.from_residual-in_err-change.ensures.1 refl
+pub returns-in_err-plan-clause-works : goal.returns-in_err-plan-clause-works
+returns-in_err-plan-clause-works c = idle_answer (state_of c.args.self.now) (state_of c.args.self.now) c.args.expected (shelf_of c.args.self.now) (put c.args.side c.args.name c.args.bytes.now) _ c.in_err-plan.field-0.0 c.args.meter.now c.args.meter.now c.from_residual-in_err-plan.ensures.1 refl
 
-pub accept-requires-clause-revision : goal.accept-requires-clause-revision
-accept-requires-clause-revision c = c.in_ok-revision.ensures.next
+pub commit_edit-requires-clause-revision : goal.commit_edit-requires-clause-revision
+commit_edit-requires-clause-revision c = c.in_ok-revision.ensures.next
 
-pub accept-requires-clause-change : goal.accept-requires-clause-change
-accept-requires-clause-change c = c.in_ok-change.ensures.change.change
+pub commit_edit-requires-clause-plan : goal.commit_edit-requires-clause-plan
+commit_edit-requires-clause-plan c = c.in_ok-plan.ensures.plan.plan
 
 pub returns-in_err-edited-clause-makes : goal.returns-in_err-edited-clause-makes
 returns-in_err-edited-clause-makes c = makes_memory (state_of c.args.self.now) _ c.args.expected (put c.args.side c.args.name c.args.bytes.now) _ c.from_residual-in_err-edited.ensures.1 c.in_err-edited.ensures.err
@@ -38,11 +38,23 @@ returns-in_err-edited-clause-shelf c = on_err_of _ c.in_err-edited.ensures.shelf
 pub returns-in_err-edited-clause-works : goal.returns-in_err-edited-clause-works
 returns-in_err-edited-clause-works c =
     works_in_vain (state_of c.args.self.now) _ c.args.expected (shelf_of c.args.self.now) (put c.args.side c.args.name c.args.bytes.now) _ _ _ c.from_residual-in_err-edited.ensures.1
-    (inr (c.in_ok-change.ensures.change.accepted c.args.expected c.in_ok-revision.ensures.time, next (state_of c.args.self.now) c.in_ok-change.change.files, c.in_ok-change.ensures.change.leaves, c.in_err-edited.ensures.work))
+    (inr (c.in_ok-plan.ensures.plan.accepted c.args.expected c.in_ok-revision.ensures.time, next (state_of c.args.self.now) c.in_ok-plan.plan.files, c.in_ok-plan.ensures.plan.leaves, c.in_err-edited.ensures.work))
 
 pub returns-clause-makes : goal.returns-clause-makes
-returns-clause-makes c = accepted_answer (state_of c.args.self.now) _ c.args.expected (put c.args.side c.args.name c.args.bytes.now) _ _ c.in_ok-change.ensures.change c.in_ok-revision.ensures.time c.in_ok-edited.ensures.next c.in_ok-edited.ensures.reports
+returns-clause-makes c = accepted_answer (state_of c.args.self.now) _ c.args.expected (put c.args.side c.args.name c.args.bytes.now) _ _ c.in_ok-plan.ensures.plan c.in_ok-revision.ensures.time c.in_ok-edited.ensures.next c.in_ok-edited.ensures.reports
 
 pub returns-clause-works : goal.returns-clause-works
 returns-clause-works c =
-    subst (λ f. IsWorkOn f (shelf_of c.args.self.now) c.args.meter.now c.accept.new.meter) (sym (ap (λ (t : State). t.files) c.in_ok-edited.ensures.next)) c.in_ok-edited.ensures.work
+    subst (λ f. IsWorkOn f (shelf_of c.args.self.now) c.args.meter.now c.commit_edit.new.meter) (sym (ap (λ (t : State). t.files) c.in_ok-edited.ensures.next)) c.in_ok-edited.ensures.work
+
+pub returns-in_err-revision-clause-pairs : goal.returns-in_err-revision-clause-pairs
+returns-in_err-revision-clause-pairs c = λ n m k is holds. is
+
+pub returns-in_err-plan-clause-pairs : goal.returns-in_err-plan-clause-pairs
+returns-in_err-plan-clause-pairs c = λ n m k is holds. is
+
+pub returns-in_err-edited-clause-pairs : goal.returns-in_err-edited-clause-pairs
+returns-in_err-edited-clause-pairs c = c.in_err-edited.ensures.pairs
+
+pub returns-clause-pairs : goal.returns-clause-pairs
+returns-clause-pairs c = c.in_ok-edited.ensures.pairs

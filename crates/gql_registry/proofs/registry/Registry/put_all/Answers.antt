@@ -1,4 +1,4 @@
-use Rattle.std.proofs.Common.{◌≡◌, refl, sym, ap, subst}
+use Rattle.std.proofs.Common.{refl, sym, ap, subst}
 use Rattle.gql_ast.specs.declared.files.Files.{Files}
 use Rattle.gql_verdict.specs.FileOrder.{AreFilesPlaced}
 use Rattle.gql_registry.specs.Keeping.{IsWorkOn}
@@ -28,7 +28,7 @@ returns-in-Ok-clause-loads c =
 
 pub returns-in-Ok-clause-works : goal.returns-in-Ok-clause-works
 returns-in-Ok-clause-works c =
-    subst (λ f. IsWorkOn f (shelf_of c.args.self.now) c.args.meter.now c.take_loading.new.meter) (sym (ap (λ (t : State). t.files) c.in-Ok.ensures.state)) c.in-Ok.ensures.work
+    subst (λ f. IsWorkOn f (shelf_of c.args.self.now) c.args.meter.now c.commit_loading.new.meter) (sym (ap (λ (t : State). t.files) c.in-Ok.ensures.state)) c.in-Ok.ensures.work
 
 pub returns-in-Err-clause-loads : goal.returns-in-Err-clause-loads
 returns-in-Err-clause-loads c =
@@ -40,7 +40,16 @@ returns-in-Err-clause-shelf c = c.in-Err.ensures.shelf
 pub returns-in-Err-clause-works : goal.returns-in-Err-clause-works
 returns-in-Err-clause-works c =
     let s = state_of c.args.self.now in
-    failed_work s (state_in s.stored c.in_ok-loading.loading) (shelf_of c.args.self.now) (edits_of c.args.puts.now) _ c.args.meter.now c.take_loading.new.meter c.out_of_memory.ensures (subst (λ f. MakesAll (state_over f s.stored s.revision) (edits_of c.args.puts.now) (state_in s.stored c.in_ok-loading.loading)) c.files.ensures.files (c.in_ok-loading.ensures.put s.stored)) c.in-Err.ensures.work
+    failed_work s (state_in s.stored c.in_ok-loading.loading) (shelf_of c.args.self.now) (edits_of c.args.puts.now) _ c.args.meter.now c.commit_loading.new.meter c.out_of_memory.ensures (subst (λ f. MakesAll (state_over f s.stored s.revision) (edits_of c.args.puts.now) (state_in s.stored c.in_ok-loading.loading)) c.files.ensures.files (c.in_ok-loading.ensures.put s.stored)) c.in-Err.ensures.work
 
 pub load_all-requires : goal.load_all-requires
 load_all-requires c = subst (λ (f : Files). AreFilesPlaced f.documents) (sym c.files.ensures.files) c.files.ensures.placed
+
+pub returns-in_err-loading-clause-pairs : goal.returns-in_err-loading-clause-pairs
+returns-in_err-loading-clause-pairs c = λ n m k is holds. is
+
+pub returns-in-Ok-clause-pairs : goal.returns-in-Ok-clause-pairs
+returns-in-Ok-clause-pairs c = c.in-Ok.ensures.pairs
+
+pub returns-in-Err-clause-pairs : goal.returns-in-Err-clause-pairs
+returns-in-Err-clause-pairs c = c.in-Err.ensures.pairs

@@ -1,7 +1,6 @@
-use Rattle.std.proofs.Common.{◌≡◌, ◌∙◌, refl, sym, ap, ap₂, subst}
-use Rattle.gql_registry.specs.Checks.{IsBadData}
+use Rattle.std.proofs.Common.{◌∙◌, refl, ap}
 use Rattle.gql_registry.specs.Edits.{put_data}
-use Rattle.gql_registry.specs.State.{State, state_of, shelf_of, next_data}
+use Rattle.gql_registry.specs.State.{State, state_of}
 use Rattle.gql_registry.proofs.FirstRefusals.{data_accepted}
 use Rattle.gql_registry.proofs.Working.{first_answer, makes_memory, bad_data_answer}
 use Rattle.serde_json.specs.View.{view}
@@ -54,3 +53,15 @@ returns-clause-shelf c = refl
 
 pub returns-clause-meter : goal.returns-clause-meter
 returns-clause-meter c = refl
+
+pub returns-in_err-revision-clause-pairs : goal.returns-in_err-revision-clause-pairs
+returns-in_err-revision-clause-pairs c = refl
+
+pub returns-in_err-stored-clause-pairs : goal.returns-in_err-stored-clause-pairs
+returns-in_err-stored-clause-pairs c = refl
+
+pub returns-in_err-faults-clause-pairs : goal.returns-in_err-faults-clause-pairs
+returns-in_err-faults-clause-pairs c = refl
+
+pub returns-clause-pairs : goal.returns-clause-pairs
+returns-clause-pairs c = refl

@@ -8,3 +8,6 @@ returns-clause-shelf c = c.put.ensures.shelf
 
 pub returns-clause-works : goal.returns-clause-works
 returns-clause-works c = c.put.ensures.works
+
+pub returns-clause-pairs : goal.returns-clause-pairs
+returns-clause-pairs c = c.put.ensures.pairs

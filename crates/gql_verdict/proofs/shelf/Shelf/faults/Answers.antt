@@ -4,6 +4,7 @@ use Rattle.std.proofs.lemmas.List.{flat_map_more, take_all}
 use Rattle.gql_verdict.specs.Verdicts.{Judgement, IsCertificate}
 use Rattle.gql_verdict.specs.Slots.{slot_faults, IsSlotCertified}
 use Rattle.gql_verdict.specs.declared.slot.Slot.{Slot}
+use Rattle.gql_verdict.specs.Shelves.{Shelved}
 use Rattle.gql_verdict.proofs.Seen.{take_next, seen_more}
 use Rattle.gql_verdict.proofs.Answered.{slots_faults, slots_certified, all_faults}
 use Rattle.gql_verdict.proofs.shelf.Shelf.faults.Goals as goal
@@ -32,10 +33,10 @@ pub returns-clause-value : goal.returns-clause-value
 returns-clause-value c =
     c.loop-slot.invariant.so_far
     ∙ (ap (flat_map slot_faults) (all_seen c)
-    ∙ (slots_faults c.self.inside.slots.items ∙ ap (flat_map (λ (v : Judgement). v.faults)) c.self.view_is))
+    ∙ (slots_faults c.self.inside.slots.items ∙ ap (flat_map (λ (v : Judgement). v.faults)) (ap (λ (s : Shelved). s.verdicts) c.self.view_is)))
 
 pub returns-clause-current : goal.returns-clause-current
 returns-clause-current c =
-    all_faults c.args.self.now c.loop-slot.found.items (returns-clause-value c)
-    (subst (λ (vs : List Judgement). (v : Judgement) → Contains vs v → IsCertificate v.def v.faults v.observations) c.self.view_is
+    all_faults c.args.self.now.verdicts c.loop-slot.found.items (returns-clause-value c)
+    (subst (λ (vs : List Judgement). (v : Judgement) → Contains vs v → IsCertificate v.def v.faults v.observations) (ap (λ (s : Shelved). s.verdicts) c.self.view_is)
     (slots_certified c.self.inside.slots.items (subst (λ (ss : List Slot). (s : Slot) → Contains ss s → IsSlotCertified s) (all_seen c) c.loop-slot.invariant.certified)))

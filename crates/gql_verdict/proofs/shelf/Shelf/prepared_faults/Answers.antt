@@ -5,6 +5,7 @@ use Rattle.gql_verdict.specs.Plans.{Preparation}
 use Rattle.gql_verdict.specs.Slots.{resolve, slot_faults, IsSlotCertified}
 use Rattle.gql_verdict.specs.declared.slot.Slot.{Slot}
 use Rattle.gql_verdict.specs.declared.slot.Slot.TheVariants.{Here}
+use Rattle.gql_verdict.specs.Shelves.{Shelved}
 use Rattle.gql_verdict.proofs.Adding.{mapped_step, next}
 use Rattle.gql_verdict.proofs.Answered.{planned_faults}
 use Rattle.gql_verdict.proofs.shelf.Shelf.prepared_faults.Goals as goal
@@ -31,8 +32,8 @@ all_seen c = take_all _ _ c.loop-step-test.false ∙ (c.as_slice-step-items.ensu
 pub returns : goal.returns
 returns c = λ F ds planned.
     let K = c.as_slice-kept.result.now in
-    planned_faults F ds c.args.self.now c.args.prepared.now planned K
-    (c.as_slice-kept.ensures.value ∙ (c.self.invariant.order.all_here ∙ ap (map Here) c.self.view_is))
+    planned_faults F ds c.args.self.now.verdicts c.args.prepared.now planned K
+    (c.as_slice-kept.ensures.value ∙ (c.self.invariant.order.all_here ∙ ap (λ (s : Shelved). map Here s.verdicts) c.self.view_is))
     c.loop-step.found.items
     (c.loop-step.invariant.so_far ∙ ap (λ (ss : List Slot). flat_map slot_faults (map (resolve K) ss)) (all_seen c))
     (subst (λ (ss : List Slot). (s : Slot) → Contains (map (resolve K) ss) s → IsSlotCertified s) (all_seen c) c.loop-step.invariant.certified)

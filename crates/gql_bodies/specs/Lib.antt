@@ -1,3 +1,0 @@
-pub mod DataBodies
-pub mod CallBodies
-pub mod Calls

@@ -1,8 +1,0 @@
-use Rattle.std.proofs.Common.{◌≡◌, ◌++◌}
-use Rattle.gql_operations.specs.Chosen.{named_operations, operations}
-use Rattle.gql_operations.proofs.operations.Operations.new.Given as goal
-
-abbrev pub invariant-loop-name : goal.invariant-loop-name
-invariant-loop-name l =
-    (l.named.items ++ named_operations l._name-iterator ≡ named_operations l.documents)
-    × (l.all.items ++ operations l._name-iterator ≡ operations l.documents)

@@ -1,0 +1,19 @@
+use Rattle.std.proofs.Common.{◌≡◌, Contains, map, take}
+use Rattle.gql_reads.specs.Tables.{AllHold, Keeps}
+use Rattle.gql_pairs.specs.Fragments.{IsCertified, KeptFragment}
+use Rattle.gql_pairs.specs.Groups.{MembersHold}
+use Rattle.gql_pairs.proofs.members.members_of.Given as goal
+
+abbrev pub invariant-loop-fragment : goal.invariant-loop-fragment
+invariant-loop-fragment g l =
+    let F = g.W.World.facts l.fn.world in
+    record {
+      same_facts : g.W.World.facts l.world ≡ F;
+      same_names : g.W.World.names l.world ≡ g.W.World.names l.fn.world;
+      same_lent : g.W.World.lent l.world ≡ g.W.World.lent l.fn.world;
+      holds : AllHold F l.reads;
+      reads_keep : Keeps l.fn.reads l.reads;
+      fragments : map (λ (m : KeptFragment). m.fragment) l.members.items ≡ take l.fragment-index l.fragments;
+      hold : MembersHold F l.members.items;
+      certified : (m : KeptFragment) → Contains l.members.items m → IsCertified m;
+    }

@@ -1,0 +1,53 @@
+use Rattle.std.proofs.Common.{rules, sym, subst}
+use Rattle.gql_types.specs.Schemas.{schema_of}
+use Rattle.gql_verdict.specs.Definitions.{all_definitions}
+use Rattle.gql_verdict.specs.Plans.{IsPlanned}
+use Rattle.gql_verdict.specs.Shelves.{IsWork}
+use Rattle.gql_verdict.specs.TouchedFacts.{ArePairsKnown, IsKnown}
+use Rattle.gql_pairs.specs.Tables.{KeepsHolding}
+use Rattle.gql_registry.proofs.kept.verdicts_for.Goals as goal
+
+pub prepare-requires-clause-placed : goal.prepare-requires-clause-placed
+prepare-requires-clause-placed c = c.requires.placed
+
+pub prepare-requires-clause-known : goal.prepare-requires-clause-known
+prepare-requires-clause-known c =
+    let files = c.args.plan.now.files in
+    let same = c.new-world.ensures.answers (schema_of files) files.documents c.requires.schema.facts c.requires.index.fragments in
+    subst (λ v. IsKnown v (all_definitions files.documents) c.args.shelf.now.verdicts c.args.plan.now.touched) (sym same) c.requires.known
+
+pub prepare-requires-clause-pairs : goal.prepare-requires-clause-pairs
+prepare-requires-clause-pairs c =
+    let files = c.args.plan.now.files in
+    let same = c.new-world.ensures.answers (schema_of files) files.documents c.requires.schema.facts c.requires.index.fragments in
+    subst (λ v. ArePairsKnown v c.args.shelf.now.pairs c.args.plan.now.touched) (sym same) c.requires.pairs
+
+pub returns-in_err-prepared-clause-pairs : goal.returns-in_err-prepared-clause-pairs
+returns-in_err-prepared-clause-pairs c = search rules
+
+pub returns-clause-pairs : goal.returns-clause-pairs
+returns-clause-pairs c =
+    let files = c.args.plan.now.files in
+    let same = c.new-world.ensures.answers (schema_of files) files.documents c.requires.schema.facts c.requires.index.fragments in
+    subst (λ v. KeepsHolding v c.args.shelf.now.pairs c.in_ok-prepared.prepared.pairs) same c.in_ok-prepared.ensures.pairs
+
+pub returns-in_err-prepared-clause-planned : goal.returns-in_err-prepared-clause-planned
+returns-in_err-prepared-clause-planned c = search rules
+
+pub returns-in_err-prepared-clause-work : goal.returns-in_err-prepared-clause-work
+returns-in_err-prepared-clause-work c =
+    let files = c.args.plan.now.files in
+    let same = c.new-world.ensures.answers (schema_of files) files.documents c.requires.schema.facts c.requires.index.fragments in
+    subst (λ v. IsWork v c.args.shelf.now.verdicts (all_definitions files.documents) c.args.meter.now c.prepare.new.meter) same c.in_err-prepared.ensures.work
+
+pub returns-clause-planned : goal.returns-clause-planned
+returns-clause-planned c =
+    let files = c.args.plan.now.files in
+    let same = c.new-world.ensures.answers (schema_of files) files.documents c.requires.schema.facts c.requires.index.fragments in
+    subst (λ v. IsPlanned v (all_definitions files.documents) c.args.shelf.now.verdicts c.in_ok-prepared.prepared) same c.in_ok-prepared.ensures.planned
+
+pub returns-clause-work : goal.returns-clause-work
+returns-clause-work c =
+    let files = c.args.plan.now.files in
+    let same = c.new-world.ensures.answers (schema_of files) files.documents c.requires.schema.facts c.requires.index.fragments in
+    subst (λ v. IsWork v c.args.shelf.now.verdicts (all_definitions files.documents) c.args.meter.now c.prepare.new.meter) same c.in_ok-prepared.ensures.work

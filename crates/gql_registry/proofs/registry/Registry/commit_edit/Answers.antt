@@ -1,0 +1,42 @@
+use Rattle.std.proofs.Common.{subst, rules, ap, ap₂, sym}
+use Rattle.gql_ast.specs.declared.files.Files.{Files}
+use Rattle.gql_registry.specs.Keeping.{Keeping, KeepsPairs}
+use Rattle.gql_registry.specs.State.{State}
+use Rattle.gql_registry.proofs.Working.{on_err_of}
+use Rattle.serde_json.specs.View.{view}
+use Rattle.gql_registry.proofs.registry.Registry.commit_edit.Goals as goal
+
+pub commit-requires : goal.commit-requires
+commit-requires c = c.requires.plan
+
+pub returns-in_err-faults-clause-next : goal.returns-in_err-faults-clause-next
+returns-in_err-faults-clause-next c = search rules
+
+pub returns-in_err-faults-clause-reports : goal.returns-in_err-faults-clause-reports
+returns-in_err-faults-clause-reports c = search rules
+
+pub returns-in_err-faults-clause-err : goal.returns-in_err-faults-clause-err
+returns-in_err-faults-clause-err c =
+    on_err_of _ (ap (λ (k : Keeping). let s : State = record { files = k.files; stored = view c.args.self.now.stored; revision = c.args.self.now.revision } in s) c.in_err-faults.ensures.err)
+
+pub returns-in_err-faults-clause-shelf : goal.returns-in_err-faults-clause-shelf
+returns-in_err-faults-clause-shelf c = on_err_of _ (ap (λ (k : Keeping). k.shelf) c.in_err-faults.ensures.err)
+
+pub returns-in_err-faults-clause-work : goal.returns-in_err-faults-clause-work
+returns-in_err-faults-clause-work c = c.in_err-faults.ensures.work
+
+pub returns-clause-next : goal.returns-clause-next
+returns-clause-next c =
+    ap₂ (λ (f : Files) r. let s : State = record { files = f; stored = view c.args.self.now.stored; revision = r } in s) c.in_ok-faults.ensures.files c.requires.revision
+
+pub returns-clause-reports : goal.returns-clause-reports
+returns-clause-reports c = (c.requires.revision, c.in_ok-faults.ensures.count)
+
+pub returns-clause-work : goal.returns-clause-work
+returns-clause-work c = c.in_ok-faults.ensures.work
+
+pub returns-in_err-faults-clause-pairs : goal.returns-in_err-faults-clause-pairs
+returns-in_err-faults-clause-pairs c = subst (λ (k : Keeping). KeepsPairs k.files c.args.self.now.kept.pairs k.pairs) (sym c.in_err-faults.ensures.err) (λ n m k is holds. is)
+
+pub returns-clause-pairs : goal.returns-clause-pairs
+returns-clause-pairs c = subst (λ (f : Files). KeepsPairs f c.args.self.now.kept.pairs c.commit.new.self.pairs) (sym c.in_ok-faults.ensures.files) c.in_ok-faults.ensures.pairs

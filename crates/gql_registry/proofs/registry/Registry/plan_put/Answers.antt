@@ -1,0 +1,48 @@
+use Rattle.std.proofs.Common.{◌≡◌, ◌≤◌, ◌∙◌, rules, refl, sym, ap, subst, length, None}
+use Rattle.gql_ast.specs.FileMaps.{file_named}
+use Rattle.gql_ast.specs.declared.files.Files.{Files}
+use Rattle.gql_registry.specs.EditPlans.{IsRefusedBy}
+use Rattle.gql_registry.specs.Edits.{put}
+use Rattle.gql_registry.specs.Sides.{files_on}
+use Rattle.gql_registry.specs.State.{state_of, next, most_files}
+use Rattle.gql_registry.proofs.FirstRefusals.{first_files_full, put_accepted, no_room, room}
+use Rattle.gql_registry.proofs.OneEdit.{apart_on}
+use Rattle.gql_registry.proofs.PlacedFiles.{put_plan_of}
+use Rattle.gql_registry.proofs.Working.{err_of, in_vain}
+use Rattle.gql_registry.proofs.registry.Registry.plan_put.Goals as goal
+
+pub returns-in_err-document-clause-plan : goal.returns-in_err-document-clause-plan
+returns-in_err-document-clause-plan c = search rules
+
+pub returns-in_err-document-clause-err : goal.returns-in_err-document-clause-err
+returns-in_err-document-clause-err c = err_of (IsRefusedBy (state_of c.args.self.now) (put c.args.side c.args.name c.args.bytes.now)) _ _ c.from_residual.ensures.1
+    (λ expected time. c.in_err-document.ensures.err (state_of c.args.self.now) expected time)
+
+pub returns-then-not-has_room-clause-plan : goal.returns-then-not-has_room-clause-plan
+returns-then-not-has_room-clause-plan c = tt
+
+pub returns-then-not-has_room-clause-err : goal.returns-then-not-has_room-clause-err
+returns-then-not-has_room-clause-err c = λ expected time.
+    let at : c.files_on.result.now ≡ files_on c.args.side c.args.self.now.kept.files = c.files_on.ensures ∙ ap (files_on c.args.side) c.files.ensures.files in
+    let full = no_room (file_named c.files_on.result.now c.args.name) (length c.files_on.result.now) (sym c.if-not-has_room.ensures) in (
+      first_files_full (state_of c.args.self.now) expected c.args.side c.args.name c.args.bytes.now time.present time.left c.in_ok-document.ensures.read.short c.in_ok-document.ensures.read.text
+          (λ f bad. apart_on c.one_answer.ensures.apart c.one_document_answer.ensures.apart c.args.side c.args.name c.args.bytes.now _ f c.in_ok-document.ensures.read.file bad) (subst (λ fs. file_named fs c.args.name ≡ None) at full.0) (subst (λ fs. most_files ≤ length fs) at full.1),
+      refl,
+    )
+
+pub returns-in_err-plan-clause-plan : goal.returns-in_err-plan-clause-plan
+returns-in_err-plan-clause-plan c = search rules
+
+pub returns-in_err-plan-clause-err : goal.returns-in_err-plan-clause-err
+returns-in_err-plan-clause-err c = in_vain (state_of c.args.self.now) (put c.args.side c.args.name c.args.bytes.now) _ c.from_residual-in_err-plan.ensures.1
+
+pub returns-clause-plan : goal.returns-clause-plan
+returns-clause-plan c =
+    let at : c.files_on.result.now ≡ files_on c.args.side c.args.self.now.kept.files = c.files_on.ensures ∙ ap (files_on c.args.side) c.files.ensures.files in
+    record {
+      accepted = λ expected time. put_accepted (state_of c.args.self.now) expected c.args.side c.args.name c.args.bytes.now time.present time.left c.in_ok-document.ensures.read.short c.in_ok-document.ensures.read.text
+          (λ f bad. apart_on c.one_answer.ensures.apart c.one_document_answer.ensures.apart c.args.side c.args.name c.args.bytes.now _ f c.in_ok-document.ensures.read.file bad)
+          (subst (λ fs. file_named fs c.args.name ≡ None → most_files ≤ length fs → ⊥) at (room (file_named c.files_on.result.now c.args.name) (length c.files_on.result.now) (sym c.if-not-has_room.ensures)));
+      leaves = (c.in_ok-document.document, c.in_ok-document.ensures.read.file, ap (λ (f : Files). next (state_of c.args.self.now) f) c.in_ok-plan.ensures.files);
+      plan = put_plan_of c.args.side c.args.self.now.kept.files c.args.name c.in_ok-document.document _ c.files.ensures.placed c.in_ok-document.ensures.read.placed c.in_ok-plan.ensures;
+    }

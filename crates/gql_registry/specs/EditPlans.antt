@@ -1,0 +1,59 @@
+-- Helper definitions for private contracts: what an edit makes of the files, before it is committed.
+use Rattle.std.specs.Prelude.{◌≡◌, ℕ, List, Option, Err, length, IfSome}
+use Rattle.gql_ast.specs.declared.fault.Fault.{Fault}
+use Rattle.gql_ast.specs.declared.files.Files.{Files}
+use Rattle.gql_registry.specs.Checks.{IsInTime}
+use Rattle.gql_registry.specs.Edits.{Edit, IsAccepted, Leaves, Makes}
+use Rattle.gql_registry.specs.Keeping.{IsKnownOf, IsSideOf}
+use Rattle.gql_registry.specs.Report.{IsReport}
+use Rattle.gql_registry.specs.State.{State, next}
+use Rattle.gql_registry.specs.declared.edit_plan.EditPlan.{EditPlan}
+use Rattle.gql_registry.specs.declared.refusal.Refusal.{Refusal}
+use Rattle.gql_registry.specs.declared.report.Known.{Known}
+use Rattle.gql_registry.specs.declared.report.SchemaSide.{SchemaSide}
+use Rattle.gql_types.specs.Edits.{KeepsOthers}
+use Rattle.gql_types.specs.Schemas.{schema_of}
+use Rattle.gql_verdict.specs.DocumentEdits.{ChangesOnly}
+use Rattle.gql_verdict.specs.FileOrder.{AreFilesPlaced}
+
+-- the schema is that of files before an edit that changes types of these names alone and makes these
+-- files
+abbrev pub IsSideBefore : List (List ℕ) → Files → SchemaSide → Type 0
+IsSideBefore names after side = (before : Files) × IsSideOf before side
+    × KeepsOthers names (schema_of before) (schema_of after)
+
+-- what is known has the schema of files before such an edit
+abbrev pub IsSideBeforeEdit : List (List ℕ) → Files → Known → Type 0
+IsSideBeforeEdit names after known = IsSideBefore names after known.schema
+
+-- If this is known of files, the schema is that of all files with the same schema files.
+abbrev pub IsSideAfterDocuments : Option Known → Option SchemaSide → Type 0
+IsSideAfterDocuments known schema = (before after : Files) → IfSome known (IsKnownOf before)
+    → before.schema ≡ after.schema → IfSome schema (IsSideOf after)
+
+-- the plan of an edit that makes `after` of the files `before`
+pub record IsEditPlanTo (before after : Files) (p : EditPlan) : Type 0 where
+  pub files : p.files ≡ after
+  pub touched : ChangesOnly p.touched before after
+  pub schema : IfSome p.schema (IsSideOf after)
+
+-- the plan of an edit of these files
+pub record IsEditPlanOf (before : Files) (p : EditPlan) : Type 0 where
+  pub placed : AreFilesPlaced p.files.documents
+  pub touched : ChangesOnly p.touched before p.files
+  pub schema : IfSome p.schema (IsSideOf p.files)
+
+-- the edit passes all checks after the first two, and this is its plan
+pub record IsEditPlanBy (s : State) (e : Edit) (p : EditPlan) : Type 0 where
+  pub accepted : (expected : Option ℕ) → IsInTime s expected → IsAccepted s expected e
+  pub leaves : Leaves s e (next s p.files)
+  pub plan : IsEditPlanOf s.files p
+
+-- an edit that passes the first two checks is refused with this
+abbrev pub IsRefusedBy : State → Edit → Refusal → Type 0
+IsRefusedBy s e r = (expected : Option ℕ) → IsInTime s expected → Makes s expected e (Err r) s
+
+-- the number of faults in the report of these files
+abbrev pub IsReportLength : Files → ℕ → Type 0
+IsReportLength files count =
+    (report : List Fault) × IsReport files report × (count ≡ length report)

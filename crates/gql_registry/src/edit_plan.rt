@@ -1,0 +1,179 @@
+//! What an edit of one file makes, before it is committed.
+ghost use Rattle.std.specs.Prelude.{◌≡◌, IfOk, IfSome, OnOk};
+ghost use Rattle.std.specs.Option.{option_copied};
+ghost use Rattle.gql_ast.specs.declared.fault.FileSide.TheVariants as on;
+ghost use Rattle.gql_registry.specs.EditPlans.{IsEditPlanTo, IsSideAfterDocuments, IsSideBeforeEdit};
+ghost use Rattle.gql_registry.specs.Keeping.{IsKnownOf, IsSideOf};
+ghost use Rattle.gql_registry.specs.Sides as spec;
+ghost use Rattle.gql_types.specs.Edits.{KeepsOthers};
+ghost use Rattle.gql_types.specs.Schemas.{schema_of};
+ghost use Rattle.gql_verdict.specs.DocumentEdits.{ChangesOnly};
+
+use crate::report::{Known, SchemaSide, side_after_edit};
+use gql_ast::{Document, FileMap, FileName, FileSide, Files, Shared, Text};
+use gql_types::{Named, edited_names, laws as type_laws};
+use gql_verdict::{Touched, laws};
+use std::alloc::{AllocError, Global};
+
+/// The files that an edit leaves, what it touches, and the schema of the files if it is known.
+#[derive(Drop)]
+pub struct EditPlan {
+    pub files: Files,
+    pub touched: Touched,
+    pub schema: Option<Shared<SchemaSide>>,
+}
+
+/// The names of the types that an edit of a schema file may change. `after` is the file that is put,
+/// or none if the file is removed.
+fn edited_types(
+    alloc: Global,
+    files: &Files,
+    name: &FileName,
+    after: Option<&Document>,
+) -> Result<Named<Text>, AllocError>
+    ensures { IfOk result (λ names. KeepsOthers names (schema_of files.now)
+        (schema_of (spec.with_file on.Schema files.now name.now (option_copied after.entry)))) }
+{
+    // The laws that such an edit changes no types of other names.
+    type_laws::put_schema_file();
+    type_laws::remove_schema_file();
+    match files.schema.get(name) {
+        Some(before) => edited_names(alloc, Some(before.get()), after),
+        None => edited_names(alloc, None, after),
+    }
+}
+
+/// What an edit of a document file touches. `after` is the file that is put, or none if the file is
+/// removed.
+fn touched_by(
+    alloc: Global,
+    files: &Files,
+    name: &FileName,
+    after: Option<&Document>,
+) -> Result<Touched, AllocError>
+    ensures { IfOk result (λ touched. ChangesOnly touched files.now
+        (spec.with_file on.Documents files.now name.now (option_copied after.entry))) }
+{
+    // The laws that such an edit changes no other answers, and no definitions of other files.
+    laws::put_document();
+    laws::remove_document();
+    match files.documents.get(name) {
+        Some(before) => Touched::by_edit(alloc, name, Some(before.get()), after),
+        None => Touched::by_edit(alloc, name, None, after),
+    }
+}
+
+/// Puts a file in place of any of its name, or removes the file of that name if there is none to
+/// put.
+fn edit_file(
+    alloc: Global,
+    files: &mut FileMap<Shared<Document>>,
+    name: FileName,
+    document: Option<Document>,
+) -> Result<(), AllocError>
+    ensures { OnOk result (files.new ≡ spec.edited files.old name document) }
+{
+    match document {
+        Some(document) => files.put(name, Shared::new(alloc, document)?),
+        None => {
+            files.remove(&name);
+            Ok(())
+        }
+    }
+}
+
+/// The schema after an edit of a schema file that changed types of these names alone, if the schema
+/// before it is known.
+fn edited_schema(
+    alloc: Global,
+    files: &Files,
+    known: &Option<Known>,
+    edited: &Named<Text>,
+) -> Result<Option<Shared<SchemaSide>>, AllocError>
+    requires { IfSome known.now (IsSideBeforeEdit edited.now files.now) }
+    ensures { IfOk result (λ schema. IfSome schema (IsSideOf files.now)) }
+{
+    let Some(known) = known else {
+        return Ok(None);
+    };
+    let schema = side_after_edit(alloc, files, known.schema.get(), edited)?;
+    let schema = Shared::new(alloc, schema)?;
+    Ok(Some(schema))
+}
+
+/// The schema that is known. An edit of a document file keeps it.
+#[tactic(auto, using(crate::proofs::SameSchema::kept_side))]
+fn kept_schema(known: &Option<Known>) -> Result<Option<Shared<SchemaSide>>, AllocError>
+    ensures { IfOk result (IsSideAfterDocuments known.now) }
+{
+    let Some(known) = known else {
+        return Ok(None);
+    };
+    let schema = known.schema.clone()?;
+    Ok(Some(schema))
+}
+
+/// The plan of an edit of a schema file. All verdicts may depend on it.
+fn schema_plan(
+    alloc: Global,
+    files: &Files,
+    known: &Option<Known>,
+    name: FileName,
+    document: Option<Document>,
+) -> Result<EditPlan, AllocError>
+    requires { IfSome known.now (IsKnownOf files.now) }
+    ensures { IfOk result (IsEditPlanTo files.now
+        (spec.with_file on.Schema files.now name document)) }
+{
+    let edited = edited_types(alloc, files, &name, document.as_ref())?;
+    let mut changed = files.copy()?;
+    edit_file(alloc, &mut changed.schema, name, document)?;
+    let schema = edited_schema(alloc, &changed, known, &edited)?;
+    Ok(EditPlan {
+        files: changed,
+        touched: Touched::All,
+        schema,
+    })
+}
+
+/// The plan of an edit of a document file. The schema stays.
+fn document_plan(
+    alloc: Global,
+    files: &Files,
+    known: &Option<Known>,
+    name: FileName,
+    document: Option<Document>,
+) -> Result<EditPlan, AllocError>
+    requires { IfSome known.now (IsKnownOf files.now) }
+    ensures { IfOk result (IsEditPlanTo files.now
+        (spec.with_file on.Documents files.now name document)) }
+{
+    let touched = touched_by(alloc, files, &name, document.as_ref())?;
+    let mut changed = files.copy()?;
+    edit_file(alloc, &mut changed.documents, name, document)?;
+    let schema = kept_schema(known)?;
+    Ok(EditPlan {
+        files: changed,
+        touched,
+        schema,
+    })
+}
+
+/// The plan of an edit of these files, of which this is known: the file of a name on a side is
+/// replaced by this one, or removed if there is none.
+pub fn edit_plan(
+    alloc: Global,
+    files: &Files,
+    known: &Option<Known>,
+    side: FileSide,
+    name: FileName,
+    document: Option<Document>,
+) -> Result<EditPlan, AllocError>
+    requires { IfSome known.now (IsKnownOf files.now) }
+    ensures { IfOk result (IsEditPlanTo files.now (spec.with_file side files.now name document)) }
+{
+    match side {
+        FileSide::Schema => schema_plan(alloc, files, known, name, document),
+        FileSide::Documents => document_plan(alloc, files, known, name, document),
+    }
+}

@@ -1,9 +1,0 @@
-pub mod Taking
-pub mod Numbering
-pub mod Needing
-pub mod Leading
-pub mod InFiles
-pub mod Sound
-pub mod Known
-pub mod Referring
-pub mod Introspecting
