@@ -1,5 +1,6 @@
 //! Edits on one registry, one after the other: what each answers, and which definitions it
 //! examines.
+use crate::clashes::written_pair;
 use crate::faults::written_faults;
 use crate::running::run_step;
 use gql_ast::{DefinitionId, FileName, Text};
@@ -123,8 +124,14 @@ impl Editing {
         written_ids(self.alloc, self.registry.shelf().readers(&key), "nobody")
     }
 
+    /// What is kept of two fragments, which `FIRST SECOND` names.
+    fn pair(&self, rest: &str) -> Option<String> {
+        let (first, second) = rest.split_once(" ")?;
+        written_pair(self.alloc, self.registry.shelf().pairs(), first, second).ok()
+    }
+
     /// What a step gives: `begin`, `put SIDE NAME TEXT`, `remove SIDE NAME`, `verdict FILE OFFSET`,
-    /// `readers KEY` or `report`.
+    /// `readers KEY`, `pair FIRST SECOND` or `report`.
     pub fn step(&mut self, step: &str) -> Option<String> {
         let (word, rest) = step.split_once(" ").unwrap_or((step, ""));
         match word {
@@ -136,6 +143,7 @@ impl Editing {
             "remove" => self.remove(rest),
             "verdict" => self.verdict(rest),
             "readers" => self.readers(rest),
+            "pair" => self.pair(rest),
             "report" => {
                 let faults = self.registry.shared_report().ok()?;
                 written_faults(self.alloc, faults.as_slice()).ok()

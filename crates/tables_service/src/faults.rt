@@ -4,7 +4,7 @@ use std::alloc::{AllocError, Global};
 use table_rows::join;
 
 /// A place as `file line:column`.
-fn written_place(alloc: Global, place: &FilePlace) -> Result<String, AllocError> {
+pub fn written_place(alloc: Global, place: &FilePlace) -> Result<String, AllocError> {
     let file = place.file.as_str();
     let line = place.place.line;
     let column = place.place.column;

@@ -5,6 +5,7 @@
 #![tactic(auto)]
 
 mod bytes;
+mod clashes;
 mod cut_streams;
 mod editing;
 mod faults;
