@@ -2,7 +2,7 @@
 # Answers the requests of a file: examples/run.sh [FILE], by default examples/shop.http. It prints
 # the requests, and then the answers, with an empty line between two that the program does not
 # write. Where no program is built that is as new as its sources, one is built without proof first,
-# in two to three minutes (tools/program.sh).
+# in three to six minutes (tools/program.sh).
 set -eu
 folder=$(cd "$(dirname "$0")" && pwd)
 requests=$(realpath "${1:-$folder/shop.http}")

@@ -12,7 +12,7 @@
 #
 # The last line is the number of answers. Status: 0 all are as expected, 1 some are not, 2 it did
 # not run. A program that is not there, or is older than its sources, is built without proof first,
-# in one to three minutes; then all tables take some seconds.
+# in one to six minutes; then all tables take some seconds.
 set -eu
 top=$(cd "$(dirname "$0")/.." && pwd)
 here=$PWD

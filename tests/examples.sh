@@ -3,7 +3,7 @@
 # crates/*/src/s12_*.rt has an example that is at fault and one that is not. The first has a fault by its
 # rule, the second has no fault at all. Those of rules on documents (V01 to V29, P03 to P05) are documents
 # over the schema examples/rules.graphql, the others are schemas. It takes two seconds, and if the program
-# is not there three minutes, to build it without proof. The last line is `N passed, M failed`.
+# is not there three to six minutes, to build it without proof. The last line is `N passed, M failed`.
 set -u
 LC_ALL=C
 export LC_ALL

@@ -1,9 +1,9 @@
 #!/bin/sh
 # Tests of `gqlreg usage`, of manifests of persisted operations, and of a push that stops midway:
-# tests/usage.sh. They take some ten seconds. The last line is `N passed, M failed`.
+# tests/usage.sh. They take a few seconds. The last line is `N passed, M failed`.
 here=$(cd "$(dirname "$0")" && pwd)
 . "$here/common.sh"
-echo "the tests of usage and manifests run, in some ten seconds" >&2
+echo "the tests of usage and manifests run, in a few seconds" >&2
 
 mkdir -p store/schema store/documents/web
 cat > store/schema/store.graphql <<'TEXT'

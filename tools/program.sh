@@ -2,7 +2,7 @@
 # Prints the path of the program of a crate: tools/program.sh CRATE, as tools/program.sh gqlreg. That
 # is the proved one, crates/CRATE/out/CRATE, if it is there and no source that it is made of is
 # newer. Else it is one built without proof, crates/CRATE/out/CRATE-without-proof. That is built if
-# it is missing or a source is newer, in one to three minutes, and says so on standard error.
+# it is missing or a source is newer, in one to six minutes, and says so on standard error.
 set -eu
 [ $# = 1 ] || { echo "usage: tools/program.sh CRATE" >&2; exit 2; }
 top=$(cd "$(dirname "$0")/.." && pwd)
@@ -53,7 +53,7 @@ if [ -x "$unproved" ]; then
     fi
     echo "note: ${source#"$top"/} is newer than the program $crate" >&2
 fi
-echo "the program $crate is built without proof, in one to three minutes" >&2
+echo "the program $crate is built without proof, in one to six minutes" >&2
 # the tables take seconds however they are optimised, and at level 1 they are built sooner
 case $crate in
     tables_* | refused_growths) level=1 ;;

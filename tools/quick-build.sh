@@ -1,7 +1,7 @@
 #!/bin/sh
 # Builds a program as LLVM optimises it, WITHOUT proving it: tools/quick-build.sh PROGRAM_FOLDER OUT
 # [LEVEL], as tools/quick-build.sh crates/gqlreg /tmp/gqlreg. LEVEL is that of clang's option -O, by
-# default 3, as in the proved build. It takes one to three minutes, and says what it does.
+# default 3, as in the proved build. It takes one to six minutes, and says what it does.
 #
 # For trying a program out and for measuring: the sources and the code generation are those of the
 # proved build, and it has no run-time checks. What it builds is never what the gate or a release
