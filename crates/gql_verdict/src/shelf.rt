@@ -277,8 +277,8 @@ impl Shelf {
     }
 
     /// Makes the shelf current, whatever changed since: the answer to each key that is read is asked
-    /// again. If an allocation fails, the shelf is as before. Where it is known what an edit touched, `prepare` and `commit`
-    /// do it with fewer tests.
+    /// again. If an allocation fails, the shelf is as before. Where it is known what an edit touched,
+    /// `prepare` and `commit` do it with fewer tests.
     pub fn refresh<W: World>(
         &mut self,
         alloc: Global,

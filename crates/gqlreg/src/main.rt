@@ -112,6 +112,7 @@ fn report_fault(rt: &HostRuntime, fault: CommandFault) -> u8 {
         CommandFault::Help(text) | CommandFault::Version(text) => print_text(rt, text),
         CommandFault::Refused(text) => {
             let _ = rt.eprintln(text);
+            let _ = rt.eprintln("Commands on folders: check, usage, push");
             2
         }
         CommandFault::Memory => 4,
