@@ -1,0 +1,4 @@
+pub mod Sums
+pub mod Resources
+pub mod Plans
+pub mod Laws

@@ -1,4 +1,8 @@
 //! Which edits a push makes.
+ghost use Rattle.std.specs.Prelude.{◌≡◌, IfOk, bytes_eq, find, option_map, string_bytes};
+ghost use Rattle.std.specs.Option.{option_copied};
+ghost use Rattle.gql_push.specs.Plans as plans;
+ghost use Rattle.gql_push.specs.Resources.{entries_at, entries_of, entry_at, entry_of, target_at};
 
 use crate::sum::sum_of;
 use gql_ast::FileSide;
@@ -27,7 +31,9 @@ pub enum Edit {
 
 impl Resource {
     /// An equal resource.
-    fn copy(&self) -> Result<Resource, AllocError> {
+    fn copy(&self) -> Result<Resource, AllocError>
+        ensures { IfOk result (λ copy. entry_of copy ≡ entry_of self.now) }
+    {
         Ok(Resource {
             target: self.target.clone()?,
             sum: self.sum.clone()?,
@@ -38,7 +44,10 @@ impl Resource {
 
 impl Edit {
     /// The target that the edit changes, where the resources of the push are these.
-    pub fn target<'e>(&'e self, resources: &'e [Resource]) -> &'e str {
+    pub fn target<'e>(&'e self, resources: &'e [Resource]) -> &'e str
+        ensures { result.now
+            ≡ plans.target_of (entries_of resources.now) (plans.change_of self.now) }
+    {
         match self {
             Edit::Put(at) => match resources.get(*at) {
                 Some(resource) => resource.target.as_str(),
@@ -48,10 +57,24 @@ impl Edit {
             Edit::EmptyData => "data",
         }
     }
+
+    /// The resource that the edit puts, if it puts one, where the resources of the push are these.
+    fn resource<'r>(&self, resources: &'r [Resource]) -> Option<&'r Resource>
+        ensures { option_map entry_of (option_copied result)
+            ≡ plans.put_by (entries_of resources.now) (plans.change_of self.now) }
+    {
+        match self {
+            Edit::Put(at) => resources.get(*at),
+            Edit::Remove(_) | Edit::EmptyData => None,
+        }
+    }
 }
 
 /// The target of the file at a path below a folder, if it is one of a registry.
-fn target_of(alloc: Global, path: &str) -> Result<Option<String>, AllocError> {
+fn target_of(alloc: Global, path: &str) -> Result<Option<String>, AllocError>
+    ensures { IfOk result (λ target. option_map (λ t. string_bytes t) target
+        ≡ target_at path.now) }
+{
     match role_of(path) {
         Role::File(FileSide::Schema, name) => {
             let name = name.as_str();
@@ -66,30 +89,80 @@ fn target_of(alloc: Global, path: &str) -> Result<Option<String>, AllocError> {
     }
 }
 
+/// The resource of a file with its index, if it is one of a registry.
+fn resource_of(
+    alloc: Global,
+    file: usize,
+    given: &GivenFile,
+) -> Result<Option<Resource>, AllocError>
+    ensures { IfOk result (λ resource. option_map entry_of resource
+        ≡ entry_at (file, given.now)) }
+{
+    match target_of(alloc, given.path.as_str())? {
+        Some(target) => {
+            let sum = sum_of(alloc, given.bytes.as_slice())?;
+            Ok(Some(Resource { target, sum, file }))
+        }
+        None => Ok(None),
+    }
+}
+
 /// The resources of the files of a folder.
-pub fn resources_of(alloc: Global, files: &[GivenFile]) -> Result<Vec<Resource>, AllocError> {
+pub fn resources_of(alloc: Global, files: &[GivenFile]) -> Result<Vec<Resource>, AllocError>
+    ensures { IfOk result (λ resources. entries_of resources.items ≡ entries_at files.now) }
+{
     let mut resources = Vec::new(alloc);
     for (file, given) in files.iter().enumerate() {
-        if let Some(target) = target_of(alloc, given.path.as_str())? {
-            let sum = sum_of(alloc, given.bytes.as_slice())?;
-            resources.push(Resource { target, sum, file })?;
+        if let Some(resource) = resource_of(alloc, file, given)? {
+            resources.push(resource)?;
         }
     }
     Ok(resources)
 }
 
 /// The resource of a target among these.
-fn find_target<'r>(resources: &'r [Resource], target: &str) -> Option<&'r Resource> {
+fn find_target<'r>(resources: &'r [Resource], target: &str) -> Option<&'r Resource>
+    ensures { option_copied result
+        ≡ find (λ r. bytes_eq (string_bytes r.target) target.now) resources.now }
+{
     resources
         .iter()
         .find(|resource| resource.target.as_str() == target)
 }
 
 /// Whether a resource was pushed as it is.
-fn is_pushed(pushed: &[Resource], resource: &Resource) -> bool {
+fn is_pushed(pushed: &[Resource], resource: &Resource) -> bool
+    ensures { result ≡ plans.is_pushed (entries_of pushed.now) (entry_of resource.now) }
+{
     match find_target(pushed, resource.target.as_str()) {
         Some(before) => before.sum == resource.sum,
         None => false,
+    }
+}
+
+/// Whether a resource is to be put, if these were pushed last. With `all`, each one is.
+fn is_to_put(pushed: &[Resource], resource: &Resource, all: bool) -> bool
+    ensures { result ≡ plans.is_to_put all (entries_of pushed.now) (entry_of resource.now) }
+{
+    all || !is_pushed(pushed, resource)
+}
+
+/// Whether a pushed resource is gone: none of these has its target.
+fn is_gone(resources: &[Resource], before: &Resource) -> bool
+    ensures { result ≡ plans.is_gone (entries_of resources.now) (entry_of before.now) }
+{
+    find_target(resources, before.target.as_str()).is_none()
+}
+
+/// The edit by which a target goes: the data become an empty object, and a file is removed.
+fn removal_of(target: &String) -> Result<Edit, AllocError>
+    ensures { IfOk result (λ edit. plans.change_of edit
+        ≡ plans.removal_of (string_bytes target.now)) }
+{
+    if target.as_str() == "data" {
+        Ok(Edit::EmptyData)
+    } else {
+        Ok(Edit::Remove(target.clone()?))
     }
 }
 
@@ -100,20 +173,19 @@ pub fn plan(
     resources: &[Resource],
     pushed: &[Resource],
     all: bool,
-) -> Result<Vec<Edit>, AllocError> {
+) -> Result<Vec<Edit>, AllocError>
+    ensures { IfOk result (λ edits. plans.changes_of edits.items
+        ≡ plans.planned (entries_of resources.now) (entries_of pushed.now) all) }
+{
     let mut edits = Vec::new(alloc);
     for (at, resource) in resources.iter().enumerate() {
-        if all || !is_pushed(pushed, resource) {
+        if is_to_put(pushed, resource, all) {
             edits.push(Edit::Put(at))?;
         }
     }
     for before in pushed {
-        if find_target(resources, before.target.as_str()).is_none() {
-            if before.target.as_str() == "data" {
-                edits.push(Edit::EmptyData)?;
-            } else {
-                edits.push(Edit::Remove(before.target.clone()?))?;
-            }
+        if is_gone(resources, before) {
+            edits.push(removal_of(&before.target)?)?;
         }
     }
     Ok(edits)
@@ -123,7 +195,10 @@ pub fn plan(
 const NO_SUM: &str = "-";
 
 /// The resources that were pushed, as resources whose files are all to be put again.
-pub fn to_put_again(alloc: Global, pushed: &[Resource]) -> Result<Vec<Resource>, AllocError> {
+pub fn to_put_again(alloc: Global, pushed: &[Resource]) -> Result<Vec<Resource>, AllocError>
+    ensures { IfOk result (λ again. entries_of again.items
+        ≡ plans.put_again (entries_of pushed.now)) }
+{
     let mut again = Vec::new(alloc);
     for before in pushed {
         again.push(Resource {
@@ -136,8 +211,16 @@ pub fn to_put_again(alloc: Global, pushed: &[Resource]) -> Result<Vec<Resource>,
 }
 
 /// Whether one of these edits changes this target.
-fn is_edited(edits: &[Edit], resources: &[Resource], target: &str) -> bool {
-    edits.iter().any(|edit| edit.target(resources) == target)
+fn is_edited(edits: &[Edit], resources: &[Resource], target: &str) -> bool
+    ensures { result ≡ plans.is_changed (entries_of resources.now)
+        (plans.changes_of edits.now) target.now }
+{
+    for edit in edits {
+        if edit.target(resources) == target {
+            return true;
+        }
+    }
+    false
 }
 
 /// What is pushed once these edits of a push were made, if `pushed` was pushed before.
@@ -146,7 +229,11 @@ pub fn pushed_after(
     resources: &[Resource],
     pushed: &[Resource],
     made: &[Edit],
-) -> Result<Vec<Resource>, AllocError> {
+) -> Result<Vec<Resource>, AllocError>
+    ensures { IfOk result (λ after. entries_of after.items
+        ≡ plans.after (entries_of resources.now) (entries_of pushed.now)
+        (plans.changes_of made.now)) }
+{
     let mut after = Vec::new(alloc);
     for before in pushed {
         if !is_edited(made, resources, before.target.as_str()) {
@@ -154,10 +241,8 @@ pub fn pushed_after(
         }
     }
     for edit in made {
-        if let Edit::Put(at) = edit {
-            if let Some(resource) = resources.get(*at) {
-                after.push(resource.copy()?)?;
-            }
+        if let Some(resource) = edit.resource(resources) {
+            after.push(resource.copy()?)?;
         }
     }
     Ok(after)

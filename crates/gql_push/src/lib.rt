@@ -4,6 +4,7 @@
 mod answer;
 mod body;
 mod edits;
+pub mod laws;
 mod request;
 mod state;
 mod sum;

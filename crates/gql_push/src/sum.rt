@@ -1,21 +1,26 @@
 //! The sum of a file, by which a change is seen.
+ghost use Rattle.std.specs.Prelude.{◌≡◌, ◌<◌, IfOk, string_bytes};
+ghost use Rattle.gql_push.specs.Sums as sums;
 
 use sha2::{Digest, Sha256};
 use std::alloc::{AllocError, Global};
 
 /// The digit of a number below 16.
-fn digit_of(number: u8) -> char {
+fn digit_of(number: u8) -> char
+    requires { number < 16 }
+    ensures { result ≡ sums.digit_of number }
+{
     if number < 10 {
         char::from(b'0' + number)
-    } else if number < 16 {
-        char::from(b'a' + (number - 10))
     } else {
-        '?'
+        char::from(b'a' + (number - 10))
     }
 }
 
 /// The SHA-256 of these bytes, in hexadecimal digits.
-pub fn sum_of(alloc: Global, bytes: &[u8]) -> Result<String, AllocError> {
+pub fn sum_of(alloc: Global, bytes: &[u8]) -> Result<String, AllocError>
+    ensures { IfOk result (λ sum. string_bytes sum ≡ sums.sum_at bytes.now) }
+{
     let mut hasher = Sha256::new();
     hasher.update(bytes);
     let digest = hasher.finalize();

@@ -1,0 +1,4 @@
+mod Among
+mod Pushes
+mod Steps
+mod Finds
