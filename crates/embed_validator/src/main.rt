@@ -50,7 +50,8 @@ fn add_faults<W: World>(
     definition: &Definition,
     faults: &mut Vec<Shared<Fault>>,
 ) -> Result<(), AllocError> {
-    // One `SharedWork` for all definitions of a world saves work on fragments that they share.
+    // With one `SharedWork` for all definitions of a world, fragments that they share are read once.
+    // Here each definition has its own, so that no proof has to carry it from one to the next.
     let pairs = PairTable::new(alloc);
     let mut shared = SharedWork::new(alloc, pairs);
     let mut meter = Meter::new(alloc);
