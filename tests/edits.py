@@ -1,0 +1,249 @@
+"""Random lists of edits; tests/edits.sh says what they are for and starts them.
+
+A list edits ten files at random: five of schemas and five of documents. The definitions that a file may
+have meet each other: second definitions of a name, extensions whose type comes later or goes, roots that
+move between files, types that begin to implement an interface, fragments that spread each other.
+"""
+
+import random
+import subprocess
+import sys
+
+# What each file mostly has: texts that go together, so that many states have a schema without faults.
+USUAL = {
+    ("schema", "s0"): [
+        "type Query { a: Int b: String n: N q: Query u: U e: E }",
+        "type Query { a: Int b: String n: N q: Query u: U e: E z: Int }",
+        "type Query { a: String b: String n: N q: Query u: U e: E }",
+        "type Query implements N { id: ID a: Int b: String n: N q: Query u: U e: E }",
+        "schema { query: Query } type Query { a: Int b: String n: N! q: Query! u: U e: E }",
+    ],
+    ("schema", "s1"): [
+        "interface N { id: ID } type C implements N { id: ID a: Int b: String c: C }",
+        "interface N { id: ID } type C { id: ID a: Int b: String c: C }",
+        "interface N { id: ID } type C implements N { id: ID! a: String b: String c: C }",
+        "type C implements N & M { id: ID m: Int a: Int b: String c: C }\n"
+        "interface M { m: Int } interface N { id: ID }",
+    ],
+    ("schema", "s2"): [
+        "union U = C | D type D { c: C! d: D e: [E!] }",
+        "union U = C type D { c: C! d: D e: [E!] }",
+        "union U = C | D type D implements N { id: ID c: C d: D e: [E!] }",
+        "type D { c: C d: D! e: [E] } union U = D",
+    ],
+    ("schema", "s3"): [
+        "enum E { ONE TWO } input P { a: Int! b: [Int!] = [1, 2] p: P }",
+        "enum E { ONE TWO THREE } input P { a: Int p: R = {} } input R { q: Int = 3 }",
+        "input P { a: Int = 5 } enum E { TWO @deprecated }",
+        "input P { a: Int } extend enum E { THREE } enum E { ONE }",
+    ],
+    ("schema", "s4"): [
+        "extend type Query { c: C d(p: P): D ax(x: Int = 1): Int }",
+        "extend type Query { c: C! d(p: P!): D ax(x: Int!): Int } directive @on(x: Int, e: E) on FIELD",
+        "extend type Query { c: C d(p: [P]): D ax(x: String): Int }\n"
+        "type Mutation { m(a: Int): D @append(to: \"ds\") }",
+        "extend type C { k: Int } extend type Query { c: C d(p: P): D } extend union U = Query",
+        "",
+    ],
+    ("documents", "d0"): [
+        "query A { a }",
+        "query A { q { a b } n { id } }",
+        "query A { ...F1 k: a }",
+        "query A { ...F1 ...F2 }",
+        "query A { u { __typename ... on D { e } ... on C { a } } }",
+    ],
+    ("documents", "d1"): [
+        "query B($x: Int, $p: P) { ax(x: $x) d(p: $p) { e } }",
+        "query B { q { ...F1 } q { ...F2 } }",
+        "query B { n { ...G1 } u { ...G2 } }",
+        "query B($p: P! = { a: 1 }) { d(p: $p) { c { id } } e @skip(if: true) }",
+        "mutation M { m(a: 1) { c { id } } }",
+    ],
+    ("documents", "d2"): [
+        "fragment F1 on Query { k: a ...F2 }",
+        "fragment F1 on Query { q { k: b } }",
+        "fragment F1 on Query { q { ...F2 } }",
+        "fragment F1 on N { id ... on Query { k: b } }",
+    ],
+    ("documents", "d3"): [
+        "fragment F2 on Query { k: b }",
+        "fragment F2 on Query { k: a }",
+        "fragment F2 on Query { q { k: a } z }",
+        "fragment F2 on Query { k: a q { ...F1 } }",
+    ],
+    ("documents", "d4"): [
+        "fragment G1 on N { id ...G2 } fragment G2 on C { k: id b } query C { c { ...G2 } n { ...G1 } }",
+        "fragment G2 on U { ... on C { c { id } } ... on D { d { e } } } query C { u { ...G2 } }",
+        "query S { __schema { types { name } queryType { name fields { name } } } }",
+        "query T { __type(name: \"C\") { fields { name type { name } } interfaces { name } } }",
+        "fragment G1 on C { a } fragment G2 on C { k: b ...G1 } query D { c { ...G2 c { ...G1 } } }",
+    ],
+}
+
+FILES = sorted(USUAL)
+
+# Definitions that may be in any file, and are at fault more often.
+SCHEMA = """
+type Query { a: Int b: String n: N q: Query }
+extend type Query { a: Int d(p: P): D }
+extend type Query implements N
+extend type Query @deprecated { z: Int }
+interface N { id: ID! n: N }
+interface N implements M { id: ID m: Int }
+extend interface N { a: Int }
+type C { id: ID c: C }
+extend type C { b: String }
+extend type C implements N
+type D implements N { id: ID! n: N a: Int }
+extend union U = D
+extend enum E { THREE }
+extend input P { c: E = ONE }
+scalar S @specifiedBy(url: "x")
+directive @on on OBJECT
+type F { s: S @on(x: 1) }
+type F { s: [Int] @deprecated(reason: "old") }
+schema { query: Query mutation: D }
+extend schema { mutation: F }
+type G { f: F n: Nowhere }
+""".strip().split("\n")
+
+DOCUMENTS = """
+query A { a }
+query B($x: Int!) { ...F1 k: ax(x: $x) }
+query E { e c { ...G1 } @on(x: 2, e: ONE) }
+{ a q { a } }
+fragment F2 on Query { k: b ...F3 }
+fragment F3 on Query { q { ...F1 } z }
+fragment F3 on N { id ... on Query { k: a } }
+fragment G1 on C { k: a c { k: id } }
+""".strip().split("\n")
+
+REFUSED = ["type {", "query X { a", "}", "type Y { a: Int = }"]
+
+DATA = ('{"query":{"a":1,"b":"x","n":{"__typename":"C","id":"7","a":2,"b":"y"},"q":{"a":3,"b":"z"},'
+        '"u":{"__typename":"D","e":["ONE"]},"c":{"id":"8","a":4,"b":"w","c":{"id":"9"}},"e":"TWO","ds":[]}}')
+
+OPERATIONS = ["A", "B", "C", "D", "E", "M", "S", "T"]
+
+
+def request(method, target, body=""):
+    body = body.encode()
+    head = "%s %s HTTP/1.1\r\nContent-Length: %d\r\n\r\n" % (method, target, len(body))
+    return head.encode() + body
+
+
+def answers(program, requests):
+    """The status and the body of each answer of a new service."""
+    run = subprocess.run([program, "pipe"], input=b"".join(requests), stdout=subprocess.PIPE)
+    rest, found = run.stdout, []
+    while rest:
+        head, _, rest = rest.partition(b"\r\n\r\n")
+        lines = head.decode().split("\r\n")
+        length = next(int(line.split(": ")[1]) for line in lines if line.startswith("Content-Length: "))
+        found.append((int(lines[0].split(" ")[1]), rest[:length]))
+        rest = rest[length:]
+    if len(found) != len(requests):
+        sys.exit("%d answers to %d requests" % (len(found), len(requests)))
+    return found
+
+
+def questions():
+    """What is asked of a service whose files are compared: its report, and a run of each operation."""
+    runs = [request("POST", "/run", '{"operationName":"%s"}' % name) for name in OPERATIONS]
+    return [request("GET", "/report")] + runs
+
+
+def without_revision(answer):
+    """A report without its revision, which counts the edits that led to it."""
+    status, body = answer
+    if body.startswith(b'{"revision":'):
+        body = body[body.index(b","):]
+    return status, body
+
+
+def text_for(generator, file):
+    """A text for a file: mostly one of its usual ones, else definitions that may be in any file."""
+    chance = generator.random()
+    if chance < 0.05:
+        return generator.choice(REFUSED)
+    texts = [generator.choice(USUAL[file])]
+    if chance > 0.8:
+        pool = SCHEMA if file[0] == "schema" else DOCUMENTS
+        texts = generator.sample(pool, generator.randint(0, 2)) + texts[:generator.randint(0, 1)]
+    return generator.choice(["\n", " ", "\n\n# moved\n"]).join([""] + texts)
+
+
+def edit_of(generator):
+    """An edit: its file, and its text, or None for a removal."""
+    file = generator.choice(FILES)
+    return file, None if generator.random() < 0.1 else text_for(generator, file)
+
+
+def edits_of(generator):
+    """A list of edits, which begins with most of the files in some order."""
+    first = generator.sample(FILES, generator.randint(6, 10))
+    edits = [(file, generator.choice(USUAL[file])) for file in first]
+    return edits + [edit_of(generator) for _ in range(generator.randint(2, 10))]
+
+
+def request_of(edit):
+    (side, name), text = edit
+    target = "/%s/%s" % (side, name)
+    return request("DELETE", target) if text is None else request("PUT", target, text)
+
+
+def compared(program, edits, tally):
+    """Compares the states that a list of edits leads to with those of one load each; what differs first."""
+    asked = questions()
+    requests = [request("PUT", "/data", DATA)]
+    for edit in edits:
+        requests += [request_of(edit)] + asked
+    found = answers(program, requests)
+    files = {}
+    for at, edit in enumerate(edits):
+        first = 1 + at * (1 + len(asked))
+        if found[first][0] == 200:
+            files[edit[0]] = edit[1]
+        present = [item for item in sorted(files.items()) if item[1] is not None]
+        loads = [request("PUT", "/data", DATA)] + [request_of(item) for item in present]
+        fresh = answers(program, loads + asked)[len(loads):]
+        given = found[first + 1:first + 1 + len(asked)]
+        for question, (one, other) in enumerate(zip(given, fresh)):
+            if without_revision(one) != without_revision(other):
+                return edits[:at + 1], question, one, other
+        tally.note(given)
+    return None
+
+
+class Tally:
+    """How many states were compared, and how many of them were of some use."""
+
+    def __init__(self):
+        self.states = self.sound = self.served = 0
+
+    def note(self, given):
+        self.states += 1
+        self.sound += not any(b'"rule":"%s' % kind in given[0][1] for kind in (b"S", b"P"))
+        self.served += sum(body.startswith(b'{"data"') for _, body in given[1:])
+
+
+def main():
+    program, lists, seed = sys.argv[1], int(sys.argv[2]), int(sys.argv[3])
+    tally = Tally()
+    for number in range(lists):
+        edits = edits_of(random.Random("%d %d" % (seed, number)))
+        different = compared(program, edits, tally)
+        if different:
+            edits, question, given, fresh = different
+            print("list %d of seed %d, question %d:" % (number, seed, question))
+            for file, text in edits:
+                print("  %s/%s %r" % (*file, text))
+            print("  after the edits: %r\n  after one load:  %r" % (given, fresh))
+            sys.exit(1)
+        if number % 250 == 249:
+            print("%d lists" % (number + 1), file=sys.stderr)
+    print("%d lists of edits, %d states, %d without a fault of the schema, %d runs served: 0 differences"
+          % (lists, tally.states, tally.sound, tally.served))
+
+
+main()
