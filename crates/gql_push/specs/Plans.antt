@@ -29,7 +29,7 @@ is_of target e = bytes_eq e.target target
 -- whether a resource was pushed as it is: the first of its target among the pushed ones has its sum
 abbrev pub is_pushed : List Entry → Entry → Bool
 is_pushed pushed e =
-    unwrap_or (option_map (λ before. bytes_eq before.sum e.sum) (find (is_of e.target) pushed)) false
+    unwrap_or (option_map (λ b. bytes_eq b.sum e.sum) (find (is_of e.target) pushed)) false
 
 -- whether a resource is to be put: with `all` each one, and else those that were not pushed as they
 -- are

@@ -15,6 +15,7 @@ pub record Entry : Type 0 where
   pub sum : List ℕ
   pub file : ℕ
 
+-- what one resource says
 abbrev pub entry_of : Resource → Entry
 entry_of r = record { target = string_bytes r.target; sum = string_bytes r.sum; file = r.file }
 

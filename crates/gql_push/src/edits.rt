@@ -155,14 +155,13 @@ fn is_gone(resources: &[Resource], before: &Resource) -> bool
 }
 
 /// The edit by which a target goes: the data become an empty object, and a file is removed.
-fn removal_of(target: &String) -> Result<Edit, AllocError>
-    ensures { IfOk result (λ edit. plans.change_of edit
-        ≡ plans.removal_of (string_bytes target.now)) }
+fn removal_of(alloc: Global, target: &str) -> Result<Edit, AllocError>
+    ensures { IfOk result (λ edit. plans.change_of edit ≡ plans.removal_of target.now) }
 {
-    if target.as_str() == "data" {
+    if target == "data" {
         Ok(Edit::EmptyData)
     } else {
-        Ok(Edit::Remove(target.clone()?))
+        Ok(Edit::Remove(String::from_str(alloc, target)?))
     }
 }
 
@@ -185,7 +184,7 @@ pub fn plan(
     }
     for before in pushed {
         if is_gone(resources, before) {
-            edits.push(removal_of(&before.target)?)?;
+            edits.push(removal_of(alloc, before.target.as_str())?)?;
         }
     }
     Ok(edits)
