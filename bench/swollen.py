@@ -21,6 +21,31 @@ def chain(count):
     return [document("d", "query Q { ...F1 }\n%sfragment F%d on Query { x }\n" % (links, count))]
 
 
+def link(n, field="x"):
+    """A fragment of a chain over 255 files, in a file of its own."""
+    spread = " ...F%d" % (n + 1) if n < 255 else ""
+    return document("f%03d" % n, "fragment F%d on Query { %s%s }" % (n, field, spread))
+
+
+def links(count):
+    """A chain over 255 files, put from its end; then edits of the last fragment, which all others reach."""
+    return ([link(n) for n in range(255, 0, -1)] + [document("q", "query Q { ...F1 }")]
+            + [link(255, "xy"[n % 2]) for n in range(count)])
+
+
+def links_first(count):
+    """So many fragments of the chain, put from its beginning: all before depend on each that is put."""
+    return [link(n) for n in range(1, count + 1)]
+
+
+def over(count):
+    """Edits of an operation that spreads 40 fragments, each in a file of its own."""
+    fragment = "fragment F%d on Query { a%d: x b%d: y q { s } }"
+    spread = " ".join("...F%d" % n for n in range(40))
+    return ([document("f%d" % n, fragment % (n, n, n)) for n in range(40)]
+            + [document("q", "query Q%d { %s }" % (n, spread)) for n in range(count)])
+
+
 def aliases(count):
     """Operations that spread a fragment of 4,000 response names."""
     fields = " ".join("a%d:x" % n for n in range(4000))
@@ -159,8 +184,9 @@ def input_chain(count):
 
 
 KINDS = {
-    "chain": chain, "aliases": aliases, "names": names, "spreads": spreads, "lower": lower,
-    "equal": equal, "interfaces": interfaces, "schema_edits": schema_edits,
+    "chain": chain, "links": links, "links_first": links_first, "over": over, "aliases": aliases,
+    "names": names, "spreads": spreads, "lower": lower, "equal": equal, "interfaces": interfaces,
+    "schema_edits": schema_edits,
     "document_edits": document_edits, "moved": moved, "clashing": clashing, "faults": faults,
     "beside": beside, "faulty": faulty, "defaults": defaults,
     "variables": variables, "filters": filters, "inputs": inputs, "input_chain": input_chain,

@@ -28,6 +28,11 @@ while read -r kind count; do
 done <<'KINDS'
 chain 400
 chain 800
+links 0
+links 40
+links_first 255
+over 1
+over 401
 aliases 200
 names 8000
 spreads 400
