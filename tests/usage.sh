@@ -326,6 +326,47 @@ manifests: 0 operations and 0 fragments
 0 faults in 3 files
 TEXT
 
+# many COUNT: a manifest of Apollo of so many operations over three fragments
+many() {
+    awk -v count="$1" 'BEGIN {
+        print "{\"format\": \"apollo-persisted-query-manifest\", \"version\": 1, \"operations\": ["
+        for (n = 1; n <= count; n++) {
+            part = n % 3
+            printf "{\"id\": \"%d\", \"name\": \"Op%d\", \"type\": \"query\", \"body\": ", n, n
+            printf "\"query Op%d { product(id: %d) { ...Part%d } }\\n", n, n, part
+            printf "fragment Part%d on Product { id title }\"}%s\n", part, n < count ? "," : ""
+        }
+        print "]}"
+    }'
+}
+many 128 > many.json
+try 'the most operations with a file each' 0 "$gqlreg" check store --manifest many.json <<'TEXT'
+manifests: 128 operations and 3 fragments, as documents/Op1.graphql, documents/Op2.graphql, documents/Op3.graphql, documents/Op4.graphql, documents/Op5.graphql, documents/Op6.graphql and 123 more
+0 faults in 132 files
+TEXT
+many 129 > many.json
+try 'one more, put together' 0 "$gqlreg" check store --manifest many.json <<'TEXT'
+manifests: 129 operations and 3 fragments, as documents/operations-01.graphql, documents/operations-02.graphql, documents/operations-03.graphql, documents/operations-04.graphql, documents/operations-05.graphql, documents/operations-06.graphql and 91 more
+0 faults in 100 files
+TEXT
+# (the names of the operations 69, 90 and 100 give one bucket)
+printf '%s\n' 'query Own {' '  version' '}' > store/documents/operations-45.gql
+try 'the name of a file of operations' 2 "$gqlreg" check store --manifest many.json <<'TEXT'
+store/documents/operations-45.gql has the name of documents/operations-45.graphql, which is made of operations of manifests
+TEXT
+rm store/documents/operations-45.gql
+has 'where an operation is' 0 '^  store/documents/operations-45.graphql:3:1: query Op90, by fragment Part0$' "$gqlreg" usage store Product.title --manifest many.json
+long=$(awk 'BEGIN { while (n++ < 3000) printf "# a long remark\\\\n" }')
+sed "s/product(id: 69)/$long&/; s/product(id: 90)/$long&/" many.json > long.json
+has 'a bucket that fills a file' 0 '^  store/documents/operations-45-2.graphql:1:1: query Op90, by fragment Part0$' "$gqlreg" usage store Product.title --manifest long.json
+has 'and its first file' 0 '^  store/documents/operations-45.graphql:1:1: query Op69, by fragment Part0$' "$gqlreg" usage store Product.title --manifest long.json
+many 1000 > many.json
+try 'a thousand operations' 0 "$gqlreg" check store --manifest many.json <<'TEXT'
+manifests: 1000 operations and 3 fragments, as documents/operations-01.graphql, documents/operations-02.graphql, documents/operations-03.graphql, documents/operations-04.graphql, documents/operations-05.graphql, documents/operations-06.graphql and 91 more
+0 faults in 100 files
+TEXT
+has 'who reads it of a thousand' 0 '^field Product.title is read by 1001 operations and 4 fragments$' "$gqlreg" usage store Product.title --manifest many.json
+
 # ---- pushes
 
 port=$((20000 + $$ % 20000))
@@ -344,6 +385,10 @@ try 'push of what changed in it' 0 "$gqlreg" push store --to "$to" --manifest re
 manifests: 2 operations and 0 fragments, as documents/Feed.graphql, documents/Last.graphql
 5 files put or removed: revision 11, 0 faults, 0 operations are not served
 TEXT
+has 'push of a thousand operations' 0 '^99 files put or removed: revision 110, 0 faults, 0 operations are not served$' "$gqlreg" push store --to "$to" --manifest many.json
+sed 's/id: 500) {/& price/' many.json > changed.json
+has 'push of a thousand, one of which changed' 0 '^1 file put or removed: revision 111, 0 faults, 0 operations are not served$' "$gqlreg" push store --to "$to" --manifest changed.json
+has 'push of few again' 0 '^99 files put or removed: revision 210, 0 faults, 0 operations are not served$' "$gqlreg" push store --to "$to" --manifest relay.json
 # 251 documents of somebody else, so that there is room for one more
 mkdir -p other/documents
 n=0
@@ -351,7 +396,7 @@ while [ $n -lt 251 ]; do
     printf 'query Other%s { version }\n' $n > other/documents/o$n.graphql
     n=$((n + 1))
 done
-has 'documents of somebody else' 0 '^251 files put or removed: revision 262' "$gqlreg" push other --to "$to" --all
+has 'documents of somebody else' 0 '^251 files put or removed: revision 461' "$gqlreg" push other --to "$to" --all
 mkdir -p part/schema part/documents
 printf 'query PartA { version }\n' > part/documents/a.graphql
 printf 'query PartB { version }\n' > part/documents/b.graphql
@@ -361,7 +406,7 @@ part: documents/b is refused: too many files (205)
 TEXT
 try 'what it has put' 0 sed -n '2,3p; s/^[0-9a-f]\{64\} //p' part/.gqlreg-push <<TEXT
 server $to
-revision 263
+revision 462
 documents/a
 TEXT
 try 'the next push knows its own work' 2 "$gqlreg" push part --to "$to" <<'TEXT'
@@ -369,10 +414,10 @@ part: documents/b is refused: too many files (205)
 TEXT
 rm part/documents/b.graphql
 try 'and goes on' 0 "$gqlreg" push part --to "$to" <<'TEXT'
-1 file put or removed: revision 264, 0 faults, 0 operations are not served
+1 file put or removed: revision 463, 0 faults, 0 operations are not served
 TEXT
 try 'to its end' 0 "$gqlreg" push part --to "$to" <<TEXT
-nothing to push: $to is at revision 264
+nothing to push: $to is at revision 463
 TEXT
 
 printf '%s passed, %s failed\n' "$passed" "$failed"

@@ -63,12 +63,22 @@ pub enum ManifestFault {
 }
 
 impl From<AllocError> for ManifestFault {
+    ghost use Rattle.std.specs.Prelude.{◌≡◌};
+    ghost use Rattle.gql_manifest.specs.declared.fault.ManifestFault.TheVariants.{Memory};
+
+    ghost from_gives = { λ _ e. e ≡ Memory };
+
     fn from(_: AllocError) -> ManifestFault {
         ManifestFault::Memory
     }
 }
 
 impl<T: Drop> From<AllocFailed<T>> for ManifestFault {
+    ghost use Rattle.std.specs.Prelude.{◌≡◌};
+    ghost use Rattle.gql_manifest.specs.declared.fault.ManifestFault.TheVariants.{Memory};
+
+    ghost from_gives = { λ _ e. e ≡ Memory };
+
     fn from(_: AllocFailed<T>) -> ManifestFault {
         ManifestFault::Memory
     }

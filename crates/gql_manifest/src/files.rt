@@ -1,17 +1,22 @@
 //! The files that manifests are made into.
 
+use crate::bucket::BUCKETS;
 use crate::entries::entries_of;
 use crate::fault::ManifestFault;
-use crate::fragments::KeptFragments;
 use crate::gathered::{Gathered, GatheredOperation};
+use crate::packing::packed;
 use gql_ast::Text;
 use gql_folder::GivenFile;
+use indexmap::IndexMap;
 use serde_json::Value;
 use std::alloc::{AllocError, Global};
 use std::str;
 
 /// The greatest number of bytes of a file.
 const MAX_FILE_BYTES: usize = 65_536;
+
+/// The greatest number of operations that are files of their own.
+const MAX_OWN_FILES: usize = 128;
 
 /// A manifest that is given: its path, and its bytes.
 #[derive(Drop)]
@@ -73,28 +78,29 @@ fn add_manifest(
     Ok(())
 }
 
-/// The path of a file of fragments.
-fn fragments_path(alloc: Global, at: usize) -> Result<String, AllocError> {
+/// The path of the first, the second .. file of this stem.
+fn path_of(alloc: Global, stem: &str, at: usize) -> Result<String, AllocError> {
     if at == 0 {
-        return String::from_str(alloc, "documents/shared-fragments.graphql");
+        return format!(in alloc; "documents/{stem}.graphql");
     }
     let number = at.saturating_add(1);
-    format!(in alloc; "documents/shared-fragments-{number}.graphql")
+    format!(in alloc; "documents/{stem}-{number}.graphql")
 }
 
-/// Adds the files of fragments.
-fn add_fragments(
+/// Adds the files of these texts, which have one stem and are made of what `source` says.
+fn add_texts(
     alloc: Global,
-    fragments: &KeptFragments,
+    stem: &str,
+    source: &str,
+    texts: Vec<Vec<u8>>,
     files: &mut Vec<MadeFile>,
 ) -> Result<(), AllocError> {
     let mut at = 0;
-    for bytes in fragments.texts(alloc, MAX_FILE_BYTES - 2)? {
-        let path = fragments_path(alloc, at)?;
-        let source = String::from_str(alloc, "the fragments of manifests")?;
+    for bytes in texts {
+        let path = path_of(alloc, stem, at)?;
         files.push(MadeFile {
             file: GivenFile { path, bytes },
-            source,
+            source: String::from_str(alloc, source)?,
         })?;
         at = usize::saturating_add(at, 1);
     }
@@ -108,7 +114,11 @@ fn add_operation(
     operation: GatheredOperation,
     files: &mut Vec<MadeFile>,
 ) -> Result<(), AllocError> {
-    let GatheredOperation { origin, bytes } = operation;
+    let GatheredOperation {
+        origin,
+        bytes,
+        bucket: _,
+    } = operation;
     let name = name.as_str();
     let path = format!(in alloc; "documents/{name}.graphql")?;
     files.push(MadeFile {
@@ -118,7 +128,64 @@ fn add_operation(
     Ok(())
 }
 
-/// The files that manifests are made into: `documents/NAME.graphql` for each operation, and
+/// The texts of the files of the operations in a bucket, which an empty line separates.
+fn bucket_texts(
+    alloc: Global,
+    operations: &IndexMap<Text, GatheredOperation>,
+    bucket: usize,
+) -> Result<Vec<Vec<u8>>, AllocError> {
+    let mut pieces = Vec::new(alloc);
+    for (_name, operation) in operations.iter() {
+        if operation.bucket == bucket {
+            pieces.push(operation.bytes.as_slice())?;
+        }
+    }
+    // (the empty line after the last operation goes)
+    let mut texts = packed(alloc, pieces.as_slice(), MAX_FILE_BYTES + 1)?;
+    for text in texts.iter_mut() {
+        text.pop();
+    }
+    Ok(texts)
+}
+
+/// Adds the files of the buckets that have operations, in the order of their numbers.
+fn add_buckets(
+    alloc: Global,
+    operations: &IndexMap<Text, GatheredOperation>,
+    files: &mut Vec<MadeFile>,
+) -> Result<(), AllocError> {
+    for bucket in 0..BUCKETS {
+        let texts = bucket_texts(alloc, operations, bucket)?;
+        let (tens, ones) = ((bucket + 1) / 10, (bucket + 1) % 10);
+        let stem = format!(in alloc; "operations-{tens}{ones}")?;
+        add_texts(
+            alloc,
+            stem.as_str(),
+            "operations of manifests",
+            texts,
+            files,
+        )?;
+    }
+    Ok(())
+}
+
+/// Adds the files of operations: each of its own, unless they are many.
+fn add_operations(
+    alloc: Global,
+    operations: IndexMap<Text, GatheredOperation>,
+    files: &mut Vec<MadeFile>,
+) -> Result<(), AllocError> {
+    if operations.len() > MAX_OWN_FILES {
+        return add_buckets(alloc, &operations, files);
+    }
+    for (name, operation) in operations {
+        add_operation(alloc, &name, operation, files)?;
+    }
+    Ok(())
+}
+
+/// The files that manifests are made into: `documents/NAME.graphql` for each operation, or if there
+/// are more than 128 `documents/operations-01.graphql` to `-96` for those of a bucket each, and
 /// `documents/shared-fragments.graphql` for the fragments of all.
 pub fn files_of(
     alloc: Global,
@@ -134,10 +201,15 @@ pub fn files_of(
     } = gathered;
     let (operation_count, fragment_count) = (operations.len(), fragments.len());
     let mut files = Vec::new(alloc);
-    for (name, operation) in operations {
-        add_operation(alloc, &name, operation, &mut files)?;
-    }
-    add_fragments(alloc, &fragments, &mut files)?;
+    add_operations(alloc, operations, &mut files)?;
+    let texts = fragments.texts(alloc, MAX_FILE_BYTES)?;
+    add_texts(
+        alloc,
+        "shared-fragments",
+        "the fragments of manifests",
+        texts,
+        &mut files,
+    )?;
     Ok(FromManifests {
         files,
         operations: operation_count,

@@ -1,12 +1,20 @@
 //! The fragments of a manifest, each kept once.
 
+ghost use Rattle.std.specs.Prelude.{◌≡◌, [], IfOk, IfErr, OnErr, OnOk, length, string_bytes};
+ghost use Rattle.gql_manifest.specs.Fragments.{IsAddFault, IsAdded, SaysDiffer, bytes_of, fragment_from};
+ghost use Rattle.gql_manifest.specs.Origins.{place_of};
+ghost use Rattle.gql_manifest.specs.Packing.{IsPacked, texts_of};
+
 use crate::fault::ManifestFault;
 use crate::origin::Origin;
+use crate::packing::packed;
 use gql_ast::Text;
 use indexmap::IndexMap;
 use std::alloc::{AllocError, Global};
+use std::marker::Model;
 
-/// A fragment: its tokens, its bytes, and the operation that brought it first.
+/// A fragment: its tokens, its bytes with a line break at their end, and the operation that brought
+/// it first.
 #[derive(Drop)]
 struct KeptFragment {
     tokens: String,
@@ -14,10 +22,19 @@ struct KeptFragment {
     first: Origin,
 }
 
-/// The fragments of a manifest by their names.
+/// The fragments of a manifest by their names. Contracts see the list of them.
 #[derive(Drop)]
 pub struct KeptFragments {
     fragments: IndexMap<Text, KeptFragment>,
+}
+
+impl Model for KeptFragments {
+    ghost use Rattle.std.specs.Prelude.{List};
+    ghost use Rattle.gql_manifest.specs.Fragments.{Fragment, fragments_of};
+
+    ghost Value = { List Fragment };
+
+    ghost view = { λ kept. fragments_of kept.fragments.entries };
 }
 
 /// Two fragments of this name differ.
@@ -26,7 +43,9 @@ fn differ(
     name: &Text,
     first: &Origin,
     at: &Origin,
-) -> Result<ManifestFault, AllocError> {
+) -> Result<ManifestFault, AllocError>
+    ensures { IfOk result (SaysDiffer name.now (place_of first.now) (place_of at.now)) }
+{
     Ok(ManifestFault::Differ {
         name: String::from_str(alloc, name.as_str())?,
         first: first.copy()?,
@@ -36,18 +55,23 @@ fn differ(
 
 impl KeptFragments {
     /// No fragments.
-    pub fn new(alloc: Global) -> KeptFragments {
+    pub fn new(alloc: Global) -> KeptFragments
+        ensures { result ≡ [] }
+    {
         KeptFragments {
             fragments: IndexMap::new(alloc),
         }
     }
 
     /// How many there are.
-    pub fn len(&self) -> usize {
+    pub fn len(&self) -> usize
+        ensures { result ≡ length self.now }
+    {
         self.fragments.len()
     }
 
-    /// Adds a fragment of an operation's text, unless an equal one is kept.
+    /// Adds a fragment of an operation's text, unless one of its name and with the same tokens is
+    /// kept.
     pub fn add(
         &mut self,
         alloc: Global,
@@ -55,7 +79,13 @@ impl KeptFragments {
         name: &Text,
         bytes: &[u8],
         tokens: String,
-    ) -> Result<(), ManifestFault> {
+    ) -> Result<(), ManifestFault>
+        ensures ok { OnOk result (IsAdded self.old self.new
+            (fragment_from name.now (string_bytes tokens) bytes.now (place_of at.now))) }
+        ensures err { IfErr result (IsAddFault self.old
+            (fragment_from name.now (string_bytes tokens) bytes.now (place_of at.now))) }
+        ensures unchanged { OnErr result (self.new ≡ self.old) }
+    {
         if let Some(kept) = self.fragments.get(name) {
             if kept.tokens == tokens {
                 return Ok(());
@@ -64,6 +94,7 @@ impl KeptFragments {
         }
         let mut copied = Vec::new(alloc);
         copied.extend_from_slice(bytes)?;
+        copied.push(b'\n')?;
         let fragment = KeptFragment {
             tokens,
             bytes: copied,
@@ -75,21 +106,14 @@ impl KeptFragments {
 
     /// The texts of files that have all fragments, in their order: as few as hold them in this many
     /// bytes each.
-    pub fn texts(&self, alloc: Global, most: usize) -> Result<Vec<Vec<u8>>, AllocError> {
-        let mut texts = Vec::new(alloc);
-        let mut text = Vec::new(alloc);
-        for (_, fragment) in self.fragments.iter() {
-            let bytes = fragment.bytes.as_slice();
-            if !text.is_empty() && text.len().saturating_add(bytes.len()) > most {
-                texts.push(text)?;
-                text = Vec::new(alloc);
-            }
-            text.extend_from_slice(bytes)?;
-            text.extend_from_slice(b"\n\n")?;
+    pub fn texts(&self, alloc: Global, most: usize) -> Result<Vec<Vec<u8>>, AllocError>
+        ensures { IfOk result
+            (λ texts. IsPacked most (bytes_of self.now) (texts_of texts.items)) }
+    {
+        let mut pieces = Vec::new(alloc);
+        for (_name, fragment) in self.fragments.iter() {
+            pieces.push(fragment.bytes.as_slice())?;
         }
-        if !text.is_empty() {
-            texts.push(text)?;
-        }
-        Ok(texts)
+        packed(alloc, pieces.as_slice(), most)
     }
 }

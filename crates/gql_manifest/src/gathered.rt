@@ -1,5 +1,10 @@
 //! The operations and fragments of manifests, as their texts are read one after the other.
 
+ghost use Rattle.std.specs.Prelude.{◌≡◌, [], IfOk, IfErr, OnErr, OnOk};
+ghost use Rattle.gql_manifest.specs.Gathering.{IsAddFault, IsAdded, IsUnchanged, SaysTwice, operations_of};
+ghost use Rattle.gql_manifest.specs.Origins.{place_of};
+
+use crate::bucket::bucket_of;
 use crate::entries::Entry;
 use crate::fault::ManifestFault;
 use crate::fragments::KeptFragments;
@@ -9,11 +14,13 @@ use gql_ast::{Operation, Text, Tree};
 use indexmap::IndexMap;
 use std::alloc::{AllocError, Global};
 
-/// An operation: its bytes, and where it comes from.
+/// An operation: where it comes from, its bytes with a line break at their end, and the bucket of
+/// its name.
 #[derive(Drop)]
 pub struct GatheredOperation {
     pub origin: Origin,
     pub bytes: Vec<u8>,
+    pub bucket: usize,
 }
 
 /// The operations of manifests by their names, and their fragments.
@@ -29,7 +36,9 @@ fn twice(
     name: &Text,
     first: &Origin,
     at: &Origin,
-) -> Result<ManifestFault, AllocError> {
+) -> Result<ManifestFault, AllocError>
+    ensures { IfOk result (SaysTwice name.now (place_of first.now) (place_of at.now)) }
+{
     Ok(ManifestFault::Twice {
         name: String::from_str(alloc, name.as_str())?,
         first: first.copy()?,
@@ -39,7 +48,10 @@ fn twice(
 
 impl Gathered {
     /// No operations and no fragments.
-    pub fn new(alloc: Global) -> Gathered {
+    pub fn new(alloc: Global) -> Gathered
+        ensures operations { operations_of result ≡ [] }
+        ensures fragments { result.fragments ≡ [] }
+    {
         Gathered {
             operations: IndexMap::new(alloc),
             fragments: KeptFragments::new(alloc),
@@ -53,7 +65,13 @@ impl Gathered {
         at: &Origin,
         operation: &Operation,
         bytes: &[u8],
-    ) -> Result<(), ManifestFault> {
+    ) -> Result<(), ManifestFault>
+        ensures ok { OnOk result
+            (IsAdded operation.now.name (place_of at.now) bytes.now self.old self.new) }
+        ensures err { IfErr result
+            (IsAddFault operation.now.name (place_of at.now) (operations_of self.old)) }
+        ensures unchanged { OnErr result (IsUnchanged self.old self.new) }
+    {
         let Some(name) = &operation.name else {
             return Err(ManifestFault::Unnamed { at: at.copy()? });
         };
@@ -66,6 +84,7 @@ impl Gathered {
         let gathered = GatheredOperation {
             origin: at.copy()?,
             bytes: copied,
+            bucket: bucket_of(name.text.as_str()),
         };
         self.operations.insert(name.text.copy()?, gathered)?;
         Ok(())

@@ -1,23 +1,98 @@
 //! The files of a folder together with those that manifests are made into.
+ghost use Rattle.std.specs.Prelude.{◌≡◌, ◌++◌, IfErr, IfOk, MatchOption, OnOk, length, slice_get, string_bytes};
+ghost use Rattle.std.specs.Option.{option_copied};
+ghost use Rattle.gql_folder.specs.Roles.{role_at};
+ghost use Rattle.gql_manifest.specs.Joining.{AddsName, AreAllNames, AreApart, AreNames, IsFree, IsJoinFault, IsTaken, SaysClash, files_made, index_in};
 
 use crate::fault::ManifestFault;
 use crate::files::MadeFile;
+use gql_ast::{FileName, FileSide};
 use gql_folder::{GivenFile, Role, role_of};
 use std::alloc::{AllocError, Global};
+use std::collections::BTreeMap;
 
-/// Whether the files at two paths have one name as documents.
-fn have_one_name(one: &str, other: &str) -> bool {
-    match (role_of(one), role_of(other)) {
-        (Role::File(one_side, one_name), Role::File(other_side, other_name)) => {
-            one_side == other_side && one_name == other_name
+/// The files of a folder by their names, on both sides: under each name the index of a file that
+/// has it.
+#[derive(Drop)]
+struct FolderNames {
+    schema: BTreeMap<FileName, usize>,
+    documents: BTreeMap<FileName, usize>,
+}
+
+/// Adds the name of the file at this path and index, if it is one of this side.
+fn add_name(
+    names: &mut BTreeMap<FileName, usize>,
+    side: FileSide,
+    path: &str,
+    at: usize,
+) -> Result<(), AllocError>
+    ensures { OnOk result (AddsName side path.now at names.old names.new) }
+{
+    let Role::File(its_side, name) = role_of(path) else {
+        return Ok(());
+    };
+    if its_side != side {
+        return Ok(());
+    }
+    names.insert(name, at)?;
+    Ok(())
+}
+
+/// The files of a side by their names.
+fn names_on(
+    alloc: Global,
+    side: FileSide,
+    files: &[GivenFile],
+) -> Result<BTreeMap<FileName, usize>, AllocError>
+    ensures { IfOk result (AreNames side files.now (length files.now)) }
+{
+    let mut names = BTreeMap::new(alloc);
+    for (at, file) in files.iter().enumerate() {
+        add_name(&mut names, side, file.path.as_str(), at)?;
+    }
+    Ok(names)
+}
+
+impl FolderNames {
+    /// The names of these files.
+    fn new(alloc: Global, files: &[GivenFile]) -> Result<FolderNames, AllocError>
+        ensures { IfOk result (AreAllNames files.now) }
+    {
+        Ok(FolderNames {
+            schema: names_on(alloc, FileSide::Schema, files)?,
+            documents: names_on(alloc, FileSide::Documents, files)?,
+        })
+    }
+
+    /// The index of a file that has the name of the file at a path.
+    fn find(&self, path: &str) -> Option<usize>
+        ensures { result ≡ index_in self.now (role_at path.now) }
+    {
+        match role_of(path) {
+            Role::File(FileSide::Schema, name) => self.schema.get(&name).copied(),
+            Role::File(FileSide::Documents, name) => self.documents.get(&name).copied(),
+            _ => None,
         }
-        _ => false,
     }
 }
 
-/// The file among these, which a folder has, that has the name of one that is made.
-fn clash_with<'f>(files: &'f [GivenFile], made: &MadeFile) -> Option<&'f GivenFile> {
-    files.iter().find(|file| have_one_name(file.path.as_str(), made.file.path.as_str()))
+/// The file at an index.
+fn file_at(files: &[GivenFile], at: usize) -> Option<&GivenFile>
+    ensures { option_copied result ≡ slice_get files.now at }
+{
+    files.get(at)
+}
+
+/// The file among these, whose names are given, that has the name of the file at a path.
+fn named_as<'f>(names: &FolderNames, files: &'f [GivenFile], path: &str) -> Option<&'f GivenFile>
+    requires { AreAllNames files.now names.now }
+    ensures { MatchOption result (IsFree files.now path.now)
+        (λ file. IsTaken files.now path.now file.now) }
+{
+    match names.find(path) {
+        Some(at) => file_at(files, at),
+        None => None,
+    }
 }
 
 /// The fault of a file of this folder that has the name of one that is made.
@@ -26,7 +101,10 @@ fn clash(
     folder: &str,
     file: &GivenFile,
     made: &MadeFile,
-) -> Result<ManifestFault, AllocError> {
+) -> Result<ManifestFault, AllocError>
+    ensures { IfOk result
+        (SaysClash (string_bytes made.now.file.path) (string_bytes made.now.source)) }
+{
     let path = file.path.as_str();
     Ok(ManifestFault::Clash {
         path: format!(in alloc; "{folder}/{path}")?,
@@ -35,19 +113,38 @@ fn clash(
     })
 }
 
+/// That no file of this folder has the name of one that is made.
+fn stay_apart(
+    alloc: Global,
+    folder: &str,
+    made: &[MadeFile],
+    files: &[GivenFile],
+) -> Result<(), ManifestFault>
+    ensures apart { OnOk result (AreApart files.now made.now) }
+    ensures err { IfErr result (IsJoinFault files.now made.now files.now) }
+{
+    let names = FolderNames::new(alloc, files)?;
+    for one in made {
+        if let Some(file) = named_as(&names, files, one.file.path.as_str()) {
+            return Err(clash(alloc, folder, file, one)?);
+        }
+    }
+    Ok(())
+}
+
 /// Adds the files that manifests are made into to those of a folder. None may have the name of one
-/// of the folder.
+/// of the folder. Where an allocation fails, some may have been added.
 pub fn add_files(
     alloc: Global,
     folder: &str,
     made: Vec<MadeFile>,
     files: &mut Vec<GivenFile>,
-) -> Result<(), ManifestFault> {
-    for one in made.as_slice() {
-        if let Some(file) = clash_with(files.as_slice(), one) {
-            return Err(clash(alloc, folder, file, one)?);
-        }
-    }
+) -> Result<(), ManifestFault>
+    ensures ok { OnOk result (files.new.items ≡ files.old.items ++ files_made made.items) }
+    ensures apart { OnOk result (AreApart files.old.items made.items) }
+    ensures err { IfErr result (IsJoinFault files.old.items made.items files.new.items) }
+{
+    stay_apart(alloc, folder, made.as_slice(), files.as_slice())?;
     for one in made {
         let MadeFile { file, source: _ } = one;
         files.push(file)?;

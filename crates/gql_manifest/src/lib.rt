@@ -1,8 +1,10 @@
 //! Manifests of persisted operations: the operations and fragments of a client, as its build wrote
-//! them, made into the files of a folder. Each operation is a file of its own; a fragment that
-//! several operations bring with them is kept once.
+//! them, made into the files of a folder. Each operation is a file of its own, or if there are many
+//! they are put together by their names; a fragment that several operations bring with them is kept
+//! once.
 #![tactic(auto)]
 
+mod bucket;
 mod entries;
 mod fault;
 mod files;
@@ -10,6 +12,7 @@ mod fragments;
 mod gathered;
 mod joined;
 mod origin;
+mod packing;
 mod pieces;
 mod words;
 

@@ -1,5 +1,8 @@
 //! Where a definition of a manifest comes from.
 
+ghost use Rattle.std.specs.Prelude.{◌≡◌, IfOk};
+ghost use Rattle.gql_manifest.specs.Origins.{place_of};
+
 use std::alloc::{AllocError, Global};
 
 /// An operation of a manifest: the path of the manifest, and the operation's id there.
@@ -11,7 +14,9 @@ pub struct Origin {
 
 impl Origin {
     /// The operation of this id in the manifest at this path.
-    pub fn new(alloc: Global, path: &str, id: &str) -> Result<Origin, AllocError> {
+    pub fn new(alloc: Global, path: &str, id: &str) -> Result<Origin, AllocError>
+        ensures { IfOk result (λ o. place_of o ≡ (path.now, id.now)) }
+    {
         Ok(Origin {
             path: String::from_str(alloc, path)?,
             id: String::from_str(alloc, id)?,
@@ -19,7 +24,9 @@ impl Origin {
     }
 
     /// An equal origin.
-    pub fn copy(&self) -> Result<Origin, AllocError> {
+    pub fn copy(&self) -> Result<Origin, AllocError>
+        ensures { IfOk result (λ o. place_of o ≡ place_of self.now) }
+    {
         Ok(Origin {
             path: self.path.clone()?,
             id: self.id.clone()?,

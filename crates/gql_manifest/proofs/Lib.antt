@@ -1,0 +1,6 @@
+mod Hashed
+mod PackedSteps
+mod Kept
+mod FragmentSteps
+mod OperationSteps
+mod JoinedSteps
