@@ -2,6 +2,9 @@
 //! with a line `---` between them, and the faults that the document has by the schema.
 #![tactic(auto)]
 
+ghost use Rattle.std.specs.Prelude.{◌≡◌};
+ghost use Rattle.gql_verdict.specs.SharedWorks.{Holds};
+
 use anyhow::Result;
 use gql_ast::{Definition, Document, Fault, FileName, Files, Shared};
 use gql_facts::{Fragments, Present, SchemaFacts, World};
@@ -43,22 +46,57 @@ fn files_of(alloc: Global, schema: &str, document: &str) -> Result<Files, Syntax
     }
 }
 
-/// Adds the faults of a definition.
+/// Adds the faults of a definition. What its examination reads of fragments is shared with others.
 fn add_faults<W: World>(
     alloc: Global,
     world: &mut W,
     definition: &Definition,
+    shared: &mut SharedWork,
     faults: &mut Vec<Shared<Fault>>,
-) -> Result<(), AllocError> {
-    // With one `SharedWork` for all definitions of a world, fragments that they share are read once.
-    // Here each definition has its own, so that no proof has to carry it from one to the next.
-    let pairs = PairTable::new(alloc);
-    let mut shared = SharedWork::new(alloc, pairs);
+) -> Result<(), AllocError>
+    requires holds { Holds (W.facts world.old) shared.old }
+    ensures facts { W.facts world.new ≡ W.facts world.old }
+    ensures holds { Holds (W.facts world.old) shared.new }
+{
     let mut meter = Meter::new(alloc);
-    let kept = NoParts {};
-    let verdict = examine(alloc, world, definition, &kept, &mut shared, &mut meter)?;
+    let verdict = examine(alloc, world, definition, &NoParts {}, shared, &mut meter)?;
     for fault in verdict.faults() {
         faults.push(fault.clone()?)?;
+    }
+    Ok(())
+}
+
+/// Adds the faults of definitions.
+fn add_all<W: World>(
+    alloc: Global,
+    world: &mut W,
+    definitions: &[Definition],
+    shared: &mut SharedWork,
+    faults: &mut Vec<Shared<Fault>>,
+) -> Result<(), AllocError>
+    requires holds { Holds (W.facts world.old) shared.old }
+    ensures facts { W.facts world.new ≡ W.facts world.old }
+    ensures holds { Holds (W.facts world.old) shared.new }
+{
+    for definition in definitions {
+        add_faults(alloc, world, definition, shared, faults)?;
+    }
+    Ok(())
+}
+
+/// Adds the faults of all definitions of document files, by one `SharedWork`: each fragment is read
+/// once for all definitions that reach it.
+fn add_documents<W: World>(
+    alloc: Global,
+    world: &mut W,
+    files: &Files,
+    faults: &mut Vec<Shared<Fault>>,
+) -> Result<(), AllocError> {
+    let pairs = PairTable::new(alloc);
+    let mut shared = SharedWork::new(alloc, pairs);
+    for (_, document) in files.documents.entries().iter() {
+        let definitions = document.get().definitions.as_slice();
+        add_all(alloc, world, definitions, &mut shared, faults)?;
     }
     Ok(())
 }
@@ -75,11 +113,7 @@ fn faults_of(alloc: Global, files: &Files) -> Result<Vec<Shared<Fault>>, AllocEr
     let fragments = Fragments::new(alloc, &files.documents)?;
     let mut world = Present::new(&facts, &fragments);
     let mut faults = shared_faults(alloc, name_faults(alloc, files)?)?;
-    for (_, document) in files.documents.entries().iter() {
-        for definition in document.get().definitions.as_slice() {
-            add_faults(alloc, &mut world, definition, &mut faults)?;
-        }
-    }
+    add_documents(alloc, &mut world, files, &mut faults)?;
     in_order(alloc, faults)
 }
 
