@@ -1,7 +1,7 @@
 #!/bin/sh
 # Whether what a registry keeps from edit to edit shows: after each edit of a random list its report and
 # its runs have to be those of a new registry into which the same files are put once, one by one.
-# tests/edits.sh [LISTS [SEED]], by default 200 lists of up to 14 edits of ten files, in some ten seconds.
+# tests/edits.sh [LISTS [SEED]], by default 200 lists of up to 20 edits of ten files, in some ten seconds.
 # The proofs say the same of every list; this runs it. It needs python3. The last line counts the lists and
 # the states that were compared. Status: 0 no difference; 1 one, which is printed; 2 it did not run.
 # GQLREG names the program; else it is that of this repository, which is built without proof if it is
