@@ -105,6 +105,19 @@ type F { s: [Int] @deprecated(reason: "old") }
 schema { query: Query mutation: D }
 extend schema { mutation: F }
 type G { f: F n: Nowhere }
+directive @tag(e: E, p: P, s: [String!]) repeatable on OBJECT | FIELD_DEFINITION | ARGUMENT_DEFINITION
+directive @tag(e: Int, n: H) on OBJECT | FIELD_DEFINITION
+type H @tag(e: ONE) { h: Int @tag(p: { a: 1 }) @tag(e: THREE) }
+type H { h(x: Int @tag(s: ["x"])): E @append(to: "ds") }
+input H { e: E = ONE p: P = { a: 1, b: [] } }
+extend type C @tag(e: TWO) @tag(e: TWO)
+extend type D @deprecated @on
+extend schema @on @on
+enum P { a b }
+scalar E
+type Mutation { m(a: Int): D @append(to: "ds") k: Int @append(to: "ds") }
+extend type Mutation { n: Int @append(to: "ds") @deprecated(reason: 3) }
+union N = C
 """.strip().split("\n")
 
 DOCUMENTS = """

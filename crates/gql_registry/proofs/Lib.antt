@@ -14,3 +14,5 @@ pub mod PlannedFiles
 pub mod Reports
 pub mod Working
 pub mod SameSchema
+pub mod Restored
+pub mod UndoneEdits

@@ -4,8 +4,8 @@ use Rattle.gql_ast.specs.declared.definition.Document.{Document}
 use Rattle.gql_ast.specs.declared.fault.Fault.{Fault}
 use Rattle.gql_ast.specs.declared.files.Files.{Files}
 use Rattle.gql_schema_rules.specs.SchemaFaults.{FaultsBy, by_s01, by_s02, by_s03, by_s04, by_s05, by_s06, by_s07, by_s08, by_s09, by_s10, by_s11, by_s12, by_s13, by_s14, by_s15, by_s16, by_s17, by_s18, by_s19, by_s20, by_s21, by_s22, by_s23, by_s24, by_s25, by_s26, by_s27, by_s28, by_s29, by_s30, by_s31, by_s32, by_s33, by_s34, by_s35, by_s36, by_p01, by_p02}
-use Rattle.gql_registry.specs.EditPlans.{IsSideAfterDocuments, IsSideBeforeEdit}
-use Rattle.gql_types.specs.Edits.{KeepsOthers}
+use Rattle.gql_registry.specs.EditPlans.{IsSchemaEdit, IsSideAfterDocuments, IsSideBeforeEdit}
+use Rattle.gql_schema_rules.specs.ChecksOfFiles.{DiffersAt}
 use Rattle.gql_types.specs.Schemas.{schema_of}
 use Rattle.gql_types.specs.declared.schema.Schema.{Schema}
 use Rattle.gql_registry.specs.Keeping.{IsKnownOf, IsSideOf}
@@ -108,6 +108,10 @@ same_side files documents side is = record {
   schema = is.schema;
   facts = is.facts;
   made = is.made;
+  kept = record {
+    checks = is.kept.checks;
+    all = λ f. (λ h. fault_after files documents _ f ((is.kept.all f).0 h), λ h. (is.kept.all f).1 (fault_before files documents _ f h));
+  };
   faults = record {
     sound = λ f h. fault_after files documents _ f (is.faults.sound f h);
     complete = λ f h. is.faults.complete f (fault_before files documents _ f h);
@@ -122,7 +126,13 @@ pub kept_side : (known : Known) → IsSideAfterDocuments (Some known) (Some know
 kept_side known before after is e = same_schema before after known.schema e is.schema
 
 -- what is known before an edit has the schema before it
-pub known_before : (names : List (List ℕ)) (before after : Files) (known : Option Known) → IfSome known (IsKnownOf before)
-    → KeepsOthers names (schema_of before) (schema_of after) → IfSome known (IsSideBeforeEdit names after)
-known_before names before after None is keeps = is
-known_before names before after (Some known) is keeps = (before, is.schema, keeps)
+pub known_before : (names : List (List ℕ)) (name : List ℕ) (before after : Files) (known : Option Known) → IfSome known (IsKnownOf before)
+    → IsSchemaEdit names before after → DiffersAt name before after → IfSome known (IsSideBeforeEdit names name after)
+known_before names name before after None is edit elsewhere = is
+known_before names name before after (Some known) is edit elsewhere = record {
+  before = before;
+  side_of = is.schema;
+  keeps = edit.keeps;
+  undone = edit.undone;
+  elsewhere = elsewhere;
+}

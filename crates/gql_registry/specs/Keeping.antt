@@ -11,6 +11,7 @@ use Rattle.gql_intro.specs.Made.{made_of}
 use Rattle.gql_pairs.specs.Groups.{KeptGroup}
 use Rattle.gql_pairs.specs.Tables.{AllHold, KeepsHolding}
 use Rattle.gql_registry.specs.Indexed.{IsIndexOf as IsOperationIndex}
+use Rattle.gql_schema_rules.specs.KeptFaults.{AreFaultsOf}
 use Rattle.gql_schema_rules.specs.SchemaFaults.{IsSchemaFault}
 use Rattle.gql_registry.specs.Report.{IsReport}
 use Rattle.gql_registry.specs.declared.index.DocumentIndex.{DocumentIndex}
@@ -77,11 +78,13 @@ AreFactsOf files facts = facts ≡ tables_of (schema_of files)
 abbrev pub AreSchemaFaults : Files → List Fault → Type 0
 AreSchemaFaults files faults = Lists faults (IsSchemaFault files)
 
--- the schema of the files, its facts, what introspection makes of it, and its faults
+-- the schema of the files, its facts, what introspection makes of it, its faults, and what an edit
+-- can keep of them
 pub record IsSideOf (files : Files) (side : SchemaSide) : Type 0 where
   pub schema : side.schema ≡ schema_of files
   pub facts : AreFactsOf files side.facts
   pub made : side.made ≡ made_of files (schema_of files)
+  pub kept : AreFaultsOf files side.kept
   pub faults : AreSchemaFaults files side.faults.items
 
 -- the fragments and the operations of the document files

@@ -2,7 +2,7 @@
 ghost use Rattle.std.specs.Prelude.{◌≡◌, IfOk, IfSome, OnOk};
 ghost use Rattle.std.specs.Option.{option_copied};
 ghost use Rattle.gql_ast.specs.declared.fault.FileSide.TheVariants as on;
-ghost use Rattle.gql_registry.specs.EditPlans.{IsEditPlanTo, IsSideAfterDocuments, IsSideBeforeEdit};
+ghost use Rattle.gql_registry.specs.EditPlans.{IsEditPlanTo, IsSchemaEdit, IsSideAfterDocuments, IsSideBeforeEdit};
 ghost use Rattle.gql_registry.specs.Keeping.{IsKnownOf, IsSideOf};
 ghost use Rattle.gql_registry.specs.Sides as spec;
 ghost use Rattle.gql_types.specs.Edits.{KeepsOthers};
@@ -31,12 +31,14 @@ fn edited_types(
     name: &FileName,
     after: Option<&Document>,
 ) -> Result<Named<Text>, AllocError>
-    ensures { IfOk result (λ names. KeepsOthers names (schema_of files.now)
-        (schema_of (spec.with_file on.Schema files.now name.now (option_copied after.entry)))) }
+    ensures { IfOk result (λ names. IsSchemaEdit names files.now
+        (spec.with_file on.Schema files.now name.now (option_copied after.entry))) }
 {
-    // The laws that such an edit changes no types of other names.
+    // The laws that such an edit changes no types of other names. The names are in order, so that an
+    // edit can be undone.
     type_laws::put_schema_file();
     type_laws::remove_schema_file();
+    let _in_order = files.schema.entries();
     match files.schema.get(name) {
         Some(before) => edited_names(alloc, Some(before.get()), after),
         None => edited_names(alloc, None, after),
@@ -82,21 +84,22 @@ fn edit_file(
     }
 }
 
-/// The schema after an edit of a schema file that changed types of these names alone, if the schema
-/// before it is known.
+/// The schema after an edit of the schema file of this name that changed types of these names alone,
+/// if the schema before it is known.
 fn edited_schema(
     alloc: Global,
     files: &Files,
     known: &Option<Known>,
+    name: &FileName,
     edited: &Named<Text>,
 ) -> Result<Option<Shared<SchemaSide>>, AllocError>
-    requires { IfSome known.now (IsSideBeforeEdit edited.now files.now) }
+    requires { IfSome known.now (IsSideBeforeEdit edited.now name.now files.now) }
     ensures { IfOk result (λ schema. IfSome schema (IsSideOf files.now)) }
 {
     let Some(known) = known else {
         return Ok(None);
     };
-    let schema = side_after_edit(alloc, files, known.schema.get(), edited)?;
+    let schema = side_after_edit(alloc, files, known.schema.get(), name, edited)?;
     let schema = Shared::new(alloc, schema)?;
     Ok(Some(schema))
 }
@@ -127,8 +130,8 @@ fn schema_plan(
 {
     let edited = edited_types(alloc, files, &name, document.as_ref())?;
     let mut changed = files.copy()?;
-    edit_file(alloc, &mut changed.schema, name, document)?;
-    let schema = edited_schema(alloc, &changed, known, &edited)?;
+    edit_file(alloc, &mut changed.schema, name.copy(), document)?;
+    let schema = edited_schema(alloc, &changed, known, &name, &edited)?;
     Ok(EditPlan {
         files: changed,
         touched: Touched::All,

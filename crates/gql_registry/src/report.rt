@@ -7,24 +7,28 @@ ghost use Rattle.gql_types.specs.Schemas.{schema_of};
 ghost use Rattle.gql_registry.specs.Keeping.{AreFactsOf, AreSchemaFaults, IsDefinitionFault};
 ghost use Rattle.gql_registry.specs.Keeping.{IsIndexOf, IsKnownOf, IsSideOf};
 ghost use Rattle.gql_registry.specs.Report.{IsReport, IsSound};
+ghost use Rattle.gql_schema_rules.specs.KeptFaults.{AreFaultsOf};
 
 use crate::index::DocumentIndex;
-use gql_ast::{Fault, Files, Shared, Text};
+use gql_ast::{Fault, FileName, Files, Shared, Text};
 use gql_facts::SchemaFacts;
 use gql_intro::{IntroSchema, intro_schema};
 use gql_report::in_order;
-use gql_schema_rules::schema_faults;
+use gql_node_rules::SchemaChange;
+use gql_schema_rules::SchemaFaults;
 use gql_serving::Owners;
 use gql_types::{Named, Schema, assemble, assemble_after_edit};
 use gql_verdict::{name_faults, shared_faults};
 use std::alloc::{AllocError, Global};
 
-/// The schema files as one schema, with its facts, what introspection makes of it, and its faults.
+/// The schema files as one schema, with its facts, what introspection makes of it, and its faults:
+/// as a list, and with what an edit can keep of them.
 #[derive(Drop)]
 pub struct SchemaSide {
     pub schema: Schema,
     pub facts: SchemaFacts,
     pub made: IntroSchema,
+    pub kept: SchemaFaults,
     pub faults: Vec<Shared<Fault>>,
 }
 
@@ -38,24 +42,26 @@ pub struct Known {
     pub owners: Owners,
 }
 
-/// This schema, which is that of the files, with these facts, what introspection makes of it, and its
-/// faults.
+/// This schema, which is that of the files, with these facts, what introspection makes of it, and
+/// these faults.
 fn side_of(
     alloc: Global,
     files: &Files,
     schema: Schema,
     facts: SchemaFacts,
+    kept: SchemaFaults,
 ) -> Result<SchemaSide, AllocError>
     requires { schema ≡ schema_of files.now }
-    ensures { IfOk result (λ side. AreFactsOf files.now facts → IsSideOf files.now side) }
+    ensures { IfOk result (λ side. AreFactsOf files.now facts → AreFaultsOf files.now kept
+        → IsSideOf files.now side) }
 {
-    let found = schema_faults(alloc, files, &schema)?;
-    let faults = shared_faults(alloc, found)?;
+    let faults = sharing(alloc, kept.all())?;
     let made = intro_schema(alloc, files, &schema)?;
     Ok(SchemaSide {
         schema,
         facts,
         made,
+        kept,
         faults,
     })
 }
@@ -66,24 +72,48 @@ pub fn schema_side(alloc: Global, files: &Files) -> Result<SchemaSide, AllocErro
 {
     let schema = assemble(alloc, files)?;
     let facts = SchemaFacts::new(alloc, &schema)?;
-    let side = side_of(alloc, files, schema, facts)?;
+    let kept = SchemaFaults::new(alloc, files, &schema)?;
+    let side = side_of(alloc, files, schema, facts, kept)?;
     Ok(side)
 }
 
-/// Puts the schema of the schema files together after an edit which changed types of these names
-/// alone. What the edit did not change is shared with the schema before it.
+/// The faults of this schema after an edit of the schema file of this name, which changed types of
+/// these names alone. What the edit did not change is kept from the schema before it.
+fn faults_after_edit(
+    alloc: Global,
+    files: &Files,
+    schema: &Schema,
+    before: &SchemaSide,
+    name: &FileName,
+    edited: &Named<Text>,
+) -> Result<SchemaFaults, AllocError>
+    requires schema { schema.now ≡ schema_of files.now }
+    requires before { IsSideBefore edited.now name.now files.now before.now }
+    ensures { IfOk result (AreFaultsOf files.now) }
+{
+    let change = SchemaChange::between(alloc, &before.schema, schema, edited)?;
+    let kept = &before.kept;
+    let kept = SchemaFaults::after_edit(alloc, files, schema, name, &change, edited, kept)?;
+    Ok(kept)
+}
+
+/// Puts the schema of the schema files together after an edit of the schema file of this name, which
+/// changed types of these names alone. What the edit did not change is shared with the schema before
+/// it.
 pub fn side_after_edit(
     alloc: Global,
     files: &Files,
     before: &SchemaSide,
+    name: &FileName,
     edited: &Named<Text>,
 ) -> Result<SchemaSide, AllocError>
-    requires { IsSideBefore edited.now files.now before.now }
+    requires { IsSideBefore edited.now name.now files.now before.now }
     ensures { IfOk result (IsSideOf files.now) }
 {
     let schema = assemble_after_edit(alloc, files, &before.schema, edited)?;
     let facts = SchemaFacts::after_edit(alloc, &schema, &before.facts, edited)?;
-    let side = side_of(alloc, files, schema, facts)?;
+    let kept = faults_after_edit(alloc, files, &schema, before, name, edited)?;
+    let side = side_of(alloc, files, schema, facts, kept)?;
     Ok(side)
 }
 

@@ -146,15 +146,13 @@ fn compare_rests<'v>(frame: PairFrame<'v>) -> PairStep<'v>
     }
 }
 
-/// Whether two values are the same, numbers as integers. It gives up after 2^64 - 1 steps, which no
-/// run reaches.
-pub fn is_same(alloc: Global, value: &Value, other: &Value) -> Result<bool, AllocError>
-    ensures { IfOk result (λ same. same ≡ spec.same_data (view value.now) (view other.now)) }
+/// Whether these lists or objects are the same. It gives up after 2^64 - 1 steps, which no run
+/// reaches.
+#[inline(never)]
+fn are_same_rests(alloc: Global, frame: PairFrame<'_>) -> Result<bool, AllocError>
+    ensures { IfOk result (λ same. same ≡ same_rests frame.entry) }
 {
-    let mut step = match compare(value, other) {
-        Compared::Done(same) => return Ok(same),
-        Compared::Inner(frame) => compare_rests(frame),
-    };
+    let mut step = compare_rests(frame);
     let mut stack = Vec::new(alloc);
     'steps: for _ in 0..u64::MAX {
         step = match step {
@@ -170,4 +168,29 @@ pub fn is_same(alloc: Global, value: &Value, other: &Value) -> Result<bool, Allo
         };
     }
     Err(AllocError)
+}
+
+/// Whether two values of which one is a list or an object are the same.
+#[inline(never)]
+fn are_same_parts(alloc: Global, value: &Value, other: &Value) -> Result<bool, AllocError>
+    ensures { IfOk result (λ same. same ≡ spec.same_data (view value.now) (view other.now)) }
+{
+    match compare(value, other) {
+        Compared::Done(same) => Ok(same),
+        Compared::Inner(frame) => are_same_rests(alloc, frame),
+    }
+}
+
+/// Whether two values are the same, numbers as integers. Texts are compared here: most values are
+/// texts, and what compares lists and objects clears some KB of its stack at each call.
+pub fn is_same(alloc: Global, value: &Value, other: &Value) -> Result<bool, AllocError>
+    ensures { IfOk result (λ same. same ≡ spec.same_data (view value.now) (view other.now)) }
+{
+    if let Value::String(text) = value {
+        return Ok(match other.as_str() {
+            Some(other) => text.as_str() == other,
+            None => false,
+        });
+    }
+    are_same_parts(alloc, value, other)
 }

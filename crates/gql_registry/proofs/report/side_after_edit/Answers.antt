@@ -7,7 +7,13 @@ use Rattle.gql_registry.proofs.Mapped.{ok_of_error}
 use Rattle.gql_registry.proofs.report.side_after_edit.Goals as goal
 
 pub assemble_after_edit-requires : goal.assemble_after_edit-requires
-assemble_after_edit-requires c = subst (λ s. KeepsOthers c.args.edited.now s (schema_of c.args.files.now)) (sym c.requires.1.schema) c.requires.2
+assemble_after_edit-requires c = subst (λ s. KeepsOthers c.args.edited.now s (schema_of c.args.files.now)) (sym c.requires.side_of.schema) c.requires.keeps
+
+pub faults_after_edit-requires-clause-schema : goal.faults_after_edit-requires-clause-schema
+faults_after_edit-requires-clause-schema c = c.in_ok-schema.ensures
+
+pub faults_after_edit-requires-clause-before : goal.faults_after_edit-requires-clause-before
+faults_after_edit-requires-clause-before c = c.requires
 
 pub side_of-requires : goal.side_of-requires
 side_of-requires c = c.in_ok-schema.ensures
@@ -18,11 +24,15 @@ returns-in_err-schema c = search rules
 pub returns-in_err-facts : goal.returns-in_err-facts
 returns-in_err-facts c = search rules
 
+pub returns-in_err-kept : goal.returns-in_err-kept
+returns-in_err-kept c = search rules
+
 pub returns-in_err-side : goal.returns-in_err-side
 returns-in_err-side c = ok_of_error c.from_residual-in_err-side.result (IsSideOf c.args.files.now) _ c.from_residual-in_err-side.ensures.1
 
 pub returns : goal.returns
 returns c = c.in_ok-side.ensures
-    (c.in_ok-facts.ensures (schema_of c.requires.0) c.requires.1.facts
-    (subst (KeepsOthers c.args.edited.now (schema_of c.requires.0)) (sym c.in_ok-schema.ensures) c.requires.2)
+    (c.in_ok-facts.ensures (schema_of c.requires.before) c.requires.side_of.facts
+    (subst (KeepsOthers c.args.edited.now (schema_of c.requires.before)) (sym c.in_ok-schema.ensures) c.requires.keeps)
     ∙ ap tables_of c.in_ok-schema.ensures)
+    c.in_ok-kept.ensures
