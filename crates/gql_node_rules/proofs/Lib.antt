@@ -1,5 +1,9 @@
-pub mod Few
-pub mod Found
-pub mod Listed
-pub mod Looked
-pub mod Same
+mod ByFile
+mod Changes
+mod Few
+mod Found
+mod Kept
+mod Listed
+mod Looked
+mod Same
+mod Sets

@@ -1,6 +1,6 @@
 -- Helper definitions for private contracts: what is found on applied directives, by their
 -- definitions.
-use Rattle.std.specs.Prelude.{◌≡◌, ◌++◌, ◌||◌, ℕ, List, [], Bool, false, bytes_eq, map, flat_map}
+use Rattle.std.specs.Prelude.{◌≡◌, ◌⊎◌, ◌++◌, ◌||◌, ℕ, List, [], Bool, true, false, bytes_eq, flat_map}
 use Rattle.std.specs.HashSet.{contains}
 use Rattle.std.specs.List.{list_any}
 use Rattle.gql_ast.specs.declared.fault.Fault.{Fault}
@@ -11,6 +11,7 @@ use Rattle.gql_node_rules.specs.S30BadLocations as s30
 use Rattle.gql_node_rules.specs.S31RepeatedDirectives as s31
 use Rattle.gql_node_rules.specs.S32BadArguments as s32
 use Rattle.gql_node_rules.specs.S33BadArgumentValues as s33
+use Rattle.gql_node_rules.specs.SchemaChanges.{is_among}
 use Rattle.gql_node_rules.specs.ValueTypes.{is_input_object, types_by}
 use Rattle.gql_node_rules.specs.declared.directive_use.DirectiveUse.{DirectiveUse}
 
@@ -41,3 +42,9 @@ is_name_of references q = list_any (λ (r : TypeReference). bytes_eq q r.name.no
 abbrev pub is_referred : Roles → List ℕ → Bool
 is_referred r q = is_name_of r.inputs q || (is_name_of r.outputs q || (is_name_of r.interfaces q
     || (is_name_of r.members q || is_name_of r.roots q)))
+
+-- values fit their types after a change as before: no input type changed, or those of the values
+-- did not, and none of them is an input object
+abbrev pub FitsAsBefore : List (List ℕ) → DirectiveUse → Type 0
+FitsAsBefore changed u = (changed ≡ []) ⊎ ((u.has_input_objects ≡ false)
+    × ((q : List ℕ) → contains bytes_eq u.values q ≡ true → is_among changed q ≡ false))

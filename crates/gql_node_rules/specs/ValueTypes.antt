@@ -1,17 +1,15 @@
 -- The types of the values that applied directives give (GraphQL 2.12, 3.13): those of the arguments
 -- that their definitions have.
-use Rattle.std.specs.Prelude.{ℕ, List, [], ◌∷◌, Bool, false, Option, flat_map}
+use Rattle.std.specs.Prelude.{ℕ, List, [], ◌∷◌, Bool, true, false, Option, Some, None, flat_map}
 use Rattle.std.specs.Option.{option_map_or}
 use Rattle.gql_ast.specs.declared.literal.Argument.{Argument}
 use Rattle.gql_ast.specs.declared.type_system.DirectiveDefinition.{DirectiveDefinition}
 use Rattle.gql_ast.specs.declared.type_system.InputValueDefinition.{InputValueDefinition}
 use Rattle.gql_built_in.specs.declared.sited.Sited.{Sited}
 use Rattle.gql_inputs.specs.InputTypes.{name_in}
-use Rattle.gql_types.specs.Kinds.{same_kind}
-use Rattle.gql_types.specs.Schemas.{directive_named, kind_named}
+use Rattle.gql_inputs.specs.Lookups.{InputForm, scalar, enumeration, input_object, in_schema}
+use Rattle.gql_types.specs.Schemas.{directive_named}
 use Rattle.gql_types.specs.Written.{written}
-use Rattle.gql_types.specs.declared.kind.TypeKind.{TypeKind}
-use Rattle.gql_types.specs.declared.kind.TypeKind.TheVariants as kind
 use Rattle.gql_types.specs.declared.schema.Schema.{Schema}
 use Rattle.gql_node_rules.specs.Applied.{Application, applied, name_of}
 use Rattle.gql_node_rules.specs.Nodes.{AllNodes}
@@ -36,11 +34,13 @@ types_of_applied s a = types_by (directive_named s (name_of a)) a
 abbrev pub value_types : AllNodes → Schema → List (List ℕ)
 value_types n s = flat_map (types_of_applied s) (applied n)
 
--- whether a kind is known and that of input objects
-abbrev pub is_object_kind : Option TypeKind → Bool
-is_object_kind known =
-    option_map_or (λ (k : TypeKind). same_kind k kind.InputObject) known false
+-- whether an input type is an input object (3.10)
+abbrev pub is_object_form : Option InputForm → Bool
+is_object_form None = false
+is_object_form (Some (scalar s)) = false
+is_object_form (Some (enumeration values)) = false
+is_object_form (Some (input_object fields)) = true
 
--- whether the type of this name is an input object (3.10)
+-- whether the type of this name is an input object
 abbrev pub is_input_object : Schema → List ℕ → Bool
-is_input_object s name = is_object_kind (kind_named s name)
+is_input_object s name = is_object_form (in_schema s name)

@@ -79,12 +79,22 @@ fn set_of(alloc: Global, names: &[&Text]) -> Result<HashSet<Text>, AllocError>
     Ok(set)
 }
 
+/// Whether the type of that name is an input object.
+fn is_input_object(schema: &Schema, name: &str) -> bool
+    ensures { result ≡ spec.is_input_object schema.now name.now }
+{
+    match schema.kind(name) {
+        Some(kind) => kind.is(TypeKind::InputObject),
+        None => false,
+    }
+}
+
 /// Whether one of these names is that of an input object.
 fn has_input_object(schema: &Schema, names: &[&Text]) -> bool
     ensures { result ≡ list_any (spec.is_input_object schema.now) (map (λ n. n.now) names.now) }
 {
     for name in names {
-        if schema.kind(name.as_str()) == Some(TypeKind::InputObject) {
+        if is_input_object(schema, name.as_str()) {
             return true;
         }
     }

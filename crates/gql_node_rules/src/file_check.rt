@@ -1,9 +1,10 @@
 //! What the rules on nodes found in one schema file, kept over edits of other files.
-ghost use Rattle.std.specs.Prelude.{◌≡◌, ◌⊎◌, ℕ, List, [], true, false, IfOk, IsTrue, bytes_eq};
+ghost use Rattle.std.specs.Prelude.{◌≡◌, ℕ, List, [], true, false, IfOk, IsTrue, bytes_eq};
 ghost use Rattle.std.specs.HashSet.{contains};
 ghost use Rattle.gql_ast.specs.declared.definition.Document.{Document as TheDocument};
 ghost use Rattle.gql_types.specs.declared.schema.Schema.{Schema as TheSchema};
 ghost use Rattle.gql_node_rules.specs.Borrowed.{lists};
+ghost use Rattle.gql_node_rules.specs.DirectiveUses.{FitsAsBefore};
 ghost use Rattle.gql_node_rules.specs.FileChecks as spec;
 ghost use Rattle.gql_node_rules.specs.SchemaChanges.{IsChange, is_among};
 
@@ -93,8 +94,7 @@ impl FileCheck {
 
     /// Whether the values that the file's directives give fit their types as before.
     fn has_same_inputs(&self, change: &SchemaChange) -> bool
-        ensures { IsTrue result → (change.now.inputs ≡ []) ⊎ ((self.now.directives.has_input_objects ≡ false)
-            × ((q : List ℕ) → contains bytes_eq self.now.directives.values q ≡ true → is_among change.now.inputs q ≡ false)) }
+        ensures { IsTrue result → FitsAsBefore change.now.inputs self.now.directives }
     {
         change.inputs.as_slice().is_empty()
             || (!self.directives.has_input_objects
