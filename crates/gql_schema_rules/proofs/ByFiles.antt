@@ -1,5 +1,5 @@
 -- All faults, from the checks of files and the other faults.
-use Rattle.std.proofs.Common.{◌≡◌, ◌↔◌, ◌⊎◌, inl, inr, ℕ, List, [], ◌∷◌, ◌++◌, flat_map, Contains, refl, sym, subst, ap₂, ◌∙◌}
+use Rattle.std.proofs.Common.{◌≡◌, ◌↔◌, ◌⊎◌, inl, inr, ℕ, List, [], ◌∷◌, ◌++◌, flat_map, Contains, refl, sym, subst, ap₂}
 use Rattle.gql_ast.specs.declared.definition.Document.{Document}
 use Rattle.gql_ast.specs.declared.fault.Fault.{Fault}
 use Rattle.gql_ast.specs.declared.files.Files.{Files}
@@ -38,9 +38,9 @@ by_checks : (s : Schema) (files : Files) (checks : List (List ℕ × FileCheck))
 by_checks s files checks f law are =
     let same : faults_in checks ≡ flat_map (own_faults s) files.schema = checked s files.schema checks are in
     let found : Contains (faults_in checks) f → IsFileFault files.schema s f = λ h.
-        Contains-flat_map_from (own_faults s) files.schema f (subst (λ xs. Contains xs f) same h) in
+    Contains-flat_map_from (own_faults s) files.schema f (subst (λ xs. Contains xs f) same h) in
     let has : IsFileFault files.schema s f → Contains (faults_in checks) f = λ h.
-        subst (λ xs. Contains xs f) (sym same) (Contains-flat_map (own_faults s) files.schema h.0 f h.1 h.2) in
+    subst (λ xs. Contains xs f) (sym same) (Contains-flat_map (own_faults s) files.schema h.0 f h.1 h.2) in
     let both = law files.schema s f in (
       λ h. elim (both.0 h) [ inl own ↦ inl (has own) | inr joint ↦ inr joint ],
       λ h. elim h [ inl own ↦ both.1 (inl (found own)) | inr joint ↦ both.1 (inr joint) ],
@@ -51,7 +51,7 @@ pub all_by_files : (files : Files) (s : Schema) (checks : List (List ℕ × File
 all_by_files files s checks others all law are joined checked f =
     let n = nodes_in files in
     let whole : all ≡ faults_in checks ++ ((((are.interfaces ++ joint_faults n s) ++ definition_faults n s) ++ type_faults s) ++ root_faults n s) =
-        subst (λ os. all ≡ faults_in checks ++ os) are.joined joined in
+    subst (λ os. all ≡ faults_in checks ++ os) are.joined joined in
     let same = regrouped f (faults_in checks) are.interfaces (joint_faults n s) (node_faults n s) (definition_faults n s) (type_faults s) (root_faults n s) (by_checks s files checks f law checked) in
     let all_rules = together files s are.interfaces ((((are.interfaces ++ node_faults n s) ++ definition_faults n s) ++ type_faults s) ++ root_faults n s) are.sound are.complete refl f in (
       λ h. all_rules.0 (same.0 (subst (λ xs. Contains xs f) whole h)),

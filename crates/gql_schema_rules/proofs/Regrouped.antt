@@ -4,17 +4,17 @@ use Rattle.std.proofs.lemmas.List.Elements.{Contains-append_left, Contains-appen
 
 module _ {X : Type 0} (x : X) where
   -- what is in a first part stays in a larger one
-  grown : (as bs cs : List X) → (Contains as x → Contains bs x) → Contains (as ++ cs) x → Contains (bs ++ cs) x
-  grown as bs cs g h = elim (Contains-append_cases as cs x h) [
-    | inl a ↦ Contains-append_left bs cs x (g a)
-    | inr c ↦ Contains-append_right bs cs x c
+  grown : (xs ys zs : List X) → (Contains xs x → Contains ys x) → Contains (xs ++ zs) x → Contains (ys ++ zs) x
+  grown xs ys zs g h = elim (Contains-append_cases xs zs x h) [
+    | inl a ↦ Contains-append_left ys zs x (g a)
+    | inr c ↦ Contains-append_right ys zs x c
   ]
 
   -- the same, if it may be elsewhere
-  apart : (fs as bs cs : List X) → (Contains as x → Contains fs x ⊎ Contains bs x) → Contains (as ++ cs) x → Contains fs x ⊎ Contains (bs ++ cs) x
-  apart fs as bs cs g h = elim (Contains-append_cases as cs x h) [
-    | inl a ↦ elim (g a) [ inl f ↦ inl f | inr b ↦ inr (Contains-append_left bs cs x b) ]
-    | inr c ↦ inr (Contains-append_right bs cs x c)
+  apart : (fs xs ys zs : List X) → (Contains xs x → Contains fs x ⊎ Contains ys x) → Contains (xs ++ zs) x → Contains fs x ⊎ Contains (ys ++ zs) x
+  apart fs xs ys zs g h = elim (Contains-append_cases xs zs x h) [
+    | inl a ↦ elim (g a) [ inl f ↦ inl f | inr b ↦ inr (Contains-append_left ys zs x b) ]
+    | inr c ↦ inr (Contains-append_right ys zs x c)
   ]
 
   -- one part is in the two others
@@ -35,13 +35,13 @@ module _ {X : Type 0} (x : X) where
           ]))) o
     ],
     λ h. elim (apart fs (((is ++ ns) ++ ds) ++ ts) (((is ++ js) ++ ds) ++ ts) rs
-          (apart fs ((is ++ ns) ++ ds) ((is ++ js) ++ ds) ts
-          (apart fs (is ++ ns) (is ++ js) ds
-          (λ a. elim (Contains-append_cases is ns x a) [
-            | inl i ↦ inr (Contains-append_left is js x i)
-            | inr n ↦ elim (law.0 n) [ inl f ↦ inl f | inr j ↦ inr (Contains-append_right is js x j) ]
-          ]))) h) [
-      | inl f ↦ Contains-append_left fs ((((is ++ js) ++ ds) ++ ts) ++ rs) x f
-      | inr o ↦ Contains-append_right fs ((((is ++ js) ++ ds) ++ ts) ++ rs) x o
-    ],
+        (apart fs ((is ++ ns) ++ ds) ((is ++ js) ++ ds) ts
+        (apart fs (is ++ ns) (is ++ js) ds
+        (λ a. elim (Contains-append_cases is ns x a) [
+          | inl i ↦ inr (Contains-append_left is js x i)
+          | inr n ↦ elim (law.0 n) [ inl f ↦ inl f | inr j ↦ inr (Contains-append_right is js x j) ]
+        ]))) h) [
+          | inl f ↦ Contains-append_left fs ((((is ++ js) ++ ds) ++ ts) ++ rs) x f
+          | inr o ↦ Contains-append_right fs ((((is ++ js) ++ ds) ++ ts) ++ rs) x o
+        ],
   )

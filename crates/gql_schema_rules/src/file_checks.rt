@@ -30,12 +30,12 @@ pub fn checks_of(
 ) -> Result<FileMap<Shared<FileCheck>>, AllocError>
     ensures { IfOk result (λ checks. AreChecksOf schema.now files.now.schema checks) }
 {
-    let mut checks = FileMap::new(alloc);
+    let mut found = FileMap::new(alloc);
     for (name, document) in files.schema.entries().iter() {
         let check = new_check(alloc, document.get(), schema)?;
-        checks.put(name.copy(), check)?;
+        found.put(name.copy(), check)?;
     }
-    Ok(checks)
+    Ok(found)
 }
 
 /// The check of the file of this name before the edit, if it is that after the edit: the edit does

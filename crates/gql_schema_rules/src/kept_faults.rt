@@ -110,8 +110,11 @@ impl SchemaFaults {
         ensures { IfOk result (AreFaultsOf files.now) }
     {
         let checks = checks_of(alloc, files, schema)?;
-        let all = all_faults(alloc, files, schema, &checks)?;
-        Ok(SchemaFaults { checks, all })
+        let faults = all_faults(alloc, files, schema, &checks)?;
+        Ok(SchemaFaults {
+            checks,
+            all: faults,
+        })
     }
 
     /// All faults after an edit of the schema file of this name, by those before it. The files and

@@ -1,4 +1,4 @@
-use Rattle.std.proofs.Common.{◌≡◌, IfSome, ap, subst, sym}
+use Rattle.std.proofs.Common.{IfSome, ap, subst, sym}
 use Rattle.std.proofs.lemmas.Result.{MatchResult-weaker}
 use Rattle.std.specs.Option.{option_copied}
 use Rattle.gql_schema_rules.specs.KeptChecks.{IsCheckAfter, IsKept}

@@ -8,5 +8,5 @@ pub returns : goal.returns
 returns c =
     let files = c.args.files.now in record {
       checks = subst (λ s. AreChecksOf s files.schema c.in_ok-checks.checks) c.requires c.in_ok-checks.ensures;
-      all = subst (λ s. (f : Fault) → Contains c.in_ok-all.all.items f ↔ FaultsBy files s f) c.requires (c.in_ok-all.ensures c.in_ok-checks.ensures);
+      all = subst (λ s. (f : Fault) → Contains c.in_ok-faults.faults.items f ↔ FaultsBy files s f) c.requires (c.in_ok-faults.ensures c.in_ok-checks.ensures);
     }
