@@ -1,5 +1,5 @@
 -- What an edit leaves as it is.
-use Rattle.std.proofs.Common.{◌≡◌, ◌⊎◌, inl, inr, ℕ, List, [], ◌∷◌, Bool, true, false, Option, Some, None, filter, find, bytes_eq, refl, sym, ap, subst, ◌∙◌, suc, zero, arith, Contains, not, ◌||◌, rules, IsTrue, absurd}
+use Rattle.std.proofs.Common.{◌≡◌, ◌⊎◌, inl, inr, ℕ, List, [], ◌∷◌, Bool, true, false, Option, Some, None, filter, find, bytes_eq, refl, sym, ap, subst, ◌∙◌, suc, zero, arith, Contains, not, ◌||◌, rules}
 use Rattle.std.specs.Prelude.{is_some, option_map, option_and_then}
 use Rattle.std.specs.Option.{option_map_or}
 use denote.Enum.Bare.{same_true}
@@ -25,15 +25,15 @@ either false = inr refl
 
 -- a name that is among some, and not among those of them that pass, does not pass
 pub left_out : (p : List ℕ → Bool) (xs : List (List ℕ)) (q : List ℕ) → is_among xs q ≡ true → is_among (filter p xs) q ≡ false → p q ≡ false
-left_out p [] q there gone = cc
+left_out p [] q found gone = cc
 left_out p (x ∷ xs) q found gone = elim (either (bytes_eq q x)) [
   | inl is ↦ elim (either (p x)) [
-    | inl yes ↦ let no : true ≡ false = rw (yes, is) at gone in cc
-    | inr no ↦ ap p (same q x is) ∙ no
+    | inl passes ↦ let wrong : true ≡ false = rw (passes, is) at gone in cc
+    | inr fails ↦ ap p (same q x is) ∙ fails
   ]
   | inr other ↦ let rest : is_among xs q ≡ true = rw other at found in elim (either (p x)) [
-    | inl yes ↦ let left : is_among (filter p xs) q ≡ false = rw (yes, other) at gone in left_out p xs q rest left
-    | inr no ↦ let left : is_among (filter p xs) q ≡ false = rw no at gone in left_out p xs q rest left
+    | inl passes ↦ let left : is_among (filter p xs) q ≡ false = rw (passes, other) at gone in left_out p xs q rest left
+    | inr fails ↦ let left : is_among (filter p xs) q ≡ false = rw fails at gone in left_out p xs q rest left
   ]
 ]
 
@@ -77,7 +77,7 @@ known_is None (Some b) e = cc
 known_is (Some a) None e = cc
 known_is (Some a) (Some b) e = ap Some (same_is a b e)
 
-turned : (b : Bool) → not b ≡ false → b ≡ true
+pub turned : (b : Bool) → not b ≡ false → b ≡ true
 turned true e = refl
 turned false e = cc
 
