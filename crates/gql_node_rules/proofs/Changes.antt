@@ -15,6 +15,7 @@ use Rattle.gql_types.specs.declared.kind.TypeKind.TheVariants as kind
 use Rattle.gql_types.specs.declared.schema.Schema.{Schema}
 use Rattle.gql_types.specs.declared.schema_type.SchemaType.{SchemaType}
 use Rattle.gql_node_rules.specs.SchemaChanges.{has_other_kind, is_among, is_input_kind, is_input_type, same_known}
+use Rattle.gql_node_rules.specs.ValueTypes.{is_object_form}
 use Rattle.gql_node_rules.proofs.Sets.{itself, same}
 
 -- ---- searches
@@ -114,3 +115,25 @@ module _ (names : List (List ℕ)) (s t : Schema) (forth : KeepsOthers names s t
         no_form (type_named s q) no.0 ∙ sym (no_form (type_named t q) no.1)
     | inr other ↦ ap (option_and_then form_of) (kept names s t forth back q other)
   ]
+
+-- ---- input objects
+
+object_at : (t : SchemaType) (k : TypeKind) → same_kind k kind.InputObject ≡ is_object_form (form_at t k)
+unfolding same_kind
+object_at t kind.Scalar = refl
+object_at t kind.Object = refl
+object_at t kind.Interface = refl
+object_at t kind.Union = refl
+object_at t kind.Enum = refl
+object_at t kind.InputObject = refl
+
+-- a type is an input object if its kind says so
+pub object_kind : (o : Option SchemaType) (k : TypeKind) → option_map (λ (t : SchemaType). t.kind) o ≡ Some k
+    → same_kind k kind.InputObject ≡ is_object_form (option_and_then form_of o)
+object_kind None k e = cc
+object_kind (Some t) k e = let is : t.kind ≡ k = cc in
+    subst (λ x. same_kind x kind.InputObject ≡ is_object_form (form_at t t.kind)) is (object_at t t.kind)
+
+pub no_kind : (o : Option SchemaType) → option_map (λ (t : SchemaType). t.kind) o ≡ None → false ≡ is_object_form (option_and_then form_of o)
+no_kind None e = refl
+no_kind (Some t) e = cc

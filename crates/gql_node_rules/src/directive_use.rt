@@ -106,14 +106,11 @@ fn is_input_object(schema: &Schema, name: &str) -> bool
 
 /// Whether one of these names is that of an input object.
 fn has_input_object(schema: &Schema, names: &[&Text]) -> bool
-    ensures { result ≡ list_any (spec.is_input_object schema.now) (map (λ n. n.now) names.now) }
+    ensures { result ≡ list_any (λ n. spec.is_input_object schema.now n.now) names.now }
 {
-    for name in names {
-        if is_input_object(schema, name.as_str()) {
-            return true;
-        }
-    }
-    false
+    names
+        .iter()
+        .any(|name| is_input_object(schema, name.as_str()))
 }
 
 impl DirectiveUse {
