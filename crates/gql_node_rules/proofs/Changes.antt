@@ -1,7 +1,6 @@
 -- What an edit leaves as it is.
-use Rattle.std.proofs.Common.{◌≡◌, ◌⊎◌, inl, inr, ℕ, List, [], ◌∷◌, Bool, true, false, Option, Some, None, filter, find, bytes_eq, refl, sym, ap, subst, ◌∙◌, suc, zero, arith, Contains, not, ◌||◌, rules}
-use Rattle.std.specs.Prelude.{is_some, option_map, option_and_then}
-use Rattle.std.specs.Option.{option_map_or}
+use Rattle.std.proofs.Common.{◌≡◌, ◌⊎◌, inl, inr, ℕ, List, [], ◌∷◌, Bool, true, false, Option, Some, None, filter, find, bytes_eq, refl, sym, ap, subst, ◌∙◌, Contains, not, ◌||◌, rules}
+use Rattle.std.specs.Prelude.{option_map, option_and_then}
 use denote.Enum.Bare.{same_true}
 use Rattle.gql_inputs.specs.Lookups.{form_at, form_of, in_schema}
 use Rattle.gql_types.proofs.Members.{here, there}
@@ -16,7 +15,7 @@ use Rattle.gql_types.specs.declared.schema.Schema.{Schema}
 use Rattle.gql_types.specs.declared.schema_type.SchemaType.{SchemaType}
 use Rattle.gql_node_rules.specs.SchemaChanges.{has_other_kind, is_among, is_input_kind, is_input_type, same_known}
 use Rattle.gql_node_rules.specs.ValueTypes.{is_object_form}
-use Rattle.gql_node_rules.proofs.Sets.{itself, same}
+use Rattle.gql_node_rules.proofs.Sets.{same}
 
 -- ---- searches
 

@@ -1,5 +1,5 @@
 -- A check of a file is still that of the file if what it depends on has not changed.
-use Rattle.std.proofs.Common.{◌≡◌, ◌⊎◌, inl, inr, ℕ, List, [], ◌∷◌, ◌++◌, Bool, true, false, Option, Some, None, map, flat_map, length, bytes_eq, refl, sym, ap, subst, ◌∙◌, Contains, if◌then◌else◌}
+use Rattle.std.proofs.Common.{◌≡◌, ◌⊎◌, inl, inr, ℕ, List, [], ◌∷◌, ◌++◌, Bool, true, false, Option, Some, None, flat_map, length, bytes_eq, refl, sym, ap, subst, ◌∙◌, Contains, if◌then◌else◌}
 use Rattle.std.specs.Prelude.{◌&&◌, ◌||◌, is_some, option_map, nat_eq, nat_lt, find, not}
 use Rattle.std.specs.HashSet.{contains}
 use Rattle.std.specs.List.{list_any}
@@ -7,7 +7,6 @@ use Rattle.std.specs.Option.{option_map_or}
 use Rattle.std.proofs.lemmas.List.Elements.{Contains-append_left, Contains-append_right, Contains-append_cases}
 use Rattle.gql_ast.specs.declared.definition.Document.{Document}
 use Rattle.gql_ast.specs.declared.fault.Fault.{Fault}
-use Rattle.gql_ast.specs.declared.literal.Argument.{Argument}
 use Rattle.gql_ast.specs.declared.literal.Literal.{Literal}
 use Rattle.gql_ast.specs.declared.rule.Rule.TheVariants as rule
 use Rattle.gql_ast.specs.declared.text.Name.{Name}
@@ -34,8 +33,8 @@ use Rattle.gql_types.specs.declared.schema.Schema.{Schema}
 use Rattle.gql_types.specs.declared.schema_type.SchemaType.{SchemaType}
 use Rattle.gql_node_rules.specs.Applied.{Annotations, Application, annotated, applied, applied_at, name_of, place_of}
 use Rattle.gql_node_rules.specs.DirectiveUses.{FitsAsBefore}
-use Rattle.gql_node_rules.specs.FileChecks.{IsCheckOf, IsUseBy, appends}
-use Rattle.gql_node_rules.specs.FileFaults.{directive_faults, file_faults, nodes_of_file, repeated_alone}
+use Rattle.gql_node_rules.specs.FileChecks.{IsCheckOf, appends}
+use Rattle.gql_node_rules.specs.FileFaults.{directive_faults, nodes_of_file, repeated_alone}
 use Rattle.gql_node_rules.specs.NodeFaults as all
 use Rattle.gql_node_rules.specs.Nodes.{AllNodes}
 use Rattle.gql_node_rules.specs.P01FloatReferences as p01

@@ -1,5 +1,5 @@
 -- Sets of names.
-use Rattle.std.proofs.Common.{◌≡◌, ◌⊎◌, inl, inr, ◌||◌, ◌++◌, ◌∷◌, ◌+◌, ◌<◌, ℕ, List, [], Bool, true, false, cond, bytes_eq, map, take, length, get_or, refl, sym, ap, subst, ◌∙◌, arith, Contains}
+use Rattle.std.proofs.Common.{◌≡◌, ◌⊎◌, inl, inr, ◌||◌, ◌∷◌, ◌+◌, ◌<◌, ℕ, List, [], Bool, true, false, cond, bytes_eq, map, take, length, get_or, refl, sym, ap, subst, ◌∙◌, arith, Contains}
 use Rattle.std.specs.Prelude.{◌&&◌, ◌==◌, not}
 use Rattle.std.specs.HashSet.{contains}
 use Rattle.std.specs.List.{list_any}

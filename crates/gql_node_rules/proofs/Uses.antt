@@ -1,12 +1,11 @@
 -- What applied directives ask of the schema, by their definitions.
-use Rattle.std.proofs.Common.{◌≡◌, ◌∙◌, ◌++◌, ◌∷◌, List, [], Bool, true, false, map, flat_map, bytes_eq, refl, sym, ap, subst, arith, length, Contains}
+use Rattle.std.proofs.Common.{◌≡◌, ◌∙◌, ◌++◌, ◌∷◌, List, [], true, map, bytes_eq, refl, sym, subst, arith, length, Contains}
 use Rattle.std.specs.Prelude.{◌==◌}
-use Rattle.std.specs.HashSet.{contains}
 use Rattle.std.proofs.lemmas.Bool.Decides.{nat_tests}
 use Rattle.std.proofs.lemmas.List.{nil_from_length}
 use Rattle.std.proofs.lemmas.List.Folds.{flat_map-map}
 use Rattle.gql_types.specs.declared.schema.Schema.{Schema}
-use Rattle.gql_node_rules.specs.Applied.{Application, annotated, applied}
+use Rattle.gql_node_rules.specs.Applied.{annotated, applied}
 use Rattle.gql_node_rules.specs.DirectiveUses.{IsUseOf, faults_of_all, types_of_all}
 use Rattle.gql_node_rules.specs.FileChecks.{IsUseBy}
 use Rattle.gql_node_rules.specs.FileFaults.{directive_faults, repeated_alone}

@@ -1,4 +1,4 @@
-use Rattle.std.proofs.Common.{[], map, arith, sym}
+use Rattle.std.proofs.Common.{[], arith, sym}
 use Rattle.gql_node_rules.specs.Resolved.{Resolution, resolution}
 use Rattle.gql_node_rules.specs.ValueTypes.{types_by}
 use Rattle.gql_node_rules.proofs.Same.{flat_map_step}

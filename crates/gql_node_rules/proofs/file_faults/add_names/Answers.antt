@@ -1,8 +1,7 @@
-use Rattle.std.proofs.Common.{◌∙◌, ◌||◌, List, map, sym, ap, bytes_eq, arith}
+use Rattle.std.proofs.Common.{◌∙◌, ◌||◌, List, sym, ap, bytes_eq, arith}
 use Rattle.std.specs.HashSet.{contains}
 use Rattle.std.specs.List.{list_any}
 use Rattle.std.proofs.lemmas.List.{take_all}
-use Rattle.gql_node_rules.specs.DirectiveUses.{is_name_of}
 use Rattle.gql_node_rules.specs.Resolved.{TypeReference, reference}
 use Rattle.gql_node_rules.specs.declared.references.Reference.{Reference}
 use Rattle.gql_node_rules.proofs.Sets.{any_map, one_more}

@@ -1,5 +1,5 @@
 use Rattle.std.proofs.Common.{◌∙◌, ◌++◌, ap, map, flat_map, subst}
-use Rattle.gql_node_rules.specs.Applied.{applied, applied_at}
+use Rattle.gql_node_rules.specs.Applied.{applied_at}
 use Rattle.gql_node_rules.specs.Borrowed.{annotations, application, lists}
 use Rattle.gql_node_rules.specs.DirectiveUses.{IsUseOf, faults_of_all}
 use Rattle.gql_node_rules.specs.Resolved.{resolution, resolved_by}
