@@ -1,15 +1,13 @@
 -- The faults of nodes by file: a fault of the nodes of all files is one that a file has by itself,
 -- or one of types and the schema with their extensions.
-use Rattle.std.proofs.Common.{◌≡◌, ◌⊎◌, inl, inr, ℕ, List, [], ◌∷◌, ◌++◌, map, flat_map, subst, sym, Contains}
+use Rattle.std.proofs.Common.{◌⊎◌, inl, inr, ℕ, List, [], ◌∷◌, ◌++◌, map, flat_map, subst, sym, Contains}
 use Rattle.std.proofs.lemmas.Grind.{flat_map-append}
 use Rattle.std.proofs.lemmas.List.Elements.{Contains-append_left, Contains-append_right, Contains-append_cases}
 use Rattle.gql_ast.specs.declared.definition.Document.{Document}
 use Rattle.gql_ast.specs.declared.definition.Tree.{Tree}
 use Rattle.gql_ast.specs.declared.fault.Fault.{Fault}
-use Rattle.gql_ast.specs.declared.rule.Rule.TheVariants as rule
 use Rattle.gql_ast.specs.declared.text.Name.{Name}
 use Rattle.gql_ast.specs.declared.type_system.DirectiveDefinition.{DirectiveDefinition}
-use Rattle.gql_ast.specs.declared.type_system.DirectiveLocation.TheVariants as location
 use Rattle.gql_ast.specs.declared.type_system.EnumValueDefinition.{EnumValueDefinition}
 use Rattle.gql_ast.specs.declared.type_system.FieldDefinition.{FieldDefinition}
 use Rattle.gql_ast.specs.declared.type_system.InputValueDefinition.{InputValueDefinition}
@@ -21,7 +19,6 @@ use Rattle.gql_ast.specs.declared.type_system.TypeParts.{TypeParts}
 use Rattle.gql_built_in.specs.declared.sited.Sited.{Sited}
 use Rattle.gql_types.proofs.Members.{none, here, there, cases, Contains-to_map, Contains-from_map}
 use Rattle.gql_types.specs.Definitions.{in_order_of, of_files}
-use Rattle.gql_types.specs.Parts.{sited}
 use Rattle.gql_types.specs.declared.schema.Schema.{Schema}
 use Rattle.gql_node_rules.specs.Applied.{Annotations, Application, annotated, applied}
 use Rattle.gql_node_rules.specs.DefinedNames.{defined_names}
@@ -32,7 +29,6 @@ use Rattle.gql_node_rules.specs.Nodes.{AllNodes, nodes_of}
 use Rattle.gql_node_rules.specs.References as references
 use Rattle.gql_node_rules.specs.S29UnknownDirectives as s29
 use Rattle.gql_node_rules.specs.S30BadLocations as s30
-use Rattle.gql_node_rules.specs.S31RepeatedDirectives as s31
 use Rattle.gql_node_rules.specs.S32BadArguments as s32
 use Rattle.gql_node_rules.specs.S33BadArgumentValues as s33
 

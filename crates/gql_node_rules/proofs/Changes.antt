@@ -1,7 +1,6 @@
 -- What an edit leaves as it is.
-use Rattle.std.proofs.Common.{◌≡◌, ◌⊎◌, inl, inr, ℕ, List, [], ◌∷◌, Bool, true, false, Option, Some, None, filter, find, bytes_eq, refl, sym, ap, subst, ◌∙◌, suc, zero, arith, Contains, not, ◌||◌, rules, IsTrue, absurd}
-use Rattle.std.specs.Prelude.{is_some, option_map, option_and_then}
-use Rattle.std.specs.Option.{option_map_or}
+use Rattle.std.proofs.Common.{◌≡◌, ◌⊎◌, inl, inr, ℕ, List, [], ◌∷◌, Bool, true, false, Option, Some, None, filter, find, bytes_eq, refl, sym, ap, subst, ◌∙◌, Contains, not, ◌||◌, rules}
+use Rattle.std.specs.Prelude.{option_map, option_and_then}
 use denote.Enum.Bare.{same_true}
 use Rattle.gql_inputs.specs.Lookups.{form_at, form_of, in_schema}
 use Rattle.gql_types.proofs.Members.{here, there}
@@ -15,7 +14,8 @@ use Rattle.gql_types.specs.declared.kind.TypeKind.TheVariants as kind
 use Rattle.gql_types.specs.declared.schema.Schema.{Schema}
 use Rattle.gql_types.specs.declared.schema_type.SchemaType.{SchemaType}
 use Rattle.gql_node_rules.specs.SchemaChanges.{has_other_kind, is_among, is_input_kind, is_input_type, same_known}
-use Rattle.gql_node_rules.proofs.Sets.{itself, same}
+use Rattle.gql_node_rules.specs.ValueTypes.{is_object_form}
+use Rattle.gql_node_rules.proofs.Sets.{same}
 
 -- ---- searches
 
@@ -25,15 +25,15 @@ either false = inr refl
 
 -- a name that is among some, and not among those of them that pass, does not pass
 pub left_out : (p : List ℕ → Bool) (xs : List (List ℕ)) (q : List ℕ) → is_among xs q ≡ true → is_among (filter p xs) q ≡ false → p q ≡ false
-left_out p [] q there gone = cc
+left_out p [] q found gone = cc
 left_out p (x ∷ xs) q found gone = elim (either (bytes_eq q x)) [
   | inl is ↦ elim (either (p x)) [
-    | inl yes ↦ let no : true ≡ false = rw (yes, is) at gone in cc
-    | inr no ↦ ap p (same q x is) ∙ no
+    | inl passes ↦ let wrong : true ≡ false = rw (passes, is) at gone in cc
+    | inr fails ↦ ap p (same q x is) ∙ fails
   ]
   | inr other ↦ let rest : is_among xs q ≡ true = rw other at found in elim (either (p x)) [
-    | inl yes ↦ let left : is_among (filter p xs) q ≡ false = rw (yes, other) at gone in left_out p xs q rest left
-    | inr no ↦ let left : is_among (filter p xs) q ≡ false = rw no at gone in left_out p xs q rest left
+    | inl passes ↦ let left : is_among (filter p xs) q ≡ false = rw (passes, other) at gone in left_out p xs q rest left
+    | inr fails ↦ let left : is_among (filter p xs) q ≡ false = rw fails at gone in left_out p xs q rest left
   ]
 ]
 
@@ -77,7 +77,7 @@ known_is None (Some b) e = cc
 known_is (Some a) None e = cc
 known_is (Some a) (Some b) e = ap Some (same_is a b e)
 
-turned : (b : Bool) → not b ≡ false → b ≡ true
+pub turned : (b : Bool) → not b ≡ false → b ≡ true
 turned true e = refl
 turned false e = cc
 
@@ -114,3 +114,25 @@ module _ (names : List (List ℕ)) (s t : Schema) (forth : KeepsOthers names s t
         no_form (type_named s q) no.0 ∙ sym (no_form (type_named t q) no.1)
     | inr other ↦ ap (option_and_then form_of) (kept names s t forth back q other)
   ]
+
+-- ---- input objects
+
+object_at : (t : SchemaType) (k : TypeKind) → same_kind k kind.InputObject ≡ is_object_form (form_at t k)
+unfolding same_kind
+object_at t kind.Scalar = refl
+object_at t kind.Object = refl
+object_at t kind.Interface = refl
+object_at t kind.Union = refl
+object_at t kind.Enum = refl
+object_at t kind.InputObject = refl
+
+-- a type is an input object if its kind says so
+pub object_kind : (o : Option SchemaType) (k : TypeKind) → option_map (λ (t : SchemaType). t.kind) o ≡ Some k
+    → same_kind k kind.InputObject ≡ is_object_form (option_and_then form_of o)
+object_kind None k e = cc
+object_kind (Some t) k e = let is : t.kind ≡ k = cc in
+    subst (λ x. same_kind x kind.InputObject ≡ is_object_form (form_at t t.kind)) is (object_at t t.kind)
+
+pub no_kind : (o : Option SchemaType) → option_map (λ (t : SchemaType). t.kind) o ≡ None → false ≡ is_object_form (option_and_then form_of o)
+no_kind None e = refl
+no_kind (Some t) e = cc

@@ -1,12 +1,12 @@
 -- A check of a file is still that of the file if what it depends on has not changed.
-use Rattle.std.proofs.Common.{◌≡◌, ◌⊎◌, inl, inr, ℕ, List, [], ◌∷◌, ◌++◌, Bool, true, false, Option, Some, None, map, flat_map, length, bytes_eq, refl, sym, ap, subst, ◌∙◌, absurd, Contains, if◌then◌else◌}
-use Rattle.std.specs.Prelude.{◌&&◌, ◌||◌, is_some, option_map, nat_eq, nat_lt, find}
+use Rattle.std.proofs.Common.{◌≡◌, ◌⊎◌, inl, inr, ℕ, List, [], ◌∷◌, ◌++◌, Bool, true, false, Option, Some, None, flat_map, length, bytes_eq, refl, sym, ap, subst, ◌∙◌, Contains, if◌then◌else◌}
+use Rattle.std.specs.Prelude.{◌&&◌, ◌||◌, is_some, option_map, nat_eq, nat_lt, find, not}
 use Rattle.std.specs.HashSet.{contains}
+use Rattle.std.specs.List.{list_any}
 use Rattle.std.specs.Option.{option_map_or}
 use Rattle.std.proofs.lemmas.List.Elements.{Contains-append_left, Contains-append_right, Contains-append_cases}
 use Rattle.gql_ast.specs.declared.definition.Document.{Document}
 use Rattle.gql_ast.specs.declared.fault.Fault.{Fault}
-use Rattle.gql_ast.specs.declared.literal.Argument.{Argument}
 use Rattle.gql_ast.specs.declared.literal.Literal.{Literal}
 use Rattle.gql_ast.specs.declared.rule.Rule.TheVariants as rule
 use Rattle.gql_ast.specs.declared.text.Name.{Name}
@@ -33,8 +33,8 @@ use Rattle.gql_types.specs.declared.schema.Schema.{Schema}
 use Rattle.gql_types.specs.declared.schema_type.SchemaType.{SchemaType}
 use Rattle.gql_node_rules.specs.Applied.{Annotations, Application, annotated, applied, applied_at, name_of, place_of}
 use Rattle.gql_node_rules.specs.DirectiveUses.{FitsAsBefore}
-use Rattle.gql_node_rules.specs.FileChecks.{IsCheckOf, IsUseBy, appends}
-use Rattle.gql_node_rules.specs.FileFaults.{directive_faults, file_faults, nodes_of_file, repeated_alone}
+use Rattle.gql_node_rules.specs.FileChecks.{IsCheckOf, appends}
+use Rattle.gql_node_rules.specs.FileFaults.{directive_faults, nodes_of_file, repeated_alone}
 use Rattle.gql_node_rules.specs.NodeFaults as all
 use Rattle.gql_node_rules.specs.Nodes.{AllNodes}
 use Rattle.gql_node_rules.specs.P01FloatReferences as p01
@@ -56,6 +56,7 @@ use Rattle.gql_node_rules.specs.ValueTypes.{is_input_object, is_object_form, typ
 use Rattle.gql_node_rules.specs.declared.file_check.FileCheck.{FileCheck}
 use Rattle.gql_node_rules.specs.declared.schema_change.SchemaChange.{SchemaChange}
 use Rattle.gql_node_rules.proofs.ByFile.{to_flat_map}
+use Rattle.gql_node_rules.proofs.Sets.{apart, neither, no_if, one_false}
 
 -- ---- lists
 
@@ -124,9 +125,9 @@ module _ (n : AllNodes) (s t : Schema) (same : (x : Sited Name) → Contains (re
 only : (u : InputLookup) (w : Written) → is_object_form (u (name_in w)) ≡ false → (q : List ℕ) → LeadsTo u w q → q ≡ name_in w
 only u w flat q itself = refl
 only u w flat q (by_field {n = m} p e c) =
-    let yes : is_object_form (u m) ≡ true = ap is_object_form e in
-    let no : is_object_form (u m) ≡ false = subst (λ x. is_object_form (u x) ≡ false) (sym (only u w flat m p)) flat in
-    absurd (cc (sym yes ∙ no))
+    let object : is_object_form (u m) ≡ true = ap is_object_form e in
+    let other : is_object_form (u m) ≡ false = subst (λ x. is_object_form (u x) ≡ false) (sym (only u w flat m p)) flat in
+    absurd (cc (sym object ∙ other))
 
 agree_flat : (u v : InputLookup) (w : Written) → is_object_form (u (name_in w)) ≡ false → u (name_in w) ≡ v (name_in w) → Agree u v w
 agree_flat u v w flat same q p = subst (λ x. u x ≡ v x) (sym (only u w flat q p)) same
@@ -277,3 +278,18 @@ module _ (d : Document) (s t : Schema) (c : FileCheck) (change : SchemaChange) (
         };
         none_appends = is.none_appends;
       }
+
+  pub kept_if : (directives root types values first second any : Bool)
+      → directives ≡ (change.directives && c.directives.has_directives)
+      → root ≡ (change.mutation_root && c.has_appends)
+      → types ≡ list_any (contains bytes_eq c.types) change.kinds
+      → (values ≡ false → FitsAsBefore change.inputs c.directives)
+      → first ≡ (directives || root) → second ≡ (types || values) → any ≡ (first || second) → not any ≡ true → IsCheckOf t d c
+  kept_if directives root types values first second any is_directives is_root is_types fits is_first is_second is_any so =
+      let none = neither first second (sym is_any ∙ no_if any so) in
+      let left = neither directives root (sym is_first ∙ none.0) in
+      let right = neither types values (sym is_second ∙ none.1) in
+      kept (one_false change.directives c.directives.has_directives (sym is_directives ∙ left.0))
+      (one_false change.mutation_root c.has_appends (sym is_root ∙ left.1))
+      (apart (contains bytes_eq c.types) change.kinds (sym is_types ∙ right.0))
+      (fits right.1)

@@ -1,5 +1,6 @@
 mod ByFile
 mod Changes
+mod Checked
 mod Few
 mod Found
 mod Kept
@@ -7,3 +8,4 @@ mod Listed
 mod Looked
 mod Same
 mod Sets
+mod Uses

@@ -1,11 +1,13 @@
 //! What the directives that a schema file applies ask of the schema (GraphQL 2.12, 3.13).
-ghost use Rattle.std.specs.Prelude.{◌≡◌, ◌++◌, ℕ, List, IfOk, OnOk, map, bytes_eq};
+ghost use Rattle.std.specs.Prelude.{◌≡◌, ◌++◌, ℕ, List, Some, IfOk, OnOk, map, bytes_eq};
 ghost use Rattle.std.specs.HashSet.{contains};
 ghost use Rattle.std.specs.List.{list_any};
+ghost use Rattle.gql_node_rules.specs.Borrowed.{application};
 ghost use Rattle.gql_node_rules.specs.DirectiveUses.{IsUseOf, types_of_all};
 ghost use Rattle.gql_node_rules.specs.Resolved.{resolution};
 ghost use Rattle.gql_node_rules.specs.ValueTypes as spec;
 
+use crate::applied::Applied;
 use crate::resolved::Resolved;
 use crate::signature::Signature;
 use gql_ast::{Argument, Text};
@@ -39,6 +41,21 @@ fn add_given<'s>(
     Ok(())
 }
 
+/// Adds the names of the types of the values that a directive gives which is defined.
+fn add_known<'s>(
+    signature: &Signature<'s>,
+    applied: &Applied<'_>,
+    found: &mut Vec<&'s Text>,
+) -> Result<(), AllocError>
+    ensures { OnOk result (map (λ n. n.now) found.new.items ≡ map (λ n. n.now) found.old.items
+        ++ spec.types_by (Some signature.now.definition.now) (application applied.now)) }
+{
+    for argument in applied.directive.arguments.as_slice() {
+        add_given(signature, argument, found)?;
+    }
+    Ok(())
+}
+
 /// Adds the names of the types of the values that a directive gives.
 fn add_types<'s>(
     resolved: &Resolved<'_, 's, '_>,
@@ -47,12 +64,10 @@ fn add_types<'s>(
     ensures { OnOk result (map (λ n. n.now) found.new.items ≡ map (λ n. n.now) found.old.items
         ++ spec.types_by (resolution resolved.now).known (resolution resolved.now).application) }
 {
-    if let Some(signature) = resolved.signature {
-        for argument in resolved.applied.directive.arguments.as_slice() {
-            add_given(signature, argument, found)?;
-        }
+    match resolved.signature {
+        Some(signature) => add_known(signature, &resolved.applied, found),
+        None => Ok(()),
     }
-    Ok(())
 }
 
 /// The names of the types of the values that directives give.
@@ -91,14 +106,11 @@ fn is_input_object(schema: &Schema, name: &str) -> bool
 
 /// Whether one of these names is that of an input object.
 fn has_input_object(schema: &Schema, names: &[&Text]) -> bool
-    ensures { result ≡ list_any (spec.is_input_object schema.now) (map (λ n. n.now) names.now) }
+    ensures { result ≡ list_any (λ n. spec.is_input_object schema.now n.now) names.now }
 {
-    for name in names {
-        if is_input_object(schema, name.as_str()) {
-            return true;
-        }
-    }
-    false
+    names
+        .iter()
+        .any(|name| is_input_object(schema, name.as_str()))
 }
 
 impl DirectiveUse {
@@ -112,10 +124,11 @@ impl DirectiveUse {
     {
         let types = value_types(alloc, all)?;
         let values = set_of(alloc, types.as_slice())?;
+        let has_input_objects = has_input_object(schema, types.as_slice());
         Ok(DirectiveUse {
             has_directives: !all.is_empty(),
             values,
-            has_input_objects: has_input_object(schema, types.as_slice()),
+            has_input_objects,
         })
     }
 }

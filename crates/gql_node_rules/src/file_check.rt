@@ -1,12 +1,13 @@
 //! What the rules on nodes found in one schema file, kept over edits of other files.
-ghost use Rattle.std.specs.Prelude.{◌≡◌, ℕ, List, [], true, false, IfOk, IsTrue, bytes_eq};
+ghost use Rattle.std.specs.Prelude.{◌≡◌, ◌&&◌, ◌||◌, ℕ, List, [], false, IfOk, IsTrue, bytes_eq};
 ghost use Rattle.std.specs.HashSet.{contains};
+ghost use Rattle.std.specs.List.{list_any};
 ghost use Rattle.gql_ast.specs.declared.definition.Document.{Document as TheDocument};
 ghost use Rattle.gql_types.specs.declared.schema.Schema.{Schema as TheSchema};
 ghost use Rattle.gql_node_rules.specs.Borrowed.{lists};
 ghost use Rattle.gql_node_rules.specs.DirectiveUses.{FitsAsBefore};
 ghost use Rattle.gql_node_rules.specs.FileChecks as spec;
-ghost use Rattle.gql_node_rules.specs.SchemaChanges.{IsChange, is_among};
+ghost use Rattle.gql_node_rules.specs.SchemaChanges.{IsChange};
 
 use crate::directive_use::DirectiveUse;
 use crate::file_faults::{check_directives, check_references};
@@ -15,7 +16,7 @@ use crate::rules::{check_built_in_directives, check_names};
 use crate::s36_misplaced_appends::{check_definitions, check_extensions};
 use crate::schema_change::SchemaChange;
 use gql_ast::{Document, Fault, Shared, Text};
-use gql_types::{Named, Schema};
+use gql_types::Schema;
 use std::alloc::{AllocError, Global};
 use std::collections::HashSet;
 
@@ -49,20 +50,27 @@ fn has_appends(alloc: Global, nodes: &Nodes<'_>) -> Result<bool, AllocError>
     let mut faults = Vec::new(alloc);
     check_definitions(alloc, None, nodes.types.as_slice(), &mut faults)?;
     check_extensions(alloc, None, nodes.type_extensions.as_slice(), &mut faults)?;
-    Ok(!faults.is_empty())
+    let all = faults.as_slice();
+    Ok(!all.is_empty())
 }
 
-/// Whether none of these names is in the set.
-fn is_apart(names: &Named<Text>, set: &HashSet<Text>) -> bool
-    ensures { IsTrue result → (q : List ℕ)
-        → contains bytes_eq set.now q ≡ true → is_among names.now q ≡ false }
+fn are_both(first: bool, second: bool) -> bool
+    ensures { result ≡ (first && second) }
 {
-    for name in names.as_slice() {
-        if set.contains(name) {
-            return false;
-        }
-    }
-    true
+    first && second
+}
+
+fn is_either(first: bool, second: bool) -> bool
+    ensures { result ≡ (first || second) }
+{
+    first || second
+}
+
+/// Whether one of these names is in the set.
+fn has_one(names: &[Text], set: &HashSet<Text>) -> bool
+    ensures { result ≡ list_any (contains bytes_eq set.now) names.now }
+{
+    names.iter().any(|name| set.contains(name))
 }
 
 impl FileCheck {
@@ -77,8 +85,9 @@ impl FileCheck {
         let directives = check_directives(alloc, schema, &nodes, &mut faults)?;
         check_built_in_directives(alloc, schema, &nodes, &mut faults)?;
         let has_appends = has_appends(alloc, &nodes)?;
+        let faults = shared_faults(alloc, faults)?;
         Ok(FileCheck {
-            faults: shared_faults(alloc, faults)?,
+            faults,
             types,
             directives,
             has_appends,
@@ -92,13 +101,14 @@ impl FileCheck {
         self.faults.as_slice()
     }
 
-    /// Whether the values that the file's directives give fit their types as before.
-    fn has_same_inputs(&self, change: &SchemaChange) -> bool
-        ensures { IsTrue result → FitsAsBefore change.now.inputs self.now.directives }
+    /// Whether the values that the file's directives give may fit their types in another way.
+    fn has_other_inputs(&self, change: &SchemaChange) -> bool
+        ensures { result ≡ false → FitsAsBefore change.now.inputs self.now.directives }
     {
-        change.inputs.as_slice().is_empty()
-            || (!self.directives.has_input_objects
-                && is_apart(&change.inputs, &self.directives.values))
+        let inputs = change.inputs.as_slice();
+        let is_changed = has_one(inputs, &self.directives.values);
+        let may_differ = is_either(self.directives.has_input_objects, is_changed);
+        are_both(!inputs.is_empty(), may_differ)
     }
 
     /// Whether the check is still that of the file after this change of the schema.
@@ -107,9 +117,10 @@ impl FileCheck {
             → spec.IsCheckOf s d self.now → IsChange change.now s t
             → spec.IsCheckOf t d self.now }
     {
-        !(change.directives && self.directives.has_directives)
-            && !(change.mutation_root && self.has_appends)
-            && is_apart(&change.kinds, &self.types)
-            && self.has_same_inputs(change)
+        let directives = are_both(change.directives, self.directives.has_directives);
+        let appends = are_both(change.mutation_root, self.has_appends);
+        let types = has_one(change.kinds.as_slice(), &self.types);
+        let values = self.has_other_inputs(change);
+        !is_either(is_either(directives, appends), is_either(types, values))
     }
 }

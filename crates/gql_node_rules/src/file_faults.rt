@@ -57,17 +57,18 @@ pub fn check_references(
     nodes: &Nodes<'_>,
     faults: &mut Vec<Fault>,
 ) -> Result<HashSet<Text>, AllocError>
-    ensures faults { OnOk result (faults.new.items ≡ faults.old.items
+    ensures { IfOk result (λ names. (faults.new.items ≡ faults.old.items
         ++ (role_faults (lists nodes.now) schema.now
-        ++ reference_faults (lists nodes.now) schema.now)) }
-    ensures names { IfOk result (λ names. (q : List ℕ) → contains bytes_eq names q
-        ≡ is_referred (roles_of (lists nodes.now) schema.now) q) }
+        ++ reference_faults (lists nodes.now) schema.now))
+        × ((q : List ℕ) → contains bytes_eq names q
+        ≡ is_referred (roles_of (lists nodes.now) schema.now) q)) }
 {
     let references = all_references(alloc, schema, nodes)?;
     check_roles(alloc, &references, faults)?;
     check_known(alloc, &references, faults)?;
     check_floats(alloc, &references, faults)?;
-    names_of(alloc, &references)
+    let names = names_of(alloc, &references)?;
+    Ok(names)
 }
 
 /// Adds the faults of nodes, and of the directives on them, by S29 to S33. Each node is checked by
@@ -97,9 +98,9 @@ pub fn check_directives(
     nodes: &Nodes<'_>,
     faults: &mut Vec<Fault>,
 ) -> Result<DirectiveUse, AllocError>
-    ensures faults { OnOk result (faults.new.items ≡ faults.old.items
-        ++ spec.directive_faults (lists nodes.now) schema.now) }
-    ensures directives { IfOk result (IsUseBy schema.now (lists nodes.now)) }
+    ensures { IfOk result (λ directives. (faults.new.items ≡ faults.old.items
+        ++ spec.directive_faults (lists nodes.now) schema.now)
+        × IsUseBy schema.now (lists nodes.now) directives) }
 {
     let annotated = all_annotated(alloc, nodes)?;
     let applied = all_applied(alloc, annotated.as_slice())?;
@@ -112,7 +113,8 @@ pub fn check_directives(
         resolved.as_slice(),
         faults,
     )?;
-    DirectiveUse::of(alloc, schema, resolved.as_slice())
+    let directives = DirectiveUse::of(alloc, schema, resolved.as_slice())?;
+    Ok(directives)
 }
 
 /// The faults by S31 of types with their extensions, and of the schema with its own. A type without

@@ -1,12 +1,11 @@
 //! What an edit of a schema file changes in the schema, of what the rules on nodes ask.
-ghost use Rattle.std.specs.Prelude.{◌≡◌, ◌++◌, ◌∷◌, [], IfOk, OnOk, IsTrue, filter, option_map, if◌then◌else◌};
-ghost use Rattle.std.specs.Option.{option_copied};
+ghost use Rattle.std.specs.Prelude.{◌≡◌, ◌++◌, ◌∷◌, [], IfOk, OnOk, IsTrue, filter, if◌then◌else◌};
 ghost use Rattle.gql_types.specs.Edits.{KeepsOthers};
 ghost use Rattle.gql_node_rules.specs.SchemaChanges as spec;
 
 use crate::s36_misplaced_appends::mutation_root;
-use gql_ast::{Same, Text, same_items, same_option};
-use gql_types::{Named, Schema, SchemaType, TypeKind};
+use gql_ast::{DirectiveDefinition, Same, Shared, Text, same_option};
+use gql_types::{Named, Schema, SchemaType, Sited, TypeKind};
 use std::alloc::{AllocError, Global};
 
 /// What may differ between the schema before and after an edit: kinds of types, input types, the
@@ -82,15 +81,15 @@ fn other_kinds(
     before: &Schema,
     after: &Schema,
     names: &[Text],
-) -> Result<Named<Text>, AllocError>
-    ensures { IfOk result (λ found. found
+) -> Result<Vec<Text>, AllocError>
+    ensures { IfOk result (λ found. found.items
         ≡ filter (spec.has_other_kind before.now after.now) names.now) }
 {
     let mut found = Vec::new(alloc);
     for name in names {
         add_if_other_kind(before, after, name, &mut found)?;
     }
-    Named::new(alloc, found)
+    Ok(found)
 }
 
 /// Those of these names that are input types before or after the edit.
@@ -99,29 +98,39 @@ fn input_types(
     before: &Schema,
     after: &Schema,
     names: &[Text],
-) -> Result<Named<Text>, AllocError>
-    ensures { IfOk result (λ found. found
+) -> Result<Vec<Text>, AllocError>
+    ensures { IfOk result (λ found. found.items
         ≡ filter (spec.is_input_type before.now after.now) names.now) }
 {
     let mut found = Vec::new(alloc);
     for name in names {
         add_if_input(before, after, name, &mut found)?;
     }
-    Named::new(alloc, found)
+    Ok(found)
+}
+
+/// Whether two definitions of directives are the same, with the same places.
+fn is_same_directive(
+    directive: &Sited<Shared<DirectiveDefinition>>,
+    other: &Sited<Shared<DirectiveDefinition>>,
+) -> bool
+    ensures { IsTrue result → directive.now ≡ other.now }
+{
+    same_option(&directive.file, &other.file) && directive.node.same(&other.node)
 }
 
 /// Whether the directives of two schemas are the same, with the same places.
-fn has_same_directives(schema: &Schema, other: &Schema) -> bool
-    ensures { IsTrue result → schema.now.directives ≡ other.now.directives }
+fn has_same_directives(
+    directives: &[Sited<Shared<DirectiveDefinition>>],
+    others: &[Sited<Shared<DirectiveDefinition>>],
+) -> bool
+    ensures { IsTrue result → directives.now ≡ others.now }
 {
-    let directives = schema.directives();
-    let others = other.directives();
     if directives.len() != others.len() {
         return false;
     }
     for i in 0..directives.len() {
-        let is_same_file = same_option(&directives[i].file, &others[i].file);
-        if !(is_same_file && directives[i].node.same(&others[i].node)) {
+        if !is_same_directive(&directives[i], &others[i]) {
             return false;
         }
     }
@@ -166,10 +175,12 @@ impl SchemaChange {
             → KeepsOthers edited.now after.now before.now
             → spec.IsChange change before.now after.now) }
     {
+        let kinds = other_kinds(alloc, before, after, edited.as_slice())?;
+        let inputs = input_types(alloc, before, after, edited.as_slice())?;
         Ok(SchemaChange {
-            kinds: other_kinds(alloc, before, after, edited.as_slice())?,
-            inputs: input_types(alloc, before, after, edited.as_slice())?,
-            directives: !has_same_directives(before, after),
+            kinds: Named::new(alloc, kinds)?,
+            inputs: Named::new(alloc, inputs)?,
+            directives: !has_same_directives(before.directives(), after.directives()),
             mutation_root: !has_same_mutation_root(before, after),
         })
     }
