@@ -1,5 +1,11 @@
-pub mod Few
-pub mod Found
-pub mod Listed
-pub mod Looked
-pub mod Same
+mod ByFile
+mod Changes
+mod Checked
+mod Few
+mod Found
+mod Kept
+mod Listed
+mod Looked
+mod Same
+mod Sets
+mod Uses

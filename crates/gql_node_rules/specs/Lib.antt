@@ -1,6 +1,9 @@
 pub mod Applied
 pub mod Borrowed
 pub mod DefinedNames
+pub mod DirectiveUses
+pub mod FileChecks
+pub mod FileFaults
 pub mod NodeFaults
 pub mod Nodes
 pub mod P01FloatReferences
@@ -18,4 +21,6 @@ pub mod S32BadArguments
 pub mod S33BadArgumentValues
 pub mod S35DeprecatedRequiredInputs
 pub mod S36MisplacedAppends
+pub mod SchemaChanges
 pub mod ValueFaults
+pub mod ValueTypes

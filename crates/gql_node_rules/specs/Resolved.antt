@@ -1,5 +1,5 @@
 -- Helper definitions for private contracts: what is looked up once for several rules.
-use Rattle.std.specs.Prelude.{ℕ, List, [], ◌++◌, ◌||◌, Bool, Option, bytes_eq, find, is_some, map, flat_map, option_map, if◌then◌else◌}
+use Rattle.std.specs.Prelude.{List, [], ◌++◌, ◌||◌, Bool, Option, bytes_eq, find, is_some, map, flat_map, option_map, if◌then◌else◌}
 use Rattle.gql_ast.specs.declared.fault.Fault.{Fault}
 use Rattle.gql_ast.specs.declared.rule.Rule.{Rule}
 use Rattle.gql_ast.specs.declared.rule.Rule.TheVariants as rule

@@ -6,6 +6,10 @@
 
 mod applied;
 mod defined_names;
+mod directive_use;
+mod file_check;
+mod file_faults;
+pub mod laws;
 mod locations;
 mod node;
 mod nodes;
@@ -25,13 +29,17 @@ mod s32_bad_arguments;
 mod s33_bad_argument_values;
 mod s35_deprecated_required_inputs;
 mod s36_misplaced_appends;
+mod schema_change;
 mod signature;
 mod trees;
 mod value_faults;
 
 pub use defined_names::names_of;
+pub use file_check::FileCheck;
+pub use file_faults::joint_faults;
 pub use node::Node;
-pub use nodes::{Nodes, nodes_in};
+pub use nodes::{Nodes, definition_nodes, nodes_in};
 pub use p01_float_references::is_float;
 pub use rules::node_faults;
+pub use schema_change::SchemaChange;
 pub use value_faults::{ValuePlace, add_unless_fits};

@@ -4,12 +4,13 @@ ghost use Rattle.gql_types.specs.Definitions.{of_files};
 ghost use Rattle.gql_types.specs.Parts as parts_spec;
 ghost use Rattle.gql_types.specs.Parts.{sited};
 ghost use Rattle.gql_node_rules.specs.Borrowed.{one, lists};
+ghost use Rattle.gql_node_rules.specs.FileFaults.{definitions_alone, nodes_of_file};
 ghost use Rattle.gql_node_rules.specs.Nodes as spec;
 
 use crate::node::{Holds, Node, add_all};
-use crate::trees::trees;
+use crate::trees::{trees, trees_of};
 use gql_ast::{
-    DirectiveDefinition, EnumValueDefinition, FieldDefinition, FileName, Files,
+    DirectiveDefinition, Document, EnumValueDefinition, FieldDefinition, FileName, Files,
     InputValueDefinition, SchemaDefinition, SchemaExtension, Shared, Tree, TypeDefinition,
     TypeExtension, TypeParts,
 };
@@ -227,4 +228,33 @@ pub fn nodes_in(alloc: Global, files: &Files) -> Result<Nodes<'_>, AllocError>
 {
     let trees = trees(alloc, files)?;
     all_nodes(alloc, trees.as_slice())
+}
+
+/// The nodes of a schema file.
+pub fn nodes_of_file(alloc: Global, document: &Document) -> Result<Nodes<'_>, AllocError>
+    ensures { IfOk result (λ nodes. lists nodes ≡ nodes_of_file document.now) }
+{
+    let trees = trees_of(alloc, document)?;
+    all_nodes(alloc, trees.as_slice())
+}
+
+/// The definitions and extensions of all schema files, without their parts. No field is visited.
+pub fn definition_nodes(alloc: Global, files: &Files) -> Result<Nodes<'_>, AllocError>
+    ensures { IfOk result (λ nodes. lists nodes
+        ≡ definitions_alone (spec.nodes_of (of_files files.now.schema))) }
+{
+    let trees = trees(alloc, files)?;
+    let trees = trees.as_slice();
+    Ok(Nodes {
+        types: all_in(alloc, trees)?,
+        type_extensions: all_in(alloc, trees)?,
+        directives: all_in(alloc, trees)?,
+        schemas: all_in(alloc, trees)?,
+        schema_extensions: all_in(alloc, trees)?,
+        parts: Vec::new(alloc),
+        fields: Vec::new(alloc),
+        values: Vec::new(alloc),
+        input_fields: Vec::new(alloc),
+        arguments: Vec::new(alloc),
+    })
 }

@@ -21,7 +21,11 @@ use gql_types::Schema;
 use std::alloc::{AllocError, Global};
 
 /// S03.
-fn check_names(alloc: Global, nodes: &Nodes<'_>, faults: &mut Vec<Fault>) -> Result<(), AllocError>
+pub fn check_names(
+    alloc: Global,
+    nodes: &Nodes<'_>,
+    faults: &mut Vec<Fault>,
+) -> Result<(), AllocError>
     ensures { OnOk result (faults.new.items ≡ faults.old.items
         ++ spec.name_faults (lists nodes.now)) }
 {
@@ -31,7 +35,7 @@ fn check_names(alloc: Global, nodes: &Nodes<'_>, faults: &mut Vec<Fault>) -> Res
 }
 
 /// S16, S21 and S22.
-fn check_roles(
+pub fn check_roles(
     alloc: Global,
     references: &References<'_>,
     faults: &mut Vec<Fault>,
@@ -46,7 +50,7 @@ fn check_roles(
 }
 
 /// S20.
-fn check_known(
+pub fn check_known(
     alloc: Global,
     references: &References<'_>,
     faults: &mut Vec<Fault>,
@@ -63,7 +67,7 @@ fn check_known(
 }
 
 /// P01.
-fn check_floats(
+pub fn check_floats(
     alloc: Global,
     references: &References<'_>,
     faults: &mut Vec<Fault>,
@@ -120,7 +124,7 @@ fn check_directives(
 }
 
 /// S35 and S36.
-fn check_built_in_directives(
+pub fn check_built_in_directives(
     alloc: Global,
     schema: &Schema,
     nodes: &Nodes<'_>,

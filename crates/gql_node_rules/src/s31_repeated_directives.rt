@@ -133,7 +133,7 @@ fn check_node(
 }
 
 /// Adds the faults of nodes, each alone.
-fn check_nodes(
+pub fn check_nodes(
     alloc: Global,
     schema: &Schema,
     nodes: &[Annotated<'_>],
@@ -170,7 +170,11 @@ fn check_type(
 }
 
 /// Adds the faults of types, each with its extensions.
-fn check_types(alloc: Global, schema: &Schema, faults: &mut Vec<Fault>) -> Result<(), AllocError>
+pub fn check_types(
+    alloc: Global,
+    schema: &Schema,
+    faults: &mut Vec<Fault>,
+) -> Result<(), AllocError>
     ensures { OnOk result (faults.new.items
         ≡ faults.old.items ++ flat_map (spec.faults_of_type schema.now) schema.now.types) }
 {
@@ -181,7 +185,7 @@ fn check_types(alloc: Global, schema: &Schema, faults: &mut Vec<Fault>) -> Resul
 }
 
 /// Adds the faults of the schema with its extensions.
-fn check_schema(
+pub fn check_schema(
     alloc: Global,
     schema: &Schema,
     nodes: &Nodes<'_>,

@@ -22,7 +22,7 @@ use gql_types::{Schema, SchemaType, TypeKind};
 use std::alloc::{AllocError, Global};
 
 /// The mutation root type, if the schema has one and it is an object.
-fn mutation_root(schema: &Schema) -> Option<&SchemaType>
+pub fn mutation_root(schema: &Schema) -> Option<&SchemaType>
     ensures { option_copied result ≡ spec.mutation_root schema.now }
 {
     let root = schema.root(OperationKind::Mutation)?;
@@ -190,7 +190,7 @@ fn check_extension(
 }
 
 /// Adds the faults of definitions of types.
-fn check_definitions(
+pub fn check_definitions(
     alloc: Global,
     root: Option<&SchemaType>,
     definitions: &[Node<'_, TypeDefinition>],
@@ -207,7 +207,7 @@ fn check_definitions(
 }
 
 /// Adds the faults of extensions of types.
-fn check_extensions(
+pub fn check_extensions(
     alloc: Global,
     root: Option<&SchemaType>,
     extensions: &[Node<'_, TypeExtension>],

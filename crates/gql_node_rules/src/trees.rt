@@ -6,7 +6,7 @@ ghost use Rattle.gql_node_rules.specs.Nodes as spec;
 
 use crate::node::{Holds, Node};
 use gql_ast::{
-    Definition, DirectiveDefinition, Files, SchemaDefinition, SchemaExtension, Tree,
+    Definition, DirectiveDefinition, Document, Files, SchemaDefinition, SchemaExtension, Tree,
     TypeDefinition, TypeExtension,
 };
 use std::alloc::{AllocError, Global};
@@ -26,6 +26,15 @@ fn add_file<'t>(
         })?;
     }
     Ok(())
+}
+
+/// The definitions of a schema file.
+pub fn trees_of(alloc: Global, document: &Document) -> Result<Vec<Node<'_, Tree>>, AllocError>
+    ensures { IfOk result (λ found. map one found.items ≡ in_order_of document.now.definitions) }
+{
+    let mut found = Vec::new(alloc);
+    add_file(document.definitions.as_slice(), &mut found)?;
+    Ok(found)
 }
 
 /// The definitions of the schema files.

@@ -1,5 +1,9 @@
+pub mod ByFiles
 pub mod Distinct
 pub mod Earlier
+pub mod FirstChecks
 pub mod Grouping
+pub mod KeptChecks
+pub mod Regrouped
 pub mod SeenKinds
 pub mod Together

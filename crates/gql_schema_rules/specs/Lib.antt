@@ -1,6 +1,10 @@
+pub mod ChecksOfFiles
 pub mod EarlierRoots
+pub mod KeptChecks
+pub mod KeptFaults
 pub mod KindsSeen
 pub mod OperationKinds
+pub mod OtherFaults
 pub mod P02SubscriptionRoots
 pub mod RootGroups
 pub mod RuleGroups

@@ -5,6 +5,8 @@
 #![tactic(auto)]
 
 mod distinct_names;
+mod file_checks;
+mod kept_faults;
 mod operation_kinds;
 mod p02_subscription_roots;
 mod rules;
@@ -23,4 +25,5 @@ mod s27_extensions_of_unknown_types;
 mod s28_extensions_of_another_kind;
 mod s34_duplicate_schemas;
 
+pub use kept_faults::SchemaFaults;
 pub use rules::schema_faults;

@@ -19,7 +19,7 @@ use gql_types::Schema;
 use std::alloc::{AllocError, Global};
 
 /// S01, S02, S04, S27 and S28.
-fn add_definition_faults(
+pub fn add_definition_faults(
     alloc: Global,
     schema: &Schema,
     nodes: &Nodes<'_>,
@@ -37,7 +37,7 @@ fn add_definition_faults(
 }
 
 /// S05, S06, S07, S08 and S18.
-fn add_type_faults(
+pub fn add_type_faults(
     alloc: Global,
     schema: &Schema,
     faults: &mut Vec<Fault>,
@@ -53,7 +53,7 @@ fn add_type_faults(
 }
 
 /// S23, S24, S25, S34 and P02.
-fn add_root_faults(
+pub fn add_root_faults(
     alloc: Global,
     schema: &Schema,
     nodes: &Nodes<'_>,
@@ -71,7 +71,7 @@ fn add_root_faults(
 }
 
 /// Moves faults to the end of others.
-fn add_all(faults: &mut Vec<Fault>, more: Vec<Fault>) -> Result<(), AllocError>
+pub fn add_all(faults: &mut Vec<Fault>, more: Vec<Fault>) -> Result<(), AllocError>
     ensures { OnOk result (faults.new.items ≡ faults.old.items ++ more.items) }
 {
     for fault in more {

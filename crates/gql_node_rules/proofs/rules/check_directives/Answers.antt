@@ -1,8 +1,7 @@
 use Rattle.std.proofs.Common.{◌∙◌, ap, map, flat_map}
-use Rattle.std.proofs.lemmas.List.Folds.{flat_map-map}
 use Rattle.gql_node_rules.specs.Applied.{applied, applied_at}
 use Rattle.gql_node_rules.specs.Borrowed.{annotations, application, lists}
-use Rattle.gql_node_rules.specs.Resolved.{Resolution, resolution, resolved_by, undefined}
+use Rattle.gql_node_rules.specs.Resolved.{Resolution, resolved_by, undefined}
 use Rattle.gql_node_rules.specs.S30BadLocations as s30
 use Rattle.gql_node_rules.specs.S31RepeatedDirectives as s31
 use Rattle.gql_node_rules.specs.S32BadArguments as s32

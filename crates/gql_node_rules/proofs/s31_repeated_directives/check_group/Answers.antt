@@ -1,4 +1,4 @@
-use Rattle.std.proofs.Common.{◌≡◌, ◌++◌, ◌∙◌, ◌∷◌, List, [], arith, ap, sym, cond, nat_lt, map}
+use Rattle.std.proofs.Common.{◌++◌, ◌∙◌, [], arith, ap, sym, cond, nat_lt, map}
 use Rattle.gql_faults.specs.Names.{count_of}
 use Rattle.gql_faults.specs.Places.{named}
 use Rattle.gql_node_rules.specs.Applied.{name_of}
