@@ -1,0 +1,47 @@
+-- Lists that have the same elements.
+use Rattle.std.proofs.Common.{◌≡◌, ◌<◌, ◌+◌, ◌∷◌, ◌++◌, ◌∙◌, ◌↔◌, [], ℕ, List, Contains, ap, get_or, inl, inr, length, subst, sym, take}
+use Rattle.std.proofs.lemmas.List.{take_more}
+use Rattle.std.proofs.lemmas.List.Elements.{Contains-append_cases, Contains-append_left, Contains-append_right}
+use Rattle.gql_facts.specs.ListMembers.{Contains-cases, Contains-nil}
+
+-- the same elements
+abbrev pub AreSame : {X : Type 0} → List X → List X → Type 0
+AreSame {X} xs ys = (p : X) → Contains xs p ↔ Contains ys p
+
+module _ {X : Type 0} where
+  more : (ps : List X) (i : ℕ) (x : X) → i < length ps → x ≡ get_or ps i x → take (i + 1) ps ≡ take i ps ++ x ∷ []
+  more ps i x lt is = take_more ps i x lt ∙ ap (λ y. take i ps ++ y ∷ []) (sym is)
+
+  at_end : (xs ys : List X) (x : X) → AreSame xs ys → AreSame (xs ++ x ∷ []) (ys ++ x ∷ [])
+  at_end xs ys x s p = (
+    λ h. elim (Contains-append_cases xs (x ∷ []) p h) [
+      | inl a ↦ Contains-append_left ys (x ∷ []) p ((s p).0 a)
+      | inr b ↦ Contains-append_right ys (x ∷ []) p b
+    ],
+    λ h. elim (Contains-append_cases ys (x ∷ []) p h) [
+      | inl a ↦ Contains-append_left xs (x ∷ []) p ((s p).1 a)
+      | inr b ↦ Contains-append_right xs (x ∷ []) p b
+    ],
+  )
+
+  there : (xs ys : List X) (x : X) → AreSame xs ys → Contains xs x → AreSame xs (ys ++ x ∷ [])
+  there xs ys x s m p = (
+    λ h. Contains-append_left ys (x ∷ []) p ((s p).0 h),
+    λ h. elim (Contains-append_cases ys (x ∷ []) p h) [
+      | inl a ↦ (s p).1 a
+      | inr b ↦ elim (Contains-cases p x [] b) [
+        | inl e ↦ subst (λ y. Contains xs y) (sym e) m
+        | inr n ↦ absurd (Contains-nil p n)
+      ]
+    ],
+  )
+
+  -- an element that is added, and one that is there
+  pub pushed : (once once' ps : List X) (i : ℕ) (x : X) → i < length ps → x ≡ get_or ps i x
+      → AreSame once (take i ps) → once' ≡ once ++ x ∷ [] → AreSame once' (take (i + 1) ps)
+  pushed once once' ps i x lt is s e = subst (λ l. AreSame l (take (i + 1) ps)) (sym e)
+      (subst (λ l. AreSame (once ++ x ∷ []) l) (sym (more ps i x lt is)) (at_end once (take i ps) x s))
+
+  pub kept : (once ps : List X) (i : ℕ) (x : X) → i < length ps → x ≡ get_or ps i x
+      → AreSame once (take i ps) → Contains once x → AreSame once (take (i + 1) ps)
+  kept once ps i x lt is s m = subst (λ l. AreSame once l) (sym (more ps i x lt is)) (there once (take i ps) x s m)
