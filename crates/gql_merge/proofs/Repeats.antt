@@ -36,12 +36,15 @@ module _ {X : Type 0} where
     ],
   )
 
-  -- an element that is added, and one that is there
-  pub pushed : (once once' ps : List X) (i : ℕ) (x : X) → i < length ps → x ≡ get_or ps i x
-      → AreSame once (take i ps) → once' ≡ once ++ x ∷ [] → AreSame once' (take (i + 1) ps)
-  pushed once once' ps i x lt is s e = subst (λ l. AreSame l (take (i + 1) ps)) (sym e)
-      (subst (λ l. AreSame (once ++ x ∷ []) l) (sym (more ps i x lt is)) (at_end once (take i ps) x s))
+  -- an element that is there, and one that is added
+  pub is_there : (xs : List X) (x : X) → Contains xs x → AreSame xs (xs ++ x ∷ [])
+  is_there xs x m = there xs xs x (λ p. (λ h. h, λ h. h)) m
 
-  pub kept : (once ps : List X) (i : ℕ) (x : X) → i < length ps → x ≡ get_or ps i x
-      → AreSame once (take i ps) → Contains once x → AreSame once (take (i + 1) ps)
-  kept once ps i x lt is s m = subst (λ l. AreSame once l) (sym (more ps i x lt is)) (there once (take i ps) x s m)
+  pub is_added : (xs xs' : List X) (x : X) → xs' ≡ xs ++ x ∷ [] → AreSame xs' (xs ++ x ∷ [])
+  is_added xs xs' x e p = (subst (λ l. Contains l p) e, subst (λ l. Contains l p) (sym e))
+
+  -- one step of a walk over elements
+  pub next : (once once' ps : List X) (i : ℕ) (x : X) → i < length ps → x ≡ get_or ps i x
+      → AreSame once (take i ps) → AreSame once' (once ++ x ∷ []) → AreSame once' (take (i + 1) ps)
+  next once once' ps i x lt is s t = subst (λ l. AreSame once' l) (sym (more ps i x lt is))
+      (λ p. (λ h. (at_end once (take i ps) x s p).0 ((t p).0 h), λ h. (t p).1 ((at_end once (take i ps) x s p).1 h)))

@@ -1,5 +1,5 @@
 //! Pairs of fields, each once.
-ghost use Rattle.std.specs.Prelude.{◌≡◌, ◌↔◌, IfOk, IsTrue, Contains};
+ghost use Rattle.std.specs.Prelude.{◌≡◌, ◌↔◌, ◌++◌, ◌∷◌, [], IfOk, IsTrue, OnOk, Contains};
 ghost use Rattle.gql_clashes.specs.declared.sets.Pair.{Pair as APair};
 
 use gql_clashes::{Mode, Pair};
@@ -22,15 +22,25 @@ fn ends_with(pairs: &[Pair], pair: Pair) -> bool
     }
 }
 
+/// Adds a pair, unless it is the last already.
+fn add_once(pair: &Pair, once: &mut Vec<Pair>) -> Result<(), AllocError>
+    ensures { OnOk result ((p : APair)
+        → Contains once.new.items p ↔ Contains (once.old.items ++ pair.now ∷ []) p) }
+{
+    if ends_with(once.as_slice(), *pair) {
+        return Ok(());
+    }
+    once.push(*pair)?;
+    Ok(())
+}
+
 /// The pairs, without one that is the same as the one before it.
 fn without_repeats(alloc: Global, pairs: &[Pair]) -> Result<Vec<Pair>, AllocError>
     ensures { IfOk result (λ once. (p : APair) → Contains once.items p ↔ Contains pairs.now p) }
 {
     let mut once = Vec::new(alloc);
     for pair in pairs {
-        if !ends_with(once.as_slice(), *pair) {
-            once.push(*pair)?;
-        }
+        add_once(pair, &mut once)?;
     }
     Ok(once)
 }
