@@ -2,7 +2,13 @@
 use Rattle.std.proofs.Common.{◌≡◌, ◌<◌, ◌+◌, ◌∷◌, ◌++◌, ◌∙◌, ◌↔◌, [], ℕ, List, Contains, ap, get_or, inl, inr, length, subst, sym, take}
 use Rattle.std.proofs.lemmas.List.{take_more}
 use Rattle.std.proofs.lemmas.List.Elements.{Contains-append_cases, Contains-append_left, Contains-append_right}
+use Rattle.gql_clashes.specs.declared.sets.Mode.TheVariants.{Merge}
+use Rattle.gql_clashes.specs.declared.sets.Pair.{Pair}
 use Rattle.gql_facts.specs.ListMembers.{Contains-cases, Contains-nil}
+
+-- what stands where a list has no pair
+abbrev pub no_pair : Pair
+no_pair = record { first = 0; second = 0; mode = Merge }
 
 -- the same elements
 abbrev pub AreSame : {X : Type 0} → List X → List X → Type 0
