@@ -19,6 +19,7 @@ pub mod NamesRead
 pub mod NumberedFields
 pub mod Ordered
 pub mod Places
+pub mod Repeats
 pub mod Resolved
 pub mod SameParts
 pub mod SpreadParts

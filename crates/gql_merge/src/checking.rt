@@ -6,7 +6,7 @@ ghost use Rattle.gql_merge.specs.PairFaults.{faults_if, faults_of, pair_faults};
 
 use crate::flat::FlatField;
 use crate::{v05_different_calls, v06_different_shapes};
-use gql_ast::{Fault, FilePlace};
+use gql_ast::{Fault, FilePlace, Shared};
 use gql_clashes::{Mode, Pair};
 use std::alloc::{AllocError, Global};
 
@@ -17,7 +17,7 @@ fn check_fields(
     mode: Mode,
     first: &FlatField<'_>,
     second: &FlatField<'_>,
-    faults: &mut Vec<Fault>,
+    faults: &mut Vec<Shared<Fault>>,
 ) -> Result<(), AllocError>
     ensures { OnOk result (faults.new.items ≡ faults.old.items
         ++ faults_of owner.now mode (info_in first.now.known) (info_in second.now.known)) }
@@ -34,7 +34,7 @@ fn check_two(
     mode: Mode,
     first: Option<&FlatField<'_>>,
     second: Option<&FlatField<'_>>,
-    faults: &mut Vec<Fault>,
+    faults: &mut Vec<Shared<Fault>>,
 ) -> Result<(), AllocError>
     ensures { OnOk result (faults.new.items ≡ faults.old.items
         ++ faults_if owner.now mode (option_copied first.entry) (option_copied second.entry)) }
@@ -57,7 +57,7 @@ fn check_pair(
     owner: &FilePlace,
     all: &[FlatField<'_>],
     pair: Pair,
-    faults: &mut Vec<Fault>,
+    faults: &mut Vec<Shared<Fault>>,
 ) -> Result<(), AllocError>
     ensures { OnOk result (faults.new.items
         ≡ faults.old.items ++ pair_faults owner.now all.now pair) }
@@ -74,7 +74,7 @@ pub fn check_pairs(
     owner: &FilePlace,
     all: &[FlatField<'_>],
     pairs: &[Pair],
-) -> Result<Vec<Fault>, AllocError>
+) -> Result<Vec<Shared<Fault>>, AllocError>
     ensures { IfOk result (λ faults. faults.items
         ≡ flat_map (pair_faults owner.now all.now) pairs.now) }
 {

@@ -7,7 +7,7 @@ ghost use Rattle.gql_merge.specs.PairFaults as spec;
 
 use crate::columns::own_name;
 use crate::flat::FlatField;
-use gql_ast::{Fault, FilePlace, FileSide, Items, Rule};
+use gql_ast::{Fault, FilePlace, FileSide, Items, Rule, Shared};
 use std::alloc::{AllocError, Global};
 use std::cmp::Ordering;
 
@@ -35,35 +35,48 @@ pub fn place_of(field: &FlatField<'_>) -> FilePlace
     }
 }
 
+/// Two places, in a list that has room for no more.
+fn two_places(
+    alloc: Global,
+    first: FilePlace,
+    second: FilePlace,
+) -> Result<Items<FilePlace>, AllocError>
+    ensures { IfOk result (λ places. places ≡ first ∷ second ∷ []) }
+{
+    let mut places = Vec::with_capacity(alloc, 2)?;
+    places.push(first)?;
+    places.push(second)?;
+    Ok(Items::from_vec(places))
+}
+
 fn fault_of_pair(
     alloc: Global,
     owner: &FilePlace,
     rule: Rule,
     first: &FlatField<'_>,
     second: &FlatField<'_>,
-) -> Result<Fault, AllocError>
+) -> Result<Shared<Fault>, AllocError>
     ensures { IfOk result (λ f. f ≡ conflicts.fault_of_pair owner.now rule
         (info_in first.now.known) (info_in second.now.known)) }
 {
-    let mut places = Items::new(alloc);
-    places.push(place_of(first))?;
-    places.push(place_of(second))?;
-    Ok(Fault {
+    let fault = Fault {
         rule,
         about: own_name(first.known.field).text.copy()?,
-        places,
+        places: two_places(alloc, place_of(first), place_of(second))?,
         owner: Some(owner.copy()),
-    })
+    };
+    Shared::new(alloc, fault)
 }
 
-/// Adds the fault of two fields, in their order.
+/// Adds the fault of two fields, in their order. There may be many, so each is put at once where it
+/// can be shared.
 pub fn add_fault_of_pair(
     alloc: Global,
     owner: &FilePlace,
     rule: Rule,
     first: &FlatField<'_>,
     second: &FlatField<'_>,
-    faults: &mut Vec<Fault>,
+    faults: &mut Vec<Shared<Fault>>,
 ) -> Result<(), AllocError>
     ensures { OnOk result (faults.new.items ≡ faults.old.items
         ++ spec.ordered_fault owner.now rule (info_in first.now.known)

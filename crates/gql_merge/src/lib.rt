@@ -15,6 +15,7 @@ mod known;
 pub mod laws;
 mod merging;
 mod numbers;
+mod once;
 mod orders;
 mod own_fragment;
 mod parents;

@@ -10,7 +10,7 @@ use crate::flat::FlatSet;
 use crate::flatten::own_sets;
 use crate::own_fragment::{add_own, is_known_clean};
 use crate::searching::search;
-use gql_ast::{Definition, Fault};
+use gql_ast::{Definition, Fault, Shared};
 use gql_facts::{FragmentFact, World};
 use std::alloc::{AllocError, Global};
 
@@ -34,7 +34,7 @@ pub fn merge_faults<W: World>(
     world: &mut W,
     definition: &Definition,
     members: &[FragmentFact],
-) -> Result<Vec<Fault>, AllocError>
+) -> Result<Vec<Shared<Fault>>, AllocError>
     requires { Lists members.now (Reaches (W.facts world.old) definition.now) }
     ensures facts { W.facts world.new ≡ W.facts world.old }
     ensures names { W.names world.new ≡ W.names world.old }
@@ -56,7 +56,7 @@ pub fn merge_faults_with<W: World>(
     definition: &Definition,
     members: &[FragmentFact],
     clean: &mut CleanFragments,
-) -> Result<Vec<Fault>, AllocError>
+) -> Result<Vec<Shared<Fault>>, AllocError>
     requires members { Lists members.now (Reaches (W.facts world.old) definition.now) }
     requires clean { AreClean (W.facts world.old) clean.old }
     ensures facts { W.facts world.new ≡ W.facts world.old }

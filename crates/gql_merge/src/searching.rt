@@ -19,7 +19,8 @@ use crate::clean::CleanFragments;
 use crate::flat::FlatSet;
 use crate::flatten::add_members;
 use crate::numbers::numbered_sets;
-use gql_ast::{Definition, Fault};
+use crate::once::each_once;
+use gql_ast::{Definition, Fault, Shared};
 use gql_clashes::{Pair, Sets, clashes, clashes_over_clean, spread_bodies};
 use gql_facts::{FragmentFact, World};
 use gql_rules::owner_of;
@@ -30,7 +31,7 @@ use std::collections::HashMap;
 /// What a search has found: the faults of a definition, and whether its sets are clean.
 #[derive(Drop)]
 pub struct Found {
-    pub faults: Vec<Fault>,
+    pub faults: Vec<Shared<Fault>>,
     pub is_clean: bool,
 }
 
@@ -46,7 +47,7 @@ fn numbers_to(alloc: Global, count: usize) -> Result<Vec<usize>, AllocError>
 }
 
 /// The pairs of fields that clash in these sets. `known` says that what they spread is clean.
-fn own_clashes(
+fn found_clashes(
     alloc: Global,
     numbered: &Sets,
     seeds: &[usize],
@@ -64,6 +65,26 @@ fn own_clashes(
     } else {
         clashes(alloc, numbered, seeds)
     }
+}
+
+/// The pairs of fields that clash in these sets, each once. `known` says that what they spread is
+/// clean.
+fn own_clashes(
+    alloc: Global,
+    numbered: &Sets,
+    seeds: &[usize],
+    known: bool,
+) -> Result<Vec<Pair>, AllocError>
+    requires whole { IsWhole numbered.now }
+    requires bodies { (s : ℕ) → Contains seeds.now s → s < length numbered.now.bodies.items }
+    requires clean { known ≡ true → (s c : ℕ) → Contains seeds.now s
+        → Contains ((nodes_of numbered.now).spreads s) c → IsCleanBody numbered.now c }
+    ensures { IfOk result (λ pairs. Lists pairs.items
+        (IsClashPair numbered.now (SeedsOf (nodes_of numbered.now) seeds.now))) }
+{
+    let found = found_clashes(alloc, numbered, seeds, known)?;
+    let pairs = each_once(alloc, found)?;
+    Ok(pairs)
 }
 
 /// These numbers as a set.

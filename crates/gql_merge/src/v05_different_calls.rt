@@ -10,7 +10,7 @@ ghost use Rattle.gql_merge.specs.PairFaults as spec;
 use crate::faults::add_fault_of_pair;
 use crate::flat::FlatField;
 use crate::known::KnownField;
-use gql_ast::{Fault, FilePlace, Rule};
+use gql_ast::{Fault, FilePlace, Rule, Shared};
 use gql_clashes::Mode;
 use std::alloc::{AllocError, Global};
 
@@ -29,7 +29,7 @@ pub fn check(
     mode: Mode,
     first: &FlatField<'_>,
     second: &FlatField<'_>,
-    faults: &mut Vec<Fault>,
+    faults: &mut Vec<Shared<Fault>>,
 ) -> Result<(), AllocError>
     ensures { OnOk result (faults.new.items ≡ faults.old.items
         ++ spec.call_faults owner.now mode (info_in first.now.known) (info_in second.now.known)) }

@@ -9,7 +9,7 @@ ghost use Rattle.gql_merge.specs.PairFaults as spec;
 
 use crate::faults::add_fault_of_pair;
 use crate::flat::FlatField;
-use gql_ast::{Fault, FilePlace, Rule};
+use gql_ast::{Fault, FilePlace, Rule, Shared};
 use std::alloc::{AllocError, Global};
 
 /// Adds the fault of a pair of fields that are compared.
@@ -18,7 +18,7 @@ pub fn check(
     owner: &FilePlace,
     first: &FlatField<'_>,
     second: &FlatField<'_>,
-    faults: &mut Vec<Fault>,
+    faults: &mut Vec<Shared<Fault>>,
 ) -> Result<(), AllocError>
     ensures { OnOk result (faults.new.items ≡ faults.old.items
         ++ spec.shape_faults owner.now (info_in first.now.known) (info_in second.now.known)) }

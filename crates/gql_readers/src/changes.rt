@@ -6,7 +6,7 @@ ghost use Rattle.gql_readers.specs.Changes.{AreNotes, IsNew, noted_of};
 ghost use Rattle.gql_readers.specs.Merged.{AreComing, AreGoing, NotesAt, come_noted, go_noted, is_last, noted_or, nothing_noted, with_last};
 ghost use Rattle.gql_readers.specs.Readers.{Reader, with_reader};
 
-use crate::ids::{copy, is_same};
+use crate::ids::is_same;
 use crate::orders::OrderedKey;
 use gql_ast::{DefinitionId, Shared};
 use gql_facts::{Fact, Key};
@@ -20,8 +20,8 @@ use std::marker::Model;
 #[derive(Drop)]
 pub struct Noted {
     pub(crate) fact: Fact,
-    pub(crate) comes: Vec<DefinitionId>,
-    pub(crate) goes: Vec<DefinitionId>,
+    pub(crate) comes: Vec<Shared<DefinitionId>>,
+    pub(crate) goes: Vec<Shared<DefinitionId>>,
 }
 
 impl Model for Noted {
@@ -38,21 +38,24 @@ impl Model for Noted {
 }
 
 /// Whether the last of some definitions is this one.
-fn ends_with(ids: &[DefinitionId], id: &DefinitionId) -> bool
+fn ends_with(ids: &[Shared<DefinitionId>], id: &DefinitionId) -> bool
     ensures { result ≡ is_last id.now ids.now }
 {
     match ids.last() {
-        Some(last) => is_same(last, id),
+        Some(last) => is_same(last.get(), id),
         None => false,
     }
 }
 
 /// Adds a definition, unless it is the last already.
-fn add_last(ids: &mut Vec<DefinitionId>, id: &DefinitionId) -> Result<(), AllocError>
+fn add_last(
+    ids: &mut Vec<Shared<DefinitionId>>,
+    id: &Shared<DefinitionId>,
+) -> Result<(), AllocError>
     ensures { OnOk result (ids.new.items ≡ with_last ids.old.items id.now) }
 {
-    if !ends_with(ids.as_slice(), id) {
-        ids.push(copy(id))?;
+    if !ends_with(ids.as_slice(), id.get()) {
+        ids.push(id.clone()?)?;
     }
     Ok(())
 }
@@ -70,7 +73,7 @@ impl Noted {
     }
 
     /// Notes that a reader comes, which had this answer.
-    fn come(&mut self, fact: &Fact, id: &DefinitionId) -> Result<(), AllocError>
+    fn come(&mut self, fact: &Fact, id: &Shared<DefinitionId>) -> Result<(), AllocError>
         ensures { OnOk result (self.new ≡ come_noted self.old fact.now id.now) }
     {
         if self.comes.is_empty() {
@@ -80,7 +83,7 @@ impl Noted {
     }
 
     /// Notes that a reader goes.
-    fn go(&mut self, id: &DefinitionId) -> Result<(), AllocError>
+    fn go(&mut self, id: &Shared<DefinitionId>) -> Result<(), AllocError>
         ensures { OnOk result (self.new ≡ go_noted self.old id.now) }
     {
         add_last(&mut self.goes, id)
@@ -137,7 +140,7 @@ impl Changes {
     fn note_come(
         &mut self,
         alloc: Global,
-        id: &DefinitionId,
+        id: &Shared<DefinitionId>,
         observation: &Observation,
     ) -> Result<(), AllocError>
         ensures { OnOk result (NotesAt self.old self.new observation.now.key (come_noted
@@ -161,7 +164,7 @@ impl Changes {
     fn note_go(
         &mut self,
         alloc: Global,
-        id: &DefinitionId,
+        id: &Shared<DefinitionId>,
         observation: &Observation,
     ) -> Result<(), AllocError>
         ensures { OnOk result (NotesAt self.old self.new observation.now.key (go_noted
@@ -185,7 +188,7 @@ impl Changes {
     fn come_once(
         &mut self,
         alloc: Global,
-        id: &DefinitionId,
+        id: &Shared<DefinitionId>,
         observation: &Observation,
         seen: &mut IndexSet<Key>,
     ) -> Result<(), AllocError>
@@ -205,7 +208,7 @@ impl Changes {
     fn come_with(
         &mut self,
         alloc: Global,
-        id: &DefinitionId,
+        id: &Shared<DefinitionId>,
         observations: &[Shared<Observation>],
         seen: &mut IndexSet<Key>,
     ) -> Result<(), AllocError>
@@ -223,7 +226,7 @@ impl Changes {
     pub fn come(
         &mut self,
         alloc: Global,
-        id: &DefinitionId,
+        id: &Shared<DefinitionId>,
         reading: &Reading,
     ) -> Result<(), AllocError>
         ensures { OnOk result ((coming going : List Reader) → AreNotes self.old coming going
@@ -248,7 +251,7 @@ impl Changes {
     fn go_once(
         &mut self,
         alloc: Global,
-        id: &DefinitionId,
+        id: &Shared<DefinitionId>,
         observation: &Observation,
         seen: &mut IndexSet<Key>,
     ) -> Result<(), AllocError>
@@ -268,7 +271,7 @@ impl Changes {
     fn go_with(
         &mut self,
         alloc: Global,
-        id: &DefinitionId,
+        id: &Shared<DefinitionId>,
         observations: &[Shared<Observation>],
         seen: &mut IndexSet<Key>,
     ) -> Result<(), AllocError>
@@ -286,7 +289,7 @@ impl Changes {
     pub fn go(
         &mut self,
         alloc: Global,
-        id: &DefinitionId,
+        id: &Shared<DefinitionId>,
         reading: &Reading,
     ) -> Result<(), AllocError>
         ensures { OnOk result ((coming going : List Reader) → AreNotes self.old coming going

@@ -1,15 +1,16 @@
 //! Entries of the index.
 ghost use Rattle.std.specs.Prelude.{◌≡◌};
 
-use gql_ast::DefinitionId;
+use gql_ast::{DefinitionId, Shared};
 use gql_facts::{Fact, Key};
 use std::marker::Model;
 
-/// A key, the answer that it had, and the definitions that read it, in file order.
+/// A key, the answer that it had, and the definitions that read it, in file order. Lists share what
+/// identifies a definition, so that a reader takes a handle here.
 pub struct Entry {
     pub(crate) key: Key,
     pub(crate) fact: Fact,
-    pub(crate) readers: Vec<DefinitionId>,
+    pub(crate) readers: Vec<Shared<DefinitionId>>,
 }
 
 impl Drop for Entry {
@@ -57,7 +58,7 @@ impl Entry {
     }
 
     /// The definitions that read the key.
-    pub fn readers(&self) -> &[DefinitionId]
+    pub fn readers(&self) -> &[Shared<DefinitionId>]
         ensures { result.now ≡ self.now.readers }
     {
         self.readers.as_slice()

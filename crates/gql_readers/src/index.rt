@@ -61,7 +61,7 @@ fn add_handles(entries: &[Shared<Entry>], all: &mut Vec<Shared<Entry>>) -> Resul
 }
 
 /// The readers that were found for a key.
-fn readers_found(here: &[Shared<Entry>]) -> &[DefinitionId]
+fn readers_found(here: &[Shared<Entry>]) -> &[Shared<DefinitionId>]
     ensures { result.now ≡ merged.readers_found here.now }
 {
     match here.first() {
@@ -73,9 +73,9 @@ fn readers_found(here: &[Shared<Entry>]) -> &[DefinitionId]
 /// The readers of a key after a change.
 fn readers_after(
     alloc: Global,
-    ids: &[DefinitionId],
+    ids: &[Shared<DefinitionId>],
     noted: &Noted,
-) -> Result<Vec<DefinitionId>, AllocError>
+) -> Result<Vec<Shared<DefinitionId>>, AllocError>
     requires ids { AreInOrder ids.now }
     requires goes { AreInOrder noted.now.goes }
     ensures { IfOk result (λ after. after.items ≡ merged.readers_after ids.now noted.now) }
@@ -208,7 +208,7 @@ impl Index {
     }
 
     /// The definitions that read a key, in file order. It takes no memory.
-    pub fn readers(&self, key: &Key) -> &[DefinitionId]
+    pub fn readers(&self, key: &Key) -> &[Shared<DefinitionId>]
         ensures { (readers : List Reader) → IsIndexOf self.now readers
             → result.now ≡ readers_of key.now readers }
     {

@@ -88,7 +88,7 @@ fn readers_at(
     alloc: Global,
     shelf: &Shelf,
     key: &Key,
-    ids: &[DefinitionId],
+    ids: &[Shared<DefinitionId>],
 ) -> Result<Vec<Reader>, AllocError>
     requires { (i : AnId) → Contains ids.now i
         → Contains (all_readers key.now shelf.now.verdicts) i }
@@ -98,7 +98,7 @@ fn readers_at(
 {
     let mut readers = Vec::new(alloc);
     for id in ids {
-        add_reader(alloc, shelf, id, key, &mut readers)?;
+        add_reader(alloc, shelf, id.get(), key, &mut readers)?;
     }
     Ok(readers)
 }

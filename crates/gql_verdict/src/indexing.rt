@@ -10,6 +10,7 @@ ghost use Rattle.gql_verdict.specs.declared.slot.Slot.{Slot as ASlot};
 
 use crate::marks::no_marks;
 use crate::slot::Slot;
+use gql_ast::Shared;
 use gql_readers::{Changes, Index};
 use std::alloc::{AllocError, Global};
 
@@ -52,7 +53,8 @@ fn add_new(alloc: Global, step: &Slot, changes: &mut Changes) -> Result<(), Allo
         → AreNotes changes.new (coming ++ readers (verdicts (step.now ∷ []))) going) }
 {
     if let Slot::Here(verdict) = step {
-        changes.come(alloc, &verdict.def().id(), verdict.reading())?;
+        let id = Shared::new(alloc, verdict.def().id())?;
+        changes.come(alloc, &id, verdict.reading())?;
     }
     Ok(())
 }
@@ -83,7 +85,8 @@ fn add_gone(
         return Ok(());
     }
     if let Slot::Here(verdict) = slot {
-        changes.go(alloc, &verdict.def().id(), verdict.reading())?;
+        let id = Shared::new(alloc, verdict.def().id())?;
+        changes.go(alloc, &id, verdict.reading())?;
     }
     Ok(())
 }

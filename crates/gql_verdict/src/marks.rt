@@ -8,7 +8,7 @@ ghost use Rattle.gql_verdict.specs.declared.touched.Touched.TheVariants.{All, Fi
 use crate::slot::{Slot, find};
 use crate::spreads::add_name;
 use crate::touched::{FileEdit, Touched};
-use gql_ast::{DefinitionId, Same, Text};
+use gql_ast::{DefinitionId, Same, Shared, Text};
 use gql_facts::{Key, World};
 use gql_readers::{Entry, Index};
 use std::alloc::{AllocError, Global};
@@ -39,7 +39,7 @@ fn mark(slots: &[Slot], id: &DefinitionId, marks: &mut [bool])
 }
 
 /// Marks the verdicts on some definitions.
-fn mark_all(slots: &[Slot], ids: &[DefinitionId], marks: &mut [bool])
+fn mark_all(slots: &[Slot], ids: &[Shared<DefinitionId>], marks: &mut [bool])
     requires order { IsInOrder slots.now }
     requires long { length marks.old ≡ length slots.now }
     ensures long { length marks.new ≡ length slots.now }
@@ -48,7 +48,7 @@ fn mark_all(slots: &[Slot], ids: &[DefinitionId], marks: &mut [bool])
     ensures only { OnlyMarks slots.now marks.old marks.new ids.now }
 {
     for id in ids {
-        mark(slots, id, marks);
+        mark(slots, id.get(), marks);
     }
 }
 

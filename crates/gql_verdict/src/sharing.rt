@@ -16,7 +16,8 @@ fn fitted_places(alloc: Global, places: &[FilePlace]) -> Result<Items<FilePlace>
 }
 
 /// The fault, in as little memory as it needs: a list of places that grew has room for four, and a
-/// place takes more memory than all else that a fault is made of.
+/// place takes more memory than all else that a fault is made of. The faults of pairs of fields come
+/// with a list of its length.
 fn fitted(alloc: Global, fault: Fault) -> Result<Fault, AllocError>
     ensures { IfOk result (λ fitted. fitted ≡ fault) }
 {
@@ -39,6 +40,17 @@ pub fn share_into(
         shared.push(Shared::new(alloc, fault)?)?;
     }
     Ok(())
+}
+
+/// Moves faults that can be shared to the end of a list.
+pub fn add_shared(
+    more: Vec<Shared<Fault>>,
+    shared: &mut Vec<Shared<Fault>>,
+) -> Result<(), AllocError>
+    ensures { OnOk result (shared.new.items ≡ shared.old.items ++ more.items) }
+{
+    let mut more = more;
+    shared.append(&mut more)
 }
 
 /// These faults, so that they can be shared.

@@ -321,7 +321,7 @@ impl Shelf {
     }
 
     /// The definitions whose verdicts observe a key, by file and offset. It takes no memory.
-    pub fn readers(&self, key: &Key) -> &[DefinitionId]
+    pub fn readers(&self, key: &Key) -> &[Shared<DefinitionId>]
         ensures { result.now ≡ readers_of key.now self.now.verdicts }
     {
         self.index.readers(key)

@@ -18,7 +18,7 @@ ghost use Rattle.gql_verdict.specs.Verdicts.{IsCertificate, Judges};
 
 use crate::meter::Meter;
 use crate::shared_work::SharedWork;
-use crate::sharing::{share_into, shared_faults};
+use crate::sharing::{add_shared, share_into, shared_faults};
 use gql_ast::{Definition, Fault, Same, Shared};
 use gql_facts::{FragmentFact, World};
 use gql_merge::{CleanFragments, merge_faults_with};
@@ -28,21 +28,33 @@ use gql_vars::variable_faults;
 use std::alloc::{AllocError, Global};
 use std::marker::Model;
 
-/// A definition, its faults, and the answers that these depend on. Wherever a world gives the same
-/// answers, the faults are the same. Only `examine` makes one.
-pub struct Verdict {
+/// What a verdict says.
+pub struct Held {
     def: Definition,
     faults: Vec<Shared<Fault>>,
     reading: Reading,
 }
 
-impl Drop for Verdict {
+impl Drop for Held {
     fn drop(self) {
-        let Verdict {
+        let Held {
             def: _,
             faults: _,
             reading: _,
         } = self;
+    }
+}
+
+/// A definition, its faults, and the answers that these depend on. Wherever a world gives the same
+/// answers, the faults are the same. Only `examine` makes one. It is a handle, so that a list of
+/// verdicts is short, and one that is kept is moved at no cost.
+pub struct Verdict {
+    held: Shared<Held>,
+}
+
+impl Drop for Verdict {
+    fn drop(self) {
+        let Verdict { held: _ } = self;
     }
 }
 
@@ -66,12 +78,12 @@ impl Model for Verdict {
     ) };
 
     ghost view = { λ v. record {
-      def = v.def;
-      faults = v.faults.items;
-      observations = flat v.reading;
+      def = v.held.def;
+      faults = v.held.faults.items;
+      observations = flat v.held.reading;
     } };
 
-    ghost invariant = { λ v. IsCertificate v.def v.faults.items (flat v.reading) };
+    ghost invariant = { λ v. IsCertificate v.held.def v.held.faults.items (flat v.held.reading) };
 }
 
 impl Verdict {
@@ -79,7 +91,7 @@ impl Verdict {
     pub fn def(&self) -> &Definition
         ensures { result.now ≡ self.now.def }
     {
-        &self.def
+        &self.held.get().def
     }
 
     /// The faults of the definition.
@@ -87,7 +99,7 @@ impl Verdict {
         ensures value { result.now ≡ self.now.faults }
         ensures certificate { IsCertificate self.now.def self.now.faults self.now.observations }
     {
-        self.faults.as_slice()
+        self.held.get().faults.as_slice()
     }
 
     /// The answers that the faults depend on, absences too: those to what the definition reads
@@ -95,19 +107,19 @@ impl Verdict {
     pub fn reading(&self) -> &Reading
         ensures { flat result.now ≡ self.now.observations }
     {
-        &self.reading
+        &self.held.get().reading
     }
 
     /// The part of the definition, if it is the fragment of its name.
     pub(crate) fn part(&self) -> Option<&Part> {
-        self.reading.own.part.as_ref()
+        self.reading().own.part.as_ref()
     }
 
     /// Whether it is the verdict on this definition, at this place.
     pub fn is_of(&self, definition: &Definition) -> bool
         ensures { IsTrue result ↔ (self.now.def ≡ definition.now) }
     {
-        self.def.same(definition)
+        self.def().same(definition)
     }
 }
 
@@ -119,7 +131,7 @@ struct Found {
 }
 
 /// Whether there are no faults.
-fn are_none(faults: &[Fault]) -> bool
+fn are_none(faults: &[Shared<Fault>]) -> bool
     ensures { IsTrue result → faults.now ≡ [] }
 {
     faults.is_empty()
@@ -151,7 +163,7 @@ fn faults_in<W: World>(
     share_into(alloc, of_variables, &mut faults)?;
     let of_merging = merge_faults_with(alloc, world, definition, members, clean)?;
     let is_clean = are_none(of_merging.as_slice());
-    share_into(alloc, of_merging, &mut faults)?;
+    add_shared(of_merging, &mut faults)?;
     Ok(Found { faults, is_clean })
 }
 
@@ -208,10 +220,15 @@ pub fn examine<W: World, K: KeptParts>(
         found.is_clean,
     )?;
     let def = definition.copy()?;
+    let faults = found.faults;
+    let held = Shared::new(
+        alloc,
+        Held {
+            def,
+            faults,
+            reading,
+        },
+    )?;
     meter.add(definition.id())?;
-    Ok(Verdict {
-        def,
-        faults: found.faults,
-        reading,
-    })
+    Ok(Verdict { held })
 }

@@ -2,7 +2,7 @@
 //! rules on variables or by those on the merging of fields.
 use crate::facts::documents_in;
 use crate::faults::written_faults;
-use gql_ast::{Definition, Document, Fault, FileName};
+use gql_ast::{Definition, Document, Fault, FileName, Shared};
 use gql_facts::{Fragments, Present, SchemaFacts, walk_reads};
 use gql_merge::merge_faults;
 use gql_report::in_order;
@@ -25,16 +25,17 @@ fn faults_by(
     world: &mut Present<'_>,
     rules: Rules,
     definition: &Definition,
-) -> Option<Vec<Fault>> {
+) -> Option<Vec<Shared<Fault>>> {
     let Ok(walk) = walk_reads(alloc, world, definition) else {
         return None;
     };
     let members = walk.members.as_slice();
-    match rules {
-        Rules::Local => local_faults(alloc, world, definition, members).ok(),
-        Rules::Variables => variable_faults(alloc, world, definition, members).ok(),
-        Rules::Merging => merge_faults(alloc, world, definition, members).ok(),
-    }
+    let faults = match rules {
+        Rules::Local => local_faults(alloc, world, definition, members).ok()?,
+        Rules::Variables => variable_faults(alloc, world, definition, members).ok()?,
+        Rules::Merging => return merge_faults(alloc, world, definition, members).ok(),
+    };
+    shared_faults(alloc, faults).ok()
 }
 
 /// The faults of the definitions of a document, each by itself.
@@ -43,7 +44,7 @@ fn all_faults(
     world: &mut Present<'_>,
     rules: Rules,
     document: &Document,
-) -> Option<Vec<Fault>> {
+) -> Option<Vec<Shared<Fault>>> {
     let mut faults = Vec::new(alloc);
     for definition in document.definitions.as_slice() {
         for fault in faults_by(alloc, world, rules, definition)? {
@@ -67,6 +68,6 @@ pub fn operations_answer(
     let mut world = Present::new(&facts, &fragments);
     let document = documents.get(&FileName::read("d")?)?.get();
     let faults = all_faults(alloc, &mut world, rules, document)?;
-    let report = in_order(alloc, shared_faults(alloc, faults).ok()?).ok()?;
+    let report = in_order(alloc, faults).ok()?;
     written_faults(alloc, report.as_slice()).ok()
 }

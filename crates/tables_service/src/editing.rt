@@ -3,7 +3,7 @@
 use crate::clashes::written_pair;
 use crate::faults::written_faults;
 use crate::running::run_step;
-use gql_ast::{DefinitionId, FileName, Text};
+use gql_ast::{DefinitionId, FileName, Shared, Text};
 use gql_facts::Key;
 use gql_registry::{Edited, Refusal, Registry};
 use gql_verdict::Meter;
@@ -17,24 +17,36 @@ pub struct Editing {
     registry: Registry,
 }
 
-/// Definitions, each as `FILE OFFSET`; or if there are none, this text.
-fn written_ids(alloc: Global, ids: &[DefinitionId], none: &str) -> Option<String> {
+/// Adds a definition, as `FILE OFFSET`.
+fn add_id(alloc: Global, id: &DefinitionId, written: &mut String) -> Option<()> {
+    let file = id.file.as_str();
+    let offset = id.offset;
+    let id = format!(in alloc; "{file} {offset}").ok()?;
+    join(written, ", ", id.as_str()).ok()
+}
+
+/// The definitions that read a key, each as `FILE OFFSET`, or `nobody`.
+fn written_readers(alloc: Global, ids: &[Shared<DefinitionId>]) -> Option<String> {
     let mut written = String::new(alloc);
     for id in ids {
-        let file = id.file.as_str();
-        let offset = id.offset;
-        let id = format!(in alloc; "{file} {offset}").ok()?;
-        join(&mut written, ", ", id.as_str()).ok()?;
+        add_id(alloc, id.get(), &mut written)?;
     }
     if written.is_empty() {
-        written.push_str(none).ok()?;
+        written.push_str("nobody").ok()?;
     }
     Some(written)
 }
 
 /// The definitions that a meter has, each as `FILE OFFSET`, or `nothing`.
 fn written_meter(alloc: Global, meter: &Meter) -> Option<String> {
-    written_ids(alloc, meter.entries(), "nothing")
+    let mut written = String::new(alloc);
+    for id in meter.entries() {
+        add_id(alloc, id, &mut written)?;
+    }
+    if written.is_empty() {
+        written.push_str("nothing").ok()?;
+    }
+    Some(written)
 }
 
 /// The key that is written as `FieldOf TYPE FIELD`, `KindOf TYPE` or `FragmentOf NAME`.
@@ -121,7 +133,7 @@ impl Editing {
     /// The definitions whose verdicts observe a key, each as `FILE OFFSET`, or `nobody`.
     fn readers(&self, rest: &str) -> Option<String> {
         let key = read_key(self.alloc, rest)?;
-        written_ids(self.alloc, self.registry.shelf().readers(&key), "nobody")
+        written_readers(self.alloc, self.registry.shelf().readers(&key))
     }
 
     /// What is kept of two fragments, which `FIRST SECOND` names.

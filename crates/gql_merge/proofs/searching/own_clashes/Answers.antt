@@ -1,4 +1,7 @@
 use Rattle.gql_merge.proofs.searching.own_clashes.Goals as goal
 
-pub clashes_over_clean-requires-clause-clean : goal.clashes_over_clean-requires-clause-clean
-clashes_over_clean-requires-clause-clean c = c.requires.clean c.if-known.true
+pub returns : goal.returns
+returns c = record {
+  sound = λ p h. c.in_ok-found.ensures.sound p ((c.in_ok-pairs.ensures p).0 h);
+  complete = λ p q. (c.in_ok-pairs.ensures p).1 (c.in_ok-found.ensures.complete p q);
+}

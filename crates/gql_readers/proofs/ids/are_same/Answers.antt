@@ -11,7 +11,8 @@ loop-i-preserved c =
     let a = c.index-ids-i.result in
     let b = c.index-others-i.result in
     let within : i < length others = subst (λ (n : ℕ). i < n) c.if-ids-others.false c.loop-i-test.true in
-    let e : get_or ids i a ≡ get_or others i b = sym c.index-ids-i.is ∙ same_id a b (sym c.if-not-is_same.ensures) ∙ c.index-others-i.is in
+    let e : get_or ids i a ≡ get_or others i b = sym c.index-ids-i.is ∙ sym c.get.ensures
+    ∙ same_id c.get.result.now c.get-in-loop-i.result.now (sym c.if-not-is_same.ensures) ∙ c.get-in-loop-i.ensures ∙ c.index-others-i.is in
     take_more ids i a c.loop-i-test.true ∙ ap (λ x. take i ids ++ x ∷ []) e ∙ ap (λ zs. zs ++ get_or others i b ∷ []) c.loop-i.invariant ∙ sym (take_more others i b within)
 
 pub returns : goal.returns

@@ -10,8 +10,8 @@ pub returns-in_ok-go : goal.returns-in_ok-go
 returns-in_ok-go c = λ coming going are.
     let v = c.in-Here.verdict in
     let after = c.go.new.self in
-    let named : c.id.result ≡ id_of v.def = c.id.ensures ∙ ap id_of c.def.ensures in
+    let named : c.in_ok-id.id ≡ id_of v.def = c.in_ok-id.ensures ∙ c.id.ensures ∙ ap id_of c.def.ensures in
     went_one c.args.slot.now c.args.stays v c.in-Here.is c.if-stays.false coming going after
     (λ new. subst (λ (i : DefinitionId). AreNotes after coming (going ++ record { id = i; observations = v.observations } ∷ [])) named
-    (subst (λ (os : List Observation). AreNotes after coming (going ++ record { id = c.id.result; observations = os } ∷ [])) c.reading.ensures
+    (subst (λ (os : List Observation). AreNotes after coming (going ++ record { id = c.in_ok-id.id; observations = os } ∷ [])) c.reading.ensures
     (c.in_ok-go.ensures coming going are (subst (λ (i : DefinitionId). IsNew i going) (sym named) new))))

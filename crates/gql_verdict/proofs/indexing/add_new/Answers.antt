@@ -10,8 +10,8 @@ pub returns-in_ok-come : goal.returns-in_ok-come
 returns-in_ok-come c = λ coming going are.
     let v = c.in-Here.verdict in
     let after = c.come.new.self in
-    let named : c.id.result ≡ id_of v.def = c.id.ensures ∙ ap id_of c.def.ensures in
+    let named : c.in_ok-id.id ≡ id_of v.def = c.in_ok-id.ensures ∙ c.id.ensures ∙ ap id_of c.def.ensures in
     came_one c.args.step.now v c.in-Here.is coming going after
     (λ new. subst (λ (i : DefinitionId). AreNotes after (coming ++ record { id = i; observations = v.observations } ∷ []) going) named
-    (subst (λ (os : List Observation). AreNotes after (coming ++ record { id = c.id.result; observations = os } ∷ []) going) c.reading.ensures
+    (subst (λ (os : List Observation). AreNotes after (coming ++ record { id = c.in_ok-id.id; observations = os } ∷ []) going) c.reading.ensures
     (c.in_ok-come.ensures coming going are (subst (λ (i : DefinitionId). IsNew i coming) (sym named) new))))

@@ -26,14 +26,15 @@ loop-id-preserved c =
       kept = λ j m. c.mark.ensures.kept j (c.loop-id.invariant.kept j m);
       marked = λ j v a h. elim (seen_more ids i id c.loop-id-test.true c.id-item.is (id_of v.def) h) [
         | inl o ↦ c.mark.ensures.kept j (c.loop-id.invariant.marked j v a o)
-        | inr e ↦ c.mark.ensures.marked j v a (subst (λ x. Contains (id ∷ []) x) e (Contains-here id []))
+        | inr e ↦ c.mark.ensures.marked j v a (subst (λ (y : DefinitionId). Contains (y ∷ []) (id_of v.def)) (sym c.get.ensures)
+            (subst (λ x. Contains (id ∷ []) x) e (Contains-here id [])))
       ];
       only = λ j v a m. elim (c.mark.ensures.only j v a m) [
         | inl o ↦ elim (c.loop-id.invariant.only j v a o) [
           | inl b ↦ inl b
           | inr h ↦ inr (seen_old ids i id c.loop-id-test.true c.id-item.is (id_of v.def) h)
         ]
-        | inr h ↦ inr (subst (λ x. Contains (take (i + 1) ids) x) (sym (one_id id (id_of v.def) h)) (seen_here ids i id c.loop-id-test.true c.id-item.is))
+        | inr h ↦ inr (subst (λ x. Contains (take (i + 1) ids) x) (sym (one_id id (id_of v.def) (subst (λ (y : DefinitionId). Contains (y ∷ []) (id_of v.def)) c.get.ensures h))) (seen_here ids i id c.loop-id-test.true c.id-item.is))
       ];
     }
 

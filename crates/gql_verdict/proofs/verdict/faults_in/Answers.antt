@@ -16,7 +16,7 @@ returns-clause-faults g c =
     let of_variables = subst (λ f. Lists c.in_ok-of_variables.of_variables.items (IsVariableFault f d)) c.local_faults.ensures.facts c.in_ok-of_variables.ensures.found in
     let of_merging = subst (λ f. Lists c.in_ok-of_merging.of_merging.items (IsMergeFault f d)) (c.variable_faults.ensures.facts ∙ c.local_faults.ensures.facts) c.in_ok-of_merging.ensures.found in
     let both = Lists-append _ _ _ of_nodes of_variables c.in_ok-share_into.ensures in
-    by_all F d _ (Lists-append {P = λ f. IsFault F d f ⊎ IsVariableFault F d f} _ _ _ both of_merging c.in_ok-share_into-2.ensures)
+    by_all F d _ (Lists-append {P = λ f. IsFault F d f ⊎ IsVariableFault F d f} _ _ _ both of_merging c.in_ok-add_shared.ensures)
 
 pub returns-clause-merging : goal.returns-clause-merging
 returns-clause-merging g c =
