@@ -70,15 +70,15 @@ fn touched_by(
 fn edit_file(
     alloc: Global,
     files: &mut FileMap<Shared<Document>>,
-    name: FileName,
+    name: &FileName,
     document: Option<Document>,
 ) -> Result<(), AllocError>
-    ensures { OnOk result (files.new ≡ spec.edited files.old name document) }
+    ensures { OnOk result (files.new ≡ spec.edited files.old name.now document) }
 {
     match document {
-        Some(document) => files.put(name, Shared::new(alloc, document)?),
+        Some(document) => files.put(name.copy(), Shared::new(alloc, document)?),
         None => {
-            files.remove(&name);
+            files.remove(name);
             Ok(())
         }
     }
@@ -130,7 +130,7 @@ fn schema_plan(
 {
     let edited = edited_types(alloc, files, &name, document.as_ref())?;
     let mut changed = files.copy()?;
-    edit_file(alloc, &mut changed.schema, name.copy(), document)?;
+    edit_file(alloc, &mut changed.schema, &name, document)?;
     let schema = edited_schema(alloc, &changed, known, &name, &edited)?;
     Ok(EditPlan {
         files: changed,
@@ -153,7 +153,7 @@ fn document_plan(
 {
     let touched = touched_by(alloc, files, &name, document.as_ref())?;
     let mut changed = files.copy()?;
-    edit_file(alloc, &mut changed.documents, name, document)?;
+    edit_file(alloc, &mut changed.documents, &name, document)?;
     let schema = kept_schema(known)?;
     Ok(EditPlan {
         files: changed,
