@@ -15,11 +15,11 @@ SCHEMA = "type Query { x: Int y: Int s: String f(a: I18 = {}): Int } input I0 { 
     " input I%d { a: I%d = {} b: I%d = {} }" % (n, n - 1, n - 1) for n in range(1, 19))
 NAMES = ["".join(letters) for letters in itertools.product(string.ascii_lowercase, repeat=3)]
 ALIASES = "query Aliases { %s }" % " ".join(name + ":s" for name in NAMES[:2000])
-FAULTS = "query Faults { %s }" % ("a:x " * 400 + "a:y " * 400)
+FAULTS = "query Faults { %s }" % ("a:x " * 800 + "a:y " * 800)
 LARGE = [
     ("2^18 defaults", ("POST", "/run", '{"operationName":"Defaults"}')),
     ("2,000 aliases of 262 KB", ("POST", "/run", '{"operationName":"Aliases"}')),
-    ("160,000 faults", ("PUT", "/documents/faults", FAULTS)),
+    ("640,000 faults", ("PUT", "/documents/faults", FAULTS)),
 ]
 SETTINGS = [
     {},
