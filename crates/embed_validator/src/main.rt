@@ -107,7 +107,7 @@ fn faults_of(alloc: Global, files: &Files) -> Result<Vec<Shared<Fault>>, AllocEr
     let schema = assemble(alloc, files)?;
     let of_schema = schema_faults(alloc, files, &schema)?;
     if !of_schema.is_empty() {
-        return in_order(alloc, shared_faults(alloc, of_schema)?);
+        return in_order(alloc, of_schema);
     }
     let facts = SchemaFacts::new(alloc, &schema)?;
     let fragments = Fragments::new(alloc, &files.documents)?;

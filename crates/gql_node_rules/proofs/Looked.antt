@@ -1,11 +1,10 @@
 -- What the rules say of what was looked up once is what they say of the nodes.
-use Rattle.std.proofs.Common.{◌≡◌, ◌∙◌, ◌++◌, ◌||◌, List, [], Option, map, flat_map, is_some, option_map, if◌then◌else◌, refl, ap, append_assoc, arith}
+use Rattle.std.proofs.Common.{◌≡◌, ◌∙◌, ◌++◌, ◌||◌, List, [], Option, map, flat_map, is_some, option_map, if◌then◌else◌, refl, arith}
 use Rattle.std.proofs.lemmas.Grind.{common_steps, flat_map-append}
 use Rattle.std.proofs.lemmas.List.Folds.{flat_map-map}
 use Rattle.gql_ast.specs.declared.fault.Fault.{Fault}
 use Rattle.gql_ast.specs.declared.rule.Rule.TheVariants as rule
 use Rattle.gql_ast.specs.declared.text.Name.{Name}
-use Rattle.gql_ast.specs.declared.type_system.DirectiveDefinition.{DirectiveDefinition}
 use Rattle.gql_built_in.specs.declared.sited.Sited.{Sited}
 use Rattle.gql_faults.specs.Faults.{fault_of}
 use Rattle.gql_types.specs.Kinds.{is_input, is_output, same_kind}
@@ -13,14 +12,12 @@ use Rattle.gql_types.specs.Schemas.{type_named}
 use Rattle.gql_types.specs.declared.kind.TypeKind.TheVariants as kind
 use Rattle.gql_types.specs.declared.schema.Schema.{Schema}
 use Rattle.gql_types.specs.declared.schema_type.SchemaType.{SchemaType}
-use Rattle.gql_node_rules.specs.Applied.{Application}
 use Rattle.gql_node_rules.specs.NodeFaults as spec
 use Rattle.gql_node_rules.specs.Nodes.{AllNodes}
 use Rattle.gql_node_rules.specs.P01FloatReferences as p01
 use Rattle.gql_node_rules.specs.References as references
-use Rattle.gql_node_rules.specs.Resolved.{Resolution, TypeReference, of_all, of_wrong_kind, resolution, resolved_by, role_faults, roles_of, to_float, unknown, with_kind}
+use Rattle.gql_node_rules.specs.Resolved.{TypeReference, of_all, of_wrong_kind, role_faults, roles_of, to_float, unknown, with_kind}
 use Rattle.gql_node_rules.specs.S20UnknownTypes as s20
-use Rattle.gql_node_rules.specs.declared.resolved.Resolved.{Resolved}
 use Rattle.gql_node_rules.proofs.Same.{flat_map_same}
 
 pub roles_same : (n : AllNodes) (s : Schema) → role_faults (roles_of n s) ≡ spec.role_faults n s
@@ -58,17 +55,3 @@ pub three_added : {X : Type 0} (base one two three a b c p q r : List X) → one
     → a ≡ p → b ≡ q → c ≡ r → three ≡ base ++ (p ++ (q ++ r))
 three_added base one two three a b c p q r first second third is_p is_q is_r =
     rw (third, second, first, is_p, is_q, is_r) grind (arith, common_steps)
-
--- so were five
-pub five_added : {X : Type 0} (base one two three four five a b c d e p q r t u : List X)
-    → one ≡ base ++ a → two ≡ one ++ b → three ≡ two ++ c → four ≡ three ++ d → five ≡ four ++ e
-    → a ≡ p → b ≡ q → c ≡ r → d ≡ t → e ≡ u → five ≡ base ++ (p ++ (q ++ (r ++ (t ++ u))))
-five_added base one two three four five a b c d e p q r t u first second third fourth fifth is_p is_q is_r is_t is_u =
-    rw (fifth, fourth, third, second, first, is_p, is_q, is_r, is_t, is_u) (simp append_assoc refl)
-
--- what is said of directives and their definitions
-pub resolved_same : (f : Resolution → List Fault) (definitions : List (Sited DirectiveDefinition)) (all : List Application)
-    (held given : List Resolved) → given ≡ held → map resolution held ≡ map (resolved_by definitions) all
-    → flat_map f (map resolution given) ≡ flat_map (λ a. f (resolved_by definitions a)) all
-resolved_same f definitions all held given same known =
-    ap (λ xs. flat_map f (map resolution xs)) same ∙ ap (flat_map f) known ∙ flat_map-map f (resolved_by definitions) all

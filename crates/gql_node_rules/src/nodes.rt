@@ -222,14 +222,6 @@ fn all_nodes<'t>(alloc: Global, trees: &[Node<'t, Tree>]) -> Result<Nodes<'t>, A
     })
 }
 
-/// The nodes of all schema files.
-pub fn nodes_in(alloc: Global, files: &Files) -> Result<Nodes<'_>, AllocError>
-    ensures { IfOk result (λ nodes. lists nodes ≡ spec.nodes_of (of_files files.now.schema)) }
-{
-    let trees = trees(alloc, files)?;
-    all_nodes(alloc, trees.as_slice())
-}
-
 /// The nodes of a schema file.
 pub fn nodes_of_file(alloc: Global, document: &Document) -> Result<Nodes<'_>, AllocError>
     ensures { IfOk result (λ nodes. lists nodes ≡ nodes_of_file document.now) }

@@ -198,20 +198,3 @@ pub fn check_schema(
     check_together(alloc, schema, nodes.as_slice(), faults)?;
     Ok(())
 }
-
-/// Adds the faults by S31. `annotated` has the nodes with their directives.
-pub fn check(
-    alloc: Global,
-    schema: &Schema,
-    nodes: &Nodes<'_>,
-    annotated: &[Annotated<'_>],
-    faults: &mut Vec<Fault>,
-) -> Result<(), AllocError>
-    ensures { OnOk result (faults.new.items ≡ faults.old.items
-        ++ spec.faults_by (map annotations annotated.now) (lists nodes.now) schema.now) }
-{
-    check_nodes(alloc, schema, annotated, faults)?;
-    check_types(alloc, schema, faults)?;
-    check_schema(alloc, schema, nodes, faults)?;
-    Ok(())
-}

@@ -132,7 +132,6 @@ known_before names name before after None is edit elsewhere = is
 known_before names name before after (Some known) is edit elsewhere = record {
   before = before;
   side_of = is.schema;
-  keeps = edit.keeps;
-  undone = edit.undone;
+  edit = edit;
   elsewhere = elsewhere;
 }

@@ -17,27 +17,26 @@ use Rattle.gql_types.specs.Schemas.{schema_of}
 use Rattle.gql_verdict.specs.DocumentEdits.{ChangesOnly}
 use Rattle.gql_verdict.specs.FileOrder.{AreFilesPlaced}
 
+-- an edit of a schema file changes types of these names alone
+pub record IsSchemaEdit (names : List (List ℕ)) (before after : Files) : Type 0 where
+  -- the types of other names after the edit are those before it
+  pub keeps : KeepsOthers names (schema_of before) (schema_of after)
+  -- and those before it are those after it
+  pub undone : KeepsOthers names (schema_of after) (schema_of before)
+
 -- the schema is that of files before an edit of the schema file of this name, which changes types of
 -- these names alone and makes these files
 pub record IsSideBefore (names : List (List ℕ)) (name : List ℕ) (after : Files) (side : SchemaSide)
     : Type 0 where
   pub before : Files
   pub side_of : IsSideOf before side
-  -- the types of other names after the edit are those before it
-  pub keeps : KeepsOthers names (schema_of before) (schema_of after)
-  -- and those before it are those after it
-  pub undone : KeepsOthers names (schema_of after) (schema_of before)
+  pub edit : IsSchemaEdit names before after
   -- the other schema files are the same
   pub elsewhere : DiffersAt name before after
 
 -- what is known has the schema of files before such an edit
 abbrev pub IsSideBeforeEdit : List (List ℕ) → List ℕ → Files → Known → Type 0
 IsSideBeforeEdit names name after known = IsSideBefore names name after known.schema
-
--- an edit of a schema file changes types of these names alone, forwards and backwards
-pub record IsSchemaEdit (names : List (List ℕ)) (before after : Files) : Type 0 where
-  pub keeps : KeepsOthers names (schema_of before) (schema_of after)
-  pub undone : KeepsOthers names (schema_of after) (schema_of before)
 
 -- If this is known of files, the schema is that of all files with the same schema files.
 abbrev pub IsSideAfterDocuments : Option Known → Option SchemaSide → Type 0

@@ -93,7 +93,7 @@ fn faults_after_edit(
 {
     let change = SchemaChange::between(alloc, &before.schema, schema, edited)?;
     let kept = &before.kept;
-    let kept = SchemaFaults::after_edit(alloc, files, schema, name, &change, edited, kept)?;
+    let kept = SchemaFaults::after_edit(alloc, files, schema, name, &change, kept)?;
     Ok(kept)
 }
 

@@ -4,19 +4,18 @@ ghost use Rattle.std.specs.Prelude.{◌≡◌, ◌↔◌, ◌++◌, IfOk, OnOk, 
 ghost use Rattle.gql_ast.specs.declared.fault.Fault.{Fault as TheFault};
 ghost use Rattle.gql_ast.specs.declared.files.Files.{Files as TheFiles};
 ghost use Rattle.gql_node_rules.specs.SchemaChanges.{IsChange};
-ghost use Rattle.gql_types.specs.Edits.{KeepsOthers};
 ghost use Rattle.gql_types.specs.Schemas.{schema_of};
 ghost use Rattle.gql_schema_rules.specs.ChecksOfFiles.{AreChecksOf, DiffersAt};
 ghost use Rattle.gql_schema_rules.specs.KeptFaults.{AreFaultsOf};
 ghost use Rattle.gql_schema_rules.specs.OtherFaults.{AreOthers, faults_in};
-ghost use Rattle.gql_schema_rules.specs.SchemaFaults.{FaultsBy, nodes_in};
+ghost use Rattle.gql_schema_rules.specs.SchemaFaults.{FaultsBy, IsSchemaFault, nodes_in};
 
 use crate::file_checks::{checks_after_edit, checks_of};
 use crate::rules::{add_all, add_definition_faults, add_root_faults, add_type_faults};
-use gql_ast::{Fault, FileMap, FileName, Files, Shared, Text};
+use gql_ast::{Fault, FileMap, FileName, Files, Shared};
 use gql_iface_rules::iface_faults;
 use gql_node_rules::{FileCheck, SchemaChange, definition_nodes, joint_faults, laws};
-use gql_types::{Named, Schema};
+use gql_types::Schema;
 use std::alloc::{AllocError, Global};
 
 /// All faults of a schema, and the checks of its files.
@@ -118,22 +117,19 @@ impl SchemaFaults {
     }
 
     /// All faults after an edit of the schema file of this name, by those before it. The files and
-    /// their schema are those after the edit. `edited` has the names of the types that the edit may
-    /// change. A file is checked again only if it is edited, or if the change of the schema matters
-    /// to it.
+    /// their schema are those after the edit. A file is checked again only if it is edited, or if
+    /// the change of the schema matters to it.
     pub fn after_edit(
         alloc: Global,
         files: &Files,
         schema: &Schema,
         file: &FileName,
         change: &SchemaChange,
-        edited: &Named<Text>,
         before: &SchemaFaults,
     ) -> Result<SchemaFaults, AllocError>
         requires { schema.now ≡ schema_of files.now }
         ensures { IfOk result (λ k. (old : TheFiles) → AreFaultsOf old before.now
             → IsChange change.now (schema_of old) schema.now
-            → KeepsOthers edited.now (schema_of old) schema.now
             → DiffersAt file.now old files.now → AreFaultsOf files.now k) }
     {
         let checks = checks_after_edit(alloc, files, schema, file, change, &before.checks)?;
@@ -147,4 +143,29 @@ impl SchemaFaults {
     {
         self.all.as_slice()
     }
+
+    /// The faults alone. One may occur more than once.
+    pub fn into_all(self) -> Vec<Shared<Fault>>
+        ensures { result.items ≡ self.all.items }
+    {
+        let SchemaFaults { checks: _, all } = self;
+        all
+    }
+}
+
+/// The faults of the schema of these files, by all rules on schemas: none is missing and none is
+/// invented. A fault may occur more than once. The schema is what `assemble` makes of the files.
+pub fn schema_faults(
+    alloc: Global,
+    files: &Files,
+    schema: &Schema,
+) -> Result<Vec<Shared<Fault>>, AllocError>
+    requires { schema.now ≡ schema_of files.now }
+    ensures sound { IfOk result (λ faults. (f : TheFault)
+        → Contains faults.items f → IsSchemaFault files.now f) }
+    ensures complete { IfOk result (λ faults. (f : TheFault)
+        → IsSchemaFault files.now f → Contains faults.items f) }
+{
+    let found = SchemaFaults::new(alloc, files, schema)?;
+    Ok(found.into_all())
 }

@@ -25,5 +25,4 @@ mod s27_extensions_of_unknown_types;
 mod s28_extensions_of_another_kind;
 mod s34_duplicate_schemas;
 
-pub use kept_faults::SchemaFaults;
-pub use rules::schema_faults;
+pub use kept_faults::{SchemaFaults, schema_faults};

@@ -7,7 +7,7 @@ use Rattle.gql_registry.proofs.Mapped.{ok_of_error}
 use Rattle.gql_registry.proofs.report.side_after_edit.Goals as goal
 
 pub assemble_after_edit-requires : goal.assemble_after_edit-requires
-assemble_after_edit-requires c = subst (λ s. KeepsOthers c.args.edited.now s (schema_of c.args.files.now)) (sym c.requires.side_of.schema) c.requires.keeps
+assemble_after_edit-requires c = subst (λ s. KeepsOthers c.args.edited.now s (schema_of c.args.files.now)) (sym c.requires.side_of.schema) c.requires.edit.keeps
 
 pub faults_after_edit-requires-clause-schema : goal.faults_after_edit-requires-clause-schema
 faults_after_edit-requires-clause-schema c = c.in_ok-schema.ensures
@@ -33,6 +33,6 @@ returns-in_err-side c = ok_of_error c.from_residual-in_err-side.result (IsSideOf
 pub returns : goal.returns
 returns c = c.in_ok-side.ensures
     (c.in_ok-facts.ensures (schema_of c.requires.before) c.requires.side_of.facts
-    (subst (KeepsOthers c.args.edited.now (schema_of c.requires.before)) (sym c.in_ok-schema.ensures) c.requires.keeps)
+    (subst (KeepsOthers c.args.edited.now (schema_of c.requires.before)) (sym c.in_ok-schema.ensures) c.requires.edit.keeps)
     ∙ ap tables_of c.in_ok-schema.ensures)
     c.in_ok-kept.ensures
