@@ -232,16 +232,6 @@ def stored(program):
         service.end()
 
 
-# ---- runs of stored operations
-
-def run_service(program, schema, document, data):
-    service = Service(program)
-    service.put("/schema/s", schema)
-    service.put("/documents/d", document)
-    service.put("/data", data)
-    return service
-
-
 def processor_time(program, sent):
     """The seconds of processor time that a process takes for requests: the least of three."""
     with tempfile.TemporaryFile() as requests:
@@ -255,6 +245,68 @@ def processor_time(program, sent):
             taken = after.ru_utime + after.ru_stime - before.ru_utime - before.ru_stime
             least = taken if least is None else min(least, taken)
         return least
+
+
+# ---- edits of one document file
+
+def edit(program, what, schema, text, rounds, unit="", count=1):
+    """The processor time of an edit that puts a document file, by which each definition is examined
+    again: it stands a line lower in every second edit. The time is divided by a count."""
+    service = Service(program)
+    first = [request("PUT /schema/s", schema)] if schema else []
+    for sent in first:
+        service.send([sent])
+    faults = service.put("/documents/d", text)["faults"]
+    service.end()
+    sent = [request("PUT /documents/d", "\n" * (n % 2) + text) for n in range(rounds)]
+    taken = processor_time(program, first + sent) - processor_time(program, first)
+    say(f"{what}{unit}", taken * 1e6 / rounds / count, f" ({len(text)} bytes, {faults} faults)")
+
+
+def parsing(program):
+    line = "query Q%d($id: ID!) { user(id: $id) { name, friends(first: 10) { id name } } } # one\n"
+    operations = "".join(line % n for n in range(740))
+    edit(program, "edit 64 KB of operations where there is no schema", "", operations, 200)
+
+
+def operations(program):
+    schema = ("type Query { item(id: ID!, by: Filter): Item }\n"
+              "type Item { id: ID! name(first: Int = 1): String }\n"
+              "input Filter { name: String! first: Int = 1 }\n")
+    for title, lines, rounds in [("1", 16, 4000), ("8", 128, 500), ("64", 1000, 60)]:
+        fields = "".join(f'f{n}: item(id: {n}, by: {{name: "a"}}) {{ id name(first: 2) }}\n'
+                         for n in range(lines))
+        edit(program, f"edit an operation of {title} KB", schema, f"query Find {{\n{fields}}}\n",
+             rounds, ", for each field", 3 * lines)
+
+
+def merging(program):
+    schema = "type Query { a: Int q: Query }"
+    cases = [(f"{n} copies of a field", "{ " + "a " * n + "}") for n in [300, 1200, 4800]]
+    cases += [(f"{n} copies of a field with selections", "{ " + "q { a } " * n + "}")
+              for n in [300, 1200, 4800]]
+    cases += [(f"{n} fields of different names", "{ " + "".join(f"a{f}: a " for f in range(n)) + "}")
+              for n in [300, 1200, 4800]]
+    cases += [(f"{n} fragments in one set", "{ " + "".join(f"...F{f} " for f in range(n)) + "}\n"
+               + "".join(f"fragment F{f} on Query {{ a a{f}: a q {{ a }} }}\n" for f in range(n)))
+              for n in [100, 400, 800]]
+    cases += [(f"equal selections, {n} levels deep",
+               "{ " + ("q { " * n + "a " + "} " * n) * 2 + "}") for n in [1, 8, 32, 64]]
+    cases += [(f"{n} fragments, each of which spreads the next one twice", "{ ...F0 }\n"
+               + "".join(f"fragment F{f} on Query {{ q {{ ...F{f + 1} }} q {{ ...F{f + 1} }} }}\n"
+                         for f in range(n)) + f"fragment F{n} on Query {{ a }}\n") for n in [8, 16]]
+    for what, text in cases:
+        edit(program, f"edit an operation of {what}", schema, text, 40)
+
+
+# ---- runs of stored operations
+
+def run_service(program, schema, document, data):
+    service = Service(program)
+    service.put("/schema/s", schema)
+    service.put("/documents/d", document)
+    service.put("/data", data)
+    return service
 
 
 def run(program, what, schema, document, data, rounds=20, call="{}"):
@@ -297,6 +349,32 @@ def runs(program):
         '{"query":' + '{"q":' * 16 + '{"x":1}' + "}" * 17, 100)
 
 
+# ---- runs with large inputs
+
+POINT = ("enum Side { LEFT RIGHT }\n"
+         "input Point { x: Int! y: Int! = 0 side: Side = LEFT tags: [String!]! = [\"a\"] next: Spot "
+         "spots: [Spot!] }\n"
+         "input Spot { z: Int! name: String = \"spot\" side: Side = LEFT }\n")
+
+
+def inputs(program):
+    """The processor time of a run whose variable is a list of input objects, in each of which three
+    more are: as JSON, and as its default value."""
+    schema = "type Query { a(of: [Point!]!): ID }\n" + POINT
+    value = ('{"x":1,"side":"RIGHT","tags":["b","c"],"next":{"z":2},'
+             '"spots":[{"z":3},{"z":4,"name":"d","side":"RIGHT"}]}')
+    literal = ('{x:1 side:RIGHT tags:["b" "c"] next:{z:2} '
+               'spots:[{z:3}{z:4 name:"d" side:RIGHT}]}')
+    for count in [500, 1000, 2000]:
+        call = '{"variables":{"v":[' + ",".join([value] * count) + "]}}"
+        run(program, f"run with {count} inputs of JSON", schema,
+            "query Q($v: [Point!]!) { a(of: $v) }", "{}", 20, call)
+    for count in [175, 350, 700]:
+        default = "[" + ",".join([literal] * count) + "]"
+        run(program, f"run with {count} inputs as a default value", schema,
+            f"query Q($v: [Point!]! = {default}) {{ a(of: $v) }}", "{}", 20)
+
+
 def described_types(number):
     lines = ["type Query { a: ID }"] if number == 0 else []
     for t in range(225):
@@ -334,7 +412,8 @@ def nested(program):
     service.end()
 
 
-PARTS = {"edits": edits, "fields": fields, "stored": stored, "runs": runs,
+PARTS = {"edits": edits, "fields": fields, "stored": stored, "parsing": parsing,
+         "operations": operations, "merging": merging, "runs": runs, "inputs": inputs,
          "introspection": introspection, "nested": nested}
 
 if __name__ == "__main__":

@@ -1,18 +1,15 @@
-//! Measures the crates below the registry. With the argument `run` it prints a line for each
-//! figure; with no argument it prints nothing.
+//! Measures what no request to the service shows alone: the lexer, the parsers, and schemas that are
+//! put together. With the argument `run` it prints a line for each figure; with no argument it prints
+//! nothing.
 #![tactic(auto)]
 
 use anyhow::Result;
 use std::env;
 
 mod documents;
-mod facts;
 mod lexer;
-mod merging;
-mod rules;
 mod schemas;
 mod speed;
-mod values;
 
 fn is_wanted(rt: &HostRuntime) -> Result<bool> {
     let mut is_wanted = false;
@@ -29,10 +26,6 @@ fn main(rt: HostRuntime) -> Result<()> {
         lexer::measure(&rt)?;
         documents::measure(&rt)?;
         schemas::measure(&rt)?;
-        facts::measure(&rt)?;
-        rules::measure(&rt)?;
-        merging::measure(&rt)?;
-        values::measure(&rt)?;
     }
     Ok(())
 }
