@@ -9,15 +9,22 @@ top=$(cd "$(dirname "$0")/.." && pwd)
 place=$(mktemp -d)
 trap 'rm -rf "$place"' EXIT
 
-# of the code: the texts of `title`, then those of `sentence`, which may go on in the next line
+# of the code: the rules in their order, then the tables of their names and sentences
 awk '
-    /^pub fn title/ { part = "title" }
-    /^pub fn sentence/ { part = "sentence" }
-    match($0, /Rule::[A-Z][0-9][0-9]/) { rule = substr($0, RSTART + 6, 3) }
+    FNR == NR {
+        if ($0 ~ /^    [PSV][0-9][0-9],$/) rule[++rules] = substr($0, 5, 3)
+        next
+    }
+    /^static TITLES/ { part = "title"; next }
+    /^static SENTENCES/ { part = "sentence"; next }
+    /^\];/ { part = "" }
     part != "" && match($0, /"[^"]*"/) {
-        text[part, rule] = substr($0, RSTART + 1, RLENGTH - 2)
-        if (part == "sentence") print rule " " text["title", rule] ": " text["sentence", rule]
-    }' "$top/crates/gql_findings/src/words.rt" | sort > "$place/code"
+        place = ++count[part]
+        text[part, place] = substr($0, RSTART + 1, RLENGTH - 2)
+        if (part == "sentence")
+            print rule[place] " " text["title", place] ": " text["sentence", place]
+    }' "$top/crates/gql_ast/src/rule.rt" "$top/crates/gql_findings/src/words.rt" |
+    sort > "$place/code"
 
 # of the tables "Name and fault"
 awk -F ' [|] ' '

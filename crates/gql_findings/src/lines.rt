@@ -11,7 +11,7 @@ ghost use Rattle.gql_findings.specs.LineSpans.{AreSpans, IsPart, part_of};
 use std::alloc::{AllocError, Global};
 
 /// Where a line starts and ends, in bytes.
-#[derive(Clone, Copy, Debug)]
+#[derive(Clone, Copy)]
 pub struct LineSpan {
     pub start: usize,
     pub end: usize,

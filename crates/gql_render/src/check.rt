@@ -1,5 +1,6 @@
 //! What is written: a check, alone or against a base.
 
+use crate::picking::picked;
 use gql_findings::{Affected, Cause, Comparison, Finding, Findings, Rule, causes};
 use std::alloc::{AllocError, Global};
 
@@ -26,6 +27,12 @@ pub fn shown(alloc: Global, check: &Check<'_>) -> Result<Vec<usize>, AllocError>
     }
 }
 
+/// The faults that are shown.
+pub fn shown_faults<'c>(alloc: Global, check: &Check<'c>) -> Result<Vec<&'c Finding>, AllocError> {
+    let places = shown(alloc, check)?;
+    picked(alloc, check.now.findings.as_slice(), places.as_slice())
+}
+
 /// The causes of the faults that are shown.
 pub fn shown_causes(alloc: Global, check: &Check<'_>) -> Result<Vec<Cause>, AllocError> {
     let places = shown(alloc, check)?;
@@ -39,4 +46,13 @@ pub fn broken(alloc: Global, check: &Check<'_>) -> Result<Vec<usize>, AllocError
         Some(base) => base.comparison.broken.clone(),
         None => (0..check.now.affected.len()).collect(alloc),
     }
+}
+
+/// The operations that are reported as broken.
+pub fn broken_operations<'c>(
+    alloc: Global,
+    check: &Check<'c>,
+) -> Result<Vec<&'c Affected>, AllocError> {
+    let places = broken(alloc, check)?;
+    picked(alloc, check.now.affected.as_slice(), places.as_slice())
 }

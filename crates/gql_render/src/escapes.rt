@@ -1,47 +1,63 @@
 //! Texts within the texts of a format.
 
-use crate::write::write_text;
+use crate::write::{write_text, write_texts};
 use std::alloc::AllocError;
+
+/// Writes the text that stands for a character, or the character itself if that text is empty.
+pub fn write_escaped(out: &mut String, character: char, escape: &str) -> Result<(), AllocError> {
+    if escape.is_empty() {
+        out.push(character)
+    } else {
+        write_text(out, escape)
+    }
+}
+
+/// The text for a character in the text of an annotation of GitHub; empty for the character itself.
+fn message_escape(character: char) -> &'static str {
+    match character {
+        '%' => "%25",
+        '\r' => "%0D",
+        '\n' => "%0A",
+        _ => "",
+    }
+}
 
 /// Writes the text of an annotation of GitHub.
 pub fn write_message(out: &mut String, text: &str) -> Result<(), AllocError> {
     for character in text.chars() {
-        match character {
-            '%' => write_text(out, "%25")?,
-            '\r' => write_text(out, "%0D")?,
-            '\n' => write_text(out, "%0A")?,
-            other => out.push(other)?,
-        }
+        write_escaped(out, character, message_escape(character))?;
     }
     Ok(())
+}
+
+/// The text for a character in a property of an annotation of GitHub; empty for the character
+/// itself.
+fn property_escape(character: char) -> &'static str {
+    match character {
+        ':' => "%3A",
+        ',' => "%2C",
+        other => message_escape(other),
+    }
 }
 
 /// Writes a property of an annotation of GitHub.
 pub fn write_property(out: &mut String, text: &str) -> Result<(), AllocError> {
     for character in text.chars() {
-        match character {
-            '%' => write_text(out, "%25")?,
-            '\r' => write_text(out, "%0D")?,
-            '\n' => write_text(out, "%0A")?,
-            ':' => write_text(out, "%3A")?,
-            ',' => write_text(out, "%2C")?,
-            other => out.push(other)?,
-        }
+        write_escaped(out, character, property_escape(character))?;
     }
     Ok(())
 }
 
-/// The digit of a number below 16, in capitals.
-fn hex_digit(number: u8) -> char {
-    match number {
-        0..=9 => char::from(b'0' + number),
-        10 => 'A',
-        11 => 'B',
-        12 => 'C',
-        13 => 'D',
-        14 => 'E',
-        _ => 'F',
-    }
+/// The digits of hexadecimal numbers.
+static HEX_DIGITS: [&str; 16] = [
+    "0", "1", "2", "3", "4", "5", "6", "7", "8", "9", "A", "B", "C", "D", "E", "F",
+];
+
+/// Writes a byte as `%` and its two hexadecimal digits.
+fn write_hex(out: &mut String, byte: u8) -> Result<(), AllocError> {
+    let high = HEX_DIGITS[(byte / 16) as usize];
+    let low = HEX_DIGITS[(byte % 16) as usize];
+    write_texts(out, &["%", high, low])
 }
 
 /// Whether a byte is itself in a path of a URI: a letter, a digit, or one of `-._~/`.
@@ -56,25 +72,28 @@ pub fn write_uri(out: &mut String, path: &str) -> Result<(), AllocError> {
         if is_plain_in_uri(*byte) {
             out.push(char::from(*byte))?;
         } else {
-            out.push('%')?;
-            out.push(hex_digit(*byte / 16))?;
-            out.push(hex_digit(*byte % 16))?;
+            write_hex(out, *byte)?;
         }
     }
     Ok(())
 }
 
+/// The entity for a character in HTML; empty for the character itself.
+pub fn html_entity(character: char) -> &'static str {
+    match character {
+        '&' => "&amp;",
+        '<' => "&lt;",
+        '>' => "&gt;",
+        '"' => "&quot;",
+        '\'' => "&#39;",
+        _ => "",
+    }
+}
+
 /// Writes a text within HTML.
 pub fn write_html(out: &mut String, text: &str) -> Result<(), AllocError> {
     for character in text.chars() {
-        match character {
-            '&' => write_text(out, "&amp;")?,
-            '<' => write_text(out, "&lt;")?,
-            '>' => write_text(out, "&gt;")?,
-            '"' => write_text(out, "&quot;")?,
-            '\'' => write_text(out, "&#39;")?,
-            other => out.push(other)?,
-        }
+        write_escaped(out, character, html_entity(character))?;
     }
     Ok(())
 }
@@ -82,11 +101,6 @@ pub fn write_html(out: &mut String, text: &str) -> Result<(), AllocError> {
 /// What stands for a character in Markdown that is markup there; else nothing.
 fn markdown_entity(character: char) -> &'static str {
     match character {
-        '&' => "&amp;",
-        '<' => "&lt;",
-        '>' => "&gt;",
-        '"' => "&quot;",
-        '\'' => "&#39;",
         '`' => "&#96;",
         '*' => "&#42;",
         '_' => "&#95;",
@@ -97,19 +111,14 @@ fn markdown_entity(character: char) -> &'static str {
         '~' => "&#126;",
         '\n' => "&#10;",
         '\r' => "&#13;",
-        _ => "",
+        other => html_entity(other),
     }
 }
 
 /// Writes a text within Markdown: what is markup there is written as an entity.
 pub fn write_markdown(out: &mut String, text: &str) -> Result<(), AllocError> {
     for character in text.chars() {
-        let entity = markdown_entity(character);
-        if entity.is_empty() {
-            out.push(character)?;
-        } else {
-            write_text(out, entity)?;
-        }
+        write_escaped(out, character, markdown_entity(character))?;
     }
     Ok(())
 }

@@ -3,7 +3,7 @@
 ghost use Rattle.std.specs.Prelude.{◌≡◌, ◌++◌, map, OnOk};
 ghost use Rattle.gql_render.specs.Texts as spec;
 
-use crate::json_write::{write_bytes, write_number, write_string};
+use crate::json_write::{write_bytes, write_number_after, write_string, write_string_after};
 use crate::phrases::kind_word;
 use gql_findings::{
     Affected, Finding, OperationKind, Owner, OwnerAt, Source, Spot, Text, label_at, title,
@@ -20,12 +20,9 @@ fn write_place_members(
 ) -> Result<(), AllocError>
     ensures { OnOk result (out.new.items ≡ out.old.items ++ spec.place_text sources.now spot.now) }
 {
-    write_bytes(out, b"\"path\":")?;
-    write_string(alloc, out, label_at(sources, spot))?;
-    write_bytes(out, b",\"line\":")?;
-    write_number(out, spot.line)?;
-    write_bytes(out, b",\"column\":")?;
-    write_number(out, spot.column)
+    write_string_after(alloc, out, b"\"path\":", label_at(sources, spot))?;
+    write_number_after(out, b",\"line\":", spot.line)?;
+    write_number_after(out, b",\"column\":", spot.column)
 }
 
 /// Writes a place.
@@ -87,8 +84,7 @@ fn write_operation(
 ) -> Result<(), AllocError>
     ensures { OnOk result (out.new.items ≡ out.old.items ++ spec.operation_text kind name.now) }
 {
-    write_bytes(out, b"\"kind\":")?;
-    write_string(alloc, out, kind_word(kind))?;
+    write_string_after(alloc, out, b"\"kind\":", kind_word(kind))?;
     write_bytes(out, b",\"name\":")?;
     write_name(alloc, out, name)
 }
@@ -138,12 +134,9 @@ fn write_owner(
 fn write_what(alloc: Global, out: &mut Vec<u8>, finding: &Finding) -> Result<(), AllocError>
     ensures { OnOk result (out.new.items ≡ out.old.items ++ spec.what_text finding.now) }
 {
-    write_bytes(out, b"{\"rule\":")?;
-    write_string(alloc, out, finding.rule.name())?;
-    write_bytes(out, b",\"title\":")?;
-    write_string(alloc, out, title(finding.rule))?;
-    write_bytes(out, b",\"about\":")?;
-    write_string(alloc, out, finding.about.as_str())
+    write_string_after(alloc, out, b"{\"rule\":", finding.rule.name())?;
+    write_string_after(alloc, out, b",\"title\":", title(finding.rule))?;
+    write_string_after(alloc, out, b",\"about\":", finding.about.as_str())
 }
 
 /// Writes the other members of a fault: its places and its owner.

@@ -1,6 +1,6 @@
 //! A check as JSON.
 
-ghost use Rattle.std.specs.Prelude.{◌≡◌, ◌++◌, OnOk, IfOk};
+ghost use Rattle.std.specs.Prelude.{◌≡◌, ◌++◌, OnOk, IfOk, codes, map};
 ghost use Rattle.serde_json.specs.Written.{compact_text};
 ghost use Rattle.gql_render.specs.Json.{check_json};
 ghost use Rattle.gql_render.specs.Texts as spec;
@@ -9,10 +9,41 @@ use crate::check::{Against, Check};
 use crate::json_entries::{write_faults, write_operations};
 use crate::json_write::write_bytes;
 use crate::picking::{every, picked};
-use gql_findings::Findings;
+use gql_findings::{Affected, Finding, Findings};
 use std::alloc::{AllocError, Global};
 
-/// Writes a list of faults.
+/// Writes faults, as a list.
+fn write_fault_array(
+    alloc: Global,
+    out: &mut Vec<u8>,
+    findings: &Findings,
+    faults: &[&Finding],
+) -> Result<(), AllocError>
+    ensures { OnOk result (out.new.items ≡ out.old.items ++ codes "["
+        ++ spec.faults_text findings.now.sources.items (map (λ f. f.now) faults.now) ++ codes "]") }
+{
+    write_bytes(out, b"[")?;
+    write_faults(alloc, out, findings.sources.as_slice(), faults)?;
+    write_bytes(out, b"]")
+}
+
+/// Writes operations, as a list.
+fn write_operation_array(
+    alloc: Global,
+    out: &mut Vec<u8>,
+    findings: &Findings,
+    operations: &[&Affected],
+) -> Result<(), AllocError>
+    ensures { OnOk result (out.new.items ≡ out.old.items ++ codes "["
+        ++ spec.operations_text findings.now.sources.items (map (λ a. a.now) operations.now)
+        ++ codes "]") }
+{
+    write_bytes(out, b"[")?;
+    write_operations(alloc, out, findings.sources.as_slice(), operations)?;
+    write_bytes(out, b"]")
+}
+
+/// Writes the faults at these places, as a list.
 #[tactic(auto, unfolding(crate::specs::Texts::fault_list_text))]
 fn write_fault_list(
     alloc: Global,
@@ -24,12 +55,10 @@ fn write_fault_list(
         ≡ out.old.items ++ spec.fault_list_text findings.now places.now) }
 {
     let faults = picked(alloc, findings.findings.as_slice(), places)?;
-    write_bytes(out, b"[")?;
-    write_faults(alloc, out, findings.sources.as_slice(), faults.as_slice())?;
-    write_bytes(out, b"]")
+    write_fault_array(alloc, out, findings, faults.as_slice())
 }
 
-/// Writes a list of operations that are not served.
+/// Writes the operations at these places, as a list.
 #[tactic(auto, unfolding(crate::specs::Texts::operation_list_text))]
 fn write_operation_list(
     alloc: Global,
@@ -41,14 +70,7 @@ fn write_operation_list(
         ≡ out.old.items ++ spec.operation_list_text findings.now places.now) }
 {
     let operations = picked(alloc, findings.affected.as_slice(), places)?;
-    write_bytes(out, b"[")?;
-    write_operations(
-        alloc,
-        out,
-        findings.sources.as_slice(),
-        operations.as_slice(),
-    )?;
-    write_bytes(out, b"]")
+    write_operation_array(alloc, out, findings, operations.as_slice())
 }
 
 /// The word for a truth value.
@@ -136,9 +158,7 @@ fn write_all_faults(alloc: Global, out: &mut Vec<u8>, now: &Findings) -> Result<
     ensures { OnOk result (out.new.items ≡ out.old.items ++ spec.all_faults_text now.now) }
 {
     let faults = every(alloc, now.findings.as_slice())?;
-    write_bytes(out, b"[")?;
-    write_faults(alloc, out, now.sources.as_slice(), faults.as_slice())?;
-    write_bytes(out, b"]")
+    write_fault_array(alloc, out, now, faults.as_slice())
 }
 
 /// Writes all operations that are not served, as a list.
@@ -147,9 +167,7 @@ fn write_all_operations(alloc: Global, out: &mut Vec<u8>, now: &Findings) -> Res
     ensures { OnOk result (out.new.items ≡ out.old.items ++ spec.all_operations_text now.now) }
 {
     let operations = every(alloc, now.affected.as_slice())?;
-    write_bytes(out, b"[")?;
-    write_operations(alloc, out, now.sources.as_slice(), operations.as_slice())?;
-    write_bytes(out, b"]")
+    write_operation_array(alloc, out, now, operations.as_slice())
 }
 
 /// Writes all faults, and all operations that are not served, as members.

@@ -31,6 +31,27 @@ pub fn write_string(alloc: Global, out: &mut Vec<u8>, text: &str) -> Result<(), 
     }
 }
 
+/// Writes bytes, and then a string in quotes.
+pub fn write_string_after(
+    alloc: Global,
+    out: &mut Vec<u8>,
+    bytes: &[u8],
+    text: &str,
+) -> Result<(), AllocError>
+    ensures { OnOk result (out.new.items ≡ out.old.items ++ bytes.now ++ quoted text.now) }
+{
+    write_bytes(out, bytes)?;
+    write_string(alloc, out, text)
+}
+
+/// Writes bytes, and then a whole number.
+pub fn write_number_after(out: &mut Vec<u8>, bytes: &[u8], number: usize) -> Result<(), AllocError>
+    ensures { OnOk result (out.new.items ≡ out.old.items ++ bytes.now ++ decimal number) }
+{
+    write_bytes(out, bytes)?;
+    write_number(out, number)
+}
+
 /// Writes a whole number.
 pub fn write_number(out: &mut Vec<u8>, number: usize) -> Result<(), AllocError>
     ensures { OnOk result (out.new.items ≡ out.old.items ++ decimal number) }

@@ -4,7 +4,7 @@ ghost use Rattle.std.specs.Prelude.{◌≡◌};
 ghost use Rattle.gql_render.specs.Json.{kind_word};
 
 use crate::check::Check;
-use crate::write::{write_number, write_text};
+use crate::write::{write_number, write_text, write_texts};
 use gql_findings::{
     Affected, Finding, OperationKind, Owner, Source, Spot, Text, label_at, sentence, title,
 };
@@ -13,12 +13,8 @@ use std::alloc::AllocError;
 /// Writes how many there are: `1 fault`, `2 faults`.
 pub fn write_count(out: &mut String, count: usize, noun: &str) -> Result<(), AllocError> {
     write_number(out, count)?;
-    write_text(out, " ")?;
-    write_text(out, noun)?;
-    if count != 1 {
-        write_text(out, "s")?;
-    }
-    Ok(())
+    let ending = if count == 1 { "" } else { "s" };
+    write_texts(out, &[" ", noun, ending])
 }
 
 /// The word for a kind of operation.
@@ -50,8 +46,7 @@ pub fn write_operation(
     match name {
         Some(name) => {
             write_text(out, kind_word(kind))?;
-            write_text(out, " ")?;
-            write_text(out, name.as_str())
+            write_texts(out, &[" ", name.as_str()])
         }
         None => write_text(out, unnamed(kind)),
     }
@@ -60,10 +55,7 @@ pub fn write_operation(
 /// Writes a definition, as `fragment Shown`.
 pub fn write_owner(out: &mut String, owner: &Owner) -> Result<(), AllocError> {
     match owner {
-        Owner::Fragment(name) => {
-            write_text(out, "fragment ")?;
-            write_text(out, name.as_str())
-        }
+        Owner::Fragment(name) => write_texts(out, &["fragment ", name.as_str()]),
         Owner::Operation { kind, name } => write_operation(out, *kind, name),
     }
 }
@@ -71,36 +63,31 @@ pub fn write_owner(out: &mut String, owner: &Owner) -> Result<(), AllocError> {
 /// Writes an operation that is not served, as `query Profile (by fragment Shown)`.
 pub fn write_affected(out: &mut String, affected: &Affected) -> Result<(), AllocError> {
     write_operation(out, affected.kind, &affected.name)?;
-    if let Some(through) = &affected.through {
-        write_text(out, " (by fragment ")?;
-        write_text(out, through.as_str())?;
-        write_text(out, ")")?;
+    match &affected.through {
+        Some(through) => write_texts(out, &[" (by fragment ", through.as_str(), ")"]),
+        None => Ok(()),
     }
-    Ok(())
 }
 
 /// Writes the rule of a fault and what it is about.
 pub fn write_rule(out: &mut String, finding: &Finding) -> Result<(), AllocError> {
     write_text(out, finding.rule.name())?;
-    if !finding.about.as_str().is_empty() {
-        write_text(out, " `")?;
-        write_text(out, finding.about.as_str())?;
-        write_text(out, "`")?;
+    let about = finding.about.as_str();
+    if about.is_empty() {
+        return Ok(());
     }
-    Ok(())
+    write_texts(out, &[" `", about, "`"])
 }
 
 /// Writes the name and the sentence of a fault's rule, and the definition that owns the fault.
 pub fn write_sentence(out: &mut String, finding: &Finding) -> Result<(), AllocError> {
-    write_text(out, title(finding.rule))?;
-    write_text(out, ": ")?;
-    write_text(out, sentence(finding.rule))?;
-    if let Some(owner) = &finding.owner {
-        write_text(out, " (in ")?;
-        write_owner(out, &owner.owner)?;
-        write_text(out, ")")?;
-    }
-    Ok(())
+    write_texts(out, &[title(finding.rule), ": ", sentence(finding.rule)])?;
+    let Some(owner) = &finding.owner else {
+        return Ok(());
+    };
+    write_text(out, " (in ")?;
+    write_owner(out, &owner.owner)?;
+    write_text(out, ")")
 }
 
 /// Writes a fault without its places.
@@ -112,11 +99,19 @@ pub fn write_fault(out: &mut String, finding: &Finding) -> Result<(), AllocError
 
 /// Writes a place, as `documents/profile.graphql:5:26`.
 pub fn write_spot(out: &mut String, sources: &[Source], spot: &Spot) -> Result<(), AllocError> {
-    write_text(out, label_at(sources, spot))?;
-    write_text(out, ":")?;
-    write_number(out, spot.line)?;
-    write_text(out, ":")?;
-    write_number(out, spot.column)
+    let mut line = itoa::Buffer::new();
+    let mut column = itoa::Buffer::new();
+    let label = label_at(sources, spot);
+    write_texts(
+        out,
+        &[
+            label,
+            ":",
+            line.format(spot.line),
+            ":",
+            column.format(spot.column),
+        ],
+    )
 }
 
 /// Writes the counts: `1 fault in 2 files`, or against a base `1 fault brought, 0 faults mended`.

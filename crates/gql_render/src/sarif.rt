@@ -1,11 +1,10 @@
 //! A check as SARIF 2.1.0, which code scanners exchange.
 
-use crate::check::{Check, broken, shown};
+use crate::check::{Check, broken_operations, shown_faults};
 use crate::escapes::write_uri;
-use crate::json_write::{write_bytes, write_number, write_string};
+use crate::json_write::{write_bytes, write_number_after, write_string_after};
 use crate::phrases::{hidden, write_affected, write_fault};
-use crate::picking::picked;
-use crate::write::write_text;
+use crate::write::{write_text, write_texts};
 use gql_findings::{Affected, Finding, Rule, Source, Spot, label_at, sentence, title};
 use std::alloc::{AllocError, Global};
 
@@ -29,18 +28,23 @@ fn place_of(rules: &[Rule], rule: Rule) -> usize {
         .unwrap_or(rules.len())
 }
 
+/// Writes the name and the sentence of a rule, as a member.
+fn write_description(alloc: Global, out: &mut Vec<u8>, rule: Rule) -> Result<(), AllocError> {
+    let mut text = String::new(alloc);
+    write_texts(&mut text, &[title(rule), ": ", sentence(rule)])?;
+    write_string_after(
+        alloc,
+        out,
+        b"},\"fullDescription\":{\"text\":",
+        text.as_str(),
+    )
+}
+
 /// Writes a rule.
 fn write_rule(alloc: Global, out: &mut Vec<u8>, rule: Rule) -> Result<(), AllocError> {
-    write_bytes(out, b"{\"id\":")?;
-    write_string(alloc, out, rule.name())?;
-    write_bytes(out, b",\"shortDescription\":{\"text\":")?;
-    write_string(alloc, out, title(rule))?;
-    write_bytes(out, b"},\"fullDescription\":{\"text\":")?;
-    let mut text = String::new(alloc);
-    write_text(&mut text, title(rule))?;
-    write_text(&mut text, ": ")?;
-    write_text(&mut text, sentence(rule))?;
-    write_string(alloc, out, text.as_str())?;
+    write_string_after(alloc, out, b"{\"id\":", rule.name())?;
+    write_string_after(alloc, out, b",\"shortDescription\":{\"text\":", title(rule))?;
+    write_description(alloc, out, rule)?;
     write_bytes(out, b"}}")
 }
 
@@ -57,6 +61,18 @@ fn write_rules(alloc: Global, out: &mut Vec<u8>, rules: &[Rule]) -> Result<(), A
     Ok(())
 }
 
+/// Writes the path of a file as a URI, as the first members of a place.
+fn write_file(alloc: Global, out: &mut Vec<u8>, label: &str) -> Result<(), AllocError> {
+    let mut uri = String::new(alloc);
+    write_uri(&mut uri, label)?;
+    write_string_after(
+        alloc,
+        out,
+        b"\"physicalLocation\":{\"artifactLocation\":{\"uri\":",
+        uri.as_str(),
+    )
+}
+
 /// Writes a place, as members of a location.
 fn write_place(
     alloc: Global,
@@ -64,14 +80,9 @@ fn write_place(
     sources: &[Source],
     spot: &Spot,
 ) -> Result<(), AllocError> {
-    let mut uri = String::new(alloc);
-    write_uri(&mut uri, label_at(sources, spot))?;
-    write_bytes(out, b"\"physicalLocation\":{\"artifactLocation\":{\"uri\":")?;
-    write_string(alloc, out, uri.as_str())?;
-    write_bytes(out, b"},\"region\":{\"startLine\":")?;
-    write_number(out, spot.line)?;
-    write_bytes(out, b",\"startColumn\":")?;
-    write_number(out, spot.column)?;
+    write_file(alloc, out, label_at(sources, spot))?;
+    write_number_after(out, b"},\"region\":{\"startLine\":", spot.line)?;
+    write_number_after(out, b",\"startColumn\":", spot.column)?;
     write_bytes(out, b"}}")
 }
 
@@ -108,13 +119,28 @@ fn write_places(
     };
     write_bytes(out, b",\"locations\":[{")?;
     write_place(alloc, out, sources, first)?;
-    write_bytes(out, b"}]")?;
     if others.is_empty() {
-        return Ok(());
+        return write_bytes(out, b"}]");
     }
-    write_bytes(out, b",\"relatedLocations\":[")?;
+    write_bytes(out, b"}],\"relatedLocations\":[")?;
     write_related(alloc, out, sources, others)?;
     write_bytes(out, b"]")
+}
+
+/// Writes the text of a fault, as a member.
+fn write_fault_message(
+    alloc: Global,
+    out: &mut Vec<u8>,
+    fault: &Finding,
+) -> Result<(), AllocError> {
+    let mut text = String::new(alloc);
+    write_fault(&mut text, fault)?;
+    write_string_after(
+        alloc,
+        out,
+        b",\"level\":\"error\",\"message\":{\"text\":",
+        text.as_str(),
+    )
 }
 
 /// Writes a fault. Against a base it is new.
@@ -125,21 +151,17 @@ fn write_result(
     rules: &[Rule],
     fault: &Finding,
 ) -> Result<(), AllocError> {
-    let mut text = String::new(alloc);
-    write_fault(&mut text, fault)?;
-    write_bytes(out, b"{\"ruleId\":")?;
-    write_string(alloc, out, fault.rule.name())?;
-    write_bytes(out, b",\"ruleIndex\":")?;
-    write_number(out, place_of(rules, fault.rule))?;
-    write_bytes(out, b",\"level\":\"error\",\"message\":{\"text\":")?;
-    write_string(alloc, out, text.as_str())?;
+    write_string_after(alloc, out, b"{\"ruleId\":", fault.rule.name())?;
+    write_number_after(out, b",\"ruleIndex\":", place_of(rules, fault.rule))?;
+    write_fault_message(alloc, out, fault)?;
     write_bytes(out, b"}")?;
     let sources = check.now.sources.as_slice();
     write_places(alloc, out, sources, fault.spots.as_slice())?;
     if check.base.is_some() {
-        write_bytes(out, b",\"baselineState\":\"new\"")?;
+        write_bytes(out, b",\"baselineState\":\"new\"}")
+    } else {
+        write_bytes(out, b"}")
     }
-    write_bytes(out, b"}")
 }
 
 /// Writes faults with commas between them.
@@ -163,8 +185,12 @@ fn write_results(
 
 /// Writes a note of the run.
 fn write_note(alloc: Global, out: &mut Vec<u8>, text: &str) -> Result<(), AllocError> {
-    write_bytes(out, b"{\"level\":\"note\",\"message\":{\"text\":")?;
-    write_string(alloc, out, text)?;
+    write_string_after(
+        alloc,
+        out,
+        b"{\"level\":\"note\",\"message\":{\"text\":",
+        text,
+    )?;
     write_bytes(out, b"}}")
 }
 
@@ -182,21 +208,17 @@ fn write_operation_note(
     };
     write_text(&mut text, start)?;
     write_affected(&mut text, affected)?;
-    write_text(&mut text, " in ")?;
-    write_text(
-        &mut text,
-        label_at(check.now.sources.as_slice(), &affected.spot),
-    )?;
+    let label = label_at(check.now.sources.as_slice(), &affected.spot);
+    write_texts(&mut text, &[" in ", label])?;
     write_note(alloc, out, text.as_str())
 }
 
 /// Writes the notes of the run: the operations that are broken, and what a schema with faults
 /// hides.
 fn write_notes(alloc: Global, out: &mut Vec<u8>, check: &Check<'_>) -> Result<(), AllocError> {
-    let places = broken(alloc, check)?;
-    let operations = picked(alloc, check.now.affected.as_slice(), places.as_slice())?;
+    let operations = broken_operations(alloc, check)?;
     let mut comma: &[u8] = b"";
-    for affected in operations {
+    for affected in operations.as_slice() {
         write_bytes(out, comma)?;
         write_operation_note(alloc, out, check, affected)?;
         comma = b",";
@@ -213,31 +235,42 @@ fn write_notes(alloc: Global, out: &mut Vec<u8>, check: &Check<'_>) -> Result<()
 fn write_head(out: &mut Vec<u8>) -> Result<(), AllocError> {
     write_bytes(
         out,
-        b"{\"$schema\":\"https://json.schemastore.org/sarif-2.1.0.json\",",
-    )?;
-    write_bytes(out, b"\"version\":\"2.1.0\",\"runs\":[{")?;
-    write_bytes(out, b"\"columnKind\":\"unicodeCodePoints\",")?;
-    write_bytes(
-        out,
-        b"\"tool\":{\"driver\":{\"name\":\"gqlreg\",\"rules\":[",
+        b"{\"$schema\":\"https://json.schemastore.org/sarif-2.1.0.json\",\
+        \"version\":\"2.1.0\",\"runs\":[{\
+        \"columnKind\":\"unicodeCodePoints\",\
+        \"tool\":{\"driver\":{\"name\":\"gqlreg\",\"rules\":[",
     )
+}
+
+/// Writes the rules of the faults, and the faults as results.
+fn write_run(
+    alloc: Global,
+    out: &mut Vec<u8>,
+    check: &Check<'_>,
+    faults: &[&Finding],
+) -> Result<(), AllocError> {
+    let rules = rules_of(alloc, faults)?;
+    write_rules(alloc, out, rules.as_slice())?;
+    write_bytes(out, b"]}},\"results\":[")?;
+    write_results(alloc, out, check, rules.as_slice(), faults)
+}
+
+/// Writes the faults that are shown, and their rules.
+fn write_shown(alloc: Global, out: &mut Vec<u8>, check: &Check<'_>) -> Result<(), AllocError> {
+    let faults = shown_faults(alloc, check)?;
+    write_run(alloc, out, check, faults.as_slice())
 }
 
 /// The check as a SARIF log of one run: its rules, its faults as results, and notes on operations.
 pub fn as_sarif(alloc: Global, check: &Check<'_>) -> Result<Vec<u8>, AllocError> {
     let mut out = Vec::new(alloc);
-    let places = shown(alloc, check)?;
-    let faults = picked(alloc, check.now.findings.as_slice(), places.as_slice())?;
-    let rules = rules_of(alloc, faults.as_slice())?;
     write_head(&mut out)?;
-    write_rules(alloc, &mut out, rules.as_slice())?;
-    write_bytes(&mut out, b"]}},\"results\":[")?;
-    write_results(alloc, &mut out, check, rules.as_slice(), faults.as_slice())?;
+    write_shown(alloc, &mut out, check)?;
     write_bytes(
         &mut out,
-        b"],\"invocations\":[{\"executionSuccessful\":true,",
+        b"],\"invocations\":[{\"executionSuccessful\":true,\
+        \"toolExecutionNotifications\":[",
     )?;
-    write_bytes(&mut out, b"\"toolExecutionNotifications\":[")?;
     write_notes(alloc, &mut out, check)?;
     write_bytes(&mut out, b"]}]}]}")?;
     Ok(out)

@@ -5,7 +5,7 @@ use crate::check::{Against, Check, shown};
 use crate::phrases::{
     hidden, write_affected, write_counts, write_rule, write_sentence, write_spot,
 };
-use crate::write::write_text;
+use crate::write::{write_text, write_texts};
 use gql_findings::{Affected, Finding, Findings, Source, Spot, label_at, line_at};
 use std::alloc::{AllocError, Global};
 
@@ -45,17 +45,9 @@ fn write_caret(
     if line.is_empty() {
         return Ok(());
     }
-    write_text(out, indent)?;
-    write_text(out, "  ")?;
-    write_text(out, line)?;
-    write_text(out, "\n")?;
-    write_text(out, indent)?;
-    write_text(out, "  ")?;
+    write_texts(out, &[indent, "  ", line, "\n", indent, "  "])?;
     write_padding(out, line, spot.column)?;
-    write_text(out, paint.red)?;
-    write_text(out, "^")?;
-    write_text(out, paint.plain)?;
-    write_text(out, "\n")
+    write_texts(out, &[paint.red, "^", paint.plain, "\n"])
 }
 
 /// Writes the first line of a fault.
@@ -72,9 +64,7 @@ fn write_head(
     }
     write_text(out, ": ")?;
     write_rule(out, finding)?;
-    write_text(out, ":")?;
-    write_text(out, paint.plain)?;
-    write_text(out, " ")?;
+    write_texts(out, &[":", paint.plain, " "])?;
     write_sentence(out, finding)?;
     write_text(out, "\n")
 }
@@ -87,8 +77,7 @@ fn write_other(
     paint: Paint,
     indent: &str,
 ) -> Result<(), AllocError> {
-    write_text(out, indent)?;
-    write_text(out, "  and ")?;
+    write_texts(out, &[indent, "  and "])?;
     write_spot(out, sources, spot)?;
     write_text(out, "\n")?;
     write_caret(out, sources, spot, paint, indent)
@@ -132,9 +121,7 @@ fn write_findings(
 
 /// Writes an operation in a line of its own.
 fn write_line(out: &mut String, sources: &[Source], affected: &Affected) -> Result<(), AllocError> {
-    write_text(out, "  ")?;
-    write_text(out, label_at(sources, &affected.spot))?;
-    write_text(out, ": ")?;
+    write_texts(out, &["  ", label_at(sources, &affected.spot), ": "])?;
     write_affected(out, affected)?;
     write_text(out, "\n")
 }
@@ -182,22 +169,31 @@ fn write_changes(
     write_operations(out, base.findings, healed, "operations that this heals:\n")
 }
 
+/// Writes the faults that are shown, and their counts.
+fn write_shown(
+    alloc: Global,
+    out: &mut String,
+    check: &Check<'_>,
+    paint: Paint,
+) -> Result<(), AllocError> {
+    let places = shown(alloc, check)?;
+    write_findings(out, check.now, places.as_slice(), paint, "")?;
+    write_counts(out, check)
+}
+
 /// The check as a compiler prints it: each fault with its line and a caret, the counts, and what
 /// the change does to operations.
 pub fn as_text(alloc: Global, check: &Check<'_>, colours: bool) -> Result<Vec<u8>, AllocError> {
     let paint = paint_of(colours);
     let mut out = String::new(alloc);
-    let places = shown(alloc, check)?;
-    write_findings(&mut out, check.now, places.as_slice(), paint, "")?;
-    write_counts(&mut out, check)?;
+    write_shown(alloc, &mut out, check, paint)?;
     write_text(&mut out, "\n")?;
     if let Some(base) = &check.base {
         write_changes(&mut out, check.now, base, paint)?;
     }
     let hidden = hidden(check);
     if !hidden.is_empty() {
-        write_text(&mut out, hidden)?;
-        write_text(&mut out, "\n")?;
+        write_texts(&mut out, &[hidden, "\n"])?;
     }
     Ok(out.into_bytes())
 }
