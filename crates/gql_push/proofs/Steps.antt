@@ -57,11 +57,11 @@ puts_more all rs ps i r b extra old new within is test more before made =
     ∙ ap (λ es. puts all es (entries_of ps)) (sym (map_taken entry_of rs i r within is))
 
 -- one edit more, and what it puts
-pub put_more : (rs : List Entry) (made : List Edit) (i : ℕ) (m : Edit) (front : List Entry) (extra old new : List Resource) → i < length made → m ≡ get_or made i m → entries_of extra ≡ cons_option (put_by rs (change_of m)) []
-    → entries_of old ≡ front ++ put_among rs (changes_of (take i made)) → new ≡ old ++ extra → entries_of new ≡ front ++ put_among rs (changes_of (take (i + 1) made))
+pub put_more : (rs : List Entry) (made : List Edit) (i : ℕ) (m : Edit) (front extra : List Entry) (old new : List Resource) → i < length made → m ≡ get_or made i m → extra ≡ cons_option (put_by rs (change_of m)) []
+    → entries_of old ≡ front ++ put_among rs (changes_of (take i made)) → entries_of new ≡ entries_of old ++ extra → entries_of new ≡ front ++ put_among rs (changes_of (take (i + 1) made))
 put_more rs made i m front extra old new within is more before joined =
-    ap entries_of joined ∙ map-append entry_of old extra ∙ ap (λ ys. ys ++ entries_of extra) before
-    ∙ append_assoc front (put_among rs (changes_of (take i made))) (entries_of extra)
+    joined ∙ ap (λ ys. ys ++ extra) before
+    ∙ append_assoc front (put_among rs (changes_of (take i made))) extra
     ∙ ap (λ ys. front ++ (put_among rs (changes_of (take i made)) ++ ys)) more
     ∙ ap (λ ys. front ++ ys) (sym (filter_map-append (put_by rs) (changes_of (take i made)) (change_of m ∷ [])) ∙ ap (put_among rs) (sym (map_taken change_of made i m within is)))
 
@@ -85,3 +85,7 @@ no_entry o p is none = ap (λ (x : Option Entry). cons_option x []) (sym (ap (op
 -- nothing is added
 pub nothing_more : {A : Type 0} (old new : List A) → new ≡ old → new ≡ old ++ []
 nothing_more old new is = is ∙ sym (append-nil old)
+
+-- no entry is added
+pub no_entry_more : (old new : List Resource) → new ≡ old → entries_of new ≡ entries_of old ++ []
+no_entry_more old new is = nothing_more (entries_of old) (entries_of new) (ap entries_of is)

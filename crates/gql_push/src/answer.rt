@@ -1,11 +1,11 @@
 //! Answers, as they are read from a connection.
 
-use httparse::{EMPTY_HEADER, Response, Status};
+use httparse::{EMPTY_HEADER, Header, Response, Status};
 use std::str;
 
 /// Where an answer is in the bytes that were read: its status, where its body begins, and where it
 /// ends.
-#[derive(Clone, Copy, Debug, PartialEq, Eq)]
+#[derive(Clone, Copy)]
 pub struct AnswerSpan {
     pub status: u16,
     pub body: usize,
@@ -29,6 +29,16 @@ fn number_in(value: &[u8]) -> Option<usize> {
     }
 }
 
+/// The length of the body that these fields of an answer name, if they name one.
+fn length_in(fields: &[Header<'_>]) -> Option<usize> {
+    for field in fields {
+        if field.name.eq_ignore_ascii_case("content-length") {
+            return number_in(field.value);
+        }
+    }
+    None
+}
+
 /// The answer at the start of these bytes. None if more bytes are to come; an `Err` if they are no
 /// answer of a registry.
 pub fn answer_in(bytes: &[u8]) -> Result<Option<AnswerSpan>, ()> {
@@ -42,12 +52,7 @@ pub fn answer_in(bytes: &[u8]) -> Result<Option<AnswerSpan>, ()> {
     let Some(status) = response.code else {
         return Err(());
     };
-    let length = response
-        .headers
-        .iter()
-        .find(|field| field.name.eq_ignore_ascii_case("content-length"))
-        .and_then(|field| number_in(field.value));
-    let Some(length) = length else {
+    let Some(length) = length_in(response.headers) else {
         return Err(());
     };
     let end = body.saturating_add(length);

@@ -8,7 +8,7 @@ use std::str;
 const STALE: u64 = 206;
 
 /// What a registry answers to an edit, or to a call for the report.
-#[derive(Debug, Drop)]
+#[derive(Drop)]
 pub enum Reply {
     /// The edit is accepted, or this is the report: the revision, and how many faults there are.
     Done { revision: u64, faults: u64 },

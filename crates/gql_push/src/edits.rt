@@ -1,5 +1,5 @@
 //! Which edits a push makes.
-ghost use Rattle.std.specs.Prelude.{◌≡◌, IfOk, bytes_eq, find, option_map, string_bytes};
+ghost use Rattle.std.specs.Prelude.{◌≡◌, ◌++◌, [], ◌∷◌, IfOk, OnOk, bytes_eq, find, option_map, string_bytes};
 ghost use Rattle.std.specs.Option.{option_copied};
 ghost use Rattle.gql_push.specs.Plans as plans;
 ghost use Rattle.gql_push.specs.Resources.{entries_at, entries_of, entry_at, entry_of, target_at};
@@ -27,19 +27,6 @@ pub enum Edit {
     Remove(String),
     /// The data that the folder no longer has is put in its first state, an empty object.
     EmptyData,
-}
-
-impl Resource {
-    /// An equal resource.
-    fn copy(&self) -> Result<Resource, AllocError>
-        ensures { IfOk result (λ copy. entry_of copy ≡ entry_of self.now) }
-    {
-        Ok(Resource {
-            target: self.target.clone()?,
-            sum: self.sum.clone()?,
-            file: self.file,
-        })
-    }
 }
 
 impl Edit {
@@ -190,6 +177,25 @@ pub fn plan(
     Ok(edits)
 }
 
+/// Adds the resource of a target, with the sum of its bytes and the index of its file.
+pub(crate) fn add_resource(
+    alloc: Global,
+    target: &str,
+    sum: &str,
+    file: usize,
+    resources: &mut Vec<Resource>,
+) -> Result<(), AllocError>
+    ensures { OnOk result (entries_of resources.new.items ≡ entries_of resources.old.items
+        ++ record { target = target.now; sum = sum.now; file = file } ∷ []) }
+{
+    resources.push(Resource {
+        target: String::from_str(alloc, target)?,
+        sum: String::from_str(alloc, sum)?,
+        file,
+    })?;
+    Ok(())
+}
+
 /// The sum of a resource that is to be put again, whatever was pushed: no file has it.
 const NO_SUM: &str = "-";
 
@@ -200,13 +206,28 @@ pub fn to_put_again(alloc: Global, pushed: &[Resource]) -> Result<Vec<Resource>,
 {
     let mut again = Vec::new(alloc);
     for before in pushed {
-        again.push(Resource {
-            target: before.target.clone()?,
-            sum: String::from_str(alloc, NO_SUM)?,
-            file: before.file,
-        })?;
+        add_resource(
+            alloc,
+            before.target.as_str(),
+            NO_SUM,
+            before.file,
+            &mut again,
+        )?;
     }
     Ok(again)
+}
+
+/// Adds a resource that is equal to this one.
+fn add_copy(
+    alloc: Global,
+    resource: &Resource,
+    resources: &mut Vec<Resource>,
+) -> Result<(), AllocError>
+    ensures { OnOk result (entries_of resources.new.items
+        ≡ entries_of resources.old.items ++ entry_of resource.now ∷ []) }
+{
+    let (target, sum) = (resource.target.as_str(), resource.sum.as_str());
+    add_resource(alloc, target, sum, resource.file, resources)
 }
 
 /// Whether one of these edits changes this target.
@@ -236,12 +257,12 @@ pub fn pushed_after(
     let mut after = Vec::new(alloc);
     for before in pushed {
         if !is_edited(made, resources, before.target.as_str()) {
-            after.push(before.copy()?)?;
+            add_copy(alloc, before, &mut after)?;
         }
     }
     for edit in made {
         if let Some(resource) = edit.resource(resources) {
-            after.push(resource.copy()?)?;
+            add_copy(alloc, resource, &mut after)?;
         }
     }
     Ok(after)

@@ -4,37 +4,30 @@ use crate::edits::{Edit, Resource};
 use gql_folder::GivenFile;
 use std::alloc::{AllocError, Global};
 
-/// Adds the head of a request.
-fn write_head(
-    alloc: Global,
-    out: &mut Vec<u8>,
-    method: &str,
-    target: &str,
-    host: &str,
-    length: usize,
-) -> Result<(), AllocError> {
+/// Adds the request for the report.
+pub fn write_report(alloc: Global, out: &mut Vec<u8>, host: &str) -> Result<(), AllocError> {
     let head = format!(in alloc;
-        "{method} /{target} HTTP/1.1\r\nHost: {host}\r\nContent-Length: {length}\r\n\r\n"
+        "GET /report HTTP/1.1\r\nHost: {host}\r\nContent-Length: 0\r\n\r\n"
     )?;
     out.extend_from_slice(head.as_bytes())
 }
 
-/// Adds the request for the report.
-pub fn write_report(alloc: Global, out: &mut Vec<u8>, host: &str) -> Result<(), AllocError> {
-    write_head(alloc, out, "GET", "report", host, 0)
-}
-
-/// Adds the request that puts these bytes at a target, expecting a revision.
-fn write_put(
+/// Adds the request that changes a target by a method, with these bytes, expecting a revision.
+fn write_change(
     alloc: Global,
     out: &mut Vec<u8>,
+    method: &str,
     host: &str,
     target: &str,
     revision: u64,
     bytes: &[u8],
 ) -> Result<(), AllocError> {
-    let target = format!(in alloc; "{target}?revision={revision}")?;
-    write_head(alloc, out, "PUT", target.as_str(), host, bytes.len())?;
+    let length = bytes.len();
+    let head = format!(in alloc;
+        "{method} /{target}?revision={revision} HTTP/1.1\r\n\
+        Host: {host}\r\nContent-Length: {length}\r\n\r\n"
+    )?;
+    out.extend_from_slice(head.as_bytes())?;
     out.extend_from_slice(bytes)
 }
 
@@ -56,13 +49,12 @@ pub fn write_edit(
             let Some(file) = files.get(resource.file) else {
                 return Ok(());
             };
-            let target = resource.target.as_str();
-            write_put(alloc, out, host, target, revision, file.bytes.as_slice())
+            let (target, bytes) = (resource.target.as_str(), file.bytes.as_slice());
+            write_change(alloc, out, "PUT", host, target, revision, bytes)
         }
         Edit::Remove(target) => {
-            let target = format!(in alloc; "{target}?revision={revision}")?;
-            write_head(alloc, out, "DELETE", target.as_str(), host, 0)
+            write_change(alloc, out, "DELETE", host, target.as_str(), revision, b"")
         }
-        Edit::EmptyData => write_put(alloc, out, host, "data", revision, b"{}"),
+        Edit::EmptyData => write_change(alloc, out, "PUT", host, "data", revision, b"{}"),
     }
 }
