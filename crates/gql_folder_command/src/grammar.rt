@@ -1,6 +1,7 @@
 //! The grammar of the command lines of commands on a folder, as a command of clap.
 
 use crate::options::{FORMATS, USAGE_FORMATS};
+use clap::builder::ValueParser;
 use clap::{Arg, ArgAction, Command, value_parser};
 use std::alloc::{AllocError, Global};
 
@@ -106,11 +107,16 @@ fn state<'a>(alloc: Global) -> Arg<'a> {
         .help("The file that keeps what was pushed")
 }
 
+/// The parser of a number of seconds, at most those of a day.
+fn seconds<'a>() -> ValueParser<'a> {
+    value_parser!(u64).range(0..=86_400)
+}
+
 fn wait<'a>(alloc: Global) -> Arg<'a> {
     Arg::new(alloc, "wait")
         .long("wait")
         .value_name("SECONDS")
-        .value_parser(value_parser!(u64).range(0..=86_400))
+        .value_parser(seconds())
         .help("Wait so long for a server that is not there yet")
 }
 
