@@ -1,6 +1,7 @@
 //! The grammar of the command lines of commands on a folder, as a command of clap.
 
 use crate::options::{FORMATS, USAGE_FORMATS};
+use clap::builder::ValueParser;
 use clap::{Arg, ArgAction, Command, value_parser};
 use std::alloc::{AllocError, Global};
 
@@ -54,14 +55,17 @@ fn output<'a>(alloc: Global) -> Arg<'a> {
 
 /// The command `check`.
 fn check<'a>(alloc: Global) -> Result<Command<'a>, AllocError> {
+    let arguments = vec![in alloc;
+        folder(alloc),
+        base(alloc),
+        manifest(alloc),
+        format(alloc),
+        output(alloc),
+    ]?;
     Command::new(alloc, "check")
         .about("Checks the schema and the operations of a folder, as the registry would")
         .after_help(AFTER_CHECK)
-        .arg(folder(alloc))?
-        .arg(base(alloc))?
-        .arg(manifest(alloc))?
-        .arg(format(alloc))?
-        .arg(output(alloc))
+        .args(arguments)
 }
 
 /// The end of the help of `push`.
@@ -103,11 +107,16 @@ fn state<'a>(alloc: Global) -> Arg<'a> {
         .help("The file that keeps what was pushed")
 }
 
+/// The parser of a number of seconds, at most those of a day.
+fn seconds<'a>() -> ValueParser<'a> {
+    value_parser!(u64).range(0..=86_400)
+}
+
 fn wait<'a>(alloc: Global) -> Arg<'a> {
     Arg::new(alloc, "wait")
         .long("wait")
         .value_name("SECONDS")
-        .value_parser(value_parser!(u64).range(0..=86_400))
+        .value_parser(seconds())
         .help("Wait so long for a server that is not there yet")
 }
 
@@ -115,21 +124,24 @@ fn wait<'a>(alloc: Global) -> Arg<'a> {
 fn push<'a>(alloc: Global) -> Result<Command<'a>, AllocError> {
     let faults = "Put nothing if the folder has faults";
     let force = "Put all files, although somebody else has edited the registry";
+    let arguments = vec![in alloc;
+        folder(alloc),
+        server(alloc),
+        manifest(alloc),
+        flag(
+            alloc,
+            "all",
+            "Put all files, those too that were pushed before"
+        ),
+        state(alloc),
+        wait(alloc),
+        flag(alloc, "fail-on-faults", faults),
+        flag(alloc, "force", force),
+    ]?;
     Command::new(alloc, "push")
         .about("Puts the files of a folder into a registry, over one connection")
         .after_help(AFTER_PUSH)
-        .arg(folder(alloc))?
-        .arg(server(alloc))?
-        .arg(manifest(alloc))?
-        .arg(flag(
-            alloc,
-            "all",
-            "Put all files, those too that were pushed before",
-        ))?
-        .arg(state(alloc))?
-        .arg(wait(alloc))?
-        .arg(flag(alloc, "fail-on-faults", faults))?
-        .arg(flag(alloc, "force", force))
+        .args(arguments)
 }
 
 /// The end of the help of `usage`.
@@ -162,21 +174,32 @@ fn usage_format<'a>(alloc: Global) -> Arg<'a> {
 /// The command `usage`.
 fn usage<'a>(alloc: Global) -> Result<Command<'a>, AllocError> {
     let unused = "List the parts of the schema that no stored operation reads";
+    let part = part(alloc)?;
+    let arguments = vec![in alloc;
+        folder(alloc),
+        part,
+        flag(alloc, "unused", unused),
+        manifest(alloc),
+        usage_format(alloc),
+    ]?;
     Command::new(alloc, "usage")
         .about("Says which stored operations and fragments read a part of the schema")
         .after_help(AFTER_USAGE)
-        .arg(folder(alloc))?
-        .arg(part(alloc)?)?
-        .arg(flag(alloc, "unused", unused))?
-        .arg(manifest(alloc))?
-        .arg(usage_format(alloc))
+        .args(arguments)
+}
+
+/// Adds a subcommand to a command, unless memory was out for the subcommand.
+fn with_subcommand<'a>(
+    command: Command<'a>,
+    subcommand: Result<Command<'a>, AllocError>,
+) -> Result<Command<'a>, AllocError> {
+    command.subcommand(subcommand?)
 }
 
 /// The grammar of the commands on a folder.
 pub fn grammar<'a>(alloc: Global) -> Result<Command<'a>, AllocError> {
-    Command::new(alloc, "gqlreg")
-        .subcommand_required(true)
-        .subcommand(check(alloc)?)?
-        .subcommand(push(alloc)?)?
-        .subcommand(usage(alloc)?)
+    let command = Command::new(alloc, "gqlreg").subcommand_required(true);
+    let command = with_subcommand(command, check(alloc))?;
+    let command = with_subcommand(command, push(alloc))?;
+    with_subcommand(command, usage(alloc))
 }
