@@ -1,7 +1,7 @@
 //! Texts joined with a text between any two.
 ghost use Rattle.std.specs.Prelude.{◌≡◌, ◌≢◌, ◌++◌, [], OnOk, string_bytes};
 
-use std::alloc::AllocError;
+use std::alloc::{AllocError, Global};
 
 /// Adds a text to others, with a text between any two.
 pub fn join(texts: &mut String, between: &str, text: &str) -> Result<(), AllocError>
@@ -14,4 +14,13 @@ pub fn join(texts: &mut String, between: &str, text: &str) -> Result<(), AllocEr
         texts.push_str(between)?;
     }
     texts.push_str(text)
+}
+
+/// One text, put together of its parts.
+pub fn text_of(alloc: Global, parts: &[&str]) -> Result<String, AllocError> {
+    let mut text = String::new(alloc);
+    for part in parts {
+        text.push_str(*part)?;
+    }
+    Ok(text)
 }

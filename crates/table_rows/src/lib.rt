@@ -10,7 +10,7 @@ mod row;
 mod table;
 mod tally;
 
-pub use joined::join;
+pub use joined::{join, text_of};
 pub use json_strings::{quoted, unquoted};
 pub use row::{Given, NamedText, Row};
 pub use table::Table;

@@ -36,9 +36,9 @@ fn nothing_given(alloc: Global) -> Given {
 
 impl Given {
     /// Begins a text of that name.
-    fn begin(&mut self, alloc: Global, name: &str) -> Result<(), AllocError> {
+    fn begin(&mut self, alloc: Global, name: &str, text: &str) -> Result<(), AllocError> {
         let name = String::from_str(alloc, name)?;
-        let text = String::new(alloc);
+        let text = String::from_str(alloc, text)?;
         self.texts.push(NamedText { name, text })?;
         Ok(())
     }
@@ -51,8 +51,7 @@ impl Given {
                 return present.text.push_str(line);
             }
         }
-        self.begin(alloc, name)?;
-        self.add_times(line, 1)
+        self.begin(alloc, name, line)
     }
 
     /// Adds a text this many times to the present one.
@@ -72,7 +71,7 @@ impl Given {
             None => false,
         };
         if !is_begun {
-            self.begin(alloc, "s")?;
+            self.begin(alloc, "s", "")?;
         }
         self.add_times(text, times)
     }
@@ -105,9 +104,9 @@ impl<R: Row> Table<R> {
 
     /// Refuses a line.
     fn refuse(&mut self, line: &str) -> Result<(), AllocError> {
-        let difference = format!(in self.alloc; "no line of a table: {line}")?;
-        let place = self.place()?;
-        self.tally.differ(place.as_str(), difference.as_str())
+        let mut place = self.place()?;
+        place.push_str(": no line of a table")?;
+        self.tally.differ(place.as_str(), line)
     }
 
     /// Begins another row if a question was asked of the present one.
@@ -130,7 +129,7 @@ impl<R: Row> Table<R> {
     ) -> Result<(), AllocError> {
         self.is_asked = true;
         let answer = self.row.answer(rt, &self.given, question)?;
-        self.given.document = String::new(self.alloc);
+        self.given.document.clear();
         if !lines.has(self.line) {
             return Ok(());
         }
@@ -156,6 +155,16 @@ impl<R: Row> Table<R> {
         fs::read_to_string(rt, path.as_str()).ok()
     }
 
+    /// Adds a text of that name; the document `d` belongs to the question after it and begins no
+    /// row.
+    fn add_whole(&mut self, name: &str, text: &str) -> Result<(), AllocError> {
+        if name == "d" {
+            return join(&mut self.given.document, "\n", text);
+        }
+        self.begin();
+        self.given.begin(self.alloc, name, text)
+    }
+
     /// Adds a line `NAME| TEXT`; the document `d` belongs to the question after it and begins no
     /// row.
     fn add_line(&mut self, name: &str, text: &str) -> Result<(), AllocError> {
@@ -178,19 +187,13 @@ impl<R: Row> Table<R> {
         }
     }
 
-    /// Adds the file that a line `file NAME PATH` names; or with the name `d` the document, which
-    /// belongs to the question after it and begins no row.
+    /// Adds the file that a line `file NAME PATH` names.
     fn add_file(&mut self, rt: &HostRuntime, line: &str) -> Result<(), AllocError> {
         let (name, path) = line.split_once(" ").unwrap_or((line, ""));
-        let Some(text) = self.file_text(rt, path) else {
-            return self.refuse(line);
-        };
-        if name == "d" {
-            return join(&mut self.given.document, "\n", text.as_str());
+        match self.file_text(rt, path) {
+            Some(text) => self.add_whole(name, text.as_str()),
+            None => self.refuse(line),
         }
-        self.begin();
-        self.given.begin(self.alloc, name)?;
-        self.given.add_times(text.as_str(), 1)
     }
 
     /// Asks the question of a line: `QUESTION => ANSWER`, `QUESTION: ANSWER`, or
@@ -225,17 +228,14 @@ impl<R: Row> Table<R> {
         if line.is_empty() || line.starts_with("#") {
             return Ok(());
         }
-        match line.split_once(" ") {
-            Some(("text", rest)) => return self.add_text(rest),
-            Some(("file", rest)) => return self.add_file(rt, rest),
-            Some((">", request)) => {
+        let (word, rest) = line.split_once(" ").unwrap_or(("", line));
+        match word {
+            "text" => return self.add_text(rest),
+            "file" => return self.add_file(rt, rest),
+            ">" => return self.add_whole(word, rest),
+            "<" => {
                 self.begin();
-                self.given.begin(self.alloc, ">")?;
-                return self.given.add_times(request, 1);
-            }
-            Some(("<", answer)) => {
-                self.begin();
-                return join(&mut self.given.answers, "\n", answer);
+                return join(&mut self.given.answers, "\n", rest);
             }
             _ => {}
         }
@@ -267,9 +267,8 @@ impl<R: Row> Table<R> {
             → string_bytes self.new.tally.differences ≢ []) }
     {
         let lines = lines_in(self.alloc, word);
-        self.row = R::new(self.alloc);
-        self.given = nothing_given(self.alloc);
-        self.is_asked = false;
+        self.is_asked = true;
+        self.begin();
         self.path = String::from_str(self.alloc, lines.path)?;
         self.line = 0;
         self.answers = 0;

@@ -11,16 +11,17 @@ pub fn bytes_in(alloc: Global, text: &str) -> Option<Vec<u8>> {
     Some(bytes)
 }
 
-/// The text of which each character is one of the bytes.
-pub fn characters(alloc: Global, bytes: &[u8]) -> Result<String, AllocError> {
-    let mut text = String::new(alloc);
+/// Adds a character for each of the bytes.
+pub fn write_characters(text: &mut String, bytes: &[u8]) -> Result<(), AllocError> {
     for byte in bytes {
         text.push(char::from(*byte))?;
     }
-    Ok(text)
+    Ok(())
 }
 
 /// Bytes as a string of JSON.
 pub fn quoted_bytes(alloc: Global, bytes: &[u8]) -> Result<String, AllocError> {
-    quoted(alloc, characters(alloc, bytes)?.as_str())
+    let mut text = String::new(alloc);
+    write_characters(&mut text, bytes)?;
+    quoted(alloc, text.as_str())
 }

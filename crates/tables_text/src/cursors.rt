@@ -1,7 +1,6 @@
 //! A cursor over the tokens of a text that is read step after step.
 use crate::steps::{Stepped, parts_of, steps_answer, yes_or_no};
-use crate::tokens::written_token;
-use crate::trees::Written;
+use crate::trees::{Written, written_text};
 use gql_grammar::{Cursor, ParseError, Unexpected};
 use gql_parse::{ValueForm, definition, directives, name, optional_default, set, type_ref, value};
 use gql_text::{Kind, lex};
@@ -22,27 +21,16 @@ fn refused(alloc: Global, cursor: &Cursor<'_>) -> Result<String, AllocError> {
     format!(in alloc; "refused {left}")
 }
 
-/// Why nothing was read.
-fn written_error(
-    alloc: Global,
-    cursor: &Cursor<'_>,
-    error: ParseError,
-) -> Result<String, AllocError> {
-    match error {
-        ParseError::Unexpected => refused(alloc, cursor),
-        ParseError::Memory => String::from_str(alloc, "memory"),
-    }
-}
-
 /// What was read, or why nothing was.
-fn written_read<T: Written>(
+fn written_read<T: Written + Drop>(
     alloc: Global,
-    read: &Result<T, ParseError>,
+    read: Result<T, ParseError>,
     cursor: &Cursor<'_>,
 ) -> Option<String> {
     match read {
-        Ok(read) => read.written(alloc).ok(),
-        Err(error) => written_error(alloc, cursor, *error).ok(),
+        Ok(read) => written_text(alloc, &read).ok(),
+        Err(ParseError::Unexpected) => refused(alloc, cursor).ok(),
+        Err(ParseError::Memory) => String::from_str(alloc, "memory").ok(),
     }
 }
 
@@ -83,7 +71,7 @@ fn take(alloc: Global, cursor: &mut Cursor<'_>, word: &str, rest: &str) -> Optio
         _ => return None,
     };
     match read {
-        Ok(token) => written_token(alloc, &token).ok(),
+        Ok(token) => written_text(alloc, &token).ok(),
         Err(Unexpected) => refused(alloc, cursor).ok(),
     }
 }
@@ -91,22 +79,22 @@ fn take(alloc: Global, cursor: &mut Cursor<'_>, word: &str, rest: &str) -> Optio
 /// What a step that reads a part of a document answers.
 fn part(alloc: Global, cursor: &mut Cursor<'_>, word: &str) -> Option<String> {
     match word {
-        "name" => written_read(alloc, &name(alloc, cursor), cursor),
-        "type" => written_read(alloc, &type_ref(alloc, cursor), cursor),
-        "default" => written_read(alloc, &optional_default(alloc, cursor), cursor),
+        "name" => written_read(alloc, name(alloc, cursor), cursor),
+        "type" => written_read(alloc, type_ref(alloc, cursor), cursor),
+        "default" => written_read(alloc, optional_default(alloc, cursor), cursor),
         "directives" => written_read(
             alloc,
-            &directives(alloc, cursor, ValueForm::Constant),
+            directives(alloc, cursor, ValueForm::Constant),
             cursor,
         ),
-        "set" => written_read(alloc, &set(alloc, cursor), cursor),
+        "set" => written_read(alloc, set(alloc, cursor), cursor),
         "value" => written_read(
             alloc,
-            &value(alloc, cursor, ValueForm::WithVariables),
+            value(alloc, cursor, ValueForm::WithVariables),
             cursor,
         ),
-        "constant" => written_read(alloc, &value(alloc, cursor, ValueForm::Constant), cursor),
-        "definition" => written_read(alloc, &definition(alloc, cursor), cursor),
+        "constant" => written_read(alloc, value(alloc, cursor, ValueForm::Constant), cursor),
+        "definition" => written_read(alloc, definition(alloc, cursor), cursor),
         _ => None,
     }
 }

@@ -3,7 +3,6 @@ use crate::parsers::parsed;
 use gql_ast::{Definition, Document, Same};
 use gql_grammar::SyntaxFault;
 use std::alloc::Global;
-use table_rows::join;
 
 fn document_of(alloc: Global, parser: &str, text: &str) -> Option<Document> {
     parsed(alloc, parser, text)?.ok()
@@ -18,35 +17,41 @@ pub fn same_answer(alloc: Global, text: &str, question: &str) -> Option<String> 
     String::from_str(alloc, answer).ok()
 }
 
-/// What names the copy of a definition: its file and the offset of its first token there.
-fn written_copy(alloc: Global, definition: &Definition) -> Option<String> {
+/// Adds what names the copy of a definition: its file and the offset of its first token there.
+fn write_copy(text: &mut String, definition: &Definition) -> Option<()> {
     let copy = definition.copy().ok()?;
     if !copy.same(definition) {
-        return String::from_str(alloc, "another").ok();
+        return text.push_str("another").ok();
     }
     let id = copy.id();
     let file = id.file.as_str();
     let offset = id.offset;
-    format!(in alloc; "{file} {offset}").ok()
+    write!(text, "{file} {offset}").ok()
+}
+
+fn written_copies(alloc: Global, definitions: &[Definition]) -> Option<String> {
+    let mut written = String::new(alloc);
+    let mut between = "";
+    for definition in definitions {
+        written.push_str(between).ok()?;
+        write_copy(&mut written, definition)?;
+        between = ", ";
+    }
+    Some(written)
 }
 
 /// What names the copies of a text's definitions.
 pub fn copies_answer(alloc: Global, text: &str, parser: &str) -> Option<String> {
     let document = document_of(alloc, parser, text)?;
-    let mut written = String::new(alloc);
-    for definition in document.definitions.as_slice() {
-        let copy = written_copy(alloc, definition)?;
-        join(&mut written, ", ", copy.as_str()).ok()?;
-    }
-    Some(written)
+    written_copies(alloc, document.definitions.as_slice())
 }
 
 /// The number of what a parser answers, which is 0 if a text is accepted.
-fn number_of(parsed: &Result<Document, SyntaxFault>) -> u16 {
-    match parsed {
-        Ok(_) => 0,
-        Err(SyntaxFault::At { number, .. }) => number.number(),
-        Err(SyntaxFault::Memory) => 1,
+fn parsed_number(alloc: Global, parser: &str, text: &str) -> Option<u16> {
+    match parsed(alloc, parser, text)? {
+        Ok(_) => Some(0),
+        Err(SyntaxFault::At { number, .. }) => Some(number.number()),
+        Err(SyntaxFault::Memory) => Some(1),
     }
 }
 
@@ -56,15 +61,13 @@ pub fn cuts_answer(alloc: Global, text: &str, parser: &str) -> Option<String> {
     let mut written = String::new(alloc);
     let mut last = None;
     for (offset, _) in text.char_indices() {
-        let number = number_of(&parsed(alloc, parser, text.get(..offset)?)?);
+        let number = parsed_number(alloc, parser, text.get(..offset)?)?;
         if last != Some(number) {
-            let one = format!(in alloc; "{offset} {number}").ok()?;
-            join(&mut written, ", ", one.as_str()).ok()?;
+            write!(written, "{offset} {number}, ").ok()?;
             last = Some(number);
         }
     }
-    let number = number_of(&parsed(alloc, parser, text)?);
-    let whole = format!(in alloc; "whole {number}").ok()?;
-    join(&mut written, ", ", whole.as_str()).ok()?;
+    let number = parsed_number(alloc, parser, text)?;
+    write!(written, "whole {number}").ok()?;
     Some(written)
 }

@@ -23,52 +23,61 @@ pub fn moves_in(text: &str) -> Option<Moves> {
     Some(Moves { most, failing })
 }
 
-/// What a read brings, and whether more bytes may follow; `None` if too many reads were made.
-fn read_once(alloc: Global, peer: &mut MemPeer<'_>) -> Option<(String, bool)> {
+/// Adds what a read brings. Returns whether more bytes may follow; `None` if too many reads were
+/// made.
+fn read_once(peer: &mut MemPeer<'_>, written: &mut String) -> Option<bool> {
     if peer.reads > MOST_READS || peer.read_failures > MOST_READS {
         return None;
     }
     let mut piece = [0; PIECE_BYTES];
-    match peer.read(&mut piece) {
-        Ok(0) => Some((String::from_str(alloc, "end").ok()?, false)),
-        Ok(count) => Some((quoted_bytes(alloc, &piece[..count]).ok()?, true)),
-        Err(_) => Some((String::from_str(alloc, "failed").ok()?, false)),
+    let end = match peer.read(&mut piece) {
+        Ok(0) => "end",
+        Ok(count) => {
+            let brought = quoted_bytes(*written.allocator(), &piece[..count]).ok()?;
+            join(written, ", ", brought.as_str()).ok()?;
+            return Some(true);
+        }
+        Err(_) => "failed",
+    };
+    join(written, ", ", end).ok()?;
+    Some(false)
+}
+
+/// Adds what reads bring, up to the end or to a read that fails.
+fn read_all(peer: &mut MemPeer<'_>, written: &mut String) -> Option<()> {
+    for _ in 0..MOST_READS {
+        if !read_once(peer, written)? {
+            break;
+        }
     }
+    Some(())
 }
 
 /// What reads from a peer in memory bring, up to its end or to a read that fails, and how many
 /// reads and failures there were: `MOVES`.
 fn peer_reads(alloc: Global, bytes: &[u8], moves: &str) -> Option<String> {
-    let reading = moves_in(moves)?;
-    let mut peer = MemPeer::new(alloc, bytes, reading, moves_in("1")?);
+    let mut peer = MemPeer::new(alloc, bytes, moves_in(moves)?, moves_in("1")?);
     let mut written = String::new(alloc);
-    for _ in 0..MOST_READS {
-        let (brought, goes_on) = read_once(alloc, &mut peer)?;
-        join(&mut written, ", ", brought.as_str()).ok()?;
-        if !goes_on {
-            break;
-        }
-    }
-    let written = written.as_str();
+    read_all(&mut peer, &mut written)?;
     let reads = peer.reads;
     let failures = peer.read_failures;
-    format!(in alloc; "{written}; reads: {reads}, failures: {failures}").ok()
+    write!(written, "; reads: {reads}, failures: {failures}").ok()?;
+    Some(written)
 }
 
 /// What a peer in memory holds after all bytes are written to it, or after a write that fails:
 /// `MOVES`.
 fn peer_writes(alloc: Global, bytes: &[u8], moves: &str) -> Option<String> {
-    let writing = moves_in(moves)?;
-    let mut peer = MemPeer::new(alloc, &[], moves_in("1")?, writing);
+    let mut peer = MemPeer::new(alloc, &[], moves_in("1")?, moves_in(moves)?);
     let end = match write_all(&mut peer, bytes) {
         Ok(()) => "written",
         Err(_) => "failed",
     };
-    let held = peer.sent_bytes(alloc).ok()?;
-    let held = quoted_bytes(alloc, held.as_slice()).ok()?;
-    let held = held.as_str();
     let failures = peer.write_failures;
-    format!(in alloc; "{held} {end}; failures: {failures}").ok()
+    let held = peer.sent_bytes(alloc).ok()?;
+    let mut written = quoted_bytes(alloc, held.as_slice()).ok()?;
+    write!(written, " {end}; failures: {failures}").ok()?;
+    Some(written)
 }
 
 /// The answer to a question about a peer in memory: `reads MOVES` or `writes MOVES`.
@@ -86,10 +95,10 @@ fn device_reads(alloc: Global, bytes: &[u8]) -> Option<String> {
     let mut peer = DevicePeer::new(bytes, Vec::new(alloc));
     let mut piece = [0; PIECE_BYTES];
     let count = peer.read(&mut piece).ok()?;
-    let brought = quoted_bytes(alloc, &piece[..count]).ok()?;
-    let brought = brought.as_str();
     let reads = peer.reads;
-    format!(in alloc; "{brought}; reads: {reads}").ok()
+    let mut brought = quoted_bytes(alloc, &piece[..count]).ok()?;
+    write!(brought, "; reads: {reads}").ok()?;
+    Some(brought)
 }
 
 /// What a writer of std holds after bytes are written to a peer over it.

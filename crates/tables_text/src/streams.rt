@@ -1,5 +1,5 @@
 //! The requests of a stream of bytes (RFC 9112, 2 and 3), which comes in pieces.
-use crate::bytes::{bytes_in, characters, quoted_bytes};
+use crate::bytes::{bytes_in, quoted_bytes, write_characters};
 use gql_wire::{Framed, Framer};
 use std::alloc::{AllocError, Global};
 use table_rows::join;
@@ -24,26 +24,26 @@ fn closes(framed: &Framed) -> bool {
 /// More bytes than these are written as their count.
 const SHORT: usize = 64;
 
-fn written_target(alloc: Global, target: &[u8]) -> Result<String, AllocError> {
+fn write_target(text: &mut String, target: &[u8]) -> Result<(), AllocError> {
     let count = target.len();
     if count > SHORT {
-        format!(in alloc; "{count} bytes")
+        write!(text, "{count} bytes")
     } else {
-        characters(alloc, target)
+        write_characters(text, target)
     }
 }
 
-fn written_body(alloc: Global, body: &[u8]) -> Result<String, AllocError> {
+fn write_body(text: &mut String, body: &[u8]) -> Result<(), AllocError> {
     let count = body.len();
     if count > SHORT {
-        format!(in alloc; "{count} bytes")
-    } else {
-        quoted_bytes(alloc, body)
+        return write!(text, "{count} bytes");
     }
+    let body = quoted_bytes(*text.allocator(), body)?;
+    text.push_str(body.as_str())
 }
 
-/// A request as its method, its target and its body, and a refused head as its number.
-fn written_request(alloc: Global, framed: &Framed) -> Result<String, AllocError> {
+/// Adds a request as its method, its target and its body, and a refused head as its number.
+fn write_request(text: &mut String, framed: &Framed) -> Result<(), AllocError> {
     match framed {
         Framed::Request {
             method,
@@ -51,17 +51,17 @@ fn written_request(alloc: Global, framed: &Framed) -> Result<String, AllocError>
             body,
             closing,
         } => {
-            let end = if *closing { " close" } else { "" };
-            let method = characters(alloc, method.as_slice())?;
-            let target = written_target(alloc, target.as_slice())?;
-            let body = written_body(alloc, body.as_slice())?;
-            let (method, target, body) = (method.as_str(), target.as_str(), body.as_str());
-            format!(in alloc; "{method} {target} {body}{end}")
+            write_characters(text, method.as_slice())?;
+            text.push_str(" ")?;
+            write_target(text, target.as_slice())?;
+            text.push_str(" ")?;
+            write_body(text, body.as_slice())?;
+            text.push_str(if *closing { " close" } else { "" })
         }
         Framed::Refused { number, bodiless } => {
             let end = if *bodiless { " bodiless" } else { "" };
             let number = number.number();
-            format!(in alloc; "{number}{end}")
+            write!(text, "{number}{end}")
         }
     }
 }
@@ -93,9 +93,11 @@ impl Stream {
     /// Its requests, and `rest` if an unfinished one is held.
     fn written(&self) -> Result<String, AllocError> {
         let mut written = String::new(self.alloc);
+        let mut between = "";
         for framed in self.found.as_slice() {
-            let request = written_request(self.alloc, framed)?;
-            join(&mut written, "; ", request.as_str())?;
+            written.push_str(between)?;
+            write_request(&mut written, framed)?;
+            between = "; ";
         }
         if self.framer.has_rest() {
             join(&mut written, "; ", "rest")?;

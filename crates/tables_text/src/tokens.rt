@@ -1,44 +1,48 @@
 //! Tokens as the table writes them (GraphQL specification, 2.1).
+use crate::trees::{Written, write_quoted};
 use gql_text::{LexFault, Place, Token, end_place, lex, text_value};
 use std::alloc::{AllocError, Global};
-use table_rows::{join, quoted};
 
-/// A place as its line, its column and its offset.
-fn written_place(alloc: Global, place: &Place) -> Result<String, AllocError> {
+/// Adds a place as its line, its column and its offset.
+fn write_place(text: &mut String, place: &Place) -> Result<(), AllocError> {
     let line = place.line;
     let column = place.column;
     let offset = place.offset;
-    format!(in alloc; "{line}:{column} {offset}")
+    write!(text, "{line}:{column} {offset}")
 }
 
 fn written_refusal(alloc: Global, fault: &LexFault) -> Result<String, AllocError> {
     match fault {
         LexFault::At { number, place } => {
             let number = number.number();
-            let place = written_place(alloc, place)?;
-            let place = place.as_str();
-            format!(in alloc; "{number} at {place}")
+            let mut text = format!(in alloc; "{number} at ")?;
+            write_place(&mut text, place)?;
+            Ok(text)
         }
         LexFault::Memory => String::from_str(alloc, "memory"),
     }
 }
 
 /// A token as its kind, its text and its place.
-pub fn written_token(alloc: Global, token: &Token<'_>) -> Result<String, AllocError> {
-    let kind = token.kind;
-    let text = quoted(alloc, token.text)?;
-    let text = text.as_str();
-    let place = written_place(alloc, &token.place)?;
-    let place = place.as_str();
-    format!(in alloc; "{kind:?} {text} at {place}")
+impl Written for Token<'_> {
+    fn write_to(&self, text: &mut String) -> Result<(), AllocError> {
+        let kind = self.kind;
+        write!(text, "{kind:?} ")?;
+        write_quoted(text, self.text)?;
+        text.push_str(" at ")?;
+        write_place(text, &self.place)
+    }
 }
 
 fn written_tokens(alloc: Global, tokens: &[Token<'_>]) -> Result<String, AllocError> {
-    let mut written = String::new(alloc);
+    let mut text = String::new(alloc);
+    let mut between = "";
     for token in tokens {
-        join(&mut written, ", ", written_token(alloc, token)?.as_str())?;
+        text.push_str(between)?;
+        token.write_to(&mut text)?;
+        between = ", ";
     }
-    Ok(written)
+    Ok(text)
 }
 
 /// The kind and the value of the one token that a text is.
@@ -47,9 +51,9 @@ fn written_value(alloc: Global, text: &str, tokens: &[Token<'_>]) -> Result<Stri
         [token] if token.text == text => {
             let kind = token.kind;
             let value = text_value(alloc, token)?;
-            let value = quoted(alloc, value.as_str())?;
-            let value = value.as_str();
-            format!(in alloc; "{kind:?} {value}")
+            let mut text = format!(in alloc; "{kind:?} ")?;
+            write_quoted(&mut text, value.as_str())?;
+            Ok(text)
         }
         _ => String::from_str(alloc, "not one token"),
     }
@@ -87,5 +91,7 @@ pub fn end_answer(alloc: Global, text: &str) -> Result<String, AllocError> {
     if text.len() > 65_536 {
         return String::from_str(alloc, "too long");
     }
-    written_place(alloc, &end_place(text))
+    let mut place = String::new(alloc);
+    write_place(&mut place, &end_place(text))?;
+    Ok(place)
 }

@@ -6,114 +6,153 @@ mod type_refs;
 mod type_systems;
 
 use crate::parsers::parsed;
-use gql_ast::{Items, Name, Text, Tree};
+use gql_ast::{Definition, Directive, Items, Name, Text, Tree};
 use gql_text::Place;
 use std::alloc::{AllocError, Global};
-use table_rows::join;
+use table_rows::quoted;
 
 /// What the table writes.
 pub trait Written {
-    /// The text.
-    fn written(&self, alloc: Global) -> Result<String, AllocError>;
+    /// Adds it to a text.
+    fn write_to(&self, text: &mut String) -> Result<(), AllocError>;
 }
 
-/// The items, each but the first after a blank.
-fn written_items<T: Written>(alloc: Global, items: &[T]) -> Result<String, AllocError> {
-    let mut written = String::new(alloc);
-    for item in items {
-        join(&mut written, " ", item.written(alloc)?.as_str())?;
-    }
-    Ok(written)
+/// The text of an item.
+pub fn written_text<T: Written>(alloc: Global, item: &T) -> Result<String, AllocError> {
+    let mut text = String::new(alloc);
+    item.write_to(&mut text)?;
+    Ok(text)
 }
 
-/// A text between two others, or nothing if it is empty.
-pub fn between(alloc: Global, before: &str, text: &str, after: &str) -> Result<String, AllocError> {
-    if text.is_empty() {
-        return Ok(String::new(alloc));
-    }
-    format!(in alloc; "{before}{text}{after}")
-}
-
-/// The items between two texts, or nothing if there are none.
-pub fn enclosed<T: Written>(
-    alloc: Global,
+/// Adds the items between two texts, each but the first after a blank, or nothing if there are
+/// none.
+pub fn write_enclosed<T: Written>(
+    text: &mut String,
     before: &str,
-    items: &[T],
+    items: &Items<T>,
     after: &str,
-) -> Result<String, AllocError> {
-    let items = written_items(alloc, items)?;
-    between(alloc, before, items.as_str(), after)
+) -> Result<(), AllocError> {
+    let items = items.as_slice();
+    let mut between = before;
+    for item in items {
+        text.push_str(between)?;
+        item.write_to(text)?;
+        between = " ";
+    }
+    text.push_str(if items.is_empty() { "" } else { after })
 }
 
-/// What is there between two texts, or nothing.
-pub fn optional<T: Written>(
-    alloc: Global,
+/// Adds what is there between two texts, or nothing.
+pub fn write_optional<T: Written>(
+    text: &mut String,
     before: &str,
     item: &Option<T>,
     after: &str,
-) -> Result<String, AllocError> {
-    between(alloc, before, item.written(alloc)?.as_str(), after)
+) -> Result<(), AllocError> {
+    match item {
+        Some(item) => {
+            text.push_str(before)?;
+            item.write_to(text)?;
+            text.push_str(after)
+        }
+        None => Ok(()),
+    }
+}
+
+/// Adds directives, each after a blank.
+pub fn write_directives(
+    text: &mut String,
+    directives: &Items<Directive>,
+) -> Result<(), AllocError> {
+    write_enclosed(text, " ", directives, "")
+}
+
+/// Adds a word with the place where it is.
+pub fn write_placed(text: &mut String, word: &str, place: &Place) -> Result<(), AllocError> {
+    text.push_str(word)?;
+    place.write_to(text)
+}
+
+/// Adds a word with its place, and the name after it.
+pub fn write_named(
+    text: &mut String,
+    word: &str,
+    place: &Place,
+    between: &str,
+    name: &Name,
+) -> Result<(), AllocError> {
+    write_placed(text, word, place)?;
+    text.push_str(between)?;
+    name.write_to(text)
+}
+
+/// Adds a text as a string of JSON.
+pub fn write_quoted(text: &mut String, value: &str) -> Result<(), AllocError> {
+    let value = quoted(*text.allocator(), value)?;
+    text.push_str(value.as_str())
 }
 
 impl<T: Written> Written for Items<T> {
-    fn written(&self, alloc: Global) -> Result<String, AllocError> {
-        written_items(alloc, self.as_slice())
+    fn write_to(&self, text: &mut String) -> Result<(), AllocError> {
+        write_enclosed(text, "", self, "")
     }
 }
 
 impl<T: Written> Written for Option<T> {
-    fn written(&self, alloc: Global) -> Result<String, AllocError> {
-        match self {
-            Some(item) => item.written(alloc),
-            None => Ok(String::new(alloc)),
-        }
+    fn write_to(&self, text: &mut String) -> Result<(), AllocError> {
+        write_optional(text, "", self, "")
     }
 }
 
 impl Written for Place {
-    fn written(&self, alloc: Global) -> Result<String, AllocError> {
+    fn write_to(&self, text: &mut String) -> Result<(), AllocError> {
         let line = self.line;
         let column = self.column;
-        format!(in alloc; "/{line}:{column}")
+        write!(text, "/{line}:{column}")
     }
 }
 
 /// A description, as a string of JSON.
 impl Written for Text {
-    fn written(&self, alloc: Global) -> Result<String, AllocError> {
-        table_rows::quoted(alloc, self.as_str())
+    fn write_to(&self, text: &mut String) -> Result<(), AllocError> {
+        write_quoted(text, self.as_str())
     }
 }
 
 impl Written for Name {
-    fn written(&self, alloc: Global) -> Result<String, AllocError> {
-        let name = self.as_str();
-        let place = self.place.written(alloc)?;
-        format!(in alloc; "{name}{place}")
+    fn write_to(&self, text: &mut String) -> Result<(), AllocError> {
+        write_placed(text, self.as_str(), &self.place)
     }
 }
 
 impl Written for Tree {
-    fn written(&self, alloc: Global) -> Result<String, AllocError> {
+    fn write_to(&self, text: &mut String) -> Result<(), AllocError> {
         match self {
-            Tree::Operation(operation) => operation.get().written(alloc),
-            Tree::Fragment(fragment) => fragment.get().written(alloc),
-            Tree::Schema(definition) => definition.get().written(alloc),
-            Tree::Type(definition) => definition.get().written(alloc),
-            Tree::Directive(definition) => definition.get().written(alloc),
-            Tree::SchemaExtension(extension) => extension.get().written(alloc),
-            Tree::TypeExtension(extension) => extension.get().written(alloc),
+            Tree::Operation(operation) => operation.get().write_to(text),
+            Tree::Fragment(fragment) => fragment.get().write_to(text),
+            Tree::Schema(definition) => definition.get().write_to(text),
+            Tree::Type(definition) => definition.get().write_to(text),
+            Tree::Directive(definition) => definition.get().write_to(text),
+            Tree::SchemaExtension(extension) => extension.get().write_to(text),
+            Tree::TypeExtension(extension) => extension.get().write_to(text),
         }
     }
+}
+
+/// The trees of definitions.
+fn written_trees(alloc: Global, definitions: &[Definition]) -> Result<String, AllocError> {
+    let mut text = String::new(alloc);
+    let mut between = "";
+    for definition in definitions {
+        text.push_str(between)?;
+        definition.tree.write_to(&mut text)?;
+        between = "; ";
+    }
+    Ok(text)
 }
 
 /// The trees of a text's definitions.
 pub fn trees_answer(alloc: Global, text: &str, parser: &str) -> Option<String> {
     let document = parsed(alloc, parser, text)?.ok()?;
-    let mut written = String::new(alloc);
-    for definition in document.definitions.as_slice() {
-        let tree = definition.tree.written(alloc).ok()?;
-        join(&mut written, "; ", tree.as_str()).ok()?;
-    }
-    Some(written)
+    written_trees(alloc, document.definitions.as_slice()).ok()
 }

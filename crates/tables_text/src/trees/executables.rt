@@ -1,108 +1,99 @@
 //! Operations, fragments and selections, as the tables write them.
 
-use crate::trees::{Written, between, enclosed, optional};
+use crate::trees::literals::write_type_and_default;
+use crate::trees::{
+    Written, write_directives, write_enclosed, write_named, write_optional, write_placed,
+};
 use gql_ast::{
     Field, Fragment, InlineFragment, Operation, OperationKind, Selection, Spread,
     VariableDefinition,
 };
-use std::alloc::{AllocError, Global};
-use table_rows::join;
+use std::alloc::AllocError;
 
 impl Written for Selection {
     #[cycle(selections)]
-    fn written(&self, alloc: Global) -> Result<String, AllocError> {
+    fn write_to(&self, text: &mut String) -> Result<(), AllocError> {
         match self {
-            Selection::Field(field) => field.written(alloc),
-            Selection::Spread(spread) => spread.written(alloc),
-            Selection::InlineFragment(fragment) => fragment.written(alloc),
+            Selection::Field(field) => field.write_to(text),
+            Selection::Spread(spread) => spread.write_to(text),
+            Selection::InlineFragment(fragment) => fragment.write_to(text),
         }
     }
 }
 
-/// A selection set, or nothing if none is written.
+/// Adds a selection set, or nothing if none is written.
 #[cycle(selections)]
-fn written_set(alloc: Global, selections: &[Selection]) -> Result<String, AllocError> {
-    let mut written = String::new(alloc);
+fn write_set(text: &mut String, selections: &[Selection]) -> Result<(), AllocError> {
+    let mut between = " {";
     for selection in selections {
-        join(&mut written, " ", selection.written(alloc)?.as_str())?;
+        text.push_str(between)?;
+        selection.write_to(text)?;
+        between = " ";
     }
-    between(alloc, " {", written.as_str(), "}")
+    text.push_str(if selections.is_empty() { "" } else { "}" })
 }
 
 impl Written for Field {
     #[cycle(selections)]
-    fn written(&self, alloc: Global) -> Result<String, AllocError> {
-        let alias = optional(alloc, "", &self.alias, ": ")?;
-        let name = self.name.written(alloc)?;
-        let arguments = enclosed(alloc, "(", self.arguments.as_slice(), ")")?;
-        let directives = enclosed(alloc, " ", self.directives.as_slice(), "")?;
-        let set = written_set(alloc, self.selections.as_slice())?;
-        format!(in alloc; "{alias}{name}{arguments}{directives}{set}")
+    fn write_to(&self, text: &mut String) -> Result<(), AllocError> {
+        write_optional(text, "", &self.alias, ": ")?;
+        self.name.write_to(text)?;
+        write_enclosed(text, "(", &self.arguments, ")")?;
+        write_directives(text, &self.directives)?;
+        write_set(text, self.selections.as_slice())
     }
 }
 
 impl Written for Spread {
-    fn written(&self, alloc: Global) -> Result<String, AllocError> {
-        let place = self.place.written(alloc)?;
-        let name = self.name.written(alloc)?;
-        let directives = enclosed(alloc, " ", self.directives.as_slice(), "")?;
-        format!(in alloc; "...{place} {name}{directives}")
+    fn write_to(&self, text: &mut String) -> Result<(), AllocError> {
+        write_named(text, "...", &self.place, " ", &self.name)?;
+        write_directives(text, &self.directives)
     }
 }
 
 impl Written for InlineFragment {
     #[cycle(selections)]
-    fn written(&self, alloc: Global) -> Result<String, AllocError> {
-        let place = self.place.written(alloc)?;
-        let condition = optional(alloc, " on ", &self.condition, "")?;
-        let directives = enclosed(alloc, " ", self.directives.as_slice(), "")?;
-        let set = written_set(alloc, self.selections.as_slice())?;
-        format!(in alloc; "...{place}{condition}{directives}{set}")
+    fn write_to(&self, text: &mut String) -> Result<(), AllocError> {
+        write_placed(text, "...", &self.place)?;
+        write_optional(text, " on ", &self.condition, "")?;
+        write_directives(text, &self.directives)?;
+        write_set(text, self.selections.as_slice())
     }
 }
 
 impl Written for VariableDefinition {
-    fn written(&self, alloc: Global) -> Result<String, AllocError> {
-        let place = self.place.written(alloc)?;
-        let name = self.name.written(alloc)?;
-        let of_type = self.of_type.written(alloc)?;
-        let default = optional(alloc, " = ", &self.default, "")?;
-        let directives = enclosed(alloc, " ", self.directives.as_slice(), "")?;
-        format!(in alloc; "${place} {name}: {of_type}{default}{directives}")
+    fn write_to(&self, text: &mut String) -> Result<(), AllocError> {
+        write_named(text, "$", &self.place, " ", &self.name)?;
+        write_type_and_default(text, &self.of_type, &self.default)?;
+        write_directives(text, &self.directives)
     }
 }
 
 /// The word of a kind of operation.
-impl Written for OperationKind {
-    fn written(&self, alloc: Global) -> Result<String, AllocError> {
-        let word = match self {
-            OperationKind::Query => "query",
-            OperationKind::Mutation => "mutation",
-            OperationKind::Subscription => "subscription",
-        };
-        String::from_str(alloc, word)
+pub fn word_of(kind: OperationKind) -> &'static str {
+    match kind {
+        OperationKind::Query => "query",
+        OperationKind::Mutation => "mutation",
+        OperationKind::Subscription => "subscription",
     }
 }
 
 impl Written for Operation {
-    fn written(&self, alloc: Global) -> Result<String, AllocError> {
-        let kind = self.kind.written(alloc)?;
-        let place = self.place.written(alloc)?;
-        let name = optional(alloc, " ", &self.name, "")?;
-        let variables = enclosed(alloc, "(", self.variables.as_slice(), ")")?;
-        let directives = enclosed(alloc, " ", self.directives.as_slice(), "")?;
-        let set = written_set(alloc, self.selections.as_slice())?;
-        format!(in alloc; "{kind}{place}{name}{variables}{directives}{set}")
+    fn write_to(&self, text: &mut String) -> Result<(), AllocError> {
+        write_placed(text, word_of(self.kind), &self.place)?;
+        write_optional(text, " ", &self.name, "")?;
+        write_enclosed(text, "(", &self.variables, ")")?;
+        write_directives(text, &self.directives)?;
+        write_set(text, self.selections.as_slice())
     }
 }
 
 impl Written for Fragment {
-    fn written(&self, alloc: Global) -> Result<String, AllocError> {
-        let place = self.place.written(alloc)?;
-        let name = self.name.written(alloc)?;
-        let condition = self.condition.written(alloc)?;
-        let directives = enclosed(alloc, " ", self.directives.as_slice(), "")?;
-        let set = written_set(alloc, self.selections.as_slice())?;
-        format!(in alloc; "fragment{place} {name} on {condition}{directives}{set}")
+    fn write_to(&self, text: &mut String) -> Result<(), AllocError> {
+        write_named(text, "fragment", &self.place, " ", &self.name)?;
+        text.push_str(" on ")?;
+        self.condition.write_to(text)?;
+        write_directives(text, &self.directives)?;
+        write_set(text, self.selections.as_slice())
     }
 }

@@ -1,90 +1,103 @@
 //! Literals, arguments and directives, as the tables write them.
 
-use crate::trees::{Written, enclosed};
-use gql_ast::{Argument, Directive, Literal, ObjectField};
-use gql_text::Place;
-use std::alloc::{AllocError, Global};
-use table_rows::{join, quoted};
-
-/// A text with its place.
-fn placed(alloc: Global, text: &str, place: &Place) -> Result<String, AllocError> {
-    let place = place.written(alloc)?;
-    format!(in alloc; "{text}{place}")
-}
+use crate::trees::{
+    Written, write_enclosed, write_named, write_optional, write_placed, write_quoted,
+};
+use gql_ast::{Argument, Directive, Literal, ObjectField, TypeRef};
+use std::alloc::AllocError;
 
 impl Written for Literal {
     #[cycle(written)]
-    fn written(&self, alloc: Global) -> Result<String, AllocError> {
+    fn write_to(&self, text: &mut String) -> Result<(), AllocError> {
         match self {
             Literal::Variable { place, name } => {
-                let name = placed(alloc, name.as_str(), place)?;
-                format!(in alloc; "${name}")
+                text.push_str("$")?;
+                write_placed(text, name.as_str(), place)
             }
-            Literal::Int { place, text } => placed(alloc, text.as_str(), place),
-            Literal::Float { place, text } => placed(alloc, text.as_str(), place),
+            Literal::Int {
+                place,
+                text: number,
+            } => write_placed(text, number.as_str(), place),
+            Literal::Float {
+                place,
+                text: number,
+            } => write_placed(text, number.as_str(), place),
             Literal::String { place, value } => {
-                let value = quoted(alloc, value.as_str())?;
-                placed(alloc, value.as_str(), place)
+                write_quoted(text, value.as_str())?;
+                place.write_to(text)
             }
             Literal::Boolean { place, value } => {
-                placed(alloc, if *value { "true" } else { "false" }, place)
+                write_placed(text, if *value { "true" } else { "false" }, place)
             }
-            Literal::Null { place } => placed(alloc, "null", place),
-            Literal::Enum { place, name } => placed(alloc, name.as_str(), place),
+            Literal::Null { place } => write_placed(text, "null", place),
+            Literal::Enum { place, name } => write_placed(text, name.as_str(), place),
             Literal::List { place, items } => {
-                let items = written_literals(alloc, items.as_slice())?;
-                let place = place.written(alloc)?;
-                format!(in alloc; "[{items}]{place}")
+                write_literals(text, items.as_slice())?;
+                write_placed(text, "]", place)
             }
             Literal::Object { place, fields } => {
-                let fields = written_fields(alloc, fields.as_slice())?;
-                let place = place.written(alloc)?;
-                format!(in alloc; "{{{fields}}}{place}")
+                write_fields(text, fields.as_slice())?;
+                write_placed(text, "}", place)
             }
         }
     }
 }
 
+/// Adds a bracket and the items after it.
 #[cycle(written)]
-fn written_literals(alloc: Global, items: &[Literal]) -> Result<String, AllocError> {
-    let mut written = String::new(alloc);
+fn write_literals(text: &mut String, items: &[Literal]) -> Result<(), AllocError> {
+    let mut between = "[";
     for item in items {
-        join(&mut written, " ", item.written(alloc)?.as_str())?;
+        text.push_str(between)?;
+        item.write_to(text)?;
+        between = " ";
     }
-    Ok(written)
+    text.push_str(if items.is_empty() { "[" } else { "" })
 }
 
 impl Written for ObjectField {
     #[cycle(written)]
-    fn written(&self, alloc: Global) -> Result<String, AllocError> {
-        let name = self.name.written(alloc)?;
-        let value = self.value.written(alloc)?;
-        format!(in alloc; "{name}: {value}")
+    fn write_to(&self, text: &mut String) -> Result<(), AllocError> {
+        self.name.write_to(text)?;
+        text.push_str(": ")?;
+        self.value.write_to(text)
     }
 }
 
+/// Adds a brace and the fields after it.
 #[cycle(written)]
-fn written_fields(alloc: Global, fields: &[ObjectField]) -> Result<String, AllocError> {
-    let mut written = String::new(alloc);
+fn write_fields(text: &mut String, fields: &[ObjectField]) -> Result<(), AllocError> {
+    let mut between = "{";
     for field in fields {
-        join(&mut written, " ", field.written(alloc)?.as_str())?;
+        text.push_str(between)?;
+        field.write_to(text)?;
+        between = " ";
     }
-    Ok(written)
+    text.push_str(if fields.is_empty() { "{" } else { "" })
 }
 
 impl Written for Argument {
-    fn written(&self, alloc: Global) -> Result<String, AllocError> {
-        let name = self.name.written(alloc)?;
-        let value = self.value.written(alloc)?;
-        format!(in alloc; "{name}: {value}")
+    fn write_to(&self, text: &mut String) -> Result<(), AllocError> {
+        self.name.write_to(text)?;
+        text.push_str(": ")?;
+        self.value.write_to(text)
     }
 }
 
 impl Written for Directive {
-    fn written(&self, alloc: Global) -> Result<String, AllocError> {
-        let place = self.place.written(alloc)?;
-        let name = self.name.written(alloc)?;
-        let arguments = enclosed(alloc, "(", self.arguments.as_slice(), ")")?;
-        format!(in alloc; "@{place} {name}{arguments}")
+    fn write_to(&self, text: &mut String) -> Result<(), AllocError> {
+        write_named(text, "@", &self.place, " ", &self.name)?;
+        write_enclosed(text, "(", &self.arguments, ")")
     }
+}
+
+/// Adds the type of a variable or an input value, and its default value.
+pub fn write_type_and_default(
+    text: &mut String,
+    of_type: &TypeRef,
+    default: &Option<Literal>,
+) -> Result<(), AllocError> {
+    text.push_str(": ")?;
+    of_type.write_to(text)?;
+    write_optional(text, " = ", default, "")
 }

@@ -1,21 +1,21 @@
 //! Types, as the tables write them.
 
-use crate::trees::Written;
+use crate::trees::{Written, write_placed};
 use gql_ast::TypeRef;
-use std::alloc::{AllocError, Global};
+use std::alloc::AllocError;
 
 impl Written for TypeRef {
-    fn written(&self, alloc: Global) -> Result<String, AllocError> {
+    fn write_to(&self, text: &mut String) -> Result<(), AllocError> {
         match self {
-            TypeRef::Named(name) => name.written(alloc),
+            TypeRef::Named(name) => name.write_to(text),
             TypeRef::List { place, item } => {
-                let item = item.get().written(alloc)?;
-                let place = place.written(alloc)?;
-                format!(in alloc; "[{item}]{place}")
+                text.push_str("[")?;
+                item.get().write_to(text)?;
+                write_placed(text, "]", place)
             }
             TypeRef::NonNull(of_type) => {
-                let of_type = of_type.get().written(alloc)?;
-                format!(in alloc; "{of_type}!")
+                of_type.get().write_to(text)?;
+                text.push_str("!")
             }
         }
     }

@@ -1,52 +1,53 @@
 //! Definitions of schema files. The place after the first word of a definition is the
 //! definition's, which starts at its description.
-use crate::trees::{Written, enclosed, optional};
+use crate::trees::executables::word_of;
+use crate::trees::literals::write_type_and_default;
+use crate::trees::{
+    Written, write_directives, write_enclosed, write_named, write_optional, write_placed,
+};
 use gql_ast::{
     DirectiveDefinition, DirectiveLocation, EnumValueDefinition, FieldDefinition,
     InputValueDefinition, RootOperation, SchemaDefinition, SchemaExtension, Shared, TypeDefinition,
     TypeExtension, TypeParts,
 };
-use std::alloc::{AllocError, Global};
+use std::alloc::AllocError;
 
 impl<T: Written> Written for Shared<T> {
-    fn written(&self, alloc: Global) -> Result<String, AllocError> {
-        self.get().written(alloc)
+    fn write_to(&self, text: &mut String) -> Result<(), AllocError> {
+        self.get().write_to(text)
     }
 }
 
 impl Written for InputValueDefinition {
-    fn written(&self, alloc: Global) -> Result<String, AllocError> {
-        let description = optional(alloc, "", &self.description, " ")?;
-        let name = self.name.written(alloc)?;
-        let of_type = self.of_type.written(alloc)?;
-        let default = optional(alloc, " = ", &self.default, "")?;
-        let directives = enclosed(alloc, " ", self.directives.as_slice(), "")?;
-        format!(in alloc; "{description}{name}: {of_type}{default}{directives}")
+    fn write_to(&self, text: &mut String) -> Result<(), AllocError> {
+        write_optional(text, "", &self.description, " ")?;
+        self.name.write_to(text)?;
+        write_type_and_default(text, &self.of_type, &self.default)?;
+        write_directives(text, &self.directives)
     }
 }
 
 impl Written for FieldDefinition {
-    fn written(&self, alloc: Global) -> Result<String, AllocError> {
-        let description = optional(alloc, "", &self.description, " ")?;
-        let name = self.name.written(alloc)?;
-        let arguments = enclosed(alloc, "(", self.arguments.as_slice(), ")")?;
-        let of_type = self.of_type.written(alloc)?;
-        let directives = enclosed(alloc, " ", self.directives.as_slice(), "")?;
-        format!(in alloc; "{description}{name}{arguments}: {of_type}{directives}")
+    fn write_to(&self, text: &mut String) -> Result<(), AllocError> {
+        write_optional(text, "", &self.description, " ")?;
+        self.name.write_to(text)?;
+        write_enclosed(text, "(", &self.arguments, ")")?;
+        text.push_str(": ")?;
+        self.of_type.write_to(text)?;
+        write_directives(text, &self.directives)
     }
 }
 
 impl Written for EnumValueDefinition {
-    fn written(&self, alloc: Global) -> Result<String, AllocError> {
-        let description = optional(alloc, "", &self.description, " ")?;
-        let name = self.name.written(alloc)?;
-        let directives = enclosed(alloc, " ", self.directives.as_slice(), "")?;
-        format!(in alloc; "{description}{name}{directives}")
+    fn write_to(&self, text: &mut String) -> Result<(), AllocError> {
+        write_optional(text, "", &self.description, " ")?;
+        self.name.write_to(text)?;
+        write_directives(text, &self.directives)
     }
 }
 
 /// The word of a kind of type.
-fn word_of(parts: &TypeParts) -> &'static str {
+fn word_of_type(parts: &TypeParts) -> &'static str {
     match parts {
         TypeParts::Scalar => "scalar",
         TypeParts::Object { .. } => "type",
@@ -57,101 +58,100 @@ fn word_of(parts: &TypeParts) -> &'static str {
     }
 }
 
-fn written_interfaces(alloc: Global, parts: &TypeParts) -> Result<String, AllocError> {
+/// Adds the interfaces that a type implements.
+fn write_interfaces(text: &mut String, parts: &TypeParts) -> Result<(), AllocError> {
     match parts {
         TypeParts::Object { interfaces, .. } | TypeParts::Interface { interfaces, .. } => {
-            enclosed(alloc, " implements ", interfaces.as_slice(), "")
+            write_enclosed(text, " implements ", interfaces, "")
         }
-        _ => Ok(String::new(alloc)),
+        _ => Ok(()),
     }
 }
 
-/// The members of a type, which come after its directives.
-fn written_members(alloc: Global, parts: &TypeParts) -> Result<String, AllocError> {
+/// Adds the members of a type, which come after its directives.
+fn write_members(text: &mut String, parts: &TypeParts) -> Result<(), AllocError> {
     match parts {
-        TypeParts::Scalar => Ok(String::new(alloc)),
-        TypeParts::Object { fields, .. } => enclosed(alloc, " {", fields.as_slice(), "}"),
-        TypeParts::Interface { fields, .. } => enclosed(alloc, " {", fields.as_slice(), "}"),
-        TypeParts::Union { members } => enclosed(alloc, " = ", members.as_slice(), ""),
-        TypeParts::Enum { values } => enclosed(alloc, " {", values.as_slice(), "}"),
-        TypeParts::InputObject { fields } => enclosed(alloc, " {", fields.as_slice(), "}"),
+        TypeParts::Scalar => Ok(()),
+        TypeParts::Object { fields, .. } => write_enclosed(text, " {", fields, "}"),
+        TypeParts::Interface { fields, .. } => write_enclosed(text, " {", fields, "}"),
+        TypeParts::Union { members } => write_enclosed(text, " = ", members, ""),
+        TypeParts::Enum { values } => write_enclosed(text, " {", values, "}"),
+        TypeParts::InputObject { fields } => write_enclosed(text, " {", fields, "}"),
     }
 }
 
 impl Written for TypeDefinition {
-    fn written(&self, alloc: Global) -> Result<String, AllocError> {
-        let description = optional(alloc, "", &self.description, " ")?;
-        let word = word_of(&self.parts);
-        let place = self.place.written(alloc)?;
-        let name = self.name.written(alloc)?;
-        let interfaces = written_interfaces(alloc, &self.parts)?;
-        let directives = enclosed(alloc, " ", self.directives.as_slice(), "")?;
-        let members = written_members(alloc, &self.parts)?;
-        format!(in alloc; "{description}{word}{place} {name}{interfaces}{directives}{members}")
+    fn write_to(&self, text: &mut String) -> Result<(), AllocError> {
+        write_optional(text, "", &self.description, " ")?;
+        write_named(
+            text,
+            word_of_type(&self.parts),
+            &self.place,
+            " ",
+            &self.name,
+        )?;
+        write_interfaces(text, &self.parts)?;
+        write_directives(text, &self.directives)?;
+        write_members(text, &self.parts)
     }
 }
 
 impl Written for TypeExtension {
-    fn written(&self, alloc: Global) -> Result<String, AllocError> {
-        let word = word_of(&self.parts);
-        let place = self.place.written(alloc)?;
-        let name = self.name.written(alloc)?;
-        let interfaces = written_interfaces(alloc, &self.parts)?;
-        let directives = enclosed(alloc, " ", self.directives.as_slice(), "")?;
-        let members = written_members(alloc, &self.parts)?;
-        format!(in alloc; "extend{place} {word} {name}{interfaces}{directives}{members}")
+    fn write_to(&self, text: &mut String) -> Result<(), AllocError> {
+        write_placed(text, "extend", &self.place)?;
+        text.push_str(" ")?;
+        text.push_str(word_of_type(&self.parts))?;
+        text.push_str(" ")?;
+        self.name.write_to(text)?;
+        write_interfaces(text, &self.parts)?;
+        write_directives(text, &self.directives)?;
+        write_members(text, &self.parts)
     }
 }
 
 impl Written for RootOperation {
-    fn written(&self, alloc: Global) -> Result<String, AllocError> {
-        let kind = self.kind.written(alloc)?;
-        let place = self.place.written(alloc)?;
-        let name = self.name.written(alloc)?;
-        format!(in alloc; "{kind}{place}: {name}")
+    fn write_to(&self, text: &mut String) -> Result<(), AllocError> {
+        write_named(text, word_of(self.kind), &self.place, ": ", &self.name)
     }
 }
 
 /// A schema definition; its second place is that of the word `schema`.
 impl Written for SchemaDefinition {
-    fn written(&self, alloc: Global) -> Result<String, AllocError> {
-        let description = optional(alloc, "", &self.description, " ")?;
-        let place = self.place.written(alloc)?;
-        let keyword = self.keyword.written(alloc)?;
-        let directives = enclosed(alloc, " ", self.directives.as_slice(), "")?;
-        let roots = enclosed(alloc, " {", self.roots.as_slice(), "}")?;
-        format!(in alloc; "{description}schema{place} at{keyword}{directives}{roots}")
+    fn write_to(&self, text: &mut String) -> Result<(), AllocError> {
+        write_optional(text, "", &self.description, " ")?;
+        write_placed(text, "schema", &self.place)?;
+        write_placed(text, " at", &self.keyword)?;
+        write_directives(text, &self.directives)?;
+        write_enclosed(text, " {", &self.roots, "}")
     }
 }
 
 impl Written for SchemaExtension {
-    fn written(&self, alloc: Global) -> Result<String, AllocError> {
-        let place = self.place.written(alloc)?;
-        let directives = enclosed(alloc, " ", self.directives.as_slice(), "")?;
-        let roots = enclosed(alloc, " {", self.roots.as_slice(), "}")?;
-        format!(in alloc; "extend{place} schema{directives}{roots}")
+    fn write_to(&self, text: &mut String) -> Result<(), AllocError> {
+        write_placed(text, "extend", &self.place)?;
+        text.push_str(" schema")?;
+        write_directives(text, &self.directives)?;
+        write_enclosed(text, " {", &self.roots, "}")
     }
 }
 
 impl Written for DirectiveLocation {
-    fn written(&self, alloc: Global) -> Result<String, AllocError> {
+    fn write_to(&self, text: &mut String) -> Result<(), AllocError> {
         let location = *self;
-        format!(in alloc; "{location:?}")
+        write!(text, "{location:?}")
     }
 }
 
 impl Written for DirectiveDefinition {
-    fn written(&self, alloc: Global) -> Result<String, AllocError> {
-        let description = optional(alloc, "", &self.description, " ")?;
-        let place = self.place.written(alloc)?;
-        let name = self.name.written(alloc)?;
-        let arguments = enclosed(alloc, "(", self.arguments.as_slice(), ")")?;
-        let repeatable = if self.is_repeatable {
+    fn write_to(&self, text: &mut String) -> Result<(), AllocError> {
+        write_optional(text, "", &self.description, " ")?;
+        write_named(text, "directive", &self.place, " @", &self.name)?;
+        write_enclosed(text, "(", &self.arguments, ")")?;
+        text.push_str(if self.is_repeatable {
             " repeatable"
         } else {
             ""
-        };
-        let locations = enclosed(alloc, " on ", self.locations.as_slice(), "")?;
-        format!(in alloc; "{description}directive{place} @{name}{arguments}{repeatable}{locations}")
+        })?;
+        write_enclosed(text, " on ", &self.locations, "")
     }
 }
