@@ -1,6 +1,7 @@
 //! Why manifests are refused.
 
 use crate::origin::Origin;
+use crate::texts::text_from;
 use std::alloc::{AllocError, AllocFailed, Global};
 use thiserror::Error;
 
@@ -84,12 +85,6 @@ impl<T: Drop> From<AllocFailed<T>> for ManifestFault {
     }
 }
 
-/// An operation as the beginning of a line, as `web.json: operation 7`.
-fn head(alloc: Global, at: &Origin) -> Result<String, AllocError> {
-    let (path, id) = (at.path.as_str(), at.id.as_str());
-    format!(in alloc; "{path}: operation {id}")
-}
-
 /// Why the text of an operation is refused, in words.
 fn refused_text(
     alloc: Global,
@@ -98,44 +93,57 @@ fn refused_text(
     column: usize,
     number: u16,
 ) -> Result<String, AllocError> {
-    let head = head(alloc, at)?;
-    format!(in alloc; "{head}, line {line}, column {column}: not accepted ({number})")
+    let (path, id) = (at.path.as_str(), at.id.as_str());
+    format!(in alloc;
+        "{path}: operation {id}, line {line}, column {column}: not accepted ({number})"
+    )
 }
 
-/// Two operations that have one name, in words.
-fn twice_text(
+/// An operation that has something of the same name as an earlier one, in words. `before` is what
+/// comes before the name, and `after` what comes after it.
+fn pair_text(
     alloc: Global,
-    name: &str,
-    first: &Origin,
     at: &Origin,
-) -> Result<String, AllocError> {
-    let (head, first) = (head(alloc, at)?, first.text(alloc)?);
-    format!(in alloc; "{head} has the name {name}, as {first}")
-}
-
-/// Two fragments of one name that differ, in words.
-fn differ_text(
-    alloc: Global,
+    before: &str,
     name: &str,
+    after: &str,
     first: &Origin,
-    at: &Origin,
 ) -> Result<String, AllocError> {
-    let (head, first) = (head(alloc, at)?, first.text(alloc)?);
-    format!(in alloc; "{head}: fragment {name} differs from that of {first}")
+    let (path, id) = (at.path.as_str(), at.id.as_str());
+    let (first_path, first_id) = (first.path.as_str(), first.id.as_str());
+    text_from(
+        alloc,
+        &[
+            path,
+            ": operation ",
+            id,
+            before,
+            name,
+            after,
+            "operation ",
+            first_id,
+            " of ",
+            first_path,
+        ],
+    )
 }
 
 /// An operation and what is wrong with it, in words.
 fn text_of(alloc: Global, at: &Origin, reason: &str) -> Result<String, AllocError> {
-    let head = head(alloc, at)?;
-    format!(in alloc; "{head} {reason}")
+    let (path, id) = (at.path.as_str(), at.id.as_str());
+    text_from(alloc, &[path, ": operation ", id, " ", reason])
 }
 
 /// Why manifests are refused, in words, without a line break at the end.
 pub fn fault_text(alloc: Global, fault: &ManifestFault) -> Result<String, AllocError> {
     match fault {
-        ManifestFault::NotJson { path } => format!(in alloc; "{path} is not JSON"),
-        ManifestFault::NoManifest { path } => format!(in alloc;
-            "{path} is no manifest: it has neither `operations` nor an object of texts"
+        ManifestFault::NotJson { path } => text_from(alloc, &[path.as_str(), " is not JSON"]),
+        ManifestFault::NoManifest { path } => text_from(
+            alloc,
+            &[
+                path.as_str(),
+                " is no manifest: it has neither `operations` nor an object of texts",
+            ],
         ),
         ManifestFault::Refused {
             at,
@@ -149,11 +157,27 @@ pub fn fault_text(alloc: Global, fault: &ManifestFault) -> Result<String, AllocE
             at,
             "has a definition that is neither an operation nor a fragment",
         ),
-        ManifestFault::Twice { name, first, at } => twice_text(alloc, name.as_str(), first, at),
-        ManifestFault::Differ { name, first, at } => differ_text(alloc, name.as_str(), first, at),
-        ManifestFault::Clash { path, made, source } => {
-            format!(in alloc; "{path} has the name of {made}, which is made of {source}")
+        ManifestFault::Twice { name, first, at } => {
+            pair_text(alloc, at, " has the name ", name.as_str(), ", as ", first)
         }
+        ManifestFault::Differ { name, first, at } => pair_text(
+            alloc,
+            at,
+            ": fragment ",
+            name.as_str(),
+            " differs from that of ",
+            first,
+        ),
+        ManifestFault::Clash { path, made, source } => text_from(
+            alloc,
+            &[
+                path.as_str(),
+                " has the name of ",
+                made.as_str(),
+                ", which is made of ",
+                source.as_str(),
+            ],
+        ),
         ManifestFault::Memory => String::from_str(alloc, "out of memory"),
     }
 }

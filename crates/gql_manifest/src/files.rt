@@ -3,8 +3,10 @@
 use crate::bucket::BUCKETS;
 use crate::entries::entries_of;
 use crate::fault::ManifestFault;
+use crate::fragments::KeptFragments;
 use crate::gathered::{Gathered, GatheredOperation};
 use crate::packing::packed;
+use crate::texts::text_from;
 use gql_ast::Text;
 use gql_folder::GivenFile;
 use indexmap::IndexMap;
@@ -81,7 +83,7 @@ fn add_manifest(
 /// The path of the first, the second .. file of this stem.
 fn path_of(alloc: Global, stem: &str, at: usize) -> Result<String, AllocError> {
     if at == 0 {
-        return format!(in alloc; "documents/{stem}.graphql");
+        return text_from(alloc, &["documents/", stem, ".graphql"]);
     }
     let number = at.saturating_add(1);
     format!(in alloc; "documents/{stem}-{number}.graphql")
@@ -119,10 +121,11 @@ fn add_operation(
         bytes,
         bucket: _,
     } = operation;
-    let name = name.as_str();
-    let path = format!(in alloc; "documents/{name}.graphql")?;
     files.push(MadeFile {
-        file: GivenFile { path, bytes },
+        file: GivenFile {
+            path: path_of(alloc, name.as_str(), 0)?,
+            bytes,
+        },
         source: origin.text(alloc)?,
     })?;
     Ok(())
@@ -184,6 +187,26 @@ fn add_operations(
     Ok(())
 }
 
+/// Adds the files of the fragments of all manifests.
+fn add_fragments(
+    alloc: Global,
+    fragments: &KeptFragments,
+    files: &mut Vec<MadeFile>,
+) -> Result<(), AllocError> {
+    let texts = fragments.texts(alloc, MAX_FILE_BYTES)?;
+    let source = "the fragments of manifests";
+    add_texts(alloc, "shared-fragments", source, texts, files)
+}
+
+/// The operations and fragments of all manifests.
+fn gathered_from(alloc: Global, manifests: &[GivenManifest]) -> Result<Gathered, ManifestFault> {
+    let mut gathered = Gathered::new(alloc);
+    for manifest in manifests {
+        add_manifest(alloc, manifest, &mut gathered)?;
+    }
+    Ok(gathered)
+}
+
 /// The files that manifests are made into: `documents/NAME.graphql` for each operation, or if there
 /// are more than 128 `documents/operations-01.graphql` to `-96` for those of a bucket each, and
 /// `documents/shared-fragments.graphql` for the fragments of all.
@@ -191,25 +214,14 @@ pub fn files_of(
     alloc: Global,
     manifests: &[GivenManifest],
 ) -> Result<FromManifests, ManifestFault> {
-    let mut gathered = Gathered::new(alloc);
-    for manifest in manifests {
-        add_manifest(alloc, manifest, &mut gathered)?;
-    }
     let Gathered {
         operations,
         fragments,
-    } = gathered;
+    } = gathered_from(alloc, manifests)?;
     let (operation_count, fragment_count) = (operations.len(), fragments.len());
     let mut files = Vec::new(alloc);
     add_operations(alloc, operations, &mut files)?;
-    let texts = fragments.texts(alloc, MAX_FILE_BYTES)?;
-    add_texts(
-        alloc,
-        "shared-fragments",
-        "the fragments of manifests",
-        texts,
-        &mut files,
-    )?;
+    add_fragments(alloc, &fragments, &mut files)?;
     Ok(FromManifests {
         files,
         operations: operation_count,

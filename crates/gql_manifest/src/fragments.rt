@@ -7,7 +7,7 @@ ghost use Rattle.gql_manifest.specs.Packing.{IsPacked, texts_of};
 
 use crate::fault::ManifestFault;
 use crate::origin::Origin;
-use crate::packing::packed;
+use crate::packing::{packed, with_line_break};
 use gql_ast::Text;
 use indexmap::IndexMap;
 use std::alloc::{AllocError, Global};
@@ -92,12 +92,9 @@ impl KeptFragments {
             }
             return Err(differ(alloc, name, &kept.first, at)?);
         }
-        let mut copied = Vec::new(alloc);
-        copied.extend_from_slice(bytes)?;
-        copied.push(b'\n')?;
         let fragment = KeptFragment {
             tokens,
-            bytes: copied,
+            bytes: with_line_break(alloc, bytes)?,
             first: at.copy()?,
         };
         self.fragments.insert(name.copy()?, fragment)?;

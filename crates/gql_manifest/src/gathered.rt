@@ -9,6 +9,7 @@ use crate::entries::Entry;
 use crate::fault::ManifestFault;
 use crate::fragments::KeptFragments;
 use crate::origin::Origin;
+use crate::packing::with_line_break;
 use crate::pieces::{Piece, pieces_of};
 use gql_ast::{Operation, Text, Tree};
 use indexmap::IndexMap;
@@ -78,12 +79,9 @@ impl Gathered {
         if let Some(first) = self.operations.get(&name.text) {
             return Err(twice(alloc, &name.text, &first.origin, at)?);
         }
-        let mut copied = Vec::new(alloc);
-        copied.extend_from_slice(bytes)?;
-        copied.push(b'\n')?;
         let gathered = GatheredOperation {
             origin: at.copy()?,
-            bytes: copied,
+            bytes: with_line_break(alloc, bytes)?,
             bucket: bucket_of(name.text.as_str()),
         };
         self.operations.insert(name.text.copy()?, gathered)?;

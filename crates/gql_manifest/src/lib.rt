@@ -14,6 +14,7 @@ mod joined;
 mod origin;
 mod packing;
 mod pieces;
+mod texts;
 mod words;
 
 pub use fault::{ManifestFault, fault_text};

@@ -3,6 +3,7 @@
 ghost use Rattle.std.specs.Prelude.{◌≡◌, IfOk};
 ghost use Rattle.gql_manifest.specs.Origins.{place_of};
 
+use crate::texts::text_from;
 use std::alloc::{AllocError, Global};
 
 /// An operation of a manifest: the path of the manifest, and the operation's id there.
@@ -36,6 +37,6 @@ impl Origin {
     /// The origin in words, as `operation 7 of web.json`.
     pub fn text(&self, alloc: Global) -> Result<String, AllocError> {
         let (path, id) = (self.path.as_str(), self.id.as_str());
-        format!(in alloc; "operation {id} of {path}")
+        text_from(alloc, &["operation ", id, " of ", path])
     }
 }

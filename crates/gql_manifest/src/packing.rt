@@ -1,9 +1,19 @@
 //! Pieces of text, put together in as few files as hold them in their order.
 
-ghost use Rattle.std.specs.Prelude.{◌≡◌, ◌+◌, ◌<◌, ◌≤◌, ◌↔◌, IfOk, IsTrue, length};
+ghost use Rattle.std.specs.Prelude.{◌≡◌, ◌+◌, ◌<◌, ◌≤◌, ◌↔◌, ◌++◌, [], ◌∷◌, IfOk, IsTrue, length};
 ghost use Rattle.gql_manifest.specs.Packing.{IsPacked, IsTextFor, pieces_of, texts_of};
 
 use std::alloc::{AllocError, Global};
+
+/// A copy of these bytes, with a line break at its end.
+pub fn with_line_break(alloc: Global, bytes: &[u8]) -> Result<Vec<u8>, AllocError>
+    ensures { IfOk result (λ copied. copied.items ≡ bytes.now ++ 10 ∷ []) }
+{
+    let mut copied = Vec::new(alloc);
+    copied.extend_from_slice(bytes)?;
+    copied.push(b'\n')?;
+    Ok(copied)
+}
 
 /// Whether a piece, with the empty line after it, would make a text longer than this.
 fn is_full(text: &[u8], piece: &[u8], most: usize) -> bool

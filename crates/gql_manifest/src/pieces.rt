@@ -2,6 +2,7 @@
 
 use crate::fault::ManifestFault;
 use crate::origin::Origin;
+use crate::texts::push_all;
 use gql_ast::{Document, FileName, Tree};
 use gql_grammar::SyntaxFault;
 use gql_parse_sdl::parse_any;
@@ -45,6 +46,11 @@ fn parsed(alloc: Global, at: &Origin, text: &str) -> Result<Document, ManifestFa
     }
 }
 
+/// The index of the first of these tokens that is at this offset or after it.
+fn first_from(tokens: &[Token<'_>], offset: usize) -> usize {
+    tokens.partition_point(|token| token.place.offset < offset)
+}
+
 /// The tokens of a part of a text, with a blank between each two.
 fn joined(
     alloc: Global,
@@ -52,13 +58,11 @@ fn joined(
     start: usize,
     end: usize,
 ) -> Result<String, AllocError> {
-    let first = tokens.partition_point(|token| token.place.offset < start);
-    let past = tokens.partition_point(|token| token.place.offset < end);
+    let (first, past) = (first_from(tokens, start), first_from(tokens, end));
     let mut text = String::new(alloc);
     if let Some(part) = tokens.get(first..past) {
         for token in part {
-            text.push_str(token.text)?;
-            text.push(' ')?;
+            push_all(&mut text, &[token.text, " "])?;
         }
     }
     Ok(text)
@@ -82,6 +86,37 @@ fn ends_of(alloc: Global, document: &Document, length: usize) -> Result<Vec<usiz
     Ok(ends)
 }
 
+/// The piece of a definition of a text, which ends where the next one begins.
+fn piece_of<'t>(
+    alloc: Global,
+    tree: &Tree,
+    text: &'t str,
+    tokens: &[Token<'_>],
+    end: usize,
+) -> Result<Piece<'t>, AllocError> {
+    let start = tree.place().offset;
+    Ok(Piece {
+        tree: tree.copy()?,
+        bytes: part_of(text, start, end),
+        tokens: joined(alloc, tokens, start, end)?,
+    })
+}
+
+/// The pieces of the definitions of a text that has these tokens.
+fn pieces_in<'t>(
+    alloc: Global,
+    document: &Document,
+    text: &'t str,
+    tokens: &[Token<'_>],
+) -> Result<Vec<Piece<'t>>, AllocError> {
+    let ends = ends_of(alloc, document, text.len())?;
+    let mut pieces = Vec::new(alloc);
+    for (definition, end) in document.definitions.as_slice().iter().zip(ends.iter()) {
+        pieces.push(piece_of(alloc, &definition.tree, text, tokens, *end)?)?;
+    }
+    Ok(pieces)
+}
+
 /// The definitions of the text of an operation, in their order.
 pub fn pieces_of<'t>(
     alloc: Global,
@@ -89,18 +124,8 @@ pub fn pieces_of<'t>(
     text: &'t str,
 ) -> Result<Vec<Piece<'t>>, ManifestFault> {
     let document = parsed(alloc, at, text)?;
-    let Ok(tokens) = lex(alloc, text) else {
-        return Err(ManifestFault::Memory);
-    };
-    let ends = ends_of(alloc, &document, text.len())?;
-    let mut pieces = Vec::new(alloc);
-    for (definition, end) in document.definitions.as_slice().iter().zip(ends.iter()) {
-        let start = definition.tree.place().offset;
-        pieces.push(Piece {
-            tree: definition.tree.copy()?,
-            bytes: part_of(text, start, *end),
-            tokens: joined(alloc, tokens.as_slice(), start, *end)?,
-        })?;
+    match lex(alloc, text) {
+        Ok(tokens) => Ok(pieces_in(alloc, &document, text, tokens.as_slice())?),
+        Err(_) => Err(ManifestFault::Memory),
     }
-    Ok(pieces)
 }

@@ -1,4 +1,4 @@
-use Rattle.std.proofs.Common.{◌≡◌, ◌++◌, ◌∷◌, ◌∙◌, [], true≢false, List, None, ap, bytes_eq, refl, string_bytes, subst, sym}
+use Rattle.std.proofs.Common.{◌≡◌, ◌∙◌, true≢false, List, None, ap, bytes_eq, refl, string_bytes, subst, sym}
 use Rattle.std.specs.Map.{lookup}
 use Rattle.std.specs.Option.{option_copied}
 use Rattle.std.proofs.lemmas.Slice.Eq.{bytes_eq-Decides}
@@ -27,10 +27,8 @@ returns-in-Some-clause-err c =
 pub returns-clause-ok : goal.returns-clause-ok
 returns-clause-ok c =
     let none : lookup (bytes_eq c.args.name.now) c.self.inside.fragments.entries ≡ None = sym c.get.ensures.value ∙ ap option_copied c.in_default.is in
-    let bytes : c.push.new.self.items ≡ c.args.bytes.now ++ 10 ∷ [] =
-    c.in_ok-push.ensures.items ∙ ap (λ bs. bs ++ 10 ∷ []) (c.in_ok-extend_from_slice.ensures.items ∙ ap (λ bs. bs ++ c.args.bytes.now) c.new-copied.ensures.items) in
     subst (λ (kept : List Fragment). IsAdded kept (fragments_of c.insert.new.self.entries) (fragment_from c.args.name.now (string_bytes c.args.tokens) c.args.bytes.now (place_of c.args.at.now))) c.self.view_is
-    (added c.self.inside.fragments.entries c.insert.new.self.entries c.args.name.now (record { tokens = c.args.tokens; bytes = c.push.new.self; first = c.in_ok-copy.field-0 })
+    (added c.self.inside.fragments.entries c.insert.new.self.entries c.args.name.now (record { tokens = c.args.tokens; bytes = c.in_ok-with_line_break.field-0; first = c.in_ok-copy.field-0 })
     (string_bytes c.args.tokens) c.args.bytes.now (place_of c.args.at.now) none
     (inserted c.self.inside.fragments c.in_ok-copy-2.field-0 c.args.name.now _ c.insert.new.self.entries c.in_ok-copy-2.ensures none c.in_ok-insert.ensures.entries)
-    refl bytes c.in_ok-copy.ensures)
+    refl c.in_ok-with_line_break.ensures c.in_ok-copy.ensures)

@@ -1,4 +1,4 @@
-use Rattle.std.proofs.Common.{◌≡◌, ◌++◌, ◌∷◌, ◌∙◌, [], Option, None, ap, bytes_eq, inr, refl, subst, sym}
+use Rattle.std.proofs.Common.{◌≡◌, ◌∙◌, Option, None, ap, bytes_eq, inr, refl, subst, sym}
 use Rattle.std.specs.Map.{lookup}
 use Rattle.std.specs.Option.{option_copied}
 use Rattle.gql_ast.specs.declared.text.Name.{Name}
@@ -19,14 +19,12 @@ returns-in-Some-get-clause-err c =
 pub returns-clause-ok : goal.returns-clause-ok
 returns-clause-ok c =
     let none : lookup (bytes_eq c.in-Some.name.text) c.args.self.now.operations.entries ≡ None = sym c.get.ensures.value ∙ ap option_copied c.in_default-get.is in
-    let bytes : c.push.new.self.items ≡ c.args.bytes.now ++ 10 ∷ [] =
-    c.in_ok-push.ensures.items ∙ ap (λ bs. bs ++ 10 ∷ []) (c.in_ok-extend_from_slice.ensures.items ∙ ap (λ bs. bs ++ c.args.bytes.now) c.new-copied.ensures.items) in
     let new : Gathered = record { operations = c.insert.new.self; fragments = c.args.self.now.fragments } in
     subst (λ (n : Option Name). IsAdded n (place_of c.args.at.now) c.args.bytes.now c.args.self.now new) (sym c.in-Some.is) (
       is_fresh c.args.self.now.operations.entries c.in-Some.name.text none,
       appended c.args.self.now.operations.entries c.insert.new.self.entries c.in-Some.name.text
-          (record { origin = c.in_ok-copy-2.field-0; bytes = c.push.new.self; bucket = c.bucket_of.result }) (place_of c.args.at.now) c.args.bytes.now
+          (record { origin = c.in_ok-copy-2.field-0; bytes = c.in_ok-with_line_break.field-0; bucket = c.bucket_of.result }) (place_of c.args.at.now) c.args.bytes.now
           (inserted c.args.self.now.operations c.in_ok-copy-3.field-0 c.in-Some.name.text _ c.insert.new.self.entries c.in_ok-copy-3.ensures none c.in_ok-insert.ensures.entries)
-          c.in_ok-copy-2.ensures bytes (c.bucket_of.ensures.number ∙ ap bucket_of c.as_str.ensures),
+          c.in_ok-copy-2.ensures c.in_ok-with_line_break.ensures (c.bucket_of.ensures.number ∙ ap bucket_of c.as_str.ensures),
       refl,
     )
