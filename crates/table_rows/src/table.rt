@@ -267,6 +267,7 @@ impl<R: Row> Table<R> {
             → string_bytes self.new.tally.differences ≢ []) }
     {
         let lines = lines_in(self.alloc, word);
+        // a file begins a row, also where no question was asked of the one before
         self.is_asked = true;
         self.begin();
         self.path = String::from_str(self.alloc, lines.path)?;
