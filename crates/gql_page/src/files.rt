@@ -1,9 +1,9 @@
 //! The files of the page: only those with faults, each around its faults, with the rest folded.
 
 use crate::lines::{Buckets, Piece, faults_by_line, faults_by_source, pieces};
-use crate::parts::{write_anchor, write_fault, write_link};
+use crate::parts::{write_anchor, write_fault, write_html_between, write_link};
 use gql_findings::{Finding, Findings, Source};
-use gql_render::escapes::write_html;
+use gql_render::escapes::{html_entity, write_escaped};
 use gql_render::write::{write_number, write_text};
 use std::alloc::{AllocError, Global};
 
@@ -20,18 +20,6 @@ fn marked_columns(alloc: Global, line: &str, faults: &[&Finding]) -> Result<Vec<
     Ok(columns)
 }
 
-/// Writes a character within HTML.
-fn write_character(out: &mut String, character: char) -> Result<(), AllocError> {
-    match character {
-        '&' => write_text(out, "&amp;"),
-        '<' => write_text(out, "&lt;"),
-        '>' => write_text(out, "&gt;"),
-        '"' => write_text(out, "&quot;"),
-        '\'' => write_text(out, "&#39;"),
-        other => out.push(other),
-    }
-}
-
 /// Writes a line, with a mark at each word in which a fault starts.
 fn write_marked(out: &mut String, line: &str, columns: &[bool]) -> Result<(), AllocError> {
     let mut is_open = false;
@@ -45,7 +33,7 @@ fn write_marked(out: &mut String, line: &str, columns: &[bool]) -> Result<(), Al
             write_text(out, "<mark>")?;
             is_open = true;
         }
-        write_character(out, character)?;
+        write_escaped(out, character, html_entity(character))?;
     }
     if is_open {
         write_text(out, "</mark>")?;
@@ -76,9 +64,7 @@ fn write_note(
 fn write_plain_line(out: &mut String, source: &Source, line: usize) -> Result<(), AllocError> {
     write_text(out, "<div class=\"line\"><span>")?;
     write_number(out, line)?;
-    write_text(out, "</span><span>")?;
-    write_html(out, source.line(line))?;
-    write_text(out, "</span></div>\n")
+    write_html_between(out, "</span><span>", source.line(line), "</span></div>\n")
 }
 
 /// A file on the page: its place in the list of sources, and the faults of each of its lines.
@@ -88,6 +74,30 @@ struct Shown<'s, 'f> {
     source: &'s Source,
     number: usize,
     buckets: &'s Buckets<'f>,
+}
+
+/// Writes the number of a line, and the place to which links to it lead.
+fn write_line_number(out: &mut String, source: usize, line: usize) -> Result<(), AllocError> {
+    write_text(out, "<div class=\"line bad\" id=\"")?;
+    write_anchor(out, source, line)?;
+    write_text(out, "\"><span>")?;
+    write_number(out, line)?;
+    write_text(out, "</span><span>")
+}
+
+/// Writes a line in which these faults start.
+fn write_faulty_line(
+    alloc: Global,
+    out: &mut String,
+    shown: &Shown<'_, '_>,
+    line: usize,
+    faults: &[&Finding],
+) -> Result<(), AllocError> {
+    let text = shown.source.line(line);
+    let columns = marked_columns(alloc, text, faults)?;
+    write_line_number(out, shown.number, line)?;
+    write_marked(out, text, columns.as_slice())?;
+    write_text(out, "</span></div>\n")
 }
 
 /// Writes a line, and the faults that start in it.
@@ -103,43 +113,48 @@ fn write_line(
     if faults.is_empty() {
         return write_plain_line(out, shown.source, line);
     }
-    let text = shown.source.line(line);
-    let columns = marked_columns(alloc, text, faults.as_slice())?;
-    write_text(out, "<div class=\"line bad\" id=\"")?;
-    write_anchor(out, shown.number, line)?;
-    write_text(out, "\"><span>")?;
-    write_number(out, line)?;
-    write_text(out, "</span><span>")?;
-    write_marked(out, text, columns.as_slice())?;
-    write_text(out, "</span></div>\n")?;
+    write_faulty_line(alloc, out, shown, line, faults.as_slice())?;
     for fault in faults.as_slice() {
         write_note(alloc, out, shown.sources, fault)?;
     }
     Ok(())
 }
 
-/// Writes lines that follow each other.
+/// Writes the lines of a piece.
+fn write_lines(
+    alloc: Global,
+    out: &mut String,
+    shown: &Shown<'_, '_>,
+    piece: Piece,
+) -> Result<(), AllocError> {
+    for line in piece.first..piece.last {
+        write_line(alloc, out, shown, line)?;
+    }
+    write_line(alloc, out, shown, piece.last)
+}
+
+/// Writes the summary that stands for a piece while it is folded.
+fn write_summary(out: &mut String, piece: Piece) -> Result<(), AllocError> {
+    write_text(out, "<details><summary>lines ")?;
+    write_number(out, piece.first)?;
+    write_text(out, " to ")?;
+    write_number(out, piece.last)?;
+    write_text(out, "</summary>\n")
+}
+
+/// Writes lines that follow each other, folded where the piece is.
 fn write_piece(
     alloc: Global,
     out: &mut String,
     shown: &Shown<'_, '_>,
     piece: Piece,
 ) -> Result<(), AllocError> {
-    if piece.is_folded {
-        write_text(out, "<details><summary>lines ")?;
-        write_number(out, piece.first)?;
-        write_text(out, " to ")?;
-        write_number(out, piece.last)?;
-        write_text(out, "</summary>\n")?;
+    if !piece.is_folded {
+        return write_lines(alloc, out, shown, piece);
     }
-    for line in piece.first..piece.last {
-        write_line(alloc, out, shown, line)?;
-    }
-    write_line(alloc, out, shown, piece.last)?;
-    if piece.is_folded {
-        write_text(out, "</details>\n")?;
-    }
-    Ok(())
+    write_summary(out, piece)?;
+    write_lines(alloc, out, shown, piece)?;
+    write_text(out, "</details>\n")
 }
 
 /// Writes a file that has faults.
@@ -155,9 +170,7 @@ fn write_file<'f>(
     };
     let buckets = faults_by_line(alloc, source.line_count(), faults)?;
     let pieces = pieces(alloc, &buckets)?;
-    write_text(out, "<h2>")?;
-    write_html(out, source.label())?;
-    write_text(out, "</h2>\n<div class=\"file\">\n")?;
+    write_html_between(out, "<h2>", source.label(), "</h2>\n<div class=\"file\">\n")?;
     let shown = Shown {
         sources,
         source,

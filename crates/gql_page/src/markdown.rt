@@ -10,14 +10,24 @@ use gql_render::phrases::{
     hidden, write_count, write_counts, write_operation, write_owner, write_spot,
 };
 use gql_render::picking::picked;
-use gql_render::write::write_text;
+use gql_render::write::{write_text, write_texts};
 use std::alloc::{AllocError, Global};
+
+/// Writes a text within Markdown, with the markup before it and after it.
+fn write_between(
+    out: &mut String,
+    before: &str,
+    text: &str,
+    after: &str,
+) -> Result<(), AllocError> {
+    write_text(out, before)?;
+    write_markdown(out, text)?;
+    write_text(out, after)
+}
 
 /// Writes a text as code, which stays in its line.
 fn write_code(out: &mut String, text: &str) -> Result<(), AllocError> {
-    write_text(out, "<code>")?;
-    write_markdown(out, text)?;
-    write_text(out, "</code>")
+    write_between(out, "<code>", text, "</code>")
 }
 
 /// Writes a place as code.
@@ -41,13 +51,10 @@ fn write_item(
 ) -> Result<(), AllocError> {
     let mut name = String::new(alloc);
     write_operation(&mut name, affected.kind, &affected.name)?;
-    write_text(out, "- ")?;
-    write_code(out, name.as_str())?;
-    write_text(out, " in ")?;
+    write_between(out, "- <code>", name.as_str(), "</code> in ")?;
     write_code(out, label_at(sources, &affected.spot))?;
     if let Some(through) = &affected.through {
-        write_text(out, " by fragment ")?;
-        write_code(out, through.as_str())?;
+        write_between(out, " by fragment <code>", through.as_str(), "</code>")?;
     }
     write_text(out, "\n")
 }
@@ -66,8 +73,7 @@ fn write_operations(
     let operations = picked(alloc, findings.affected.as_slice(), places)?;
     write_text(out, "\n**")?;
     write_count(out, operations.len(), "operation")?;
-    write_text(out, state)?;
-    write_text(out, "**\n\n")?;
+    write_texts(out, &[state, "**\n\n"])?;
     for affected in operations {
         write_item(alloc, out, findings.sources.as_slice(), affected)?;
     }
@@ -81,9 +87,7 @@ fn write_rule(out: &mut String, rule: Rule, about: &str) -> Result<(), AllocErro
         write_text(out, " ")?;
         write_code(out, about)?;
     }
-    write_text(out, ": ")?;
-    write_markdown(out, title(rule))?;
-    write_text(out, ": ")?;
+    write_between(out, ": ", title(rule), ": ")?;
     write_markdown(out, sentence(rule))
 }
 
@@ -154,9 +158,7 @@ fn write_fault(
     if let Some(owner) = &fault.owner {
         let mut name = String::new(alloc);
         write_owner(&mut name, &owner.owner)?;
-        write_text(out, " (in ")?;
-        write_code(out, name.as_str())?;
-        write_text(out, ")")?;
+        write_between(out, " (in <code>", name.as_str(), "</code>)")?;
     }
     write_text(out, "\n")
 }
@@ -172,9 +174,7 @@ fn write_faults(
     if places.is_empty() {
         return Ok(());
     }
-    write_text(out, "\n<details><summary>")?;
-    write_text(out, summary)?;
-    write_text(out, "</summary>\n\n")?;
+    write_texts(out, &["\n<details><summary>", summary, "</summary>\n\n"])?;
     for fault in picked(alloc, findings.findings.as_slice(), places)? {
         write_fault(alloc, out, findings.sources.as_slice(), fault)?;
     }
@@ -195,26 +195,37 @@ fn write_states(alloc: Global, out: &mut String, check: &Check<'_>) -> Result<()
     }
 }
 
+/// Writes the heading with the counts, and what a schema with faults hides.
+fn write_head(out: &mut String, check: &Check<'_>) -> Result<(), AllocError> {
+    write_text(out, "### GraphQL: ")?;
+    write_counts(out, check)?;
+    let hidden = hidden(check);
+    if hidden.is_empty() {
+        return write_text(out, "\n");
+    }
+    write_texts(out, &["\n\n", hidden, "\n"])
+}
+
+/// Writes the faults that are shown, and then those that are mended.
+fn write_each_fault(alloc: Global, out: &mut String, check: &Check<'_>) -> Result<(), AllocError> {
+    let places = shown(alloc, check)?;
+    write_faults(alloc, out, check.now, places.as_slice(), "Each fault")?;
+    match &check.base {
+        Some(base) => {
+            let mended = base.comparison.mended.as_slice();
+            write_faults(alloc, out, base.findings, mended, "Mended faults")
+        }
+        None => Ok(()),
+    }
+}
+
 /// The check as a summary for a pull request: the counts, the operations that are broken, the
 /// causes of the faults, and then, folded, each fault.
 pub fn as_markdown(alloc: Global, check: &Check<'_>) -> Result<Vec<u8>, AllocError> {
     let mut out = String::new(alloc);
-    write_text(&mut out, "### GraphQL: ")?;
-    write_counts(&mut out, check)?;
-    write_text(&mut out, "\n")?;
-    let hidden = hidden(check);
-    if !hidden.is_empty() {
-        write_text(&mut out, "\n")?;
-        write_text(&mut out, hidden)?;
-        write_text(&mut out, "\n")?;
-    }
+    write_head(&mut out, check)?;
     write_states(alloc, &mut out, check)?;
     write_causes(alloc, &mut out, check)?;
-    let places = shown(alloc, check)?;
-    write_faults(alloc, &mut out, check.now, places.as_slice(), "Each fault")?;
-    if let Some(base) = &check.base {
-        let mended = base.comparison.mended.as_slice();
-        write_faults(alloc, &mut out, base.findings, mended, "Mended faults")?;
-    }
+    write_each_fault(alloc, &mut out, check)?;
     Ok(out.into_bytes())
 }

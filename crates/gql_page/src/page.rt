@@ -1,41 +1,49 @@
 //! A check as one page of HTML without scripts.
 
 use crate::files::write_files;
-use crate::parts::{write_affected, write_cause, write_mended};
-use crate::style::write_style;
+use crate::parts::{write_affected, write_cause, write_html_between, write_mended};
+use crate::style::STYLE;
 use gql_findings::Findings;
-use gql_render::check::{Check, broken, shown, shown_causes};
-use gql_render::escapes::write_html;
+use gql_render::check::{Check, broken, shown_causes, shown_faults};
 use gql_render::phrases::{hidden, write_count, write_counts};
 use gql_render::picking::picked;
-use gql_render::write::write_text;
+use gql_render::write::{write_text, write_texts};
 use std::alloc::{AllocError, Global};
 
-/// Writes the head of the page, with the counts.
+/// The beginning of the page, up to the counts in its title.
+const HEAD: &str = "\
+<!doctype html>
+<html lang=\"en\">
+<meta charset=\"utf-8\">
+<meta name=\"viewport\" content=\"width=device-width, initial-scale=1\">
+<title>GraphQL: ";
+
+/// Writes the head of the page, with the counts in its title and in its heading.
 fn write_head(out: &mut String, check: &Check<'_>) -> Result<(), AllocError> {
-    write_text(
-        out,
-        "<!doctype html>\n<html lang=\"en\">\n<meta charset=\"utf-8\">\n",
-    )?;
-    write_text(
-        out,
-        "<meta name=\"viewport\" content=\"width=device-width, initial-scale=1\">\n",
-    )?;
-    write_text(out, "<title>GraphQL: ")?;
+    write_text(out, HEAD)?;
     write_counts(out, check)?;
-    write_text(out, "</title>\n<style>\n")?;
-    write_style(out)?;
-    write_text(out, "</style>\n<h1>GraphQL: ")?;
+    write_texts(
+        out,
+        &["</title>\n<style>\n", STYLE, "</style>\n<h1>GraphQL: "],
+    )?;
     write_counts(out, check)?;
-    write_text(out, "</h1>\n")?;
+    write_text(out, "</h1>\n")
+}
+
+/// Writes what a schema with faults hides, if it hides anything.
+fn write_hidden(out: &mut String, check: &Check<'_>) -> Result<(), AllocError> {
     let hidden = hidden(check);
     if hidden.is_empty() {
         return Ok(());
     }
-    write_text(out, "<p>")?;
-    write_html(out, hidden)?;
-    write_text(out, "</p>\n")
+    write_html_between(out, "<p>", hidden, "</p>\n")
 }
+
+/// The beginning of the table of causes.
+const CAUSES: &str = "\
+<table class=\"causes\">
+<tr><th>Cause</th><th>Faults</th><th>First places</th></tr>
+";
 
 /// Writes the causes of the faults, the largest first.
 fn write_causes(alloc: Global, out: &mut String, check: &Check<'_>) -> Result<(), AllocError> {
@@ -43,11 +51,7 @@ fn write_causes(alloc: Global, out: &mut String, check: &Check<'_>) -> Result<()
     if causes.is_empty() {
         return Ok(());
     }
-    write_text(out, "<table class=\"causes\">\n")?;
-    write_text(
-        out,
-        "<tr><th>Cause</th><th>Faults</th><th>First places</th></tr>\n",
-    )?;
+    write_text(out, CAUSES)?;
     for cause in causes.as_slice() {
         write_cause(alloc, out, check.now, cause)?;
     }
@@ -68,8 +72,7 @@ fn write_operations(
     let operations = picked(alloc, findings.affected.as_slice(), places)?;
     write_text(out, "<h2>")?;
     write_count(out, operations.len(), "operation")?;
-    write_text(out, state)?;
-    write_text(out, "</h2>\n<ul>\n")?;
+    write_texts(out, &[state, "</h2>\n<ul>\n"])?;
     for affected in operations {
         write_affected(alloc, out, findings.sources.as_slice(), affected)?;
     }
@@ -108,16 +111,25 @@ fn write_states(alloc: Global, out: &mut String, check: &Check<'_>) -> Result<()
     }
 }
 
+/// Writes the files that have faults which are shown.
+fn write_faulty_files(
+    alloc: Global,
+    out: &mut String,
+    check: &Check<'_>,
+) -> Result<(), AllocError> {
+    let faults = shown_faults(alloc, check)?;
+    write_files(alloc, out, check.now, faults.as_slice())
+}
+
 /// The check as one page: the counts, the causes of the faults, the operations that are broken, and
 /// the files with faults, each around its faults with the rest folded.
 pub fn as_html(alloc: Global, check: &Check<'_>) -> Result<Vec<u8>, AllocError> {
     let mut out = String::new(alloc);
     write_head(&mut out, check)?;
+    write_hidden(&mut out, check)?;
     write_causes(alloc, &mut out, check)?;
     write_states(alloc, &mut out, check)?;
-    let places = shown(alloc, check)?;
-    let faults = picked(alloc, check.now.findings.as_slice(), places.as_slice())?;
-    write_files(alloc, &mut out, check.now, faults.as_slice())?;
+    write_faulty_files(alloc, &mut out, check)?;
     write_text(&mut out, "</html>\n")?;
     Ok(out.into_bytes())
 }

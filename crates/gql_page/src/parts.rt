@@ -12,11 +12,21 @@ use std::alloc::{AllocError, Global};
 /// How many places of a cause are shown.
 pub const MOST_PLACES: usize = 3;
 
+/// Writes a text within HTML, with the markup before it and after it.
+pub fn write_html_between(
+    out: &mut String,
+    before: &str,
+    text: &str,
+    after: &str,
+) -> Result<(), AllocError> {
+    write_text(out, before)?;
+    write_html(out, text)?;
+    write_text(out, after)
+}
+
 /// Writes a text as code.
 pub fn write_code(out: &mut String, text: &str) -> Result<(), AllocError> {
-    write_text(out, "<code>")?;
-    write_html(out, text)?;
-    write_text(out, "</code>")
+    write_html_between(out, "<code>", text, "</code>")
 }
 
 /// Writes the name that the line of a place has on the page.
@@ -60,9 +70,7 @@ pub fn write_rule(out: &mut String, rule: Rule, about: &str) -> Result<(), Alloc
         write_text(out, " ")?;
         write_code(out, about)?;
     }
-    write_text(out, ": ")?;
-    write_html(out, title(rule))?;
-    write_text(out, ": ")?;
+    write_html_between(out, ": ", title(rule), ": ")?;
     write_html(out, sentence(rule))
 }
 
@@ -72,9 +80,7 @@ pub fn write_fault(alloc: Global, out: &mut String, fault: &Finding) -> Result<(
     if let Some(owner) = &fault.owner {
         let mut name = String::new(alloc);
         write_owner(&mut name, &owner.owner)?;
-        write_text(out, " (in ")?;
-        write_html(out, name.as_str())?;
-        write_text(out, ")")?;
+        write_html_between(out, " (in ", name.as_str(), ")")?;
     }
     Ok(())
 }
