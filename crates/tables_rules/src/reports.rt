@@ -15,8 +15,7 @@ use table_rows::join;
 /// The faults of schema files.
 fn faults_of_schema(alloc: Global, files: &Files) -> Result<Vec<Shared<Fault>>, AllocError> {
     let schema = assemble(alloc, files)?;
-    let faults = schema_faults(alloc, files, &schema)?;
-    Ok(faults)
+    schema_faults(alloc, files, &schema)
 }
 
 /// Makes a shelf current after an edit that leaves these document files.
