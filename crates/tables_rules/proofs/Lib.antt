@@ -1,2 +1,1 @@
 mod OneFile
-mod Whole

@@ -5,16 +5,13 @@
 #![tactic(auto)]
 
 mod built_in_names;
-mod clashing_fields;
 mod coerced;
-mod cycles;
 mod document_files;
 mod fact_words;
 mod facts;
 mod faults;
 mod inputs;
 mod look_ups;
-mod numbered_sets;
 mod questions;
 mod reports;
 mod rule_groups;

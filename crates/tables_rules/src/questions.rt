@@ -1,7 +1,5 @@
-//! Questions about schema files, and about no schema.
+//! Questions about schema files.
 use crate::built_in_names::built_in_answer;
-use crate::clashing_fields::clashes_answer;
-use crate::cycles::{names_on_cycles_answer, nodes_on_cycles_answer};
 use crate::facts::facts_answer;
 use crate::inputs::put_file;
 use crate::look_ups::look_up_answer;
@@ -22,17 +20,6 @@ fn files_of(alloc: Global, texts: &[NamedText]) -> Option<Files> {
         put_file(alloc, &mut files, &name, named.text.as_str())?;
     }
     Some(files)
-}
-
-/// The answer to a question about no schema; `None` if there is no such question.
-fn free_answer(alloc: Global, texts: &[NamedText], word: &str, rest: &str) -> Option<String> {
-    match word {
-        "clashes" => clashes_answer(alloc, texts.last()?.text.as_str(), rest),
-        "names-on-cycles" => names_on_cycles_answer(alloc, rest),
-        "nodes-on-cycles" => nodes_on_cycles_answer(alloc, rest),
-        "built-in" => built_in_answer(alloc),
-        _ => None,
-    }
 }
 
 /// The faults of a document, which the question has after its word, or which is the one before it.
@@ -100,10 +87,7 @@ impl Row for SchemaRow {
         question: &str,
     ) -> Result<String, AllocError> {
         let alloc = self.alloc;
-        let (word, rest) = question.split_once(" ").unwrap_or((question, ""));
-        if let Some(answer) = free_answer(alloc, given.texts.as_slice(), word, rest) {
-            return Ok(answer);
-        }
+        let (word, _rest) = question.split_once(" ").unwrap_or((question, ""));
         if self.known.is_none() {
             self.known = read_files(alloc, given.texts.as_slice());
         }
@@ -120,6 +104,7 @@ impl Row for SchemaRow {
                 document,
             ),
             "verdicts" => verdicts_answer(alloc, &known.schema, &mut self.shelf, document),
+            "built-in" => built_in_answer(alloc),
             _ => schema_answer(alloc, &known.schema, document, question),
         };
         match answer {

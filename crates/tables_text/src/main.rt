@@ -1,15 +1,18 @@
-//! Compares what the lexer, the parsers, the framer of requests and the command line answer with
-//! what tables expect. An argument is the file of a table, which says at its head how it is written;
+//! Compares what the lexer, the parsers, the framer of requests, the command line, and the searches
+//! for cycles and for clashes of numbered fields answer with what tables expect. An argument is the file of a table, which says at its head how it is written;
 //! or `FILE:LINE,LINE..`, to compare only the answers to the questions at these lines. Answers that
 //! differ are printed, each with its file and line.
 #![tactic(auto)]
 
 mod bytes;
+mod clashing_fields;
 mod commands;
 mod cursors;
+mod cycles;
 mod documents;
 mod file_maps;
 mod levels;
+mod numbered_sets;
 mod parsers;
 mod peers;
 mod questions;

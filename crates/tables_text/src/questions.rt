@@ -1,6 +1,8 @@
 //! Questions about a text, and about no text.
+use crate::clashing_fields::clashes_answer;
 use crate::commands::{command_answer, command_text};
 use crate::cursors::cursor_answer;
+use crate::cycles::{names_on_cycles_answer, nodes_on_cycles_answer};
 use crate::documents::{copies_answer, cuts_answer, same_answer};
 use crate::file_maps::files_answer;
 use crate::levels::{placed_answer, visited_answer};
@@ -42,6 +44,16 @@ fn text_answer(alloc: Global, text: &str, word: &str, rest: &str) -> Option<Stri
     }
 }
 
+/// The answer to a question about nodes that are numbers or names.
+fn numbered_answer(alloc: Global, text: &str, word: &str, rest: &str) -> Option<String> {
+    match word {
+        "clashes" => clashes_answer(alloc, text, rest),
+        "names-on-cycles" => names_on_cycles_answer(alloc, rest),
+        "nodes-on-cycles" => nodes_on_cycles_answer(alloc, rest),
+        _ => None,
+    }
+}
+
 /// The answer to a question about a stream of bytes, or about no text.
 fn other_answer(alloc: Global, text: &str, word: &str, rest: &str) -> Option<String> {
     match word {
@@ -51,7 +63,7 @@ fn other_answer(alloc: Global, text: &str, word: &str, rest: &str) -> Option<Str
         "device" => device_answer(alloc, text, rest),
         "command" => command_answer(alloc, rest),
         "told" => command_text(alloc, rest),
-        _ => None,
+        _ => numbered_answer(alloc, text, word, rest),
     }
 }
 

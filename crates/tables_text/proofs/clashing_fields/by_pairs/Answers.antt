@@ -1,5 +1,5 @@
 use Rattle.std.proofs.Common.{subst, Contains}
-use Rattle.tables_rules.proofs.clashing_fields.by_pairs.Goals as goal
+use Rattle.tables_text.proofs.clashing_fields.by_pairs.Goals as goal
 
 pub among-requires-clause-inside : goal.among-requires-clause-inside
 among-requires-clause-inside c x h =

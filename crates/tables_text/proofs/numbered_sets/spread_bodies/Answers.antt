@@ -1,9 +1,9 @@
 use Rattle.std.proofs.Common.{ℕ, ◌∷◌, ◌≡◌, true, sym, ap, subst, ◌∙◌}
 use Rattle.gql_clashes.specs.Numbered.{Lists, nodes_of}
 use Rattle.gql_clashes.specs.Parts.{SpreadsTo}
-use Rattle.tables_rules.specs.Tested.{is_closed}
-use Rattle.tables_rules.proofs.Whole.{all_spread}
-use Rattle.tables_rules.proofs.numbered_sets.spread_bodies.Goals as goal
+use Rattle.tables_text.specs.Tested.{is_closed}
+use Rattle.tables_text.proofs.Whole.{all_spread}
+use Rattle.tables_text.proofs.numbered_sets.spread_bodies.Goals as goal
 
 pub returns-then-is_closed : goal.returns-then-is_closed
 returns-then-is_closed c =

@@ -2,7 +2,7 @@
 //! and `bodies`.
 ghost use Rattle.std.specs.Prelude.{◌≡◌, ◌∷◌, IfSome, nat_eq};
 ghost use Rattle.std.specs.List.{list_all, list_any};
-ghost use Rattle.tables_rules.specs.Tested as tested;
+ghost use Rattle.tables_text.specs.Tested as tested;
 ghost use Rattle.gql_clashes.specs.Numbered.{IsWhole, Lists, nodes_of};
 ghost use Rattle.gql_clashes.specs.Parts.{SpreadsTo};
 

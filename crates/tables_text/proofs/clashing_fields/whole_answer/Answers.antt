@@ -1,6 +1,6 @@
 use Rattle.std.proofs.Common.{◌<◌, length, arith, subst, Contains}
-use Rattle.tables_rules.proofs.Whole.{inside}
-use Rattle.tables_rules.proofs.clashing_fields.whole_answer.Goals as goal
+use Rattle.tables_text.proofs.Whole.{inside}
+use Rattle.tables_text.proofs.clashing_fields.whole_answer.Goals as goal
 
 pub clashes_by_parts-requires-clause-inside : goal.clashes_by_parts-requires-clause-inside
 clashes_by_parts-requires-clause-inside c u h =

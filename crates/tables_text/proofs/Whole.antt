@@ -11,7 +11,7 @@ use Rattle.gql_clashes.specs.declared.sets.Sets.{Sets}
 use Rattle.gql_clashes.specs.Numbered.{IsWhole, Lists, field_at, no_field, nodes_of}
 use Rattle.gql_clashes.specs.Parts.{SpreadsTo, itself, more}
 use Rattle.gql_clashes.proofs.Members.{Contains-nil, Contains-here, Contains-there, Contains-cases}
-use Rattle.tables_rules.specs.Tested.{are_in, is_body, is_below, is_whole, is_closed}
+use Rattle.tables_text.specs.Tested.{are_in, is_body, is_below, is_whole, is_closed}
 
 passes : {X : Type 0} (p : X → Bool) (xs : List X) (x : X) → list_all p xs ≡ true → Contains xs x → p x ≡ true
 passes p [] x e c = absurd (Contains-nil x c)

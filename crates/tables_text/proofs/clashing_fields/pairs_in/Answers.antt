@@ -1,7 +1,7 @@
 use Rattle.std.proofs.Common.{◌≡◌, ◌++◌, ◌∷◌, [], inl, inr, rules, subst, Contains}
 use Rattle.std.proofs.lemmas.List.Elements.{Contains-push_cases}
 use Rattle.gql_clashes.specs.Seen.{IsInside}
-use Rattle.tables_rules.proofs.clashing_fields.pairs_in.Goals as goal
+use Rattle.tables_text.proofs.clashing_fields.pairs_in.Goals as goal
 
 pub loop-part-preserved : goal.loop-part-preserved
 loop-part-preserved c x h =

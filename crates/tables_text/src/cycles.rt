@@ -1,5 +1,4 @@
 //! Names and nodes that lead to one another, and those of them that are on cycles.
-use crate::inputs::json_in;
 use gql_cycles::{Row, names_on_cycles, nodes_on_cycles};
 use serde_json::Value;
 use std::alloc::{AllocError, Global};
@@ -64,7 +63,8 @@ fn edges_in(alloc: Global, value: &Value) -> Option<Vec<Vec<usize>>> {
 /// The nodes on cycles, in their order; a list of JSON has for each node the list of the nodes to
 /// which it leads.
 pub fn nodes_on_cycles_answer(alloc: Global, question: &str) -> Option<String> {
-    let edges = edges_in(alloc, &json_in(alloc, question)?)?;
+    let value = Value::from_str(alloc, question).ok()?;
+    let edges = edges_in(alloc, &value)?;
     let nodes = nodes_on_cycles(alloc, edges.as_slice()).ok()?;
     format!(in alloc; "{nodes:?}").ok()
 }
