@@ -24,6 +24,14 @@ pub fn written_text<T: Written>(alloc: Global, item: &T) -> Result<String, Alloc
     Ok(text)
 }
 
+/// Adds a blank before an item that is not the first.
+pub fn write_blank_between(text: &mut String, is_first: bool) -> Result<(), AllocError> {
+    if is_first {
+        return Ok(());
+    }
+    text.push_str(" ")
+}
+
 /// Adds the items between two texts, each but the first after a blank, or nothing if there are
 /// none.
 pub fn write_enclosed<T: Written>(

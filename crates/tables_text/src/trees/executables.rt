@@ -2,7 +2,8 @@
 
 use crate::trees::literals::write_type_and_default;
 use crate::trees::{
-    Written, write_directives, write_enclosed, write_named, write_optional, write_placed,
+    Written, write_blank_between, write_directives, write_enclosed, write_named, write_optional,
+    write_placed,
 };
 use gql_ast::{
     Field, Fragment, InlineFragment, Operation, OperationKind, Selection, Spread,
@@ -24,13 +25,17 @@ impl Written for Selection {
 /// Adds a selection set, or nothing if none is written.
 #[cycle(selections)]
 fn write_set(text: &mut String, selections: &[Selection]) -> Result<(), AllocError> {
-    let mut between = " {";
-    for selection in selections {
-        text.push_str(between)?;
-        selection.write_to(text)?;
-        between = " ";
+    if selections.is_empty() {
+        return Ok(());
     }
-    text.push_str(if selections.is_empty() { "" } else { "}" })
+    text.push_str(" {")?;
+    let mut is_first = true;
+    for selection in selections {
+        write_blank_between(text, is_first)?;
+        selection.write_to(text)?;
+        is_first = false;
+    }
+    text.push_str("}")
 }
 
 impl Written for Field {

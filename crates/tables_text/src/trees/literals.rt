@@ -1,7 +1,8 @@
 //! Literals, arguments and directives, as the tables write them.
 
 use crate::trees::{
-    Written, write_enclosed, write_named, write_optional, write_placed, write_quoted,
+    Written, write_blank_between, write_enclosed, write_named, write_optional, write_placed,
+    write_quoted,
 };
 use gql_ast::{Argument, Directive, Literal, ObjectField, TypeRef};
 use std::alloc::AllocError;
@@ -46,13 +47,14 @@ impl Written for Literal {
 /// Adds a bracket and the items after it.
 #[cycle(written)]
 fn write_literals(text: &mut String, items: &[Literal]) -> Result<(), AllocError> {
-    let mut between = "[";
+    text.push_str("[")?;
+    let mut is_first = true;
     for item in items {
-        text.push_str(between)?;
+        write_blank_between(text, is_first)?;
         item.write_to(text)?;
-        between = " ";
+        is_first = false;
     }
-    text.push_str(if items.is_empty() { "[" } else { "" })
+    Ok(())
 }
 
 impl Written for ObjectField {
@@ -67,13 +69,14 @@ impl Written for ObjectField {
 /// Adds a brace and the fields after it.
 #[cycle(written)]
 fn write_fields(text: &mut String, fields: &[ObjectField]) -> Result<(), AllocError> {
-    let mut between = "{";
+    text.push_str("{")?;
+    let mut is_first = true;
     for field in fields {
-        text.push_str(between)?;
+        write_blank_between(text, is_first)?;
         field.write_to(text)?;
-        between = " ";
+        is_first = false;
     }
-    text.push_str(if fields.is_empty() { "{" } else { "" })
+    Ok(())
 }
 
 impl Written for Argument {
