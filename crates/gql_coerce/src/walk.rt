@@ -51,7 +51,7 @@ fn has_cycle(schema: &Schema, stack: &[Frame<'_>]) -> bool {
         }
     }
     for of_type in schema.types() {
-        open = open.saturating_sub(of_type.input_fields.as_slice().len());
+        open = open.saturating_sub(of_type.get().input_fields.as_slice().len());
     }
     // this field may have no default
     open > 1

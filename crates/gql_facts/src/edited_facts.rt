@@ -84,7 +84,7 @@ fn entries_after(
 {
     let mut entries = Vec::with_capacity(alloc, schema.types().len())?;
     for of_type in schema.types() {
-        let entry = entry_after(alloc, schema, before, edited, of_type)?;
+        let entry = entry_after(alloc, schema, before, edited, of_type.get())?;
         entries.push(entry)?;
     }
     Ok(entries)
@@ -103,7 +103,7 @@ impl SchemaFacts {
             → KeepsOthers edited.now old schema.now → facts ≡ tables_of schema.now) }
     {
         let entries = entries_after(alloc, schema, before, edited)?;
-        let types = Named::new(alloc, entries)?;
+        let types = Named::like(alloc, entries, schema.named_types())?;
         let directives = Named::new(alloc, directive_entries(alloc, schema)?)?;
         let roots = root_entries(alloc, schema.roots())?;
         let meta = MetaFields::new(alloc)?;

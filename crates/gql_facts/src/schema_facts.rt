@@ -266,7 +266,7 @@ fn type_entries(alloc: Global, schema: &Schema) -> Result<Vec<Shared<TypeEntry>>
 {
     let mut entries = Vec::with_capacity(alloc, schema.types().len())?;
     for of_type in schema.types() {
-        let entry = type_entry(alloc, schema, of_type)?;
+        let entry = type_entry(alloc, schema, of_type.get())?;
         entries.push(Shared::new(alloc, entry)?)?;
     }
     Ok(entries)
@@ -321,7 +321,8 @@ impl SchemaFacts {
     pub fn new(alloc: Global, schema: &Schema) -> Result<SchemaFacts, AllocError>
         ensures { IfOk result (λ facts. facts ≡ tables.tables_of schema.now) }
     {
-        let types = Named::new(alloc, type_entries(alloc, schema)?)?;
+        let entries = type_entries(alloc, schema)?;
+        let types = Named::like(alloc, entries, schema.named_types())?;
         let directives = Named::new(alloc, directive_entries(alloc, schema)?)?;
         let roots = root_entries(alloc, schema.roots())?;
         let meta = MetaFields::new(alloc)?;

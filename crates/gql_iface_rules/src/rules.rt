@@ -41,7 +41,7 @@ fn check_pairs(alloc: Global, schema: &Schema, faults: &mut Vec<Fault>) -> Resul
         ↔ (Contains faults.old.items f ⊎ IsFaultOfTypes schema.now schema.now.types f)) }
 {
     for of_type in schema.types() {
-        check_pairs_of(alloc, schema, of_type, faults)?;
+        check_pairs_of(alloc, schema, of_type.get(), faults)?;
     }
     Ok(())
 }

@@ -62,7 +62,7 @@ pub fn check(alloc: Global, schema: &Schema, faults: &mut Vec<Fault>) -> Result<
     ensures { OnOk result (faults.new.items ≡ faults.old.items ++ spec.faults schema.now) }
 {
     for of_type in schema.types() {
-        check_type(alloc, of_type, faults)?;
+        check_type(alloc, of_type.get(), faults)?;
     }
     Ok(())
 }

@@ -97,7 +97,7 @@ fn input_rows(alloc: Global, schema: &Schema) -> Result<Vec<Row<'_>>, AllocError
 {
     let mut rows = Vec::new(alloc);
     for of_type in schema.types() {
-        add_input_row(alloc, of_type, &mut rows)?;
+        add_input_row(alloc, of_type.get(), &mut rows)?;
     }
     Ok(rows)
 }

@@ -115,7 +115,7 @@ pub fn all_inputs(alloc: Global, schema: &Schema) -> Result<AllInputs<'_>, Alloc
     let mut fields = Vec::new(alloc);
     let mut objects = Vec::new(alloc);
     for of_type in schema.types() {
-        add_object(alloc, of_type, &mut fields, &mut objects)?;
+        add_object(alloc, of_type.get(), &mut fields, &mut objects)?;
     }
     let objects = Named::new(alloc, objects)?;
     Ok(AllInputs { fields, objects })

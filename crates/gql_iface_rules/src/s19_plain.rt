@@ -4,7 +4,7 @@ ghost use Rattle.std.specs.List.{All};
 ghost use Rattle.gql_iface_rules.specs.S19Plain as spec;
 
 use crate::s19_inputs::Input;
-use gql_ast::Literal;
+use gql_ast::{Literal, Shared};
 use gql_types::SchemaType;
 
 /// Whether a value is a list or an object.
@@ -76,11 +76,11 @@ fn may_any_need(fields: &[Input]) -> bool
 }
 
 /// Whether a default value of one of these types may hold an object.
-pub fn may_types_need(types: &[SchemaType]) -> bool
+pub fn may_types_need(types: &[Shared<SchemaType>]) -> bool
     ensures { result ≡ false → All spec.TypeNeedsNone types.now }
 {
     for of_type in types {
-        if may_any_need(of_type.input_fields.as_slice()) {
+        if may_any_need(of_type.get().input_fields.as_slice()) {
             return true;
         }
     }

@@ -9,7 +9,7 @@ ghost use Rattle.gql_iface_rules.specs.S26Leads as spec;
 
 use crate::s26_directive_cycles::without_sign;
 use crate::s26_rows::{OwnedRow, add_directive_rows, type_row};
-use gql_ast::Text;
+use gql_ast::{Shared, Text};
 use gql_faults::first_directives;
 use gql_types::{HasName, Named, Schema, SchemaType};
 use std::alloc::{AllocError, Global};
@@ -73,13 +73,13 @@ fn is_led_on(alloc: Global, of_type: &SchemaType, names: &Named<Text>) -> Result
 /// The same for one of these types.
 fn is_any_led_on(
     alloc: Global,
-    types: &[SchemaType],
+    types: &[Shared<SchemaType>],
     names: &Named<Text>,
 ) -> Result<bool, AllocError>
     ensures { IfOk result (λ on. on ≡ false → All (spec.LeadsNowhere names.now) types.now) }
 {
     for of_type in types {
-        if is_led_on(alloc, of_type, names)? {
+        if is_led_on(alloc, of_type.get(), names)? {
             return Ok(true);
         }
     }

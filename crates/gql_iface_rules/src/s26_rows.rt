@@ -52,14 +52,14 @@ fn directive_row(
 /// Adds the rows of types.
 fn add_type_rows(
     alloc: Global,
-    types: &[SchemaType],
+    types: &[Shared<SchemaType>],
     rows: &mut Vec<OwnedRow>,
 ) -> Result<(), AllocError>
     ensures { OnOk result (map steps rows.new.items ≡ map steps rows.old.items
         ++ map spec.type_row types.now) }
 {
     for of_type in types {
-        rows.push(type_row(alloc, of_type)?)?;
+        rows.push(type_row(alloc, of_type.get())?)?;
     }
     Ok(())
 }

@@ -16,7 +16,7 @@ mod references;
 mod resolve;
 
 pub use answer::{IntroAnswer, IntroArguments};
-pub use made::{IntroSchema, intro_schema};
+pub use made::{IntroSchema, intro_schema, intro_schema_after_edit};
 pub use names::location_name;
 pub use node::IntroNode;
 pub use nodes::IntroNodes;

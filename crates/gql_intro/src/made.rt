@@ -1,6 +1,7 @@
 //! What is made once for a schema (GraphQL specification, 4.2.1).
 ghost use Rattle.std.specs.Prelude.{◌≡◌, ◌++◌, map, filter, IfOk};
 ghost use Rattle.std.specs.Option.{option_copied};
+ghost use Rattle.gql_ast.specs.declared.files.Files.{Files as TheFiles};
 ghost use Rattle.gql_types.specs.Possible.{name_of};
 ghost use Rattle.gql_intro.specs.Made as spec;
 ghost use Rattle.gql_intro.specs.MetaFields.{meta_field};
@@ -18,7 +19,7 @@ use std::alloc::{AllocError, Global};
 /// schema is.
 pub struct IntroSchema {
     /// The names of the types, in the order of their bytes.
-    types: Items<Text>,
+    types: Shared<Items<Text>>,
     /// Whether the schema files refer to Int, and to ID.
     has_int: bool,
     has_id: bool,
@@ -54,7 +55,7 @@ fn is_shown(has_int: bool, has_id: bool, name: &str) -> bool
 /// The names of the types that introspection shows.
 fn shown_names(
     alloc: Global,
-    types: &[SchemaType],
+    types: &[Shared<SchemaType>],
     has_int: bool,
     has_id: bool,
 ) -> Result<Vec<&str>, AllocError>
@@ -63,7 +64,7 @@ fn shown_names(
 {
     let mut names = Vec::new(alloc);
     for of_type in types {
-        let name = of_type.name();
+        let name = of_type.get().name();
         if is_shown(has_int, has_id, name) {
             names.push(name)?;
         }
@@ -138,8 +139,55 @@ pub fn intro_schema(
 {
     let has_int = refer(&files.schema, "Int");
     let has_id = refer(&files.schema, "ID");
+    let types = shown_types(alloc, schema, has_int, has_id)?;
     Ok(IntroSchema {
-        types: shown_types(alloc, schema, has_int, has_id)?,
+        types: Shared::new(alloc, types)?,
+        has_int,
+        has_id,
+        description: description(&files.schema)?,
+        meta: MetaFields::new(alloc)?,
+    })
+}
+
+/// The names of the types that introspection shows after an edit, by what was made of the schema
+/// before it.
+fn types_after_edit(
+    alloc: Global,
+    schema: &Schema,
+    has_int: bool,
+    has_id: bool,
+    before: &Schema,
+    made: &IntroSchema,
+) -> Result<Shared<Items<Text>>, AllocError>
+    ensures { IfOk result (λ names.
+        made.now.types ≡ spec.shown_types before.now made.now.has_int made.now.has_id
+        → names ≡ spec.shown_types schema.now has_int has_id) }
+{
+    let has_same_scalars = has_int == made.has_int && has_id == made.has_id;
+    if has_same_scalars && schema.named_types().has_names_of(before.named_types()) {
+        return made.types.clone();
+    }
+    let names = shown_types(alloc, schema, has_int, has_id)?;
+    Shared::new(alloc, names)
+}
+
+/// The schema of these files as introspection shows it, after an edit of a schema file. `made` is
+/// what was made of the schema before it. If no type came or went, both share the names of types.
+pub fn intro_schema_after_edit(
+    alloc: Global,
+    files: &Files,
+    schema: &Schema,
+    before: &Schema,
+    made: &IntroSchema,
+) -> Result<IntroSchema, AllocError>
+    ensures { IfOk result (λ after. (old : TheFiles) → made.now ≡ spec.made_of old before.now
+        → after ≡ spec.made_of files.now schema.now) }
+{
+    let has_int = refer(&files.schema, "Int");
+    let has_id = refer(&files.schema, "ID");
+    let types = types_after_edit(alloc, schema, has_int, has_id, before, made)?;
+    Ok(IntroSchema {
+        types,
         has_int,
         has_id,
         description: description(&files.schema)?,
@@ -160,7 +208,7 @@ impl IntroSchema {
     pub(crate) fn types(&self) -> &[Text]
         ensures { result.now ≡ self.now.types }
     {
-        self.types.as_slice()
+        self.types.get().as_slice()
     }
 
     /// The description of the schema.

@@ -179,7 +179,7 @@ pub fn check_types(
         ≡ faults.old.items ++ flat_map (spec.faults_of_type schema.now) schema.now.types) }
 {
     for of_type in schema.types() {
-        check_type(alloc, schema, of_type, faults)?;
+        check_type(alloc, schema, of_type.get(), faults)?;
     }
     Ok(())
 }

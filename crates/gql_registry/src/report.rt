@@ -3,6 +3,7 @@ ghost use Rattle.std.specs.Prelude.{◌≡◌, ◌≢◌, ◌++◌, [], IfOk, On
 ghost use Rattle.gql_ast.specs.declared.files.Files.{Files as TheFiles};
 ghost use Rattle.gql_facts.specs.Members.{Lists};
 ghost use Rattle.gql_registry.specs.EditPlans.{IsSideBefore};
+ghost use Rattle.gql_intro.specs.Made.{made_of};
 ghost use Rattle.gql_types.specs.Schemas.{schema_of};
 ghost use Rattle.gql_registry.specs.Keeping.{AreFactsOf, AreSchemaFaults, IsDefinitionFault};
 ghost use Rattle.gql_registry.specs.Keeping.{IsIndexOf, IsKnownOf, IsSideOf};
@@ -12,7 +13,7 @@ ghost use Rattle.gql_schema_rules.specs.KeptFaults.{AreFaultsOf};
 use crate::index::DocumentIndex;
 use gql_ast::{Fault, FileName, Files, Shared, Text};
 use gql_facts::SchemaFacts;
-use gql_intro::{IntroSchema, intro_schema};
+use gql_intro::{IntroSchema, intro_schema, intro_schema_after_edit};
 use gql_node_rules::SchemaChange;
 use gql_report::in_order;
 use gql_schema_rules::SchemaFaults;
@@ -42,21 +43,19 @@ pub struct Known {
     pub owners: Owners,
 }
 
-/// This schema, which is that of the files, with these facts, what introspection makes of it, and
-/// these faults.
+/// This schema, with these facts, what introspection makes of it, and these faults.
 fn side_of(
     alloc: Global,
-    files: &Files,
     schema: Schema,
     facts: SchemaFacts,
+    made: IntroSchema,
     kept: SchemaFaults,
 ) -> Result<SchemaSide, AllocError>
-    requires { schema ≡ schema_of files.now }
-    ensures { IfOk result (λ side. AreFactsOf files.now facts → AreFaultsOf files.now kept
-        → IsSideOf files.now side) }
+    ensures { IfOk result (λ side. (files : TheFiles) → schema ≡ schema_of files
+        → AreFactsOf files facts → made ≡ made_of files schema → AreFaultsOf files kept
+        → IsSideOf files side) }
 {
     let faults = sharing(alloc, kept.all())?;
-    let made = intro_schema(alloc, files, &schema)?;
     Ok(SchemaSide {
         schema,
         facts,
@@ -73,7 +72,8 @@ pub fn schema_side(alloc: Global, files: &Files) -> Result<SchemaSide, AllocErro
     let schema = assemble(alloc, files)?;
     let facts = SchemaFacts::new(alloc, &schema)?;
     let kept = SchemaFaults::new(alloc, files, &schema)?;
-    let side = side_of(alloc, files, schema, facts, kept)?;
+    let made = intro_schema(alloc, files, &schema)?;
+    let side = side_of(alloc, schema, facts, made, kept)?;
     Ok(side)
 }
 
@@ -93,7 +93,7 @@ fn faults_after_edit(
 {
     let change = SchemaChange::between(alloc, &before.schema, schema, edited)?;
     let kept = &before.kept;
-    let kept = SchemaFaults::after_edit(alloc, files, schema, name, &change, kept)?;
+    let kept = SchemaFaults::after_edit(alloc, files, schema, name, edited, &change, kept)?;
     Ok(kept)
 }
 
@@ -113,7 +113,8 @@ pub fn side_after_edit(
     let schema = assemble_after_edit(alloc, files, &before.schema, edited)?;
     let facts = SchemaFacts::after_edit(alloc, &schema, &before.facts, edited)?;
     let kept = faults_after_edit(alloc, files, &schema, before, name, edited)?;
-    let side = side_of(alloc, files, schema, facts, kept)?;
+    let made = intro_schema_after_edit(alloc, files, &schema, &before.schema, &before.made)?;
+    let side = side_of(alloc, schema, facts, made, kept)?;
     Ok(side)
 }
 

@@ -4,6 +4,7 @@ pub mod Earlier
 pub mod FirstChecks
 pub mod Grouping
 pub mod KeptChecks
+pub mod KeptTypes
 pub mod Regrouped
 pub mod SeenKinds
 pub mod Together

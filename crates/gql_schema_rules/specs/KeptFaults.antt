@@ -1,14 +1,17 @@
 -- All faults of a schema, with what an edit of a schema file can keep of them.
-use Rattle.std.specs.Prelude.{◌↔◌, Contains}
+use Rattle.std.specs.Prelude.{◌≡◌, ◌↔◌, [], Contains, IsTrue}
 use Rattle.gql_ast.specs.declared.fault.Fault.{Fault}
 use Rattle.gql_ast.specs.declared.files.Files.{Files}
 use Rattle.gql_types.specs.Schemas.{schema_of}
 use Rattle.gql_schema_rules.specs.ChecksOfFiles.{AreChecksOf}
+use Rattle.gql_schema_rules.specs.RuleGroups.{type_faults}
 use Rattle.gql_schema_rules.specs.SchemaFaults.{IsSchemaFault}
 use Rattle.gql_schema_rules.specs.declared.kept_faults.SchemaFaults.{SchemaFaults}
 
 -- all faults of the schema of these files, none missing and none invented, and the checks of the
--- files
+-- files; it says that the types are sound exactly if none is at fault by S05 to S08 or S18, and no
+-- directive either
 pub record AreFaultsOf (files : Files) (k : SchemaFaults) : Type 0 where
   pub checks : AreChecksOf (schema_of files) files.schema k.checks
   pub all : (f : Fault) → Contains k.all.items f ↔ IsSchemaFault files f
+  pub sound : IsTrue k.are_types_sound ↔ (type_faults (schema_of files) ≡ [])

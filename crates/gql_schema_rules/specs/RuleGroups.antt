@@ -1,8 +1,11 @@
--- Helper definitions for private contracts: the faults by the rules of this crate, in groups.
-use Rattle.std.specs.Prelude.{List, ◌++◌}
+-- The faults by the rules of this crate, in groups. Public contracts cite `type_faults` alone; the
+-- others are helper definitions for private contracts.
+use Rattle.std.specs.Prelude.{List, ◌++◌, flat_map}
 use Rattle.gql_ast.specs.declared.fault.Fault.{Fault}
 use Rattle.gql_node_rules.specs.Nodes.{AllNodes}
+use Rattle.gql_faults.specs.Directives.{first_directives}
 use Rattle.gql_types.specs.declared.schema.Schema.{Schema}
+use Rattle.gql_types.specs.declared.schema_type.SchemaType.{SchemaType}
 use Rattle.gql_schema_rules.specs.P02SubscriptionRoots as p02
 use Rattle.gql_schema_rules.specs.S01DuplicateTypes as s01
 use Rattle.gql_schema_rules.specs.S02DuplicateDirectives as s02
@@ -27,6 +30,23 @@ definition_faults n s = s01.faults n
 -- the faults of types and directives: S05, S06, S07, S08, S18
 abbrev pub type_faults : Schema → List Fault
 type_faults s = s05.faults s ++ (s06.faults s ++ (s07.faults s ++ (s08.faults s ++ s18.faults s)))
+
+-- the faults by S08 of the fields of these types, and of all directives
+abbrev pub arguments_on : Schema → List SchemaType → List Fault
+arguments_on s types = flat_map s08.faults_of_type types
+    ++ flat_map s08.faults_of_directive (first_directives s.directives)
+
+-- the faults by S18 of these types, and of all directives
+abbrev pub defaults_on : Schema → List SchemaType → List Fault
+defaults_on s types = flat_map (s18.faults_of_type s) types
+    ++ flat_map (s18.faults_of_directive s) (first_directives s.directives)
+
+-- the faults of directives, of these types by S05 to S08, and of the last types by S18
+abbrev pub type_faults_on : Schema → List SchemaType → List SchemaType → List Fault
+type_faults_on s types defaulted = flat_map s05.fault_of_type types
+    ++ (flat_map s06.faults_of_type types
+    ++ (flat_map s07.faults_of_type types
+    ++ (arguments_on s types ++ defaults_on s defaulted)))
 
 -- the faults of root operation types: S23, S24, S25, S34, P02
 abbrev pub root_faults : AllNodes → Schema → List Fault

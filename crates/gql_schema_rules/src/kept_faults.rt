@@ -4,18 +4,22 @@ ghost use Rattle.std.specs.Prelude.{◌≡◌, ◌↔◌, ◌++◌, IfOk, OnOk, 
 ghost use Rattle.gql_ast.specs.declared.fault.Fault.{Fault as TheFault};
 ghost use Rattle.gql_ast.specs.declared.files.Files.{Files as TheFiles};
 ghost use Rattle.gql_node_rules.specs.SchemaChanges.{IsChange};
+ghost use Rattle.gql_types.specs.Edits.{KeepsOthers};
 ghost use Rattle.gql_types.specs.Schemas.{schema_of};
+ghost use Rattle.gql_types.specs.declared.schema.Schema.{Schema as TheSchema};
 ghost use Rattle.gql_schema_rules.specs.ChecksOfFiles.{AreChecksOf, DiffersAt};
 ghost use Rattle.gql_schema_rules.specs.KeptFaults.{AreFaultsOf};
 ghost use Rattle.gql_schema_rules.specs.OtherFaults.{AreOthers, faults_in};
+ghost use Rattle.gql_schema_rules.specs.RuleGroups.{type_faults, type_faults_on};
 ghost use Rattle.gql_schema_rules.specs.SchemaFaults.{FaultsBy, IsSchemaFault, nodes_in};
 
 use crate::file_checks::{checks_after_edit, checks_of};
-use crate::rules::{add_all, add_definition_faults, add_root_faults, add_type_faults};
-use gql_ast::{Fault, FileMap, FileName, Files, Shared};
-use gql_iface_rules::iface_faults;
-use gql_node_rules::{FileCheck, SchemaChange, definition_nodes, joint_faults, laws};
-use gql_types::Schema;
+use crate::other_faults::{
+    OtherFaults, edited_types, keeps_defaults, other_faults, types_to_check,
+};
+use gql_ast::{Fault, FileMap, FileName, Files, Shared, Text};
+use gql_node_rules::{FileCheck, SchemaChange, laws};
+use gql_types::{Named, Schema, SchemaType};
 use std::alloc::{AllocError, Global};
 
 /// All faults of a schema, and the checks of its files.
@@ -24,11 +28,17 @@ pub struct SchemaFaults {
     checks: FileMap<Shared<FileCheck>>,
     /// The faults. One may occur more than once.
     all: Vec<Shared<Fault>>,
+    /// Whether none of them is by S05 to S08 or S18.
+    are_types_sound: bool,
 }
 
 impl Drop for SchemaFaults {
     fn drop(self) {
-        let SchemaFaults { checks: _, all: _ } = self;
+        let SchemaFaults {
+            checks: _,
+            all: _,
+            are_types_sound: _,
+        } = self;
     }
 }
 
@@ -69,72 +79,91 @@ fn add_new(
     Ok(())
 }
 
-/// The faults by the rules that are checked for all files together. They visit definitions and
-/// extensions, types, directives and roots, but no other nodes of the files.
-fn other_faults(alloc: Global, files: &Files, schema: &Schema) -> Result<Vec<Fault>, AllocError>
-    ensures { IfOk result (λ others. AreOthers (nodes_in files.now) schema.now others.items) }
-{
-    let nodes = definition_nodes(alloc, files)?;
-    let mut faults = iface_faults(alloc, schema)?;
-    let joint = joint_faults(alloc, &nodes, schema)?;
-    add_all(&mut faults, joint)?;
-    add_definition_faults(alloc, schema, &nodes, &mut faults)?;
-    add_type_faults(alloc, schema, &mut faults)?;
-    add_root_faults(alloc, schema, &nodes, &mut faults)?;
-    Ok(faults)
-}
-
-/// All faults, by the checks of the files.
+/// All faults, by the checks of the files and the faults that are found for all files together.
 fn all_faults(
     alloc: Global,
-    files: &Files,
-    schema: &Schema,
     checks: &FileMap<Shared<FileCheck>>,
+    others: Vec<Fault>,
 ) -> Result<Vec<Shared<Fault>>, AllocError>
-    ensures { IfOk result (λ all. AreChecksOf schema.now files.now.schema checks.now
-        → (f : TheFault) → Contains all.items f ↔ FaultsBy files.now schema.now f) }
+    ensures { IfOk result (λ all. (files : TheFiles) → (s : TheSchema)
+        → AreChecksOf s files.schema checks.now → AreOthers (nodes_in files) s others.items
+        → (f : TheFault) → Contains all.items f ↔ FaultsBy files s f) }
 {
     laws::node_faults_by_files();
     let mut all = Vec::new(alloc);
     add_checked(checks, &mut all)?;
-    let others = other_faults(alloc, files, schema)?;
     add_new(alloc, others, &mut all)?;
     Ok(all)
 }
 
 impl SchemaFaults {
+    /// All faults of the schema of these files, by the checks of the files, and by S05 to S08 on
+    /// some types and S18 on others: those that may be at fault.
+    fn with_checks(
+        alloc: Global,
+        files: &Files,
+        schema: &Schema,
+        checks: FileMap<Shared<FileCheck>>,
+        types: &[Shared<SchemaType>],
+        defaulted: &[Shared<SchemaType>],
+    ) -> Result<SchemaFaults, AllocError>
+        requires { schema.now ≡ schema_of files.now }
+        ensures { IfOk result (λ k. AreChecksOf schema.now files.now.schema checks
+            → type_faults_on schema.now types.now defaulted.now ≡ type_faults schema.now
+            → AreFaultsOf files.now k) }
+    {
+        let others = other_faults(alloc, files, schema, types, defaulted)?;
+        let OtherFaults {
+            faults,
+            are_types_sound,
+        } = others;
+        let all = all_faults(alloc, &checks, faults)?;
+        Ok(SchemaFaults {
+            checks,
+            all,
+            are_types_sound,
+        })
+    }
+
     /// All faults of the schema of these files. The schema is what `assemble` makes of the files.
     pub fn new(alloc: Global, files: &Files, schema: &Schema) -> Result<SchemaFaults, AllocError>
         requires { schema.now ≡ schema_of files.now }
         ensures { IfOk result (AreFaultsOf files.now) }
     {
         let checks = checks_of(alloc, files, schema)?;
-        let faults = all_faults(alloc, files, schema, &checks)?;
-        Ok(SchemaFaults {
-            checks,
-            all: faults,
-        })
+        let all = schema.types();
+        let faults = SchemaFaults::with_checks(alloc, files, schema, checks, all, all)?;
+        Ok(faults)
     }
 
-    /// All faults after an edit of the schema file of this name, by those before it. The files and
-    /// their schema are those after the edit. A file is checked again only if it is edited, or if
-    /// the change of the schema matters to it.
+    /// All faults after an edit of the schema file of this name, which changed types of these names
+    /// alone, by the faults before it. The files and their schema are those after the edit. A file
+    /// is checked again only if it is edited, or if the change of the schema matters to it. If no
+    /// type was at fault by S05 to S08 and S18, the edited types alone are checked by these rules;
+    /// by S18 all, if the edit changed an input type.
     pub fn after_edit(
         alloc: Global,
         files: &Files,
         schema: &Schema,
         file: &FileName,
+        edited: &Named<Text>,
         change: &SchemaChange,
         before: &SchemaFaults,
     ) -> Result<SchemaFaults, AllocError>
         requires { schema.now ≡ schema_of files.now }
         ensures { IfOk result (λ k. (old : TheFiles) → AreFaultsOf old before.now
+            → KeepsOthers edited.now (schema_of old) schema.now
             → IsChange change.now (schema_of old) schema.now
             → DiffersAt file.now old files.now → AreFaultsOf files.now k) }
     {
         let checks = checks_after_edit(alloc, files, schema, file, change, &before.checks)?;
-        let all = all_faults(alloc, files, schema, &checks)?;
-        Ok(SchemaFaults { checks, all })
+        let found = edited_types(alloc, schema, edited)?;
+        let were_sound = before.are_types_sound;
+        let types = types_to_check(were_sound, found.as_slice(), schema.types());
+        let keeps = keeps_defaults(were_sound, change);
+        let defaulted = types_to_check(keeps, found.as_slice(), schema.types());
+        let faults = SchemaFaults::with_checks(alloc, files, schema, checks, types, defaulted)?;
+        Ok(faults)
     }
 
     /// The faults. One may occur more than once.
@@ -148,7 +177,11 @@ impl SchemaFaults {
     pub fn into_all(self) -> Vec<Shared<Fault>>
         ensures { result.items ≡ self.all.items }
     {
-        let SchemaFaults { checks: _, all } = self;
+        let SchemaFaults {
+            checks: _,
+            all,
+            are_types_sound: _,
+        } = self;
         all
     }
 }

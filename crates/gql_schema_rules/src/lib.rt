@@ -8,6 +8,7 @@ mod distinct_names;
 mod file_checks;
 mod kept_faults;
 mod operation_kinds;
+mod other_faults;
 mod p02_subscription_roots;
 mod rules;
 mod s01_duplicate_types;

@@ -1,5 +1,5 @@
 //! The rules that are checked for all files together, in groups by what each group visits.
-ghost use Rattle.std.specs.Prelude.{◌≡◌, ◌++◌, OnOk};
+ghost use Rattle.std.specs.Prelude.{◌≡◌, ◌++◌, IfOk, OnOk};
 ghost use Rattle.gql_node_rules.specs.Borrowed.{lists};
 ghost use Rattle.gql_schema_rules.specs.RuleGroups as spec;
 
@@ -9,9 +9,9 @@ use crate::{
     s18_bad_default_values, s23_missing_query_root, s24_non_object_roots, s25_shared_root_types,
     s27_extensions_of_unknown_types, s28_extensions_of_another_kind, s34_duplicate_schemas,
 };
-use gql_ast::Fault;
+use gql_ast::{Fault, Shared};
 use gql_node_rules::Nodes;
-use gql_types::Schema;
+use gql_types::{Schema, SchemaType};
 use std::alloc::{AllocError, Global};
 
 /// S01, S02, S04, S27 and S28.
@@ -32,20 +32,23 @@ pub fn add_definition_faults(
     Ok(())
 }
 
-/// S05, S06, S07, S08 and S18.
-pub fn add_type_faults(
+/// S05, S06, S07 and S08 on some types, S18 on others, and both on all directives.
+pub fn type_faults(
     alloc: Global,
     schema: &Schema,
-    faults: &mut Vec<Fault>,
-) -> Result<(), AllocError>
-    ensures { OnOk result (faults.new.items ≡ faults.old.items ++ spec.type_faults schema.now) }
+    types: &[Shared<SchemaType>],
+    defaulted: &[Shared<SchemaType>],
+) -> Result<Vec<Fault>, AllocError>
+    ensures { IfOk result (λ found. found.items
+        ≡ spec.type_faults_on schema.now types.now defaulted.now) }
 {
-    s05_empty_types::check(alloc, schema, faults)?;
-    s06_duplicate_fields::check(alloc, schema, faults)?;
-    s07_duplicate_values::check(alloc, schema, faults)?;
-    s08_duplicate_arguments::check(alloc, schema, faults)?;
-    s18_bad_default_values::check(alloc, schema, faults)?;
-    Ok(())
+    let mut faults = Vec::new(alloc);
+    s05_empty_types::check(alloc, types, &mut faults)?;
+    s06_duplicate_fields::check(alloc, types, &mut faults)?;
+    s07_duplicate_values::check(alloc, types, &mut faults)?;
+    s08_duplicate_arguments::check(alloc, schema, types, &mut faults)?;
+    s18_bad_default_values::check(alloc, schema, defaulted, &mut faults)?;
+    Ok(faults)
 }
 
 /// S23, S24, S25, S34 and P02.

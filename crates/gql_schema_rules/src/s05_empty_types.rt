@@ -7,12 +7,12 @@
 //!
 //! At fault: `type Query { a: A } type A`
 //! No fault: `type Query { a: A } type A extend type A { b: Int }`
-ghost use Rattle.std.specs.Prelude.{◌≡◌, ◌++◌, OnOk};
+ghost use Rattle.std.specs.Prelude.{◌≡◌, ◌++◌, OnOk, flat_map};
 ghost use Rattle.gql_schema_rules.specs.S05EmptyTypes as spec;
 
-use gql_ast::{Fault, Rule};
+use gql_ast::{Fault, Rule, Shared};
 use gql_faults::{NamePlace, add_fault_of};
-use gql_types::{Schema, SchemaType, TypeKind};
+use gql_types::{SchemaType, TypeKind};
 use std::alloc::{AllocError, Global};
 
 /// Whether a type has none of the parts that its kind needs.
@@ -47,12 +47,17 @@ fn check_type(
     Ok(())
 }
 
-/// Adds the faults by S05.
-pub fn check(alloc: Global, schema: &Schema, faults: &mut Vec<Fault>) -> Result<(), AllocError>
-    ensures { OnOk result (faults.new.items ≡ faults.old.items ++ spec.faults schema.now) }
+/// Adds the faults of these types by S05.
+pub fn check(
+    alloc: Global,
+    types: &[Shared<SchemaType>],
+    faults: &mut Vec<Fault>,
+) -> Result<(), AllocError>
+    ensures { OnOk result (faults.new.items
+        ≡ faults.old.items ++ flat_map spec.fault_of_type types.now) }
 {
-    for of_type in schema.types() {
-        check_type(alloc, of_type, faults)?;
+    for of_type in types {
+        check_type(alloc, of_type.get(), faults)?;
     }
     Ok(())
 }

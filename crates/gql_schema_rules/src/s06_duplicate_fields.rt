@@ -5,12 +5,12 @@
 //!
 //! At fault: `type Query { a: Int a: String }`
 //! No fault: `type Query { a: Int b: String }`
-ghost use Rattle.std.specs.Prelude.{◌≡◌, ◌++◌, OnOk};
+ghost use Rattle.std.specs.Prelude.{◌≡◌, ◌++◌, OnOk, flat_map};
 ghost use Rattle.gql_schema_rules.specs.S06DuplicateFields as spec;
 
-use gql_ast::{Fault, Rule};
+use gql_ast::{Fault, Rule, Shared};
 use gql_faults::add_repeated_nodes;
-use gql_types::{Schema, SchemaType};
+use gql_types::SchemaType;
 use std::alloc::{AllocError, Global};
 
 /// Adds the faults of a type.
@@ -26,12 +26,17 @@ fn check_type(
     Ok(())
 }
 
-/// Adds the faults by S06.
-pub fn check(alloc: Global, schema: &Schema, faults: &mut Vec<Fault>) -> Result<(), AllocError>
-    ensures { OnOk result (faults.new.items ≡ faults.old.items ++ spec.faults schema.now) }
+/// Adds the faults of these types by S06.
+pub fn check(
+    alloc: Global,
+    types: &[Shared<SchemaType>],
+    faults: &mut Vec<Fault>,
+) -> Result<(), AllocError>
+    ensures { OnOk result (faults.new.items
+        ≡ faults.old.items ++ flat_map spec.faults_of_type types.now) }
 {
-    for of_type in schema.types() {
-        check_type(alloc, of_type, faults)?;
+    for of_type in types {
+        check_type(alloc, of_type.get(), faults)?;
     }
     Ok(())
 }

@@ -4,12 +4,12 @@
 //!
 //! At fault: `type Query { a: E } enum E { B B }`
 //! No fault: `type Query { a: E } enum E { B C }`
-ghost use Rattle.std.specs.Prelude.{◌≡◌, ◌++◌, OnOk};
+ghost use Rattle.std.specs.Prelude.{◌≡◌, ◌++◌, OnOk, flat_map};
 ghost use Rattle.gql_schema_rules.specs.S07DuplicateValues as spec;
 
-use gql_ast::{Fault, Rule};
+use gql_ast::{Fault, Rule, Shared};
 use gql_faults::{add_repeated_names, add_repeated_nodes};
-use gql_types::{Schema, SchemaType};
+use gql_types::SchemaType;
 use std::alloc::{AllocError, Global};
 
 /// Adds the faults of a type.
@@ -25,12 +25,17 @@ fn check_type(
     Ok(())
 }
 
-/// Adds the faults by S07.
-pub fn check(alloc: Global, schema: &Schema, faults: &mut Vec<Fault>) -> Result<(), AllocError>
-    ensures { OnOk result (faults.new.items ≡ faults.old.items ++ spec.faults schema.now) }
+/// Adds the faults of these types by S07.
+pub fn check(
+    alloc: Global,
+    types: &[Shared<SchemaType>],
+    faults: &mut Vec<Fault>,
+) -> Result<(), AllocError>
+    ensures { OnOk result (faults.new.items
+        ≡ faults.old.items ++ flat_map spec.faults_of_type types.now) }
 {
-    for of_type in schema.types() {
-        check_type(alloc, of_type, faults)?;
+    for of_type in types {
+        check_type(alloc, of_type.get(), faults)?;
     }
     Ok(())
 }

@@ -6,6 +6,7 @@
 //! No fault: `type Query { a(b: Int, c: Int): Int }`
 ghost use Rattle.std.specs.Prelude.{◌≡◌, ◌++◌, IfOk, OnOk, map, flat_map};
 ghost use Rattle.gql_faults.specs.Places.{named};
+ghost use Rattle.gql_schema_rules.specs.RuleGroups as groups;
 ghost use Rattle.gql_schema_rules.specs.S08DuplicateArguments as spec;
 
 use gql_ast::{DirectiveDefinition, Fault, FieldDefinition, InputValueDefinition, Rule, Shared};
@@ -70,14 +71,14 @@ fn check_fields(
 /// Adds the faults of the fields of types.
 fn check_types(
     alloc: Global,
-    types: &[SchemaType],
+    types: &[Shared<SchemaType>],
     faults: &mut Vec<Fault>,
 ) -> Result<(), AllocError>
     ensures { OnOk result (faults.new.items
         ≡ faults.old.items ++ flat_map spec.faults_of_type types.now) }
 {
     for of_type in types {
-        check_fields(alloc, of_type.fields.as_slice(), faults)?;
+        check_fields(alloc, of_type.get().fields.as_slice(), faults)?;
     }
     Ok(())
 }
@@ -98,11 +99,17 @@ fn check_directives(
     Ok(())
 }
 
-/// Adds the faults by S08.
-pub fn check(alloc: Global, schema: &Schema, faults: &mut Vec<Fault>) -> Result<(), AllocError>
-    ensures { OnOk result (faults.new.items ≡ faults.old.items ++ spec.faults schema.now) }
+/// Adds the faults of the fields of these types, and of all directives, by S08.
+pub fn check(
+    alloc: Global,
+    schema: &Schema,
+    types: &[Shared<SchemaType>],
+    faults: &mut Vec<Fault>,
+) -> Result<(), AllocError>
+    ensures { OnOk result (faults.new.items
+        ≡ faults.old.items ++ groups.arguments_on schema.now types.now) }
 {
-    check_types(alloc, schema.types(), faults)?;
+    check_types(alloc, types, faults)?;
     let directives = first_directives(alloc, schema.directives())?;
     check_directives(alloc, directives.as_slice(), faults)?;
     Ok(())

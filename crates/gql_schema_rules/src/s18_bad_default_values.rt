@@ -4,6 +4,7 @@
 //! At fault: `type Query { a(b: Int = "c"): Int }`
 //! No fault: `type Query { a(b: Int = 3): Int }`
 ghost use Rattle.std.specs.Prelude.{◌≡◌, ◌++◌, OnOk, map, flat_map};
+ghost use Rattle.gql_schema_rules.specs.RuleGroups as groups;
 ghost use Rattle.gql_schema_rules.specs.S18BadDefaultValues as spec;
 
 use gql_ast::{DirectiveDefinition, Fault, FieldDefinition, InputValueDefinition, Rule, Shared};
@@ -103,14 +104,14 @@ fn check_type(
 fn check_types(
     alloc: Global,
     schema: &Schema,
-    types: &[SchemaType],
+    types: &[Shared<SchemaType>],
     faults: &mut Vec<Fault>,
 ) -> Result<(), AllocError>
     ensures { OnOk result (faults.new.items ≡ faults.old.items
         ++ flat_map (spec.faults_of_type schema.now) types.now) }
 {
     for of_type in types {
-        check_type(alloc, schema, of_type, faults)?;
+        check_type(alloc, schema, of_type.get(), faults)?;
     }
     Ok(())
 }
@@ -132,11 +133,17 @@ fn check_directives(
     Ok(())
 }
 
-/// Adds the faults by S18.
-pub fn check(alloc: Global, schema: &Schema, faults: &mut Vec<Fault>) -> Result<(), AllocError>
-    ensures { OnOk result (faults.new.items ≡ faults.old.items ++ spec.faults schema.now) }
+/// Adds the faults of these types, and of all directives, by S18.
+pub fn check(
+    alloc: Global,
+    schema: &Schema,
+    types: &[Shared<SchemaType>],
+    faults: &mut Vec<Fault>,
+) -> Result<(), AllocError>
+    ensures { OnOk result (faults.new.items
+        ≡ faults.old.items ++ groups.defaults_on schema.now types.now) }
 {
-    check_types(alloc, schema, schema.types(), faults)?;
+    check_types(alloc, schema, types, faults)?;
     let directives = first_directives(alloc, schema.directives())?;
     check_directives(alloc, schema, directives.as_slice(), faults)?;
     Ok(())

@@ -1,5 +1,5 @@
 -- The first of a name, by where it stands.
-use Rattle.std.proofs.Common.{◌≡◌, ◌+◌, ◌++◌, ℕ, List, [], ◌∷◌, Bool, Option, length, find, refl, slice_get, option_and_then, arith, cond, true, false, append_assoc, ◌-◌, ◌<◌, ◌≤◌, get_or, drop}
+use Rattle.std.proofs.Common.{◌≡◌, ◌+◌, ◌++◌, ℕ, List, [], ◌∷◌, Bool, Option, length, find, refl, slice_get, option_and_then, arith, cond, true, false, append_assoc, ◌∙◌, ap, sym, map, bytes_eq, ◌-◌, ◌<◌, ◌≤◌, get_or, drop}
 use Rattle.std.proofs.lemmas.List.{drop_more}
 use Rattle.std.proofs.Math.ListN.{length-append}
 use Rattle.std.specs.List.{position_from}
@@ -29,3 +29,16 @@ module _ {X : Type 0} where
   place_before test xs p x some within there =
       let next : p - 1 + 1 ≡ p = omega arith in
       rw (drop_more xs (p - 1) x (omega arith), there, next) refl
+
+-- where the first of a name is, by the list of the names alone
+pub by_names : {X : Type 0} (name : X → List ℕ) (test : List ℕ → Bool) (p : ℕ) (xs : List X)
+    → position_from (λ x. test (name x)) p xs ≡ position_from test p (map name xs)
+by_names name test p [] = refl
+by_names name test p (x ∷ xs) = ap (cond (test (name x)) (Option.Some p)) (by_names name test (p + 1) xs)
+
+-- lists of the same names have the first of a name at the same place
+pub same_places : {X Y : Type 0} (name : X → List ℕ) (other : Y → List ℕ) (xs : List X) (ys : List Y) (q : List ℕ)
+    → map name xs ≡ map other ys
+    → position_from (λ x. bytes_eq q (name x)) 0 xs ≡ position_from (λ y. bytes_eq q (other y)) 0 ys
+same_places name other xs ys q same =
+    by_names name (bytes_eq q) 0 xs ∙ ap (λ names. position_from (bytes_eq q) 0 names) same ∙ sym (by_names other (bytes_eq q) 0 ys)

@@ -1,5 +1,5 @@
-//! The types of a schema after an edit of a schema file. A type that the edit leaves as it is shares
-//! its parts with the type before the edit.
+//! The types of a schema after an edit of a schema file. A type that the edit leaves as it is is
+//! shared with the schema before the edit.
 ghost use Rattle.std.specs.Prelude.{◌≡◌, [], IfOk, IfSome, map};
 ghost use Rattle.std.specs.Option.{option_copied, option_map_or};
 ghost use Rattle.std.specs.HashMap as hash;
@@ -14,61 +14,9 @@ use crate::first_definitions::first_definitions;
 use crate::named::Named;
 use crate::schema::Schema;
 use crate::schema_type::{SchemaType, with_extensions};
-use gql_ast::{Items, Name, Shared, Text, TypeDefinition, TypeExtension};
-use gql_built_in::{Sited, same_source};
+use gql_ast::{Shared, Text, TypeDefinition, TypeExtension};
+use gql_built_in::Sited;
 use std::alloc::{AllocError, Global};
-
-/// The same extensions, which both lists share.
-fn copied_extensions(
-    alloc: Global,
-    extensions: &[Sited<Shared<TypeExtension>>],
-) -> Result<Items<Sited<Shared<TypeExtension>>>, AllocError>
-    ensures { IfOk result (λ copies. copies ≡ extensions.now) }
-{
-    let mut copies = Items::new(alloc);
-    for extension in extensions {
-        copies.push(Sited {
-            file: same_source(&extension.file)?,
-            node: extension.node.clone()?,
-        })?;
-    }
-    Ok(copies)
-}
-
-/// The same names.
-fn copied_names(alloc: Global, names: &[Sited<Name>]) -> Result<Items<Sited<Name>>, AllocError>
-    ensures { IfOk result (λ copies. copies ≡ names.now) }
-{
-    let mut copies = Items::new(alloc);
-    for name in names {
-        copies.push(Sited {
-            file: same_source(&name.file)?,
-            node: name.node.copy()?,
-        })?;
-    }
-    Ok(copies)
-}
-
-impl SchemaType {
-    /// An equal type. Both share fields, values and input fields.
-    fn copy(&self, alloc: Global) -> Result<SchemaType, AllocError>
-        ensures { IfOk result (λ copy. copy ≡ self.now) }
-    {
-        Ok(SchemaType {
-            definition: Sited {
-                file: same_source(&self.definition.file)?,
-                node: self.definition.node.clone()?,
-            },
-            extensions: copied_extensions(alloc, self.extensions.as_slice())?,
-            kind: self.kind,
-            interfaces: copied_names(alloc, self.interfaces.as_slice())?,
-            fields: self.fields.copy()?,
-            members: copied_names(alloc, self.members.as_slice())?,
-            values: self.values.copy()?,
-            input_fields: self.input_fields.copy()?,
-        })
-    }
-}
 
 /// The type before the edit of the name of a definition, if the edit does not change types of the
 /// name.
@@ -76,7 +24,7 @@ fn kept_type<'b>(
     before: &'b Schema,
     edited: &Named<Text>,
     definition: &Sited<Shared<TypeDefinition>>,
-) -> Option<&'b SchemaType>
+) -> Option<&'b Shared<SchemaType>>
     ensures { IfSome (option_copied result) (λ t. (u : TheSchemaType)
         → name_of u ≡ definition.now.node.name.text
         → KeepsType edited.now before.entry.now u → t ≡ u) }
@@ -84,7 +32,7 @@ fn kept_type<'b>(
     let name = definition.node.get().name.as_str();
     match edited.get(name) {
         Some(_) => None,
-        None => before.get(name),
+        None => before.shared(name),
     }
 }
 
@@ -95,7 +43,7 @@ fn type_after(
     extensions: &ByName<'_, Sited<Shared<TypeExtension>>>,
     before: &Schema,
     edited: &Named<Text>,
-) -> Result<SchemaType, AllocError>
+) -> Result<Shared<SchemaType>, AllocError>
     ensures { IfOk result (λ t.
         KeepsType edited.now before.now (type_by
         (λ q. option_map_or (λ group. map (λ x. x.now) group.items)
@@ -105,11 +53,12 @@ fn type_after(
 {
     match kept_type(before, edited, definition) {
         Some(of_type) => {
-            let copy = of_type.copy(alloc)?;
-            Ok(copy)
+            let kept = of_type.clone()?;
+            Ok(kept)
         }
         None => {
             let made = with_extensions(alloc, definition, extensions)?;
+            let made = Shared::new(alloc, made)?;
             Ok(made)
         }
     }
@@ -122,7 +71,7 @@ fn all_after(
     extensions: &ByName<'_, Sited<Shared<TypeExtension>>>,
     before: &Schema,
     edited: &Named<Text>,
-) -> Result<Vec<SchemaType>, AllocError>
+) -> Result<Vec<Shared<SchemaType>>, AllocError>
     ensures { IfOk result (λ types.
         KeepsTypes edited.now before.now (map (type_by
         (λ q. option_map_or (λ group. map (λ x. x.now) group.items)
@@ -146,7 +95,7 @@ pub fn types_after_edit(
     extensions: &[Sited<Shared<TypeExtension>>],
     before: &Schema,
     edited: &Named<Text>,
-) -> Result<Vec<SchemaType>, AllocError>
+) -> Result<Vec<Shared<SchemaType>>, AllocError>
     ensures { IfOk result (λ types.
         KeepsTypes edited.now before.now (spec.types_of definitions.now extensions.now)
         → types.items ≡ spec.types_of definitions.now extensions.now) }

@@ -1,9 +1,9 @@
 //! Things that have names, with a look-up of the first of a name.
 
-ghost use Rattle.std.specs.Prelude.{◌≡◌, ℕ, List, [], IfOk, find, bytes_eq};
+ghost use Rattle.std.specs.Prelude.{◌≡◌, ℕ, List, [], IfOk, IsTrue, find, map, bytes_eq};
 ghost use Rattle.std.specs.Option.{option_copied};
 
-use crate::named_list::NamedList;
+use crate::named_list::{NamedList, have_same_names};
 use gql_ast::{Shared, Text};
 use std::alloc::{AllocError, Global};
 use std::marker::Model;
@@ -71,6 +71,24 @@ impl<T: HasName + Drop> Named<T> {
         Ok(Named { list: Some(list) })
     }
 
+    /// These things, in their order. They share the look-up of others that have the same names.
+    pub fn like<U: HasName>(
+        alloc: Global,
+        things: Vec<T>,
+        others: &Named<U>,
+    ) -> Result<Named<T>, AllocError>
+        ensures { IfOk result (λ named. named ≡ things.items) }
+    {
+        match &others.list {
+            Some(others) => {
+                let list = NamedList::like(alloc, things, others.get())?;
+                let list = Shared::new(alloc, list)?;
+                Ok(Named { list: Some(list) })
+            }
+            None => Named::new(alloc, things),
+        }
+    }
+
     /// The same things, which both share.
     pub fn copy(&self) -> Result<Named<T>, AllocError>
         ensures { IfOk result (λ copy. copy ≡ self.now) }
@@ -94,6 +112,13 @@ impl<T: HasName> Named<T> {
             Some(list) => list.get().as_slice(),
             None => &[],
         }
+    }
+
+    /// Whether these things have the names of others, in the same order.
+    pub fn has_names_of<U: HasName>(&self, others: &Named<U>) -> bool
+        ensures { IsTrue result → map T.name self.now ≡ map U.name others.now }
+    {
+        have_same_names(self.as_slice(), others.as_slice())
     }
 
     /// The first of that name.

@@ -1,13 +1,13 @@
 //! Lists of things that have names, with a look-up of the first of a name.
 
-ghost use Rattle.std.specs.Prelude.{◌≡◌, ℕ, List, IfOk, find, bytes_eq, string_bytes, slice_get, option_and_then};
+ghost use Rattle.std.specs.Prelude.{◌≡◌, ℕ, List, IfOk, IsTrue, find, map, bytes_eq, string_bytes, slice_get, option_and_then};
 ghost use Rattle.std.specs.Option.{option_copied};
 ghost use Rattle.std.specs.List.{position_from};
 ghost use Rattle.std.specs.HashMap as hash;
 
 use crate::named::HasName;
 use crate::same_name::is_same_name;
-use gql_ast::Boxed;
+use gql_ast::Shared;
 use std::alloc::{AllocError, Global};
 use std::collections::HashMap;
 use std::marker::Model;
@@ -19,8 +19,8 @@ const FEW: usize = 16;
 /// things.
 pub struct NamedList<T: HasName> {
     things: Vec<T>,
-    /// Where the first of each name is; none for few things.
-    first: Option<Boxed<HashMap<String, usize>>>,
+    /// Where the first of each name is; none for few things. Lists of the same names share it.
+    first: Option<Shared<HashMap<String, usize>>>,
 }
 
 impl<T: HasName + Drop> Drop for NamedList<T> {
@@ -33,8 +33,9 @@ impl<T: HasName + Drop> Drop for NamedList<T> {
 }
 
 impl<T: HasName> Model for NamedList<T> {
-    ghost use Rattle.std.specs.Prelude.{◌≡◌, ℕ, List, IfSome, find, bytes_eq, string_bytes, slice_get, option_and_then};
+    ghost use Rattle.std.specs.Prelude.{◌≡◌, ℕ, List, IfSome, bytes_eq, string_bytes};
     ghost use Rattle.std.specs.Coded.{coded_list};
+    ghost use Rattle.std.specs.List.{position_from};
     ghost use Rattle.std.specs.HashMap as hash;
 
     ghost Value = { List T };
@@ -44,8 +45,8 @@ impl<T: HasName> Model for NamedList<T> {
     ghost view = { λ n. n.things.items };
 
     ghost invariant = { λ n. (q : List ℕ) → IfSome n.first
-        (λ first. option_and_then (λ i. slice_get n.things.items i) (hash.get_by_text first q)
-        ≡ find (λ x. bytes_eq q (T.name x)) n.things.items) };
+        (λ first. hash.get_by_text first q
+        ≡ position_from (λ x. bytes_eq q (T.name x)) 0 n.things.items) };
 }
 
 /// The index of the first of each name.
@@ -63,6 +64,28 @@ fn first_places<T: HasName>(
         first.insert(String::from_str(alloc, things[place].name())?, place)?;
     }
     Ok(first)
+}
+
+/// Whether a thing has the name of another.
+fn has_same_name<T: HasName, U: HasName>(thing: &T, other: &U) -> bool
+    ensures { IsTrue result → T.name thing.now ≡ U.name other.now }
+{
+    is_same_name(thing.name(), other.name())
+}
+
+/// Whether things have the names of others, in the same order.
+pub fn have_same_names<T: HasName, U: HasName>(things: &[T], others: &[U]) -> bool
+    ensures { IsTrue result → map T.name things.now ≡ map U.name others.now }
+{
+    if things.len() != others.len() {
+        return false;
+    }
+    for i in 0..things.len() {
+        if !has_same_name(&things[i], &others[i]) {
+            return false;
+        }
+    }
+    true
 }
 
 /// The first of that name, each compared.
@@ -107,11 +130,37 @@ impl<T: HasName + Drop> NamedList<T> {
             });
         }
         let places = first_places(alloc, things.as_slice())?;
-        let first = Boxed::new(alloc, places)?;
+        let first = Shared::new(alloc, places)?;
         Ok(NamedList {
             things,
             first: Some(first),
         })
+    }
+
+    /// These things, in their order. They share the look-up of others that have the same names.
+    pub fn like<U: HasName>(
+        alloc: Global,
+        things: Vec<T>,
+        others: &NamedList<U>,
+    ) -> Result<NamedList<T>, AllocError>
+        ensures { IfOk result (λ named. named ≡ things.items) }
+    {
+        if !have_same_names(things.as_slice(), others.as_slice()) {
+            return NamedList::new(alloc, things);
+        }
+        match &others.first {
+            Some(first) => {
+                let first = first.clone()?;
+                Ok(NamedList {
+                    things,
+                    first: Some(first),
+                })
+            }
+            None => Ok(NamedList {
+                things,
+                first: None,
+            }),
+        }
     }
 }
 

@@ -11,7 +11,7 @@ use crate::kind::TypeKind;
 use crate::named::HasName;
 use crate::schema_type::SchemaType;
 use crate::sorted_names::in_order;
-use gql_ast::{Items, Name, Text};
+use gql_ast::{Items, Name, Shared, Text};
 use gql_built_in::Sited;
 use std::alloc::{AllocError, Global};
 
@@ -88,12 +88,15 @@ fn add_declared<'t>(
     }
 }
 
-fn declarations(alloc: Global, types: &[SchemaType]) -> Result<Vec<Declaration<'_>>, AllocError>
+fn declarations(
+    alloc: Global,
+    types: &[Shared<SchemaType>],
+) -> Result<Vec<Declaration<'_>>, AllocError>
     ensures { IfOk result (λ found. map pair found.items ≡ declarations types.now) }
 {
     let mut found = Vec::new(alloc);
     for of_type in types {
-        add_declared(of_type, &mut found)?;
+        add_declared(of_type.get(), &mut found)?;
     }
     Ok(found)
 }
@@ -190,7 +193,7 @@ fn add_possible(
 
 fn all_by(
     alloc: Global,
-    types: &[SchemaType],
+    types: &[Shared<SchemaType>],
     declaring: &ByName<'_, Declaration<'_>>,
 ) -> Result<Vec<PossibleTypes>, AllocError>
     ensures { IfOk result (λ found. found.items ≡ flat_map (λ t. spec.possible_by t.kind
@@ -200,13 +203,16 @@ fn all_by(
 {
     let mut found = Vec::with_capacity(alloc, types.len())?;
     for of_type in types {
-        add_possible(alloc, of_type, declaring, &mut found)?;
+        add_possible(alloc, of_type.get(), declaring, &mut found)?;
     }
     Ok(found)
 }
 
 /// The composite types, each with its possible types.
-pub fn all_possible(alloc: Global, types: &[SchemaType]) -> Result<Vec<PossibleTypes>, AllocError>
+pub fn all_possible(
+    alloc: Global,
+    types: &[Shared<SchemaType>],
+) -> Result<Vec<PossibleTypes>, AllocError>
     ensures { IfOk result (λ found. found.items ≡ spec.all_possible types.now) }
 {
     let declarations = declarations(alloc, types)?;

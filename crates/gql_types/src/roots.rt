@@ -53,7 +53,7 @@ fn add_entries(
 
 fn add_implied(
     alloc: Global,
-    types: &Named<SchemaType>,
+    types: &Named<Shared<SchemaType>>,
     kind: OperationKind,
     name: &str,
     roots: &mut Items<Root>,
@@ -62,12 +62,13 @@ fn add_implied(
 {
     match types.get(name) {
         Some(of_type) => {
+            let definition = &of_type.get().definition;
             roots.push(Root {
                 kind,
                 entry: None,
                 name: Sited {
-                    file: same_source(&of_type.definition.file)?,
-                    node: of_type.definition.node.get().name.copy()?,
+                    file: same_source(&definition.file)?,
+                    node: definition.node.get().name.copy()?,
                 },
             })?;
             Ok(())
@@ -78,7 +79,7 @@ fn add_implied(
 
 fn add_all_implied(
     alloc: Global,
-    types: &Named<SchemaType>,
+    types: &Named<Shared<SchemaType>>,
     roots: &mut Items<Root>,
 ) -> Result<(), AllocError>
     ensures { OnOk result (roots.new ≡ roots.old ++ spec.all_implied types.now) }
@@ -97,7 +98,7 @@ fn add_all_implied(
 
 fn add_defined(
     alloc: Global,
-    types: &Named<SchemaType>,
+    types: &Named<Shared<SchemaType>>,
     definitions: &[Sited<Shared<SchemaDefinition>>],
     roots: &mut Items<Root>,
 ) -> Result<(), AllocError>
@@ -118,7 +119,7 @@ fn add_defined(
 /// implied, then those of the extensions.
 pub fn roots_of(
     alloc: Global,
-    types: &Named<SchemaType>,
+    types: &Named<Shared<SchemaType>>,
     definitions: &[Sited<Shared<SchemaDefinition>>],
     extensions: &[Sited<Shared<SchemaExtension>>],
 ) -> Result<Items<Root>, AllocError>

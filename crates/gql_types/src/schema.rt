@@ -25,7 +25,7 @@ use std::alloc::{AllocError, Global};
 
 /// All schema files as one schema. Look-ups borrow what `assemble` made, and allocate nothing.
 pub struct Schema {
-    types: Named<SchemaType>,
+    types: Named<Shared<SchemaType>>,
     directives: Named<Sited<Shared<DirectiveDefinition>>>,
     roots: Items<Root>,
     possible: Named<PossibleTypes>,
@@ -50,7 +50,10 @@ impl HasName for Sited<Shared<DirectiveDefinition>> {
     }
 }
 
-fn types(alloc: Global, definitions: &[Sited<Tree>]) -> Result<Named<SchemaType>, AllocError>
+fn types(
+    alloc: Global,
+    definitions: &[Sited<Tree>],
+) -> Result<Named<Shared<SchemaType>>, AllocError>
     ensures { IfOk result (λ types. types ≡ spec.types_in definitions.now) }
 {
     let extensions = type_extensions(alloc, definitions)?;
@@ -67,7 +70,7 @@ fn types_after(
     definitions: &[Sited<Tree>],
     before: &Schema,
     edited: &Named<Text>,
-) -> Result<Named<SchemaType>, AllocError>
+) -> Result<Named<Shared<SchemaType>>, AllocError>
     ensures { IfOk result (λ types.
         KeepsTypes edited.now before.now (spec.types_in definitions.now)
         → types ≡ spec.types_in definitions.now) }
@@ -76,14 +79,14 @@ fn types_after(
     let definitions = type_definitions(alloc, definitions)?;
     let extensions = extensions.as_slice();
     let types = types_after_edit(alloc, definitions.as_slice(), extensions, before, edited)?;
-    let types = Named::new(alloc, types)?;
+    let types = Named::like(alloc, types, &before.types)?;
     Ok(types)
 }
 
 fn roots(
     alloc: Global,
     definitions: &[Sited<Tree>],
-    types: &Named<SchemaType>,
+    types: &Named<Shared<SchemaType>>,
 ) -> Result<Items<Root>, AllocError>
     ensures { IfOk result (λ roots. roots ≡ spec.roots_in definitions.now types.now) }
 {
@@ -92,18 +95,20 @@ fn roots(
     roots_of(alloc, types, schemas.as_slice(), extensions.as_slice())
 }
 
-/// The schema of these definitions, with these types.
+/// The schema of these definitions, with these types. It shares the look-up of possible types with
+/// others, where these have the same names.
 fn schema_with(
     alloc: Global,
     definitions: &[Sited<Tree>],
-    types: Named<SchemaType>,
+    types: Named<Shared<SchemaType>>,
+    before: &Named<PossibleTypes>,
 ) -> Result<Schema, AllocError>
     ensures { IfOk result (λ schema. types ≡ spec.types_in definitions.now
         → schema ≡ spec.schema_in definitions.now) }
 {
     let roots = roots(alloc, definitions, &types)?;
     let directives = Named::new(alloc, directive_definitions(alloc, definitions)?)?;
-    let possible = Named::new(alloc, all_possible(alloc, types.as_slice())?)?;
+    let possible = Named::like(alloc, all_possible(alloc, types.as_slice())?, before)?;
     Ok(Schema {
         types,
         directives,
@@ -120,11 +125,12 @@ pub fn assemble(alloc: Global, files: &Files) -> Result<Schema, AllocError>
 {
     let definitions = definitions(alloc, files)?;
     let types = types(alloc, definitions.as_slice())?;
-    schema_with(alloc, definitions.as_slice(), types)
+    let none = Named::new(alloc, Vec::new(alloc))?;
+    schema_with(alloc, definitions.as_slice(), types, &none)
 }
 
 /// The schema of all schema files after an edit, by the schema before it. The edit changed types of
-/// these names alone. The others share their parts with the types before.
+/// these names alone. The others are shared with the schema before.
 pub fn assemble_after_edit(
     alloc: Global,
     files: &Files,
@@ -136,16 +142,23 @@ pub fn assemble_after_edit(
 {
     let definitions = definitions(alloc, files)?;
     let types = types_after(alloc, definitions.as_slice(), before, edited)?;
-    let schema = schema_with(alloc, definitions.as_slice(), types)?;
+    let schema = schema_with(alloc, definitions.as_slice(), types, &before.possible)?;
     Ok(schema)
 }
 
 impl Schema {
     /// The types, in the order of their first definitions.
-    pub fn types(&self) -> &[SchemaType]
+    pub fn types(&self) -> &[Shared<SchemaType>]
         ensures { result.now ≡ self.now.types }
     {
         self.types.as_slice()
+    }
+
+    /// The types, with a look-up by their names.
+    pub fn named_types(&self) -> &Named<Shared<SchemaType>>
+        ensures { result.now ≡ self.now.types }
+    {
+        &self.types
     }
 
     /// The directives, in their order. The first of each name counts.
@@ -162,11 +175,21 @@ impl Schema {
         self.roots.as_slice()
     }
 
+    /// The type of that name, which can be shared.
+    pub fn shared(&self, name: &str) -> Option<&Shared<SchemaType>>
+        ensures { option_copied result ≡ spec.type_named self.now name.now }
+    {
+        self.types.get(name)
+    }
+
     /// The type of that name.
     pub fn get(&self, name: &str) -> Option<&SchemaType>
         ensures { option_copied result ≡ spec.type_named self.now name.now }
     {
-        self.types.get(name)
+        match self.shared(name) {
+            Some(of_type) => Some(of_type.get()),
+            None => None,
+        }
     }
 
     /// The kind of the type of that name (3.4).

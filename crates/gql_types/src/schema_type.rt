@@ -197,7 +197,7 @@ fn all_with_extensions(
     alloc: Global,
     definitions: &[&Sited<Shared<TypeDefinition>>],
     extensions: &ByName<'_, Sited<Shared<TypeExtension>>>,
-) -> Result<Vec<SchemaType>, AllocError>
+) -> Result<Vec<Shared<SchemaType>>, AllocError>
     ensures { IfOk result (λ types.
         types.items ≡ map (λ d.
         spec.assembled d (filter (λ e. same_kind (kind_of d.node.parts) (kind_of e.node.parts))
@@ -207,7 +207,8 @@ fn all_with_extensions(
 {
     let mut types = Vec::with_capacity(alloc, definitions.len())?;
     for definition in definitions {
-        types.push(with_extensions(alloc, definition, extensions)?)?;
+        let of_type = with_extensions(alloc, definition, extensions)?;
+        types.push(Shared::new(alloc, of_type)?)?;
     }
     Ok(types)
 }
@@ -217,7 +218,7 @@ pub fn types_of(
     alloc: Global,
     definitions: &[Sited<Shared<TypeDefinition>>],
     extensions: &[Sited<Shared<TypeExtension>>],
-) -> Result<Vec<SchemaType>, AllocError>
+) -> Result<Vec<Shared<SchemaType>>, AllocError>
     ensures { IfOk result (λ types. types.items ≡ spec.types_of definitions.now extensions.now) }
 {
     let groups = by_name(alloc, extensions)?;

@@ -125,7 +125,7 @@ pub fn answered_objects(
 {
     let mut answered = Answered::new(alloc);
     for of_type in schema.types() {
-        add_answered(schema, shelf, of_type, &mut answered)?;
+        add_answered(schema, shelf, of_type.get(), &mut answered)?;
     }
     Ok(answered)
 }

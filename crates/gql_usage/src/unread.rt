@@ -238,7 +238,7 @@ fn add_types(
         ≡ unread.old.items ++ spec.unread_types schema.now shelf.now.verdicts) }
 {
     for of_type in schema.types() {
-        add_type(schema, shelf, answered, of_type, unread)?;
+        add_type(schema, shelf, answered, of_type.get(), unread)?;
     }
     Ok(())
 }

@@ -8,7 +8,7 @@ use Rattle.gql_iface_rules.proofs.rules.check_pairs.Goals as goal
 
 pub loop-of_type-preserved : goal.loop-of_type-preserved
 loop-of_type-preserved c = types_more c.args.schema.now c.types-of_type-items.result.now c.loop-of_type.of_type-index c.of_type-item.result _ _ _
-    (search rules) (search rules) c.loop-of_type.invariant c.in_ok-check_pairs_of.ensures
+    (search rules) (search rules) c.loop-of_type.invariant (rw c.get.ensures at c.in_ok-check_pairs_of.ensures)
 
 pub returns : goal.returns
 returns c = λ f.

@@ -1,5 +1,6 @@
 use Rattle.std.proofs.Common.{◌∙◌, rules, ap, sym, subst}
 use Rattle.gql_facts.specs.Tables.{tables_of}
+use Rattle.gql_intro.specs.Made.{made_of}
 use Rattle.gql_types.specs.Edits.{KeepsOthers}
 use Rattle.gql_types.specs.Schemas.{schema_of}
 use Rattle.gql_registry.specs.Keeping.{IsSideOf}
@@ -15,9 +16,6 @@ faults_after_edit-requires-clause-schema c = c.in_ok-schema.ensures
 pub faults_after_edit-requires-clause-before : goal.faults_after_edit-requires-clause-before
 faults_after_edit-requires-clause-before c = c.requires
 
-pub side_of-requires : goal.side_of-requires
-side_of-requires c = c.in_ok-schema.ensures
-
 pub returns-in_err-schema : goal.returns-in_err-schema
 returns-in_err-schema c = search rules
 
@@ -27,12 +25,16 @@ returns-in_err-facts c = search rules
 pub returns-in_err-kept : goal.returns-in_err-kept
 returns-in_err-kept c = search rules
 
+pub returns-in_err-made : goal.returns-in_err-made
+returns-in_err-made c = search rules
+
 pub returns-in_err-side : goal.returns-in_err-side
 returns-in_err-side c = ok_of_error c.from_residual-in_err-side.result (IsSideOf c.args.files.now) _ c.from_residual-in_err-side.ensures.1
 
 pub returns : goal.returns
-returns c = c.in_ok-side.ensures
+returns c = c.in_ok-side.ensures c.args.files.now c.in_ok-schema.ensures
     (c.in_ok-facts.ensures (schema_of c.requires.before) c.requires.side_of.facts
     (subst (KeepsOthers c.args.edited.now (schema_of c.requires.before)) (sym c.in_ok-schema.ensures) c.requires.edit.keeps)
     ∙ ap tables_of c.in_ok-schema.ensures)
+    (c.in_ok-made.ensures c.requires.before (c.requires.side_of.made ∙ ap (made_of c.requires.before) (sym c.requires.side_of.schema)))
     c.in_ok-kept.ensures

@@ -4,4 +4,4 @@ use Rattle.gql_schema_rules.proofs.s05_empty_types.check.Given as goal
 
 abbrev pub invariant-loop-of_type : goal.invariant-loop-of_type
 invariant-loop-of_type l = l.faults.items
-    ≡ l.initial.faults.items ++ flat_map fault_of_type (take l.of_type-index l.of_type-items)
+    ≡ l.initial.faults.items ++ flat_map fault_of_type (take l.of_type-index l.types)

@@ -1,13 +1,22 @@
-use Rattle.std.proofs.Common.{◌↔◌, Contains, subst}
-use Rattle.gql_ast.specs.declared.fault.Fault.{Fault}
-use Rattle.gql_schema_rules.specs.ChecksOfFiles.{AreChecksOf}
-use Rattle.gql_schema_rules.specs.SchemaFaults.{FaultsBy}
+use Rattle.std.proofs.Common.{◌≡◌, ◌∙◌, List, rules, filter, ap₂}
+use Rattle.std.specs.Prelude.{if◌then◌else◌}
+use Rattle.gql_types.specs.Possible.{name_of}
+use Rattle.gql_types.specs.Schemas.{schema_of}
+use Rattle.gql_types.specs.declared.schema_type.SchemaType.{SchemaType}
+use Rattle.gql_node_rules.specs.SchemaChanges.{is_among}
+use Rattle.gql_schema_rules.proofs.KeptTypes.{kept_types}
+use Rattle.gql_schema_rules.specs.RuleGroups.{type_faults_on}
 use Rattle.gql_schema_rules.proofs.kept_faults.SchemaFaults.after_edit.Goals as goal
 
 pub returns : goal.returns
-returns c = λ old before change differs.
-    let files = c.args.files.now in
-    let checks = c.in_ok-checks.ensures old before.checks change differs in record {
-      checks = subst (λ s. AreChecksOf s files.schema c.in_ok-checks.checks) c.requires checks;
-      all = subst (λ s. (f : Fault) → Contains c.in_ok-all.all.items f ↔ FaultsBy files s f) c.requires (c.in_ok-all.ensures checks);
-    }
+returns c = λ old before others change differs.
+    let s = c.args.schema.now in
+    let checks = c.in_ok-checks.ensures old before.checks change differs in
+    let edited : List SchemaType = filter (λ (t : SchemaType). is_among c.args.edited.now (name_of t)) s.types in
+    let sound = c.args.before.now.are_types_sound in
+    let keeps = c.keeps_defaults-keeps.result in
+    let types : c.types_to_check-types.result.now ≡ (if sound then edited else s.types) = search rules in
+    let defaulted : c.types_to_check-defaulted.result.now ≡ (if keeps then edited else s.types) = search rules in
+    let whole = kept_types c.args.edited.now (schema_of old) s c.args.change.now sound keeps
+    others change before.sound.0 c.keeps_defaults-keeps.ensures.sound c.keeps_defaults-keeps.ensures.inputs in
+    c.in_ok-faults.ensures checks (ap₂ (λ ts ds. type_faults_on s ts ds) types defaulted ∙ whole)

@@ -1,12 +1,6 @@
-use Rattle.std.proofs.Common.{◌↔◌, Contains, subst}
-use Rattle.gql_ast.specs.declared.fault.Fault.{Fault}
-use Rattle.gql_schema_rules.specs.ChecksOfFiles.{AreChecksOf}
-use Rattle.gql_schema_rules.specs.SchemaFaults.{FaultsBy}
+use Rattle.std.proofs.Common.{ap}
+use Rattle.gql_schema_rules.specs.RuleGroups.{type_faults_on}
 use Rattle.gql_schema_rules.proofs.kept_faults.SchemaFaults.new.Goals as goal
 
 pub returns : goal.returns
-returns c =
-    let files = c.args.files.now in record {
-      checks = subst (λ s. AreChecksOf s files.schema c.in_ok-checks.checks) c.requires c.in_ok-checks.ensures;
-      all = subst (λ s. (f : Fault) → Contains c.in_ok-faults.faults.items f ↔ FaultsBy files s f) c.requires (c.in_ok-faults.ensures c.in_ok-checks.ensures);
-    }
+returns c = c.in_ok-faults.ensures c.in_ok-checks.ensures (ap (λ types. type_faults_on c.args.schema.now types types) c.types-all.ensures)
