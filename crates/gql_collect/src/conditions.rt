@@ -104,7 +104,7 @@ pub fn is_possible(schema: &Schema, of_type: &str, condition: &str) -> bool
     ensures { result ≡ spec.is_possible schema.now of_type.now condition.now }
 {
     match schema.possible(condition) {
-        Some(types) => has_name(types.as_slice(), of_type),
+        Some(types) => has_name(types, of_type),
         None => false,
     }
 }

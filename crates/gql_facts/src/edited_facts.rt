@@ -1,49 +1,54 @@
 //! The facts of a schema after an edit of a schema file. The facts of a type that the edit leaves as
 //! it is are shared with those before the edit.
-ghost use Rattle.std.specs.Prelude.{◌≡◌, IfOk, IfSome, IsTrue};
+ghost use Rattle.std.specs.Prelude.{◌≡◌, ℕ, List, Bool, IfOk, IfSome, IsTrue, Some, bytes_eq, find, is_some, map, slice_get};
 ghost use Rattle.std.specs.Option.{option_copied};
 ghost use Rattle.gql_types.specs.Edits.{KeepsOthers};
+ghost use Rattle.gql_types.specs.Possible.{name_of};
 ghost use Rattle.gql_types.specs.declared.schema.Schema.{Schema as TheSchema};
 ghost use Rattle.gql_facts.specs.EditedFacts as spec;
 ghost use Rattle.gql_facts.specs.Tables.{tables_of};
 
 use crate::meta_fields::MetaFields;
 use crate::schema_facts::{SchemaFacts, TypeEntry, directive_entries, root_entries, type_entry};
-use gql_ast::{Items, Shared, Text, same_items};
+use gql_ast::{Shared, Text, same_items};
 use gql_types::{HasName, Named, Schema, SchemaType};
 use std::alloc::{AllocError, Global};
 
 /// Whether both are absent, or both are there with the same names.
-fn are_same_names(names: &Option<Shared<Named<Text>>>, others: Option<&Items<Text>>) -> bool
+fn are_same_names(names: &Option<Shared<Named<Text>>>, others: Option<&[Text]>) -> bool
     ensures { IsTrue result → names.now ≡ option_copied others.entry }
 {
     match names {
         Some(names) => match others {
-            Some(others) => same_items(names.get().as_slice(), others.as_slice()),
+            Some(others) => same_items(names.get().as_slice(), others),
             None => false,
         },
         None => others.is_none(),
     }
 }
 
-/// The entry of the type before the edit, if it is that after the edit: the edit does not change the
-/// type, nor its possible types.
+/// The entry of the type at a place before the edit, if it is that after the edit: the edit does not
+/// change the type, nor its possible types.
 fn kept_entry<'b>(
     schema: &Schema,
     before: &'b SchemaFacts,
-    edited: &Named<Text>,
+    place: usize,
     of_type: &SchemaType,
+    is_edited: bool,
 ) -> Option<&'b Shared<TypeEntry>>
-    ensures { IfSome (option_copied result)
-        (spec.IsEntryAfter before.entry.now edited.now schema.now of_type.now) }
+    ensures entry { (edited : List (List ℕ))
+        → is_edited ≡ is_some (find (bytes_eq (name_of of_type.now)) edited)
+        → IfSome (option_copied result)
+        (spec.IsEntryAfter before.entry.now edited schema.now of_type.now) }
+    ensures name { IfSome (option_copied result) (λ e. e.name ≡ name_of of_type.now) }
 {
-    let name = of_type.name();
-    if edited.get(name).is_some() {
+    if is_edited {
         return None;
     }
-    match before.types.get(name) {
+    let name = of_type.name();
+    match before.types.get_near(place, name) {
         Some(entry) => {
-            if are_same_names(&entry.get().possible, schema.possible(name)) {
+            if are_same_names(&entry.get().possible, schema.possible_near(place, name)) {
                 Some(entry)
             } else {
                 None
@@ -53,22 +58,40 @@ fn kept_entry<'b>(
     }
 }
 
-/// The entry of a type after the edit.
+/// The entry of the type at a place after the edit.
 fn entry_after(
     alloc: Global,
     schema: &Schema,
     before: &SchemaFacts,
-    edited: &Named<Text>,
+    place: usize,
     of_type: &SchemaType,
+    is_edited: bool,
 ) -> Result<Shared<TypeEntry>, AllocError>
-    ensures { IfOk result (spec.IsEntryAfter before.now edited.now schema.now of_type.now) }
+    ensures entry { IfOk result (λ entry. (edited : List (List ℕ))
+        → is_edited ≡ is_some (find (bytes_eq (name_of of_type.now)) edited)
+        → spec.IsEntryAfter before.now edited schema.now of_type.now entry) }
+    ensures name { IfOk result (λ entry. entry.name ≡ name_of of_type.now) }
 {
-    match kept_entry(schema, before, edited, of_type) {
-        Some(entry) => entry.clone(),
+    match kept_entry(schema, before, place, of_type, is_edited) {
+        Some(entry) => {
+            let kept = entry.clone()?;
+            Ok(kept)
+        }
         None => {
             let made = type_entry(alloc, schema, of_type)?;
             Shared::new(alloc, made)
         }
+    }
+}
+
+/// Whether the type at a place is edited.
+fn is_edited_at(are_edited: &[bool], place: usize) -> bool
+    ensures { (is_edited : Bool) → slice_get are_edited.now place ≡ Some is_edited
+        → result ≡ is_edited }
+{
+    match are_edited.get(place) {
+        Some(is_edited) => *is_edited,
+        None => true,
     }
 }
 
@@ -79,12 +102,17 @@ fn entries_after(
     before: &SchemaFacts,
     edited: &Named<Text>,
 ) -> Result<Vec<Shared<TypeEntry>>, AllocError>
-    ensures { IfOk result (λ entries. spec.AreEntriesAfter before.now edited.now schema.now
+    ensures entries { IfOk result (λ entries. spec.AreEntriesAfter before.now edited.now schema.now
         entries.items schema.now.types) }
+    ensures names { IfOk result (λ entries.
+        map (λ e. e.name) entries.items ≡ map name_of schema.now.types) }
 {
-    let mut entries = Vec::with_capacity(alloc, schema.types().len())?;
-    for of_type in schema.types() {
-        let entry = entry_after(alloc, schema, before, edited, of_type.get())?;
+    let are_edited = schema.named_types().are_among(alloc, edited)?;
+    let types = schema.types();
+    let mut entries = Vec::with_capacity(alloc, types.len())?;
+    for place in 0..types.len() {
+        let is_edited = is_edited_at(are_edited.as_slice(), place);
+        let entry = entry_after(alloc, schema, before, place, types[place].get(), is_edited)?;
         entries.push(entry)?;
     }
     Ok(entries)
@@ -103,7 +131,7 @@ impl SchemaFacts {
             → KeepsOthers edited.now old schema.now → facts ≡ tables_of schema.now) }
     {
         let entries = entries_after(alloc, schema, before, edited)?;
-        let types = Named::like(alloc, entries, schema.named_types())?;
+        let types = Named::of_names(alloc, entries, schema.named_types())?;
         let directives = Named::new(alloc, directive_entries(alloc, schema)?)?;
         let roots = root_entries(alloc, schema.roots())?;
         let meta = MetaFields::new(alloc)?;

@@ -203,7 +203,7 @@ fn shared_possible(
     ensures { IfOk result (λ o. o ≡ possible_named schema.now name.now) }
 {
     match schema.possible(name) {
-        Some(names) => Ok(Some(Shared::new(alloc, copied_names(alloc, names.as_slice())?)?)),
+        Some(names) => Ok(Some(Shared::new(alloc, copied_names(alloc, names)?)?)),
         None => Ok(None),
     }
 }
@@ -322,7 +322,7 @@ impl SchemaFacts {
         ensures { IfOk result (λ facts. facts ≡ tables.tables_of schema.now) }
     {
         let entries = type_entries(alloc, schema)?;
-        let types = Named::like(alloc, entries, schema.named_types())?;
+        let types = Named::of_names(alloc, entries, schema.named_types())?;
         let directives = Named::new(alloc, directive_entries(alloc, schema)?)?;
         let roots = root_entries(alloc, schema.roots())?;
         let meta = MetaFields::new(alloc)?;

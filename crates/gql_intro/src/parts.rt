@@ -42,7 +42,7 @@ fn possible_nodes<'s>(schema: &'s Schema, of_type: &'s SchemaType) -> IntroAnswe
     ensures { answer_of schema.now result ≡ spec.possible_nodes schema.now of_type.now }
 {
     match schema.possible(of_type.name()) {
-        Some(names) => IntroAnswer::Nodes(IntroNodes::Types(names.as_slice())),
+        Some(names) => IntroAnswer::Nodes(IntroNodes::Types(names)),
         None => IntroAnswer::Null,
     }
 }

@@ -81,7 +81,7 @@ fn is_possible_name(schema: &Schema, of_type: &str, name: &str) -> bool
     ensures { result ≡ list_any (bytes_eq name.now) (plans.possible_in schema.now of_type.now) }
 {
     match schema.possible(of_type) {
-        Some(types) => has_name(types.as_slice(), name),
+        Some(types) => has_name(types, name),
         None => false,
     }
 }

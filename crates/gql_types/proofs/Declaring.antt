@@ -3,7 +3,8 @@ use Rattle.std.proofs.Common.{◌≡◌, ◌++◌, ℕ, List, [], ◌∷◌, map
 use Rattle.std.proofs.lemmas.Grind.{common_steps}
 use Rattle.gql_types.proofs.Ordering.{named, same_order}
 use Rattle.gql_types.specs.Declarations.{declarations, pair}
-use Rattle.gql_types.specs.Possible.{possible_by, all_possible, objects_of, in_order, name_of}
+use Rattle.gql_types.specs.Abstracts.{abstract_by, all_abstract}
+use Rattle.gql_types.specs.Possible.{objects_of, in_order, name_of}
 use Rattle.gql_types.specs.declared.kind.TypeKind.{TypeKind}
 use Rattle.gql_types.specs.declared.kind.TypeKind.TheVariants as kind
 use Rattle.gql_types.specs.declared.possible.Declaration.{Declaration}
@@ -14,22 +15,22 @@ objects_are : (q : List ℕ) (ds : List Declaration) → map (λ (d : Declaratio
 objects_are q [] = refl
 objects_are q (d ∷ ds) = grind (arith, common_steps, objects_are q ds)
 
-possible_same : (k : TypeKind) (at to : List ℕ → List (List ℕ)) (t : SchemaType) → ((q : List ℕ) → in_order (at q) ≡ in_order (to q)) → possible_by k at t ≡ possible_by k to t
-possible_same kind.Object at to t same = refl
-possible_same kind.Interface at to t same = λ k. record { of_type = name_of t; types = same (name_of t) k } ∷ []
-possible_same kind.Union at to t same = refl
-possible_same kind.Scalar at to t same = refl
-possible_same kind.Enum at to t same = refl
-possible_same kind.InputObject at to t same = refl
+abstract_same : (k : TypeKind) (at to : List ℕ → List (List ℕ)) (t : SchemaType) → ((q : List ℕ) → in_order (at q) ≡ in_order (to q)) → abstract_by k at t ≡ abstract_by k to t
+abstract_same kind.Object at to t same = refl
+abstract_same kind.Interface at to t same = λ k. record { of_type = name_of t; types = same (name_of t) k } ∷ []
+abstract_same kind.Union at to t same = refl
+abstract_same kind.Scalar at to t same = refl
+abstract_same kind.Enum at to t same = refl
+abstract_same kind.InputObject at to t same = refl
 
 flat_map_same : {X Y : Type 0} (f g : X → List Y) (xs : List X) → ((x : X) → f x ≡ g x) → flat_map f xs ≡ flat_map g xs
 flat_map_same f g [] same = refl
 flat_map_same f g (x ∷ xs) same = λ k. same x k ++ flat_map_same f g xs same k
 
-pub possible_of_all : (types : List SchemaType) (ds : List Declaration) (at : List ℕ → List Declaration) → map pair ds ≡ declarations types
+pub abstract_of_all : (types : List SchemaType) (ds : List Declaration) (at : List ℕ → List Declaration) → map pair ds ≡ declarations types
     → ((q : List ℕ) → at q ≡ filter (λ (d : Declaration). bytes_eq q d.interface.now) ds)
-    → flat_map (λ (t : SchemaType). possible_by t.kind (λ q. map (λ (d : Declaration). d.object.now) (at q)) t) types ≡ all_possible types
-possible_of_all types ds at all found =
-    flat_map_same (λ (t : SchemaType). possible_by t.kind (λ q. map (λ (d : Declaration). d.object.now) (at q)) t) (λ (t : SchemaType). possible_by t.kind (objects_of types) t) types
-    (λ t. possible_same t.kind (λ q. map (λ (d : Declaration). d.object.now) (at q)) (objects_of types) t
+    → flat_map (λ (t : SchemaType). abstract_by t.kind (λ q. map (λ (d : Declaration). d.object.now) (at q)) t) types ≡ all_abstract types
+abstract_of_all types ds at all found =
+    flat_map_same (λ (t : SchemaType). abstract_by t.kind (λ q. map (λ (d : Declaration). d.object.now) (at q)) t) (λ (t : SchemaType). abstract_by t.kind (objects_of types) t) types
+    (λ t. abstract_same t.kind (λ q. map (λ (d : Declaration). d.object.now) (at q)) (objects_of types) t
     (λ q. ap in_order (ap (map (λ (d : Declaration). d.object.now)) (found q) ∙ objects_are q ds ∙ ap (named q) all) ∙ same_order q types))

@@ -1,10 +1,8 @@
 -- Names that were sorted and of which each was kept once are the names in their order.
-use Rattle.std.proofs.Common.{◌≡◌, ◌↔◌, ◌⊎◌, inl, inr, ℕ, zero, suc, List, [], ◌∷◌, Bool, true, map, filter, fold, bytes_eq, Contains, All, refl, sym, ap, ap₂, ◌∙◌, subst, arith, length}
-use Rattle.std.specs.Ordering.{is_eq, ordering_reverse, eq_by_cmp}
+use Rattle.std.proofs.Common.{◌≡◌, ◌↔◌, ◌⊎◌, inl, inr, ℕ, List, [], ◌∷◌, Bool, true, map, fold, bytes_eq, Contains, refl, sym, ap, ap₂, ◌∙◌, subst}
+use Rattle.std.specs.Ordering.{is_eq, ordering_reverse}
 use Rattle.std.specs.declared.cmp.Ordering.{Ordering}
 use Rattle.std.specs.declared.cmp.Ordering.TheVariants.{Less, Equal, Greater}
-use Rattle.std.specs.BTreeMap.{insert_entry}
-use Rattle.std.specs.Map.{keys_of}
 use Rattle.std.specs.List.{AllByRecursion, Any, dedup}
 use Rattle.std.specs.List.Retain.{DiffersFromLast, IsFiltered}
 use Rattle.std.specs.List.Sorted.{IsPermutation, IsSorted, IsStrictlySortedBy}

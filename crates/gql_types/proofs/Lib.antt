@@ -1,10 +1,12 @@
 pub mod Declaring
 pub mod EachOnce
+pub mod EachPossible
 pub mod EditedTypes
 pub mod Filtering
 pub mod Firsts
 pub mod Groups
 pub mod Members
+pub mod Once
 pub mod Ordering
 pub mod OtherTypes
 pub mod Places

@@ -1,5 +1,5 @@
 -- The members of lists, of lists that a function makes, and of those that pass a test.
-use Rattle.std.proofs.Common.{◌≡◌, ◌⊎◌, inl, inr, zero, suc, refl, sym, ap, subst, List, [], ◌∷◌, Bool, true, false, map, filter, length, Contains, arith}
+use Rattle.std.proofs.Common.{◌≡◌, ◌⊎◌, inl, inr, zero, suc, refl, sym, subst, List, [], ◌∷◌, Bool, true, false, map, filter, Contains, arith}
 use Rattle.std.specs.List.{AllByRecursion}
 
 module _ {A : Type 0} where

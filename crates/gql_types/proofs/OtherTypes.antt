@@ -1,6 +1,6 @@
 -- An edit of a schema file changes no type but those that the file defines or extends, before the
 -- edit or after it.
-use Rattle.std.proofs.Common.{◌≡◌, ◌⊎◌, inl, inr, ℕ, List, [], ◌∷◌, ◌++◌, Bool, true, false, Option, Some, None, not, map, filter, find, flat_map, bytes_eq, Contains, refl, sym, ap, ◌∙◌, subst, ◌&&◌}
+use Rattle.std.proofs.Common.{◌≡◌, ◌⊎◌, inl, inr, ℕ, List, [], ◌∷◌, ◌++◌, Bool, true, false, Option, Some, None, not, map, filter, find, flat_map, bytes_eq, Contains, refl, sym, ap, ◌∙◌, subst}
 use Rattle.std.specs.Prelude.{is_some, option_map}
 use Rattle.std.specs.Option.{option_or}
 use Rattle.std.specs.BTreeMap.{is_at}
@@ -23,10 +23,10 @@ use Rattle.gql_built_in.specs.declared.sited.Sited.{Sited}
 use Rattle.gql_types.specs.Definitions.{of_file, of_files, in_order_of, definitions, names_a_type, type_in, extension_in, type_definitions, type_extensions}
 use Rattle.gql_types.specs.Edits.{KeepsOthers, edited_names, names_in, type_name_in, type_names, with_schema, without_schema}
 use Rattle.gql_types.specs.Possible.{name_of}
-use Rattle.gql_types.specs.Schemas.{schema_of, type_named}
+use Rattle.gql_types.specs.Schemas.{schema_of}
 use Rattle.gql_types.specs.Types.{assembled, extends, extensions_of, first_definitions, types_of}
 use Rattle.gql_types.specs.declared.schema_type.SchemaType.{SchemaType}
-use Rattle.gql_types.proofs.Members.{none, here, there, cases, Contains-from_filter, Contains-from_map}
+use Rattle.gql_types.proofs.Members.{none, cases, Contains-from_filter, Contains-from_map}
 
 -- ---- names
 

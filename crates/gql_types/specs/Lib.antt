@@ -1,3 +1,4 @@
+pub mod Abstracts
 pub mod Applied
 pub mod Covariance
 pub mod Declarations
@@ -6,6 +7,8 @@ pub mod Edits
 pub mod EditedTypes
 pub mod Held
 pub mod Kinds
+pub mod Marks
+pub mod Names
 pub mod Parts
 pub mod Possible
 pub mod RequiredInputs

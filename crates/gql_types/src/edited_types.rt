@@ -1,9 +1,9 @@
 //! The types of a schema after an edit of a schema file. A type that the edit leaves as it is is
 //! shared with the schema before the edit.
-ghost use Rattle.std.specs.Prelude.{◌≡◌, [], IfOk, IfSome, map};
+ghost use Rattle.std.specs.Prelude.{◌≡◌, [], IfOk, IfSome, IsTrue, Some, false, map, slice_get};
 ghost use Rattle.std.specs.Option.{option_copied, option_map_or};
 ghost use Rattle.std.specs.HashMap as hash;
-ghost use Rattle.gql_types.specs.EditedTypes.{type_by};
+ghost use Rattle.gql_types.specs.EditedTypes.{AreEdited, type_by};
 ghost use Rattle.gql_types.specs.Edits.{KeepsType, KeepsTypes};
 ghost use Rattle.gql_types.specs.Possible.{name_of};
 ghost use Rattle.gql_types.specs.Types as spec;
@@ -18,22 +18,42 @@ use gql_ast::{Shared, Text, TypeDefinition, TypeExtension};
 use gql_built_in::Sited;
 use std::alloc::{AllocError, Global};
 
-/// The type before the edit of the name of a definition, if the edit does not change types of the
-/// name.
-fn kept_type<'b>(
-    before: &'b Schema,
-    edited: &Named<Text>,
-    definition: &Sited<Shared<TypeDefinition>>,
-) -> Option<&'b Shared<SchemaType>>
-    ensures { IfSome (option_copied result) (λ t. (u : TheSchemaType)
-        → name_of u ≡ definition.now.node.name.text
-        → KeepsType edited.now before.entry.now u → t ≡ u) }
+/// The schema before an edit, the names whose types the edit may change, and for each type of the
+/// schema, whether its name is among them.
+#[derive(Drop)]
+struct Before<'b> {
+    schema: &'b Schema,
+    edited: &'b Named<Text>,
+    are_edited: Vec<bool>,
+}
+
+/// Whether the type at a place is not edited.
+fn is_kept_at(are_edited: &[bool], place: usize) -> bool
+    ensures { IsTrue result → slice_get are_edited.now place ≡ Some false }
 {
-    let name = definition.node.get().name.as_str();
-    match edited.get(name) {
-        Some(_) => None,
-        None => before.shared(name),
+    match are_edited.get(place) {
+        Some(is_edited) => !*is_edited,
+        None => false,
     }
+}
+
+/// The type of this name before the edit, if the edit does not change types of the name. It is soon
+/// found if it is at this place.
+fn kept_type<'b>(before: &'b Before<'_>, place: usize, name: &str) -> Option<&'b Shared<SchemaType>>
+    requires { AreEdited before.now }
+    ensures { IfSome (option_copied result) (λ t. (u : TheSchemaType) → name_of u ≡ name.now
+        → KeepsType before.entry.now.edited.now before.entry.now.schema.now u → t ≡ u) }
+{
+    if let Some(found) = before.schema.named_types().get_at(place, name) {
+        if is_kept_at(before.are_edited.as_slice(), place) {
+            return Some(found);
+        }
+        return None;
+    }
+    if before.edited.get(name).is_some() {
+        return None;
+    }
+    before.schema.shared(name)
 }
 
 /// The type of a definition after the edit.
@@ -41,17 +61,18 @@ fn type_after(
     alloc: Global,
     definition: &Sited<Shared<TypeDefinition>>,
     extensions: &ByName<'_, Sited<Shared<TypeExtension>>>,
-    before: &Schema,
-    edited: &Named<Text>,
+    before: &Before<'_>,
+    place: usize,
 ) -> Result<Shared<SchemaType>, AllocError>
+    requires { AreEdited before.now }
     ensures { IfOk result (λ t.
-        KeepsType edited.now before.now (type_by
+        KeepsType before.now.edited.now before.now.schema.now (type_by
         (λ q. option_map_or (λ group. map (λ x. x.now) group.items)
         (hash.get_by_text extensions.now q) []) definition.now)
         → t ≡ type_by (λ q. option_map_or (λ group. map (λ x. x.now) group.items)
         (hash.get_by_text extensions.now q) []) definition.now) }
 {
-    match kept_type(before, edited, definition) {
+    match kept_type(before, place, definition.node.get().name.as_str()) {
         Some(of_type) => {
             let kept = of_type.clone()?;
             Ok(kept)
@@ -64,24 +85,24 @@ fn type_after(
     }
 }
 
-/// The types of first definitions after the edit.
+/// The types of first definitions after the edit. Most of them are where they were before it.
 fn all_after(
     alloc: Global,
     definitions: &[&Sited<Shared<TypeDefinition>>],
     extensions: &ByName<'_, Sited<Shared<TypeExtension>>>,
-    before: &Schema,
-    edited: &Named<Text>,
+    before: &Before<'_>,
 ) -> Result<Vec<Shared<SchemaType>>, AllocError>
+    requires { AreEdited before.now }
     ensures { IfOk result (λ types.
-        KeepsTypes edited.now before.now (map (type_by
+        KeepsTypes before.now.edited.now before.now.schema.now (map (type_by
         (λ q. option_map_or (λ group. map (λ x. x.now) group.items)
         (hash.get_by_text extensions.now q) [])) (map (λ d. d.now) definitions.now))
         → types.items ≡ map (type_by (λ q. option_map_or (λ group. map (λ x. x.now) group.items)
         (hash.get_by_text extensions.now q) [])) (map (λ d. d.now) definitions.now)) }
 {
     let mut types = Vec::with_capacity(alloc, definitions.len())?;
-    for definition in definitions {
-        let of_type = type_after(alloc, definition, extensions, before, edited)?;
+    for place in 0..definitions.len() {
+        let of_type = type_after(alloc, definitions[place], extensions, before, place)?;
         types.push(of_type)?;
     }
     Ok(types)
@@ -102,6 +123,11 @@ pub fn types_after_edit(
 {
     let groups = by_name(alloc, extensions)?;
     let firsts = first_definitions(alloc, definitions)?;
-    let types = all_after(alloc, firsts.as_slice(), &groups, before, edited)?;
+    let before = Before {
+        schema: before,
+        edited,
+        are_edited: before.named_types().are_among(alloc, edited)?,
+    };
+    let types = all_after(alloc, firsts.as_slice(), &groups, &before)?;
     Ok(types)
 }

@@ -25,8 +25,7 @@ fn add_first<'d>(
         then [] else definition.now ∷ [])) }
 {
     let name = definition.node.get().name.as_str();
-    if !seen.contains_key(name) {
-        seen.insert(name, ())?;
+    if seen.insert(name, ())?.is_none() {
         firsts.push(definition)?;
     }
     Ok(())

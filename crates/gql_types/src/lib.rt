@@ -1,6 +1,8 @@
 //! All schema files and the built-in definitions as one schema, with look-ups by name.
 #![tactic(auto)]
 
+mod all_possible;
+mod among;
 mod applied;
 mod by_name;
 mod covariance;
@@ -22,6 +24,7 @@ mod schema_type;
 mod sorted_names;
 mod written_type;
 
+pub use all_possible::AllPossible;
 pub use applied::{append_in, argument_of, directive_of, string_of};
 pub use defined_inputs::{DefinedInput, DefinedInputs};
 pub use edited::edited_names;

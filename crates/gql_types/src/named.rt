@@ -1,7 +1,8 @@
 //! Things that have names, with a look-up of the first of a name.
 
-ghost use Rattle.std.specs.Prelude.{◌≡◌, ℕ, List, [], IfOk, IsTrue, find, map, bytes_eq};
+ghost use Rattle.std.specs.Prelude.{◌≡◌, ℕ, List, [], IfOk, IfSome, IsTrue, Some, find, map, bytes_eq, slice_get};
 ghost use Rattle.std.specs.Option.{option_copied};
+ghost use Rattle.gql_types.specs.Names.{are_among};
 
 use crate::named_list::{NamedList, have_same_names};
 use gql_ast::{Shared, Text};
@@ -79,9 +80,25 @@ impl<T: HasName + Drop> Named<T> {
     ) -> Result<Named<T>, AllocError>
         ensures { IfOk result (λ named. named ≡ things.items) }
     {
+        if have_same_names(things.as_slice(), others.as_slice()) {
+            return Named::of_names(alloc, things, others);
+        }
+        Named::new(alloc, things)
+    }
+
+    /// These things, in their order. They share the look-up of others, which have the same names in
+    /// the same order.
+    pub fn of_names<U: HasName>(
+        alloc: Global,
+        things: Vec<T>,
+        others: &Named<U>,
+    ) -> Result<Named<T>, AllocError>
+        requires { map T.name things.items ≡ map U.name others.now }
+        ensures { IfOk result (λ named. named ≡ things.items) }
+    {
         match &others.list {
             Some(others) => {
-                let list = NamedList::like(alloc, things, others.get())?;
+                let list = NamedList::of_names(things, others.get())?;
                 let list = Shared::new(alloc, list)?;
                 Ok(Named { list: Some(list) })
             }
@@ -128,6 +145,39 @@ impl<T: HasName> Named<T> {
         match &self.list {
             Some(list) => list.get().get(name),
             None => None,
+        }
+    }
+
+    /// The thing at a place, if it has that name, and it is known that each name occurs once.
+    pub fn get_at(&self, place: usize, name: &str) -> Option<&T>
+        ensures first { IfSome (option_copied result) (λ found.
+            find (λ x. bytes_eq name.now (T.name x)) self.now ≡ Some found) }
+        ensures here { IfSome (option_copied result) (λ found.
+            slice_get self.now place ≡ Some found) }
+    {
+        match &self.list {
+            Some(list) => list.get().get_at(place, name),
+            None => None,
+        }
+    }
+
+    /// The first of that name. It is soon found if it is at this place.
+    pub fn get_near(&self, place: usize, name: &str) -> Option<&T>
+        ensures { option_copied result ≡ find (λ x. bytes_eq name.now (T.name x)) self.now }
+    {
+        match &self.list {
+            Some(list) => list.get().get_near(place, name),
+            None => None,
+        }
+    }
+
+    /// For each thing, whether its name is among these.
+    pub fn are_among(&self, alloc: Global, names: &Named<Text>) -> Result<Vec<bool>, AllocError>
+        ensures { IfOk result (λ marks. marks.items ≡ are_among names.now (map T.name self.now)) }
+    {
+        match &self.list {
+            Some(list) => list.get().are_among(alloc, names),
+            None => Ok(Vec::new(alloc)),
         }
     }
 }

@@ -1,13 +1,15 @@
 //! Lists of things that have names, with a look-up of the first of a name.
 
-ghost use Rattle.std.specs.Prelude.{◌≡◌, ℕ, List, IfOk, IsTrue, find, map, bytes_eq, string_bytes, slice_get, option_and_then};
+ghost use Rattle.std.specs.Prelude.{◌≡◌, ℕ, List, IfOk, IfSome, IsTrue, None, Some, find, map, bytes_eq, slice_get, option_and_then};
 ghost use Rattle.std.specs.Option.{option_copied};
 ghost use Rattle.std.specs.List.{position_from};
 ghost use Rattle.std.specs.HashMap as hash;
+ghost use Rattle.gql_types.specs.Names.{AreOnce, are_among};
 
-use crate::named::HasName;
+use crate::among::{asked, marked};
+use crate::named::{HasName, Named};
 use crate::same_name::is_same_name;
-use gql_ast::Shared;
+use gql_ast::{Shared, Text};
 use std::alloc::{AllocError, Global};
 use std::collections::HashMap;
 use std::marker::Model;
@@ -15,28 +17,37 @@ use std::marker::Model;
 /// How many things are compared one by one at most. Of more, a map keeps where each name is.
 const FEW: usize = 16;
 
+/// Where the first of each name is in a list.
+#[derive(Drop)]
+struct Places {
+    first: HashMap<String, usize>,
+    /// Whether each name occurs once.
+    are_once: bool,
+}
+
 /// Things in their order, with a look-up of the first of a name. Contracts see the list of the
 /// things.
 pub struct NamedList<T: HasName> {
     things: Vec<T>,
-    /// Where the first of each name is; none for few things. Lists of the same names share it.
-    first: Option<Shared<HashMap<String, usize>>>,
+    /// Where the names are; none for few things. Lists of the same names share it.
+    places: Option<Shared<Places>>,
 }
 
 impl<T: HasName + Drop> Drop for NamedList<T> {
     fn drop(self) {
         let NamedList {
             things: _,
-            first: _,
+            places: _,
         } = self;
     }
 }
 
 impl<T: HasName> Model for NamedList<T> {
-    ghost use Rattle.std.specs.Prelude.{◌≡◌, ℕ, List, IfSome, bytes_eq, string_bytes};
+    ghost use Rattle.std.specs.Prelude.{◌≡◌, ℕ, List, IfSome, IsTrue, bytes_eq, map};
     ghost use Rattle.std.specs.Coded.{coded_list};
     ghost use Rattle.std.specs.List.{position_from};
     ghost use Rattle.std.specs.HashMap as hash;
+    ghost use Rattle.gql_types.specs.Names.{AreOnce};
 
     ghost Value = { List T };
 
@@ -44,26 +55,36 @@ impl<T: HasName> Model for NamedList<T> {
 
     ghost view = { λ n. n.things.items };
 
-    ghost invariant = { λ n. (q : List ℕ) → IfSome n.first
-        (λ first. hash.get_by_text first q
-        ≡ position_from (λ x. bytes_eq q (T.name x)) 0 n.things.items) };
+    ghost invariant = { λ n. IfSome n.places (λ places.
+        ((q : List ℕ) → hash.get_by_text places.first q
+        ≡ position_from (λ x. bytes_eq q (T.name x)) 0 n.things.items)
+        × (IsTrue places.are_once → AreOnce (map T.name n.things.items))) };
 }
 
-/// The index of the first of each name.
-fn first_places<T: HasName>(
-    alloc: Global,
-    things: &[T],
-) -> Result<HashMap<String, usize>, AllocError>
-    ensures { IfOk result (λ first. (q : List ℕ) → hash.get_by_text first q
+/// Whether each name still occurs once, with one more name: where it occurs again, if it does.
+fn is_once_more(are_once: bool, later: Option<usize>) -> bool
+    ensures once { IsTrue result → IsTrue are_once }
+    ensures new { IsTrue result → later ≡ None }
+{
+    are_once && later.is_none()
+}
+
+/// Where the first of each name is.
+fn places_of<T: HasName>(alloc: Global, things: &[T]) -> Result<Places, AllocError>
+    ensures first { IfOk result (λ places. (q : List ℕ) → hash.get_by_text places.first q
         ≡ position_from (λ x. bytes_eq q (T.name x)) 0 things.now) }
+    ensures once { IfOk result (λ places.
+        IsTrue places.are_once → AreOnce (map T.name things.now)) }
 {
     let mut first = HashMap::with_capacity(alloc, things.len())?;
+    let mut are_once = true;
     let mut place = things.len();
     'things: while place > 0 {
         place -= 1;
-        first.insert(String::from_str(alloc, things[place].name())?, place)?;
+        let later = first.insert(String::from_str(alloc, things[place].name())?, place)?;
+        are_once = is_once_more(are_once, later);
     }
-    Ok(first)
+    Ok(Places { first, are_once })
 }
 
 /// Whether a thing has the name of another.
@@ -126,39 +147,36 @@ impl<T: HasName + Drop> NamedList<T> {
         if things.len() <= FEW {
             return Ok(NamedList {
                 things,
-                first: None,
+                places: None,
             });
         }
-        let places = first_places(alloc, things.as_slice())?;
-        let first = Shared::new(alloc, places)?;
+        let places = places_of(alloc, things.as_slice())?;
+        let places = Shared::new(alloc, places)?;
         Ok(NamedList {
             things,
-            first: Some(first),
+            places: Some(places),
         })
     }
 
-    /// These things, in their order. They share the look-up of others that have the same names.
-    pub fn like<U: HasName>(
-        alloc: Global,
+    /// These things, in their order. They share the look-up of others, which have the same names.
+    pub fn of_names<U: HasName>(
         things: Vec<T>,
         others: &NamedList<U>,
     ) -> Result<NamedList<T>, AllocError>
+        requires { map T.name things.items ≡ map U.name others.now }
         ensures { IfOk result (λ named. named ≡ things.items) }
     {
-        if !have_same_names(things.as_slice(), others.as_slice()) {
-            return NamedList::new(alloc, things);
-        }
-        match &others.first {
-            Some(first) => {
-                let first = first.clone()?;
+        match &others.places {
+            Some(places) => {
+                let places = places.clone()?;
                 Ok(NamedList {
                     things,
-                    first: Some(first),
+                    places: Some(places),
                 })
             }
             None => Ok(NamedList {
                 things,
-                first: None,
+                places: None,
             }),
         }
     }
@@ -176,9 +194,56 @@ impl<T: HasName> NamedList<T> {
     pub fn get(&self, name: &str) -> Option<&T>
         ensures { option_copied result ≡ find (λ x. bytes_eq name.now (T.name x)) self.now }
     {
-        match &self.first {
-            Some(first) => thing_in_map(first.get(), self.things.as_slice(), name),
+        match &self.places {
+            Some(places) => thing_in_map(&places.get().first, self.things.as_slice(), name),
             None => first_named(self.things.as_slice(), name),
+        }
+    }
+
+    /// The thing at a place, if it has that name, and each name occurs once.
+    pub fn get_at(&self, place: usize, name: &str) -> Option<&T>
+        ensures first { IfSome (option_copied result) (λ found.
+            find (λ x. bytes_eq name.now (T.name x)) self.now ≡ Some found) }
+        ensures here { IfSome (option_copied result) (λ found.
+            slice_get self.now place ≡ Some found) }
+    {
+        let Some(places) = &self.places else {
+            return None;
+        };
+        if !places.get().are_once {
+            return None;
+        }
+        let Some(thing) = thing_at(self.things.as_slice(), place) else {
+            return None;
+        };
+        if is_same_name(name, thing.name()) {
+            Some(thing)
+        } else {
+            None
+        }
+    }
+
+    /// The first of that name. It is soon found if it is at this place.
+    pub fn get_near(&self, place: usize, name: &str) -> Option<&T>
+        ensures { option_copied result ≡ find (λ x. bytes_eq name.now (T.name x)) self.now }
+    {
+        match self.get_at(place, name) {
+            Some(thing) => Some(thing),
+            None => self.get(name),
+        }
+    }
+
+    /// For each thing, whether its name is among these.
+    pub fn are_among(&self, alloc: Global, names: &Named<Text>) -> Result<Vec<bool>, AllocError>
+        ensures { IfOk result (λ marks. marks.items ≡ are_among names.now (map T.name self.now)) }
+    {
+        match &self.places {
+            Some(places) if places.get().are_once => {
+                let first = &places.get().first;
+                let marks = marked(alloc, self.things.as_slice(), first, names.as_slice())?;
+                Ok(marks)
+            }
+            _ => asked(alloc, self.things.as_slice(), names),
         }
     }
 }

@@ -4,6 +4,7 @@ ghost use Rattle.std.specs.Prelude.{◌≡◌, ◌++◌, ◌∷◌, [], IfOk, On
 ghost use Rattle.std.specs.Option.{option_map_or};
 ghost use Rattle.std.specs.HashMap as hash;
 ghost use Rattle.gql_types.specs.Possible as spec;
+ghost use Rattle.gql_types.specs.Abstracts.{abstract_by, all_abstract};
 ghost use Rattle.gql_types.specs.Declarations.{declarations, declared_by, pair};
 
 use crate::by_name::{ByName, by_name};
@@ -141,14 +142,6 @@ fn of_union(alloc: Global, members: &[Sited<Name>]) -> Result<Items<Text>, Alloc
     in_order(alloc, names)
 }
 
-fn itself(alloc: Global, name: &Text) -> Result<Items<Text>, AllocError>
-    ensures { IfOk result (λ found. found ≡ name.now ∷ []) }
-{
-    let mut found = Items::from_vec(Vec::with_capacity(alloc, 1)?);
-    found.push(name.copy()?)?;
-    Ok(found)
-}
-
 fn add(
     alloc: Global,
     name: &Text,
@@ -165,20 +158,19 @@ fn add(
     Ok(())
 }
 
-fn add_possible(
+fn add_abstract(
     alloc: Global,
     of_type: &SchemaType,
     declaring: &ByName<'_, Declaration<'_>>,
     found: &mut Vec<PossibleTypes>,
 ) -> Result<(), AllocError>
-    ensures { OnOk result (found.new.items ≡ found.old.items ++ spec.possible_by of_type.now.kind
+    ensures { OnOk result (found.new.items ≡ found.old.items ++ abstract_by of_type.now.kind
         (λ q. map (λ d. d.object.now)
         (option_map_or (λ group. map (λ x. x.now) group.items)
         (hash.get_by_text declaring.now q) [])) of_type.now) }
 {
     let name = &of_type.definition.node.get().name.text;
     match of_type.kind {
-        TypeKind::Object => add(alloc, name, itself(alloc, name)?, found),
         TypeKind::Interface => {
             let types = of_interface(alloc, name.as_str(), declaring)?;
             add(alloc, name, types, found)
@@ -187,7 +179,7 @@ fn add_possible(
             let types = of_union(alloc, of_type.members.as_slice())?;
             add(alloc, name, types, found)
         }
-        TypeKind::Scalar | TypeKind::Enum | TypeKind::InputObject => Ok(()),
+        TypeKind::Object | TypeKind::Scalar | TypeKind::Enum | TypeKind::InputObject => Ok(()),
     }
 }
 
@@ -196,24 +188,24 @@ fn all_by(
     types: &[Shared<SchemaType>],
     declaring: &ByName<'_, Declaration<'_>>,
 ) -> Result<Vec<PossibleTypes>, AllocError>
-    ensures { IfOk result (λ found. found.items ≡ flat_map (λ t. spec.possible_by t.kind
+    ensures { IfOk result (λ found. found.items ≡ flat_map (λ t. abstract_by t.kind
         (λ q. map (λ d. d.object.now)
         (option_map_or (λ group. map (λ x. x.now) group.items)
         (hash.get_by_text declaring.now q) [])) t) types.now) }
 {
-    let mut found = Vec::with_capacity(alloc, types.len())?;
+    let mut found = Vec::new(alloc);
     for of_type in types {
-        add_possible(alloc, of_type.get(), declaring, &mut found)?;
+        add_abstract(alloc, of_type.get(), declaring, &mut found)?;
     }
     Ok(found)
 }
 
-/// The composite types, each with its possible types.
-pub fn all_possible(
+/// The interfaces and unions, each with its possible types.
+pub fn all_abstract(
     alloc: Global,
     types: &[Shared<SchemaType>],
 ) -> Result<Vec<PossibleTypes>, AllocError>
-    ensures { IfOk result (λ found. found.items ≡ spec.all_possible types.now) }
+    ensures { IfOk result (λ found. found.items ≡ all_abstract types.now) }
 {
     let declarations = declarations(alloc, types)?;
     let declaring = by_name(alloc, declarations.as_slice())?;

@@ -4,6 +4,7 @@ ghost use Rattle.std.specs.Option.{option_copied};
 ghost use Rattle.gql_types.specs.Edits.{KeepsOthers, KeepsTypes};
 ghost use Rattle.gql_types.specs.Schemas as spec;
 
+use crate::all_possible::AllPossible;
 use crate::applied::append_in;
 use crate::defined_inputs::DefinedInputs;
 use crate::definitions::{
@@ -13,7 +14,6 @@ use crate::definitions::{
 use crate::edited_types::types_after_edit;
 use crate::kind::{TypeKind, is_operation};
 use crate::named::{HasName, Named};
-use crate::possible::{PossibleTypes, all_possible};
 use crate::roots::{Root, roots_of};
 use crate::schema_type::{SchemaType, types_of};
 use gql_ast::{
@@ -28,7 +28,7 @@ pub struct Schema {
     types: Named<Shared<SchemaType>>,
     directives: Named<Sited<Shared<DirectiveDefinition>>>,
     roots: Items<Root>,
-    possible: Named<PossibleTypes>,
+    possible: AllPossible,
 }
 
 impl Drop for Schema {
@@ -95,20 +95,18 @@ fn roots(
     roots_of(alloc, types, schemas.as_slice(), extensions.as_slice())
 }
 
-/// The schema of these definitions, with these types. It shares the look-up of possible types with
-/// others, where these have the same names.
+/// The schema of these definitions, with these types.
 fn schema_with(
     alloc: Global,
     definitions: &[Sited<Tree>],
     types: Named<Shared<SchemaType>>,
-    before: &Named<PossibleTypes>,
 ) -> Result<Schema, AllocError>
-    ensures { IfOk result (λ schema. types ≡ spec.types_in definitions.now
-        → schema ≡ spec.schema_in definitions.now) }
+    requires { types ≡ spec.types_in definitions.now }
+    ensures { IfOk result (λ schema. schema ≡ spec.schema_in definitions.now) }
 {
     let roots = roots(alloc, definitions, &types)?;
     let directives = Named::new(alloc, directive_definitions(alloc, definitions)?)?;
-    let possible = Named::like(alloc, all_possible(alloc, types.as_slice())?, before)?;
+    let possible = AllPossible::new(alloc, &types)?;
     Ok(Schema {
         types,
         directives,
@@ -125,8 +123,7 @@ pub fn assemble(alloc: Global, files: &Files) -> Result<Schema, AllocError>
 {
     let definitions = definitions(alloc, files)?;
     let types = types(alloc, definitions.as_slice())?;
-    let none = Named::new(alloc, Vec::new(alloc))?;
-    schema_with(alloc, definitions.as_slice(), types, &none)
+    schema_with(alloc, definitions.as_slice(), types)
 }
 
 /// The schema of all schema files after an edit, by the schema before it. The edit changed types of
@@ -142,7 +139,7 @@ pub fn assemble_after_edit(
 {
     let definitions = definitions(alloc, files)?;
     let types = types_after(alloc, definitions.as_slice(), before, edited)?;
-    let schema = schema_with(alloc, definitions.as_slice(), types, &before.possible)?;
+    let schema = schema_with(alloc, definitions.as_slice(), types)?;
     Ok(schema)
 }
 
@@ -224,13 +221,17 @@ impl Schema {
 
     /// The names of the objects that a value of a composite type may be, each once, in the order of
     /// their bytes (3.7, 3.8).
-    pub fn possible(&self, name: &str) -> Option<&Items<Text>>
+    pub fn possible(&self, name: &str) -> Option<&[Text]>
         ensures { option_copied result ≡ spec.possible_named self.now name.now }
     {
-        match self.possible.get(name) {
-            Some(possible) => Some(&possible.types),
-            None => None,
-        }
+        self.possible.get(name)
+    }
+
+    /// The same. They are soon found if the type is at this place among the types.
+    pub fn possible_near(&self, place: usize, name: &str) -> Option<&[Text]>
+        ensures { option_copied result ≡ spec.possible_named self.now name.now }
+    {
+        self.possible.get_near(place, name)
     }
 
     /// The fields of an input object (3.10).

@@ -110,7 +110,7 @@ fn add_answered(
         return Ok(());
     }
     match schema.possible(of_type.definition.node.get().name.as_str()) {
-        Some(possible) => answered.add_all(possible.as_slice()),
+        Some(possible) => answered.add_all(possible),
         None => Ok(()),
     }
 }

@@ -1,7 +1,7 @@
 //! Look-ups in a schema (GraphQL specification, 3.3 to 3.13). Each answer is `None` if the
 //! question is not well written.
 use crate::inputs::type_in;
-use gql_ast::{Items, OperationKind, Text};
+use gql_ast::OperationKind;
 use gql_built_in::SourceFile;
 use gql_text::Place;
 use gql_types::{HasName, Root, Schema};
@@ -34,14 +34,6 @@ fn names<T: HasName>(alloc: Global, things: &[T]) -> Option<String> {
     Some(names)
 }
 
-fn texts(alloc: Global, texts: &Items<Text>) -> Option<String> {
-    let mut all = String::new(alloc);
-    for text in texts.as_slice() {
-        join(&mut all, " ", text.as_str()).ok()?;
-    }
-    Some(all)
-}
-
 /// The names of a type's parts.
 fn names_answer(alloc: Global, schema: &Schema, word: &str, of_type: &str) -> Option<String> {
     match word {
@@ -58,7 +50,7 @@ fn names_answer(alloc: Global, schema: &Schema, word: &str, of_type: &str) -> Op
             None => nothing(alloc),
         },
         "possible" => match schema.possible(of_type) {
-            Some(possible) => texts(alloc, possible),
+            Some(possible) => names(alloc, possible),
             None => nothing(alloc),
         },
         _ => None,

@@ -5,7 +5,7 @@ use Rattle.gql_types.specs.EditedTypes.{type_by}
 use Rattle.gql_types.proofs.EditedTypes.{kept_step}
 use Rattle.gql_types.proofs.edited_types.all_after.Goals as goal
 
-pub loop-definition-preserved : goal.loop-definition-preserved
-loop-definition-preserved c = kept_step c.args.edited.now c.args.before.now (type_by (λ q. option_map_or (λ group. map (λ x. x.now) group.items) (hash.get_by_text c.args.extensions.now q) []))
-    c.args.definitions.now c.loop-definition.definition-index c.definition-item.result c.in_ok-of_type.of_type c.loop-definition.types.items c.push.new.self.items
-    (search rules) (search rules) c.loop-definition.invariant c.in_ok-of_type.ensures (search rules)
+pub loop-place-preserved : goal.loop-place-preserved
+loop-place-preserved c = kept_step c.args.before.now.edited.now c.args.before.now.schema.now (type_by (λ q. option_map_or (λ group. map (λ x. x.now) group.items) (hash.get_by_text c.args.extensions.now q) []))
+    c.args.definitions.now c.loop-place.place c.index-definitions-place.result c.in_ok-of_type.of_type c.loop-place.types.items c.push.new.self.items
+    (search rules) (search rules) c.loop-place.invariant c.in_ok-of_type.ensures (search rules)

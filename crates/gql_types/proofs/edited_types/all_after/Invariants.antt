@@ -5,7 +5,7 @@ use Rattle.gql_types.specs.EditedTypes.{type_by}
 use Rattle.gql_types.specs.Edits.{KeepsTypes}
 use Rattle.gql_types.proofs.edited_types.all_after.Given as goal
 
-abbrev pub invariant-loop-definition : goal.invariant-loop-definition
-invariant-loop-definition l =
-    KeepsTypes l.edited l.before (map (type_by (λ q. option_map_or (λ group. map (λ x. x.now) group.items) (hash.get_by_text l.extensions q) [])) (map (λ d. d.now) l.definitions))
-    → l.types.items ≡ map (type_by (λ q. option_map_or (λ group. map (λ x. x.now) group.items) (hash.get_by_text l.extensions q) [])) (map (λ d. d.now) (take l.definition-index l.definitions))
+abbrev pub invariant-loop-place : goal.invariant-loop-place
+invariant-loop-place l =
+    KeepsTypes l.before.edited.now l.before.schema.now (map (type_by (λ q. option_map_or (λ group. map (λ x. x.now) group.items) (hash.get_by_text l.extensions q) [])) (map (λ d. d.now) l.definitions))
+    → l.types.items ≡ map (type_by (λ q. option_map_or (λ group. map (λ x. x.now) group.items) (hash.get_by_text l.extensions q) [])) (map (λ d. d.now) (take l.place l.definitions))

@@ -1,0 +1,6 @@
+use Rattle.std.proofs.Common.{[], rules}
+use Rattle.gql_types.proofs.Once.{asked_step}
+use Rattle.gql_types.proofs.among.no_marks.Goals as goal
+
+pub loop-thing-preserved : goal.loop-thing-preserved
+loop-thing-preserved g c = asked_step g.T.HasName.name [] c.args.things.now c.loop-thing._thing-index c._thing-item.result _ _ (search rules) (search rules) c.loop-thing.invariant (search rules)
