@@ -1,11 +1,13 @@
 -- What an edit leaves as it is.
-use Rattle.std.proofs.Common.{◌≡◌, ◌⊎◌, inl, inr, ℕ, List, [], ◌∷◌, Bool, true, false, Option, Some, None, filter, find, bytes_eq, refl, sym, ap, subst, ◌∙◌, Contains, not, ◌||◌, rules}
+use Rattle.std.proofs.Common.{◌≡◌, ◌⊎◌, inl, inr, ℕ, List, [], ◌∷◌, Bool, true, false, Option, Some, None, filter, find, bytes_eq, refl, sym, ap, subst, ◌∙◌, Contains, not, ◌++◌, ◌+◌, ◌<◌, length, take, get_or, rules}
 use Rattle.std.specs.Prelude.{option_map, option_and_then}
+use Rattle.std.proofs.lemmas.List.{take_more}
+use Rattle.std.proofs.lemmas.Slice.Eq.{bytes_eq-Decides}
 use denote.Enum.Bare.{same_true}
 use Rattle.gql_inputs.specs.Lookups.{form_at, form_of, in_schema}
 use Rattle.gql_types.proofs.Members.{here, there}
 use Rattle.gql_types.specs.Edits.{KeepsOthers}
-use Rattle.gql_types.specs.Kinds.{is_input, same_kind}
+use Rattle.gql_types.specs.Kinds.{same_kind}
 use Rattle.gql_types.specs.Possible.{name_of}
 use Rattle.gql_types.specs.Schemas.{kind_named, type_named}
 use Rattle.gql_types.specs.contracts.kind.TypeKind as of_type
@@ -13,7 +15,7 @@ use Rattle.gql_types.specs.declared.kind.TypeKind.{TypeKind}
 use Rattle.gql_types.specs.declared.kind.TypeKind.TheVariants as kind
 use Rattle.gql_types.specs.declared.schema.Schema.{Schema}
 use Rattle.gql_types.specs.declared.schema_type.SchemaType.{SchemaType}
-use Rattle.gql_node_rules.specs.SchemaChanges.{has_other_kind, is_among, is_input_kind, is_input_type, same_known}
+use Rattle.gql_node_rules.specs.SchemaChanges.{NamesInputs, has_other_kind, is_among, same_known}
 use Rattle.gql_node_rules.specs.ValueTypes.{is_object_form}
 use Rattle.gql_node_rules.proofs.Sets.{same}
 
@@ -38,7 +40,7 @@ left_out p (x ∷ xs) q found gone = elim (either (bytes_eq q x)) [
 ]
 
 -- a type that is found is one of the types, and has the name
-found_type : (q : List ℕ) (types : List SchemaType) (t : SchemaType) → find (λ (u : SchemaType). bytes_eq q (name_of u)) types ≡ Some t
+pub found_type : (q : List ℕ) (types : List SchemaType) (t : SchemaType) → find (λ (u : SchemaType). bytes_eq q (name_of u)) types ≡ Some t
     → Contains types t × (q ≡ name_of t)
 found_type q [] t e = cc
 found_type q (u ∷ us) t e = elim (either (bytes_eq q (name_of u))) [
@@ -67,7 +69,7 @@ module _ (names : List (List ℕ)) (s t : Schema) (forth : KeepsOthers names s t
 
 -- ---- kinds
 
-same_is : (a b : TypeKind) → same_kind a b ≡ true → a ≡ b
+pub same_is : (a b : TypeKind) → same_kind a b ≡ true → a ≡ b
 unfolding same_kind
 same_is a b h = same_true of_type.the_type (search rules) a b h
 
@@ -81,23 +83,6 @@ pub turned : (b : Bool) → not b ≡ false → b ≡ true
 turned true e = refl
 turned false e = cc
 
-neither : (a b : Bool) → (a || b) ≡ false → (a ≡ false) × (b ≡ false)
-neither true b e = cc
-neither false b e = (refl, e)
-
--- a type that is no input type is none by any look-up
-no_form_at : (t : SchemaType) (k : TypeKind) → is_input k ≡ false → form_at t k ≡ None
-no_form_at t kind.Scalar e = cc
-no_form_at t kind.Enum e = cc
-no_form_at t kind.InputObject e = cc
-no_form_at t kind.Object e = refl
-no_form_at t kind.Interface e = refl
-no_form_at t kind.Union e = refl
-
-no_form : (o : Option SchemaType) → is_input_kind (option_map (λ (t : SchemaType). t.kind) o) ≡ false → option_and_then form_of o ≡ None
-no_form None e = refl
-no_form (Some t) e = no_form_at t t.kind e
-
 -- ---- the change
 
 module _ (names : List (List ℕ)) (s t : Schema) (forth : KeepsOthers names s t) (back : KeepsOthers names t s) where
@@ -108,12 +93,53 @@ module _ (names : List (List ℕ)) (s t : Schema) (forth : KeepsOthers names s t
     | inr other ↦ ap (option_map (λ (u : SchemaType). u.kind)) (kept names s t forth back q other)
   ]
 
-  pub same_inputs : (q : List ℕ) → is_among (filter (is_input_type s t) names) q ≡ false → in_schema s q ≡ in_schema t q
-  same_inputs q gone = elim (either (is_among names q)) [
-    | inl edited ↦ let no = neither (is_input_kind (kind_named s q)) (is_input_kind (kind_named t q)) (left_out (is_input_type s t) names q edited gone) in
-        no_form (type_named s q) no.0 ∙ sym (no_form (type_named t q) no.1)
+  pub same_inputs : (found : List (List ℕ)) → NamesInputs s t names found → (q : List ℕ) → is_among found q ≡ false → in_schema s q ≡ in_schema t q
+  same_inputs found named q gone = elim (either (is_among names q)) [
+    | inl edited ↦ named q edited gone
     | inr other ↦ ap (option_and_then form_of) (kept names s t forth back q other)
   ]
+
+-- a name that is among some and another is among these
+among_first : (q n : List ℕ) (ns : List (List ℕ)) → bytes_eq q n ≡ false → is_among (ns ++ n ∷ []) q ≡ true → is_among ns q ≡ true
+among_first q n [] other found = absurd (cc (sym (rw other at found)))
+among_first q n (m ∷ ns) other found = elim (either (bytes_eq q m)) [
+  | inl is ↦ rw is refl
+  | inr another ↦ rw another (among_first q n ns other (rw another at found))
+]
+
+-- a name that is among these is among more
+pub among_more : (q n : List ℕ) (ns : List (List ℕ)) → is_among ns q ≡ true → is_among (ns ++ n ∷ []) q ≡ true
+among_more q n [] found = cc
+among_more q n (m ∷ ns) found = elim (either (bytes_eq q m)) [
+  | inl is ↦ rw is refl
+  | inr another ↦ rw another (among_more q n ns (rw another at found))
+]
+
+pub among_last : (n : List ℕ) (ns : List (List ℕ)) → is_among (ns ++ n ∷ []) n ≡ true
+among_last n [] = rw ((bytes_eq-Decides n n).1 refl) refl
+among_last n (m ∷ ns) = elim (either (bytes_eq n m)) [
+  | inl is ↦ rw is refl
+  | inr another ↦ rw another (among_last n ns)
+]
+
+-- with one name more
+pub inputs_step : (s t : Schema) (names : List (List ℕ)) (i : ℕ) (n : List ℕ) (old new : List (List ℕ)) → i < length names → get_or names i n ≡ n
+    → NamesInputs s t (take i names) old
+    → ((q : List ℕ) → is_among old q ≡ true → is_among new q ≡ true)
+    → (is_among new n ≡ false → in_schema s n ≡ in_schema t n)
+    → NamesInputs s t (take (i + 1) names) new
+inputs_step s t names i n old new within item before keeps named q found gone = elim (either (bytes_eq q n)) [
+  | inl is ↦ let it : q ≡ n = same q n is in
+      subst (λ x. in_schema s x ≡ in_schema t x) (sym it) (named (subst (λ x. is_among new x ≡ false) it gone))
+  | inr other ↦ before q (among_before other) (not_before (either (is_among old q)))
+]
+  where
+    among_before : bytes_eq q n ≡ false → is_among (take i names) q ≡ true
+    among_before other = among_first q n (take i names) other (subst (λ ns. is_among ns q ≡ true) (take_more names i n within ∙ ap (λ y. take i names ++ y ∷ []) item) found)
+
+    not_before : (is_among old q ≡ true) ⊎ (is_among old q ≡ false) → is_among old q ≡ false
+    not_before (inl was) = absurd (cc (sym (keeps q was) ∙ gone))
+    not_before (inr none) = none
 
 -- ---- input objects
 

@@ -7,5 +7,6 @@ mod Kept
 mod Listed
 mod Looked
 mod Same
+mod SameInputs
 mod Sets
 mod Uses

@@ -1,10 +1,9 @@
 -- What may differ between the schemas before and after an edit, of what the rules on nodes ask.
-use Rattle.std.specs.Prelude.{◌≡◌, ◌||◌, ℕ, List, Bool, true, false, not, Option, Some, None, bytes_eq, find, is_some, option_map}
-use Rattle.std.specs.Option.{option_map_or}
+use Rattle.std.specs.Prelude.{◌≡◌, ℕ, List, Bool, true, false, not, Option, Some, None, bytes_eq, find, is_some, option_map}
 use Rattle.gql_ast.specs.declared.text.Name.{Name}
 use Rattle.gql_built_in.specs.declared.sited.Sited.{Sited}
 use Rattle.gql_inputs.specs.Lookups.{in_schema}
-use Rattle.gql_types.specs.Kinds.{is_input, same_kind}
+use Rattle.gql_types.specs.Kinds.{same_kind}
 use Rattle.gql_types.specs.Parts.{kind_of}
 use Rattle.gql_types.specs.Schemas.{kind_named}
 use Rattle.gql_types.specs.declared.kind.TypeKind.{TypeKind}
@@ -43,13 +42,10 @@ same_known (Some kind) (Some other) = same_kind kind other
 abbrev pub has_other_kind : Schema → Schema → List ℕ → Bool
 has_other_kind s t name = not (same_known (kind_named s name) (kind_named t name))
 
--- whether a kind is known and one of input types
-abbrev pub is_input_kind : Option TypeKind → Bool
-is_input_kind known = option_map_or is_input known false
-
--- whether a name is that of an input type in one of the schemas
-abbrev pub is_input_type : Schema → Schema → List ℕ → Bool
-is_input_type s t name = is_input_kind (kind_named s name) || is_input_kind (kind_named t name)
+-- a name among these that is not the same as an input type in both schemas is among the found ones
+abbrev pub NamesInputs : Schema → Schema → List (List ℕ) → List (List ℕ) → Type 0
+NamesInputs s t names found = (q : List ℕ) → is_among names q ≡ true → is_among found q ≡ false
+    → in_schema s q ≡ in_schema t q
 
 -- two schemas differ in nothing else, of what the rules on nodes ask
 pub record IsChange (c : SchemaChange) (s t : Schema) : Type 0 where

@@ -29,6 +29,7 @@ mod s32_bad_arguments;
 mod s33_bad_argument_values;
 mod s35_deprecated_required_inputs;
 mod s36_misplaced_appends;
+mod same_input;
 mod schema_change;
 mod signature;
 mod trees;

@@ -1,9 +1,11 @@
 //! What an edit of a schema file changes in the schema, of what the rules on nodes ask.
-ghost use Rattle.std.specs.Prelude.{◌≡◌, ◌++◌, ◌∷◌, [], IfOk, OnOk, IsTrue, filter, if◌then◌else◌};
+ghost use Rattle.std.specs.Prelude.{◌≡◌, ◌++◌, ◌∷◌, [], ℕ, List, IfOk, OnOk, IsTrue, false, filter, if◌then◌else◌, true};
+ghost use Rattle.gql_inputs.specs.Lookups.{in_schema};
 ghost use Rattle.gql_types.specs.Edits.{KeepsOthers};
 ghost use Rattle.gql_node_rules.specs.SchemaChanges as spec;
 
 use crate::s36_misplaced_appends::mutation_root;
+use crate::same_input::is_same_input;
 use gql_ast::{DirectiveDefinition, Same, Shared, Text, same_option};
 use gql_types::{Named, Schema, SchemaType, Sited, TypeKind};
 use std::alloc::{AllocError, Global};
@@ -14,7 +16,7 @@ use std::alloc::{AllocError, Global};
 pub struct SchemaChange {
     /// The names that have another kind, or that no longer or newly have one.
     pub kinds: Named<Text>,
-    /// The edited names that are input types before or after the edit.
+    /// The edited names that are not the same as an input type before and after the edit.
     pub inputs: Named<Text>,
     pub directives: bool,
     pub mutation_root: bool,
@@ -30,16 +32,6 @@ fn is_same_known(kind: Option<TypeKind>, other: Option<TypeKind>) -> bool
             None => false,
         },
         None => other.is_none(),
-    }
-}
-
-/// Whether a kind is known and one of input types.
-fn is_input_kind(kind: Option<TypeKind>) -> bool
-    ensures { result ≡ spec.is_input_kind kind }
-{
-    match kind {
-        Some(kind) => kind.is_input(),
-        None => false,
     }
 }
 
@@ -59,17 +51,20 @@ fn add_if_other_kind(
     Ok(())
 }
 
-/// Adds a name, if it is that of an input type before or after the edit.
-fn add_if_input(
+/// Adds a name, unless it is the same as an input type before and after the edit.
+fn add_if_other_input(
+    alloc: Global,
     before: &Schema,
     after: &Schema,
     name: &Text,
     found: &mut Vec<Text>,
 ) -> Result<(), AllocError>
-    ensures { OnOk result (found.new.items ≡ found.old.items
-        ++ (if spec.is_input_type before.now after.now name.now then name.now ∷ [] else [])) }
+    ensures keeps { OnOk result ((q : List ℕ) → spec.is_among found.old.items q ≡ true
+        → spec.is_among found.new.items q ≡ true) }
+    ensures named { OnOk result (spec.is_among found.new.items name.now ≡ false
+        → in_schema before.now name.now ≡ in_schema after.now name.now) }
 {
-    if is_input_kind(before.kind(name.as_str())) || is_input_kind(after.kind(name.as_str())) {
+    if !is_same_input(alloc, before, after, name.as_str())? {
         found.push(name.copy()?)?;
     }
     Ok(())
@@ -92,19 +87,18 @@ fn other_kinds(
     Ok(found)
 }
 
-/// Those of these names that are input types before or after the edit.
-fn input_types(
+/// Those of these names that are not the same as an input type before and after the edit.
+fn other_inputs(
     alloc: Global,
     before: &Schema,
     after: &Schema,
     names: &[Text],
 ) -> Result<Vec<Text>, AllocError>
-    ensures { IfOk result (λ found. found.items
-        ≡ filter (spec.is_input_type before.now after.now) names.now) }
+    ensures { IfOk result (λ found. spec.NamesInputs before.now after.now names.now found.items) }
 {
     let mut found = Vec::new(alloc);
     for name in names {
-        add_if_input(before, after, name, &mut found)?;
+        add_if_other_input(alloc, before, after, name, &mut found)?;
     }
     Ok(found)
 }
@@ -176,7 +170,7 @@ impl SchemaChange {
             → spec.IsChange change before.now after.now) }
     {
         let kinds = other_kinds(alloc, before, after, edited.as_slice())?;
-        let inputs = input_types(alloc, before, after, edited.as_slice())?;
+        let inputs = other_inputs(alloc, before, after, edited.as_slice())?;
         Ok(SchemaChange {
             kinds: Named::new(alloc, kinds)?,
             inputs: Named::new(alloc, inputs)?,

@@ -5,6 +5,7 @@ pub mod FirstChecks
 pub mod Grouping
 pub mod KeptChecks
 pub mod KeptTypes
+pub mod Marked
 pub mod Regrouped
 pub mod SeenKinds
 pub mod Together

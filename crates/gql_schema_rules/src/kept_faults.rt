@@ -14,9 +14,8 @@ ghost use Rattle.gql_schema_rules.specs.RuleGroups.{type_faults, type_faults_on}
 ghost use Rattle.gql_schema_rules.specs.SchemaFaults.{FaultsBy, IsSchemaFault, nodes_in};
 
 use crate::file_checks::{checks_after_edit, checks_of};
-use crate::other_faults::{
-    OtherFaults, edited_types, keeps_defaults, other_faults, types_to_check,
-};
+use crate::other_faults::{OtherFaults, keeps_defaults, other_faults, types_to_check};
+use crate::types_among::types_among;
 use gql_ast::{Fault, FileMap, FileName, Files, Shared, Text};
 use gql_node_rules::{FileCheck, SchemaChange, laws};
 use gql_types::{Named, Schema, SchemaType};
@@ -157,7 +156,7 @@ impl SchemaFaults {
             → DiffersAt file.now old files.now → AreFaultsOf files.now k) }
     {
         let checks = checks_after_edit(alloc, files, schema, file, change, &before.checks)?;
-        let found = edited_types(alloc, schema, edited)?;
+        let found = types_among(alloc, schema, edited)?;
         let were_sound = before.are_types_sound;
         let types = types_to_check(were_sound, found.as_slice(), schema.types());
         let keeps = keeps_defaults(were_sound, change);

@@ -25,5 +25,6 @@ mod s25_shared_root_types;
 mod s27_extensions_of_unknown_types;
 mod s28_extensions_of_another_kind;
 mod s34_duplicate_schemas;
+mod types_among;
 
 pub use kept_faults::{SchemaFaults, schema_faults};

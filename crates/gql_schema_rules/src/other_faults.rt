@@ -1,16 +1,14 @@
 //! The faults by the rules that are checked for all files together.
-ghost use Rattle.std.specs.Prelude.{◌≡◌, ◌↔◌, ◌++◌, ◌∷◌, [], IfOk, OnOk, IsTrue, filter, if◌then◌else◌};
-ghost use Rattle.gql_node_rules.specs.SchemaChanges.{is_among};
-ghost use Rattle.gql_types.specs.Possible.{name_of};
+ghost use Rattle.std.specs.Prelude.{◌≡◌, ◌↔◌, [], IfOk, IsTrue, if◌then◌else◌};
 ghost use Rattle.gql_schema_rules.specs.OtherFaults.{AreOthers};
 ghost use Rattle.gql_schema_rules.specs.RuleGroups as groups;
 ghost use Rattle.gql_schema_rules.specs.SchemaFaults.{nodes_in};
 
 use crate::rules::{add_all, add_definition_faults, add_root_faults, type_faults};
-use gql_ast::{Fault, Files, Shared, Text};
+use gql_ast::{Fault, Files, Shared};
 use gql_iface_rules::iface_faults;
 use gql_node_rules::{SchemaChange, definition_nodes, joint_faults};
-use gql_types::{HasName, Named, Schema, SchemaType};
+use gql_types::{Schema, SchemaType};
 use std::alloc::{AllocError, Global};
 
 /// The faults by the rules that are checked for all files together.
@@ -19,37 +17,6 @@ pub struct OtherFaults {
     pub faults: Vec<Fault>,
     /// Whether the rules on types and directives, S05 to S08 and S18, found none of them.
     pub are_types_sound: bool,
-}
-
-/// Adds a type, if its name is among these.
-fn add_if_edited(
-    edited: &Named<Text>,
-    of_type: &Shared<SchemaType>,
-    found: &mut Vec<Shared<SchemaType>>,
-) -> Result<(), AllocError>
-    ensures { OnOk result (found.new.items ≡ found.old.items
-        ++ (if is_among edited.now (name_of of_type.now) then of_type.now ∷ [] else [])) }
-{
-    if edited.get(of_type.get().name()).is_some() {
-        found.push(of_type.clone()?)?;
-    }
-    Ok(())
-}
-
-/// The types of a schema whose names are among these.
-pub fn edited_types(
-    alloc: Global,
-    schema: &Schema,
-    edited: &Named<Text>,
-) -> Result<Vec<Shared<SchemaType>>, AllocError>
-    ensures { IfOk result (λ found. found.items
-        ≡ filter (λ t. is_among edited.now (name_of t)) schema.now.types) }
-{
-    let mut found = Vec::new(alloc);
-    for of_type in schema.types() {
-        add_if_edited(edited, of_type, &mut found)?;
-    }
-    Ok(found)
 }
 
 /// Whether S18 needs to be checked on edited types alone: no type was at fault, and the change leaves
