@@ -146,14 +146,24 @@ def extended(fields):
     return request("PUT", "/schema/x", "extend type Query { %s }" % fields)
 
 
-def variables(count):
-    """A run of so many fields, the argument of each of which is a variable of 131,000 integers."""
-    fields = " ".join("a%d:f(a:$v)" % n for n in range(count))
+def called(count, of_type, argument):
+    """A run of so many fields with this argument, where $v is a list of 131,000 integers."""
+    fields = " ".join("a%d:f(a:%s)" % (n, argument) for n in range(count))
     return [
-        extended("f(a: [Int]): Int"), request("PUT", "/data", '{"query":{"f":1}}'),
+        extended("f(a: %s): Int" % of_type), request("PUT", "/data", '{"query":{"f":1}}'),
         document("d", "query Q($v: [Int]) { %s }" % fields),
         request("POST", "/run", '{"operationName":"Q","variables":{"v":[%s]}}' % (
             ",".join(["1"] * 131000)))]
+
+
+def variables(count):
+    """A run of so many fields, the argument of each of which is a variable of 131,000 integers."""
+    return called(count, "[Int]", "$v")
+
+
+def inner_variables(count):
+    """A run of so many fields, the argument of each of which is a list of that variable."""
+    return called(count, "[[Int]]", "[$v]")
 
 
 def filters(count):
@@ -189,7 +199,8 @@ KINDS = {
     "schema_edits": schema_edits,
     "document_edits": document_edits, "moved": moved, "clashing": clashing, "faults": faults,
     "beside": beside, "faulty": faulty, "defaults": defaults,
-    "variables": variables, "filters": filters, "inputs": inputs, "input_chain": input_chain,
+    "variables": variables, "inner_variables": inner_variables,
+    "filters": filters, "inputs": inputs, "input_chain": input_chain,
 }
 
 if __name__ == "__main__":

@@ -53,6 +53,7 @@ faulty 0
 faulty 20
 defaults 5000
 variables 400
+inner_variables 400
 filters 1000
 filters 3800
 inputs 500

@@ -6,7 +6,7 @@ use Rattle.serde_json.specs.Data as json
 use Rattle.serde_json.specs.Data.{Data, Members}
 use Rattle.gql_coerce.specs.Coercion.{object_of, put_if, under}
 use Rattle.gql_coerce.specs.Comes.{Outcome, Eventually, reached}
-use Rattle.gql_coerce.specs.Outcomes.{Reached, value, refused, after, all, some}
+use Rattle.gql_coerce.specs.Outcomes.{Reached, value, refused, after, all}
 use Rattle.gql_coerce.specs.Requests.{Tells}
 use Rattle.gql_coerce.specs.declared.fault.CoerceFault.{CoerceFault}
 use Rattle.gql_coerce.specs.declared.fault.CoerceFault.TheVariants as fault
@@ -55,14 +55,14 @@ module _ {X : Type 0} (value_of : ℕ → X → Reached (Option Data)) (name : X
         (λ n b a. at_item n b ∙ step n x (drop (i + 1) xs) ms v (a ∙ is) ∙ ap (rest n (drop (i + 1) xs)) (sym put)) before comes
 
     -- one is refused
-    pub stops : (c : Reached (Option Data)) (r : Reason) (path : List Segment) → Eventually (λ n. value_of n x ≡ c) → c ≡ refused r path → Eventually (λ n. some (whole n) ≡ c)
-    stops c r path comes is = both (λ n. whole n ≡ rest n (drop i xs) ms) (λ n. value_of n x ≡ c) (λ n. some (whole n) ≡ c)
-        (λ n b a. ap some (at_item n b ∙ ap (λ o. object_of (after o (λ w. value (under (name x) w)) ∷ map (named n) (drop (i + 1) xs)) ms) (a ∙ is)) ∙ sym is) before comes
+    pub stops : (c : Reached (Option Data)) (r : Reason) (path : List Segment) → Eventually (λ n. value_of n x ≡ c) → c ≡ refused r path → Eventually (λ n. whole n ≡ refused r path)
+    stops c r path comes is = both (λ n. whole n ≡ rest n (drop i xs) ms) (λ n. value_of n x ≡ c) (λ n. whole n ≡ refused r path)
+        (λ n b a. at_item n b ∙ ap (λ o. object_of (after o (λ w. value (under (name x) w)) ∷ map (named n) (drop (i + 1) xs)) ms) (a ∙ is)) before comes
 
   -- none is left
-  pub ended : (whole : ℕ → Reached Data) (xs : List X) (i : ℕ) (ms : Members) → drop i xs ≡ [] → Eventually (λ n. whole n ≡ rest n (drop i xs) ms) → Eventually (λ n. some (whole n) ≡ value (Some (json.object ms)))
-  ended whole xs i ms past before = onward (λ n. whole n ≡ rest n (drop i xs) ms) (λ n. some (whole n) ≡ value (Some (json.object ms)))
-      (λ n b. ap some (b ∙ ap (λ ys. rest n ys ms) past)) before
+  pub ended : (whole : ℕ → Reached Data) (xs : List X) (i : ℕ) (ms : Members) → drop i xs ≡ [] → Eventually (λ n. whole n ≡ rest n (drop i xs) ms) → Eventually (λ n. whole n ≡ value (json.object ms))
+  ended whole xs i ms past before = onward (λ n. whole n ≡ rest n (drop i xs) ms) (λ n. whole n ≡ value (json.object ms))
+      (λ n b. b ∙ ap (λ ys. rest n ys ms) past) before
 
 -- results of which more is known
 pub ok_onward : {V E : Type 0} (r : Result V E) (P Q : V → Type 0) → ((v : V) → P v → Q v) → IfOk r P → IfOk r Q

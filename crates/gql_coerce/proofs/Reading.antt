@@ -1,5 +1,5 @@
 -- What each form of a literal is as an input: the equations of the definition.
-use Rattle.std.specs.Prelude.{◌≡◌, ℕ, zero, suc, List, [], ◌∷◌, Bool, true, false, map, refl, Option, Some, None}
+use Rattle.std.specs.Prelude.{◌≡◌, ℕ, zero, suc, List, [], ◌∷◌, Bool, true, false, map, refl, Option, Some, None, is_some, if◌then◌else◌}
 use Rattle.std.proofs.Common.{ap, sym, ◌∙◌}
 use Rattle.gql_text.specs.declared.place.Place.{Place}
 use Rattle.gql_ast.specs.declared.literal.Literal.{Literal}
@@ -11,10 +11,10 @@ use Rattle.gql_inputs.specs.Numbers.{whole_number}
 use Rattle.gql_types.specs.Written.{Written}
 use Rattle.gql_types.specs.declared.schema.Schema.{Schema}
 use Rattle.serde_json.specs.Data.{Data}
-use Rattle.serde_json.specs.Find.{get}
+use Rattle.serde_json.specs.Find.{as_null, get}
 use Rattle.gql_coerce.specs.Coercion.{coerced, at_level, once, single_at, null_at, list_by, items_expected, object_at, entries_for, variable_at}
 use Rattle.gql_coerce.specs.Inputs.{Input, Field, null, single, list, object, fraction, text, truth, name, of_whole, of_variable, all_inputs, all_fields, inputs_of, fields_of, firsts, literal, literal_at, literal_field, field_in, may_be_list}
-use Rattle.gql_coerce.specs.Outcomes.{Reached, some, too_deep}
+use Rattle.gql_coerce.specs.Outcomes.{Reached, value, some, too_deep}
 
 pub all_inputs_of : (xs : List Input) → all_inputs (inputs_of xs) ≡ xs
 all_inputs_of [] = refl
@@ -85,6 +85,10 @@ module _ (n : ℕ) (s : Schema) (e : Option Written) (vs : Data) (place : Place)
 
   pub coerced_variable : (v : List ℕ) → coerced (suc n) s (literal vs (l.Variable place v)) e ≡ variable_at e (get v vs)
   coerced_variable v = by _ _ (is_variable vs place v) ∙ by_variable (coerced n s) s e (get v vs)
+
+  -- a variable that has a value other than null
+  pub variable_comes : (v : List ℕ) (d : Data) → get v vs ≡ Some d → is_some (as_null d) ≡ false → coerced (suc n) s (literal vs (l.Variable place v)) e ≡ value (Some d)
+  variable_comes v d got other = coerced_variable v ∙ ap (variable_at e) got ∙ ap (λ b. some (if b then null_at e else value d)) other
 
   pub coerced_int : (t : List ℕ) → coerced (suc n) s (literal vs (l.Int place t)) e ≡ once e (some (single_at s e (of_whole (whole_number t))))
   coerced_int t = by _ _ (is_int vs place t)

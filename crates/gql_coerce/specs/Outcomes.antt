@@ -5,6 +5,10 @@ use Rattle.serde_json.specs.Data.{Data}
 use Rattle.serde_json.specs.View.{view}
 use Rattle.gql_coerce.specs.declared.coerced.Coerced.{Coerced}
 use Rattle.gql_coerce.specs.declared.coerced.Coerced.TheVariants as coerced
+use Rattle.gql_coerce.specs.declared.coerced.CoercedArgument.{CoercedArgument}
+use Rattle.gql_coerce.specs.declared.coerced.CoercedArgument.TheVariants as argument
+use Rattle.gql_coerce.specs.declared.coerced.CoercedRequest.{CoercedRequest}
+use Rattle.gql_coerce.specs.declared.coerced.CoercedRequest.TheVariants as request
 use Rattle.gql_coerce.specs.declared.refusal.Reason.{Reason}
 use Rattle.gql_coerce.specs.declared.refusal.Segment.{Segment}
 
@@ -40,3 +44,14 @@ abbrev pub said : Coerced → Reached (Option Data)
 said (coerced.Given v) = value (Some (view v))
 said coerced.Absent = value None
 said (coerced.Refused r) = refused r.reason (reverse r.steps.items)
+
+-- the same of an argument
+abbrev pub argument_said : CoercedArgument → Reached (Option Data)
+argument_said (argument.Given v) = value (Some (view v))
+argument_said argument.Absent = value None
+argument_said (argument.Refused r) = refused r.reason (reverse r.steps.items)
+
+-- the same of the variables of a request or the arguments of a field
+abbrev pub request_said : CoercedRequest → Reached Data
+request_said (request.Given v) = value (view v)
+request_said (request.Refused r) = refused r.reason (reverse r.steps.items)

@@ -6,6 +6,7 @@ ghost use Rattle.gql_coerce.specs.Comes.{Comes, value as comes_to};
 ghost use Rattle.gql_coerce.specs.Inputs.{literal, json_input};
 ghost use Rattle.gql_coerce.specs.Requests.{Tells};
 
+use crate::coerced_object::CoercedObject;
 use crate::coerced_value::CoercedValue;
 use crate::fault::{CoerceFault, result_of};
 use crate::part::Part;
@@ -18,14 +19,14 @@ use std::alloc::Global;
 /// The value of a literal at a type (GraphQL specification, 3.5 to 3.12), or the first refusal.
 /// Items are coerced in their order. Of an object, unknown fields are refused first; then come the
 /// fields that the type defines, in their order. The object `variables` has the values of the
-/// variables; a variable without a value comes to none. `Memory` is returned, too, if a default
+/// variables, which are copied; a variable without a value comes to none. `Memory` is returned, too, if a default
 /// value that the input takes leads back to itself.
 pub fn coerce_literal(
     alloc: Global,
     schema: &Schema,
     value: &Literal,
     of_type: &TypeRef,
-    variables: &Value,
+    variables: &CoercedObject,
 ) -> Result<Option<CoercedValue>, CoerceFault>
     ensures ok { IfOk result (λ v. Comes schema.now (literal (view variables.now) value.now)
         (written of_type.now) (comes_to (option_map view v))) }

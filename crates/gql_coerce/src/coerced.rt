@@ -1,12 +1,13 @@
 //! What the coercion of an input comes to.
 ghost use Rattle.std.specs.Prelude.{◌≡◌, ◌∷◌, [], Some, None, IfOk, reverse};
 ghost use Rattle.serde_json.specs.View.{view};
-ghost use Rattle.gql_coerce.specs.Outcomes.{said, value, refused as is_refused, within};
+ghost use Rattle.gql_coerce.specs.Outcomes.{said, argument_said, value, refused as is_refused, within};
 ghost use Rattle.gql_coerce.specs.declared.refusal.Segment.TheVariants.{Key, Index};
 
+use crate::coerced_object::CoercedObject;
 use crate::coerced_value::CoercedValue;
 use crate::refusal::{Reason, Refusal, Segment};
-use gql_ast::{Items, Text};
+use gql_ast::{Items, Shared, Text};
 use std::alloc::{AllocError, Global};
 
 /// What the coercion of an input comes to.
@@ -15,6 +16,22 @@ pub enum Coerced {
     Given(CoercedValue),
     /// The input is a variable without a value.
     Absent,
+    Refused(Stop),
+}
+
+/// What the coercion of an argument comes to. Its value may be shared.
+#[derive(Drop)]
+pub enum CoercedArgument {
+    Given(Shared<CoercedValue>),
+    /// The argument is not given, or a variable without a value.
+    Absent,
+    Refused(Stop),
+}
+
+/// What the coercion of the variables of a request or of the arguments of a field comes to.
+#[derive(Drop)]
+pub enum CoercedRequest {
+    Given(CoercedObject),
     Refused(Stop),
 }
 
@@ -80,5 +97,16 @@ pub fn at_index(index: usize, coerced: Coerced) -> Result<Coerced, AllocError>
             Ok(Coerced::Refused(behind(segment, stop)?))
         }
         Coerced::Given(_) | Coerced::Absent => Ok(coerced),
+    }
+}
+
+/// What an argument comes to, the value of which is its own.
+pub fn as_argument(alloc: Global, coerced: Coerced) -> Result<CoercedArgument, AllocError>
+    ensures { IfOk result (λ c. argument_said c ≡ said coerced) }
+{
+    match coerced {
+        Coerced::Given(value) => Ok(CoercedArgument::Given(Shared::new(alloc, value)?)),
+        Coerced::Absent => Ok(CoercedArgument::Absent),
+        Coerced::Refused(stop) => Ok(CoercedArgument::Refused(stop)),
     }
 }

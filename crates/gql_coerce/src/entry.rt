@@ -9,6 +9,7 @@ ghost use Rattle.gql_coerce.specs.LiteralEntries.{entry_of as literal_entry, fie
 ghost use Rattle.gql_coerce.specs.Parts.{entry_of, entries_in, entries_of, fields_of};
 ghost use Rattle.gql_coerce.specs.Scopes.{values_in};
 
+use crate::coerced_object::CoercedObject;
 use crate::json_entries::{self, JsonEntry, json_entries};
 use crate::literal_entries::{self, LiteralEntry, literal_entries};
 use crate::part::{ObjectFields, Part};
@@ -30,9 +31,13 @@ pub struct Entry<'v> {
 #[derive(Drop)]
 pub enum Entries<'v> {
     /// Those of a literal, and the object with the values of the variables, if there may be some.
-    Literals(Vec<LiteralEntry<'v>>, Option<&'v Value>),
+    Literals(Vec<LiteralEntry<'v>>, Option<&'v CoercedObject>),
     /// Those that a type defines, from the fields of a literal, which are few.
-    LiteralFields(&'v [Sited<Shared<InputValueDefinition>>], &'v [ObjectField], Option<&'v Value>),
+    LiteralFields(
+        &'v [Sited<Shared<InputValueDefinition>>],
+        &'v [ObjectField],
+        Option<&'v CoercedObject>,
+    ),
     Json(Vec<JsonEntry<'v>>),
     /// Those that a type defines, from an object of JSON.
     JsonFields(&'v [Sited<Shared<InputValueDefinition>>], &'v Map<String, Value>),
@@ -48,7 +53,7 @@ pub enum FoundEntries<'v> {
     NoObject,
 }
 
-fn of_literal<'v>(entry: &LiteralEntry<'v>, variables: Option<&'v Value>) -> Entry<'v>
+fn of_literal<'v>(entry: &LiteralEntry<'v>, variables: Option<&'v CoercedObject>) -> Entry<'v>
     ensures { entry_of result
         ≡ literal_entry (values_in (option_map (λ v. view v.now) variables.entry)) entry.now }
 {
@@ -80,7 +85,7 @@ fn of_json<'v>(entry: &JsonEntry<'v>) -> Entry<'v>
 #[tactic(auto, using(std::proofs::lemmas::Option::gets, crate::proofs::Found::get_map))]
 fn literal_entry_at<'v>(
     entries: &[LiteralEntry<'v>],
-    variables: Option<&'v Value>,
+    variables: Option<&'v CoercedObject>,
     index: usize,
 ) -> Option<Entry<'v>>
     ensures entry { option_map entry_of result
@@ -99,7 +104,7 @@ fn literal_entry_at<'v>(
 fn literal_field_at<'v>(
     definitions: &'v [Sited<Shared<InputValueDefinition>>],
     fields: &'v [ObjectField],
-    variables: Option<&'v Value>,
+    variables: Option<&'v CoercedObject>,
     index: usize,
 ) -> Option<Entry<'v>>
     ensures entry { option_map entry_of result

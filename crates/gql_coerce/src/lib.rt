@@ -4,6 +4,7 @@
 
 mod calls;
 mod coerced;
+mod coerced_object;
 mod coerced_parts;
 mod coerced_value;
 mod copies;
@@ -30,6 +31,7 @@ mod taking_apart;
 mod walk;
 
 pub use calls::{coerce_json, coerce_literal};
+pub use coerced_object::CoercedObject;
 pub use coerced_value::CoercedValue;
 pub use fault::CoerceFault;
 pub use gql_inputs::fits;

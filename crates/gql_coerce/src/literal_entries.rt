@@ -11,11 +11,11 @@ ghost use Rattle.gql_coerce.specs.LiteralEntries.{entry_of, fields_in, name_of, 
 ghost use Rattle.gql_coerce.specs.Parts.{entries_in as members_in, entries_of};
 ghost use Rattle.gql_coerce.specs.Scopes.{values_in};
 
+use crate::coerced_object::CoercedObject;
 use crate::entry::{Entries, FoundEntries};
 use gql_ast::{InputValueDefinition, Literal, ObjectField, Shared, TypeRef};
 use gql_inputs::{input_type, is_custom_scalar};
 use gql_types::{HasName, Named, Schema, SchemaType, Sited, TypeKind};
-use serde_json::Value;
 use std::alloc::{AllocError, Global};
 use std::collections::HashMap;
 
@@ -229,7 +229,7 @@ fn entries_of_many<'v>(
 fn members_of_input<'v>(
     alloc: Global,
     fields: &'v [ObjectField],
-    variables: Option<&'v Value>,
+    variables: Option<&'v CoercedObject>,
     definitions: &'v [Sited<Shared<InputValueDefinition>>],
 ) -> Result<Entries<'v>, AllocError>
     ensures { IfOk result (λ es. members_in es ≡ map (spec.defined_entry
@@ -246,7 +246,7 @@ fn members_of_input<'v>(
 fn entries_of_input<'v>(
     alloc: Global,
     fields: &'v [ObjectField],
-    variables: Option<&'v Value>,
+    variables: Option<&'v CoercedObject>,
     of_type: &'v SchemaType,
 ) -> Result<FoundEntries<'v>, AllocError>
     ensures { IfOk result (λ es. entries_of es ≡ spec.defined_entries
@@ -266,7 +266,7 @@ fn entries_of_input<'v>(
 fn entries_of_any<'v>(
     alloc: Global,
     fields: &'v [ObjectField],
-    variables: Option<&'v Value>,
+    variables: Option<&'v CoercedObject>,
 ) -> Result<FoundEntries<'v>, AllocError>
     ensures { IfOk result (λ es. entries_of es ≡ spec.any_entries
         (fields_in (values_in (option_map (λ v. view v.now) variables.entry)) fields.now)) }
@@ -278,7 +278,7 @@ fn entries_of_any<'v>(
 fn entries_at<'v>(
     alloc: Global,
     fields: &'v [ObjectField],
-    variables: Option<&'v Value>,
+    variables: Option<&'v CoercedObject>,
     of_type: &'v SchemaType,
 ) -> Result<FoundEntries<'v>, AllocError>
     ensures { IfOk result (λ es. entries_of es ≡ spec.entries_at_kind
@@ -304,7 +304,7 @@ fn entries_at<'v>(
 pub fn literal_entries<'v>(
     alloc: Global,
     fields: &'v [ObjectField],
-    variables: Option<&'v Value>,
+    variables: Option<&'v CoercedObject>,
     schema: &'v Schema,
     expected: Option<&TypeRef>,
 ) -> Result<FoundEntries<'v>, AllocError>

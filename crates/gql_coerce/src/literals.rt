@@ -1,22 +1,26 @@
 //! Literals, by their forms (GraphQL specification, 3.5 to 3.12).
-ghost use Rattle.std.specs.Prelude.{◌≡◌, ℕ, suc, IfOk, option_map};
+ghost use Rattle.std.specs.Prelude.{◌≡◌, ℕ, suc, false, is_some, IfOk, IfSome, Option, Some, option_map};
 ghost use Rattle.std.specs.Option.{option_copied};
 ghost use Rattle.gql_inputs.specs.Numbers.{whole_number};
-ghost use Rattle.gql_types.specs.Written.{written};
-ghost use Rattle.serde_json.specs.Find.{get};
+ghost use Rattle.gql_types.specs.Written.{Written, written};
+ghost use Rattle.gql_types.specs.declared.schema.Schema.{Schema as ASchema};
+ghost use Rattle.serde_json.specs.Find.{as_null, get};
 ghost use Rattle.serde_json.specs.View.{view};
 ghost use Rattle.gql_coerce.specs.Coercion.{coerced as levels_of};
 ghost use Rattle.gql_coerce.specs.Frames.{focus_at};
 ghost use Rattle.gql_coerce.specs.Inputs.{literal, of_whole, may_be_list as input_may_be_list};
+ghost use Rattle.gql_coerce.specs.Outcomes.{value as given};
 ghost use Rattle.gql_coerce.specs.Scopes.{values_in};
 ghost use Rattle.gql_coerce.specs.Singles.{single_of};
 
+use crate::coerced_object::CoercedObject;
+use crate::coerced_value::CoercedValue;
 use crate::expected::{coerce_given, coerce_null};
 use crate::forms::single_focus;
 use crate::frame::Focus;
 use crate::part::{ListItems, ObjectFields};
 use crate::single::Single;
-use gql_ast::{Literal, TypeRef};
+use gql_ast::{Literal, Shared, TypeRef};
 use gql_inputs::whole_number;
 use gql_types::Schema;
 use serde_json::Value;
@@ -32,7 +36,7 @@ fn whole(text: &str) -> Single<'_>
 }
 
 /// The value of a variable.
-fn value_of<'v>(variables: Option<&'v Value>, name: &str) -> Option<&'v Value>
+fn value_of<'v>(variables: Option<&'v CoercedObject>, name: &str) -> Option<&'v Value>
     ensures { option_map (λ v. view v.now) result
         ≡ get name.now (values_in (option_map (λ v. view v.now) variables.entry)) }
 {
@@ -42,9 +46,51 @@ fn value_of<'v>(variables: Option<&'v Value>, name: &str) -> Option<&'v Value>
     }
 }
 
+/// The value of a variable, which others may share, if it is not null.
+fn named_value<'v>(
+    variables: Option<&'v CoercedObject>,
+    name: &str,
+) -> Option<&'v Shared<CoercedValue>>
+    ensures { IfSome result (λ v. (is_some (as_null (view v.now)) ≡ false)
+        × (get name.now (values_in (option_map (λ v. view v.now) variables.entry))
+        ≡ Some (view v.now))) }
+{
+    let value = variables?.shared(name)?;
+    if value.get().get().is_null() {
+        None
+    } else {
+        Some(value)
+    }
+}
+
+/// The value of the variable that a literal is, which others may share. There is none if the
+/// literal is not a variable, or if the variable has no value or null.
+#[tactic(auto, using(crate::proofs::Reading::variable_comes))]
+pub fn shared_value<'v>(
+    value: &Literal,
+    variables: Option<&'v CoercedObject>,
+) -> Option<&'v Shared<CoercedValue>>
+    ensures { IfSome result (λ v. (n : ℕ) → (s : ASchema) → (e : Option Written)
+        → levels_of (suc n) s
+        (literal (values_in (option_map (λ v. view v.now) variables.entry)) value.now) e
+        ≡ given (Some (view v.now))) }
+{
+    match value {
+        Literal::Variable { name, .. } => named_value(variables, name.as_str()),
+        Literal::Int { .. }
+        | Literal::Float { .. }
+        | Literal::String { .. }
+        | Literal::Boolean { .. }
+        | Literal::Null { .. }
+        | Literal::Enum { .. }
+        | Literal::List { .. }
+        | Literal::Object { .. } => None,
+    }
+}
+
 /// Whether a literal may be an item where lists are expected: a list, `null` or a variable.
 #[tactic(auto, using(crate::proofs::Reading::may_variable, crate::proofs::Reading::may_int, crate::proofs::Reading::may_float, crate::proofs::Reading::may_string, crate::proofs::Reading::may_boolean, crate::proofs::Reading::may_null, crate::proofs::Reading::may_enum, crate::proofs::Reading::may_list, crate::proofs::Reading::may_object))]
-pub fn may_be_list(item: &Literal, variables: Option<&Value>) -> bool
+pub fn may_be_list(item: &Literal, variables: Option<&CoercedObject>) -> bool
     ensures { result ≡ input_may_be_list
         (literal (values_in (option_map (λ v. view v.now) variables.entry)) item.now) }
 {
@@ -64,7 +110,7 @@ pub fn may_be_list(item: &Literal, variables: Option<&Value>) -> bool
 pub fn focus_of<'v>(
     alloc: Global,
     value: &'v Literal,
-    variables: Option<&'v Value>,
+    variables: Option<&'v CoercedObject>,
     schema: &Schema,
     expected: Option<&'v TypeRef>,
 ) -> Result<Focus<'v>, AllocError>

@@ -5,6 +5,7 @@ ghost use Rattle.gql_coerce.specs.Inputs.{literal, json_input, may_be_list as in
 ghost use Rattle.gql_coerce.specs.Parts.{input_of, items_in};
 ghost use Rattle.gql_coerce.specs.Scopes.{values_in};
 
+use crate::coerced_object::CoercedObject;
 use crate::{json, literals};
 use gql_ast::{Literal, ObjectField};
 use serde_json::{Map, Value};
@@ -13,7 +14,7 @@ use serde_json::{Map, Value};
 #[derive(Clone, Copy)]
 pub enum Part<'v> {
     /// A literal, and the object with the values of the variables, if there may be some.
-    Literal(&'v Literal, Option<&'v Value>),
+    Literal(&'v Literal, Option<&'v CoercedObject>),
     Json(&'v Value),
 }
 
@@ -32,14 +33,14 @@ impl<'v> Part<'v> {
 /// The items of a list.
 #[derive(Clone, Copy)]
 pub enum ListItems<'v> {
-    Literals(&'v [Literal], Option<&'v Value>),
+    Literals(&'v [Literal], Option<&'v CoercedObject>),
     Json(&'v [Value]),
 }
 
 #[tactic(auto, using(std::proofs::lemmas::Option::gets, crate::proofs::Found::get_map))]
 fn literal_at<'v>(
     items: &'v [Literal],
-    variables: Option<&'v Value>,
+    variables: Option<&'v CoercedObject>,
     index: usize,
 ) -> Option<Part<'v>>
     ensures item { option_map input_of result
@@ -84,6 +85,6 @@ impl<'v> ListItems<'v> {
 #[derive(Clone, Copy)]
 pub enum ObjectFields<'v> {
     /// Those of a literal, and the object with the values of the variables, if there may be some.
-    Literal(&'v [ObjectField], Option<&'v Value>),
+    Literal(&'v [ObjectField], Option<&'v CoercedObject>),
     Json(&'v Map<String, Value>),
 }

@@ -1,35 +1,37 @@
 //! The values of variables (GraphQL specification, 6.1.2) and of arguments (6.4.1).
-ghost use Rattle.std.specs.Prelude.{◌≡◌, IfOk, IfErr, map, find, bytes_eq, option_map};
+ghost use Rattle.std.specs.Prelude.{◌≡◌, ℕ, suc, IfOk, IfErr, IfSome, Some, map, find, bytes_eq, option_map};
 ghost use Rattle.std.specs.Option.{option_copied};
-ghost use Rattle.gql_types.specs.Written.{written};
+ghost use Rattle.gql_types.specs.Written.{Written, written};
 ghost use Rattle.serde_json.specs.Data.{Data};
 ghost use Rattle.serde_json.specs.View.{view};
 ghost use Rattle.gql_coerce.specs.Comes.{Outcome as AnOutcome, Eventually, reached, value};
 ghost use Rattle.gql_coerce.specs.Inputs.{literal, json_input};
-ghost use Rattle.gql_coerce.specs.Outcomes.{Reached, said, some, after};
+ghost use Rattle.gql_coerce.specs.Outcomes.{said, argument_said, request_said, after, value as is_value};
 ghost use Rattle.gql_coerce.specs.Scopes.{variables_of};
 ghost use Rattle.gql_coerce.specs.Requests as spec;
 ghost use Rattle.gql_coerce.specs.Requests.{Tells};
 
-use crate::coerced::{Coerced, at_key, refusal_of, refused};
-use crate::coerced_parts::CoercedMembers;
+use crate::coerced::{
+    Coerced, CoercedArgument, CoercedRequest, as_argument, at_key, refusal_of, refused,
+};
+use crate::coerced_object::{CoercedObject, add_shared};
 use crate::coerced_value::CoercedValue;
 use crate::fault::CoerceFault;
-use crate::members::add_member;
+use crate::literals::shared_value;
 use crate::part::Part;
 use crate::refusal::Reason;
 use crate::walk;
 use gql_ast::{Argument, InputValueDefinition, Literal, Shared, TypeRef, VariableDefinition};
 use gql_inputs::is_non_null;
 use gql_types::{HasName, Named, Schema};
-use serde_json::Value;
+use serde_json::{Map, Value};
 use std::alloc::{AllocError, Global};
 
 /// The schema, and the object that has the values of the variables, if there may be some.
 #[derive(Clone, Copy)]
 pub struct Scope<'a> {
     pub schema: &'a Schema,
-    pub variables: Option<&'a Value>,
+    pub variables: Option<&'a CoercedObject>,
 }
 
 fn default_at(
@@ -107,34 +109,33 @@ fn variables(
     schema: &Schema,
     definitions: &[VariableDefinition],
     values: &Value,
-) -> Result<Coerced, AllocError>
-    ensures { IfOk result (λ c. Eventually
-        (λ n. some (spec.variables n schema.now definitions.now (view values.now)) ≡ said c)) }
+) -> Result<CoercedRequest, AllocError>
+    ensures { IfOk result (λ c. Eventually (λ n. spec.variables n schema.now definitions.now
+        (view values.now) ≡ request_said c)) }
 {
-    let mut members = CoercedMembers::new(alloc);
+    let mut members = Map::new(alloc);
     for definition in definitions {
         match coerce_variable(alloc, schema, definition, values)? {
             Coerced::Given(value) => {
-                add_member(alloc, definition.name.as_str(), value, &mut members)?;
+                let value = Shared::new(alloc, value)?;
+                add_shared(alloc, definition.name.as_str(), value, &mut members)?;
             }
             Coerced::Absent => {}
-            Coerced::Refused(refusal) => return Ok(Coerced::Refused(refusal)),
+            Coerced::Refused(refusal) => return Ok(CoercedRequest::Refused(refusal)),
         }
     }
-    Ok(Coerced::Given(members.into_value()))
+    Ok(CoercedRequest::Given(CoercedObject::new(members)))
 }
 
-/// What an object comes to, as a result.
-fn of_object(coerced: Coerced) -> Result<CoercedValue, CoerceFault>
-    ensures ok { IfOk result (λ v. (o : Reached Data)
-        → some o ≡ said coerced → o ≡ reached (value (view v))) }
-    ensures err { IfErr result (λ e. (o : Reached Data)
-        → some o ≡ said coerced → Tells e (λ (p : AnOutcome Data). o ≡ reached p)) }
+/// What variables or arguments come to, as a result.
+fn of_request(coerced: CoercedRequest) -> Result<CoercedObject, CoerceFault>
+    ensures ok { IfOk result (λ v. request_said coerced ≡ reached (value (view v))) }
+    ensures err { IfErr result
+        (λ e. Tells e (λ (o : AnOutcome Data). request_said coerced ≡ reached o)) }
 {
     match coerced {
-        Coerced::Given(value) => Ok(value),
-        Coerced::Absent => Ok(CoercedValue::new(Value::Null)),
-        Coerced::Refused(stop) => Err(CoerceFault::Refused(refusal_of(stop))),
+        CoercedRequest::Given(object) => Ok(object),
+        CoercedRequest::Refused(stop) => Err(CoerceFault::Refused(refusal_of(stop))),
     }
 }
 
@@ -149,14 +150,14 @@ pub fn coerce_variables(
     schema: &Schema,
     definitions: &[VariableDefinition],
     values: &Value,
-) -> Result<CoercedValue, CoerceFault>
+) -> Result<CoercedObject, CoerceFault>
     ensures ok { IfOk result
         (λ v. spec.VariablesCome schema.now definitions.now (view values.now) (value (view v))) }
     ensures err { IfErr result
         (λ e. Tells e (spec.VariablesCome schema.now definitions.now (view values.now))) }
 {
     let coerced = variables(alloc, schema, definitions, values)?;
-    of_object(coerced)
+    of_request(coerced)
 }
 
 /// An argument, which a look-up finds by its name.
@@ -216,22 +217,59 @@ fn coerce_given(
     }
 }
 
+/// The value of the variable that an argument is, which others may share. There is none if the
+/// argument is not a variable, or if the variable has no value or null.
+fn shared_given<'v>(scope: &Scope<'v>, given: Option<&Argument>) -> Option<&'v Shared<CoercedValue>>
+    ensures { IfSome result (λ v. (n : ℕ) → (t : Written)
+        → spec.given_at (suc n) scope.now.schema.now t
+        (option_map (λ a. literal (variables_of scope.now) a.value) (option_copied given.entry))
+        ≡ is_value (Some (view v.now))) }
+{
+    match given {
+        Some(argument) => shared_value(&argument.value, scope.variables),
+        None => None,
+    }
+}
+
+/// What an argument comes to that is given so, with a value of its own.
+fn own_argument(
+    alloc: Global,
+    scope: &Scope<'_>,
+    definition: &InputValueDefinition,
+    given: Option<&Argument>,
+) -> Result<Coerced, AllocError>
+    ensures { IfOk result (λ c. Eventually (λ n. spec.request_at n scope.now.schema.now
+        definition.now.name.text (written definition.now.of_type) definition.now.default
+        (option_map (λ a. literal (variables_of scope.now) a.value) (option_copied given.entry))
+        ≡ said c)) }
+{
+    let of_type = &definition.of_type;
+    let name = definition.name.as_str();
+    let found = coerce_given(alloc, scope, of_type, given)?;
+    let default = definition.default.as_ref();
+    let coerced = or_default_at(alloc, scope.schema, of_type, default, found)?;
+    let placed = at_key(alloc, name, coerced)?;
+    Ok(placed)
+}
+
 fn coerce_argument(
     alloc: Global,
     scope: &Scope<'_>,
     definition: &InputValueDefinition,
     given: &Named<GivenArgument<'_>>,
-) -> Result<Coerced, AllocError>
+) -> Result<CoercedArgument, AllocError>
     ensures { IfOk result (λ c. Eventually (λ n. spec.argument_value n scope.now.schema.now
-        (variables_of scope.now) (map (λ g. g.argument.now) given.now) definition.now ≡ said c)) }
+        (variables_of scope.now) (map (λ g. g.argument.now) given.now) definition.now
+        ≡ argument_said c)) }
 {
-    let of_type = &definition.of_type;
-    let name = definition.name.as_str();
-    let found = coerce_given(alloc, scope, of_type, argument_named(given, name))?;
-    let default = definition.default.as_ref();
-    let coerced = or_default_at(alloc, scope.schema, of_type, default, found)?;
-    let placed = at_key(alloc, name, coerced)?;
-    Ok(placed)
+    let given = argument_named(given, definition.name.as_str());
+    match shared_given(scope, given) {
+        Some(value) => Ok(CoercedArgument::Given(value.clone()?)),
+        None => {
+            let coerced = own_argument(alloc, scope, definition, given)?;
+            as_argument(alloc, coerced)
+        }
+    }
 }
 
 fn arguments(
@@ -239,22 +277,23 @@ fn arguments(
     scope: &Scope<'_>,
     definitions: &[Shared<InputValueDefinition>],
     given: &Named<GivenArgument<'_>>,
-) -> Result<Coerced, AllocError>
-    ensures { IfOk result (λ c. Eventually (λ n. some (spec.arguments n scope.now.schema.now
-        definitions.now (map (λ g. g.argument.now) given.now) (variables_of scope.now)) ≡ said c)) }
+) -> Result<CoercedRequest, AllocError>
+    ensures { IfOk result (λ c. Eventually (λ n. spec.arguments n scope.now.schema.now
+        definitions.now (map (λ g. g.argument.now) given.now) (variables_of scope.now)
+        ≡ request_said c)) }
 {
-    let mut members = CoercedMembers::new(alloc);
+    let mut members = Map::new(alloc);
     for definition in definitions {
         let definition = definition.get();
         match coerce_argument(alloc, scope, definition, given)? {
-            Coerced::Given(value) => {
-                add_member(alloc, definition.name.as_str(), value, &mut members)?;
+            CoercedArgument::Given(value) => {
+                add_shared(alloc, definition.name.as_str(), value, &mut members)?;
             }
-            Coerced::Absent => {}
-            Coerced::Refused(refusal) => return Ok(Coerced::Refused(refusal)),
+            CoercedArgument::Absent => {}
+            CoercedArgument::Refused(refusal) => return Ok(CoercedRequest::Refused(refusal)),
         }
     }
-    Ok(Coerced::Given(members.into_value()))
+    Ok(CoercedRequest::Given(CoercedObject::new(members)))
 }
 
 fn all_arguments(
@@ -262,9 +301,9 @@ fn all_arguments(
     scope: &Scope<'_>,
     definitions: &[Shared<InputValueDefinition>],
     given: &[Argument],
-) -> Result<Coerced, AllocError>
-    ensures { IfOk result (λ c. Eventually (λ n. some (spec.arguments
-        n scope.now.schema.now definitions.now given.now (variables_of scope.now)) ≡ said c)) }
+) -> Result<CoercedRequest, AllocError>
+    ensures { IfOk result (λ c. Eventually (λ n. spec.arguments n scope.now.schema.now
+        definitions.now given.now (variables_of scope.now) ≡ request_said c)) }
 {
     let found = Named::new(alloc, given_arguments(alloc, given)?)?;
     let coerced = arguments(alloc, scope, definitions, &found)?;
@@ -277,13 +316,16 @@ fn all_arguments(
 /// of the definitions; the path begins with the argument's name. A missing argument of a Non-Null
 /// type without a default is 121. `Memory` is returned, too, if a default value that an argument
 /// takes leads back to itself.
+///
+/// An argument that is a variable shares the variable's value. A variable within a list or an object
+/// is copied.
 pub fn coerce_arguments(
     alloc: Global,
     schema: &Schema,
     definitions: &[Shared<InputValueDefinition>],
     given: &[Argument],
-    values: &Value,
-) -> Result<CoercedValue, CoerceFault>
+    values: &CoercedObject,
+) -> Result<CoercedObject, CoerceFault>
     ensures ok { IfOk result (λ v. spec.ArgumentsCome schema.now definitions.now given.now
         (view values.now) (value (view v))) }
     ensures err { IfErr result
@@ -294,5 +336,5 @@ pub fn coerce_arguments(
         variables: Some(values),
     };
     let coerced = all_arguments(alloc, &scope, definitions, given)?;
-    of_object(coerced)
+    of_request(coerced)
 }

@@ -9,11 +9,11 @@ ghost use Rattle.gql_collect.specs.Unfolding.{applies};
 
 use crate::context::Context;
 use gql_ast::{Argument, Directive, Literal, Name, Text};
+use gql_coerce::CoercedObject;
 use gql_types::Schema;
-use serde_json::Value;
 
 /// Whether a variable has the value true; the object `values` has the values of the variables.
-fn is_true_variable(values: &Value, name: &str) -> bool
+fn is_true_variable(values: &CoercedObject, name: &str) -> bool
     ensures { result ≡ spec.is_true_variable (view values.now) name.now }
 {
     match values.get(name) {
@@ -26,7 +26,7 @@ fn is_true_variable(values: &Value, name: &str) -> bool
 }
 
 /// Whether a literal is true, or a variable with the value true.
-fn is_true(values: &Value, literal: &Literal) -> bool
+fn is_true(values: &CoercedObject, literal: &Literal) -> bool
     ensures { result ≡ spec.is_true (view values.now) literal.now }
 {
     match literal {
@@ -56,7 +56,7 @@ fn if_argument(arguments: &[Argument]) -> Option<&Argument>
 }
 
 /// Whether a directive has an argument `if` that is true.
-fn is_if_true(values: &Value, arguments: &[Argument]) -> bool
+fn is_if_true(values: &CoercedObject, arguments: &[Argument]) -> bool
     ensures { result ≡ spec.is_if_true (view values.now) arguments.now }
 {
     match if_argument(arguments) {
@@ -67,7 +67,7 @@ fn is_if_true(values: &Value, arguments: &[Argument]) -> bool
 
 /// Whether a directive leaves its selection out: `@skip` with an `if` that is true, or `@include`
 /// with an `if` that is not.
-fn leaves_out(values: &Value, directive: &Directive) -> bool
+fn leaves_out(values: &CoercedObject, directive: &Directive) -> bool
     ensures { result ≡ spec.leaves_out (view values.now) directive.now }
 {
     let name = directive.name.as_str();
@@ -76,7 +76,7 @@ fn leaves_out(values: &Value, directive: &Directive) -> bool
 }
 
 /// Whether a selection with these directives is left out.
-pub fn is_left_out(values: &Value, directives: &[Directive]) -> bool
+pub fn is_left_out(values: &CoercedObject, directives: &[Directive]) -> bool
     ensures { result ≡ spec.is_left_out (view values.now) directives.now }
 {
     for directive in directives {

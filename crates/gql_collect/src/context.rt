@@ -1,8 +1,8 @@
 //! What selections are collected with.
 
+use gql_coerce::CoercedObject;
 use gql_facts::Fragments;
 use gql_types::Schema;
-use serde_json::Value;
 
 /// What selections are collected with.
 #[derive(Clone, Copy)]
@@ -11,5 +11,5 @@ pub struct Context<'a, 'v> {
     /// The fragments of the documents.
     pub fragments: &'a Fragments,
     /// The values of the operation's variables, as an object.
-    pub values: &'v Value,
+    pub values: &'v CoercedObject,
 }

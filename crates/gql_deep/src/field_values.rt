@@ -21,6 +21,7 @@ use crate::done::done;
 use crate::frames::{AnyObject, Reached};
 use crate::node_values::reach_value;
 use gql_ast::TypeRef;
+use gql_coerce::CoercedObject;
 use gql_inputs::item_of;
 use gql_intro::IntroNode;
 use gql_steps::introspection::write_name;
@@ -73,7 +74,7 @@ fn reach_stored<'d, 'v>(
     table: &mut Table<'d>,
     slot: Slot,
     field: &FieldPlan<'d>,
-    arguments: &Value,
+    arguments: &CoercedObject,
     value: &'v Value,
     run: &mut Run<'d>,
 ) -> Result<Reached<'d, 'v>, ExecRefusal>
@@ -138,11 +139,11 @@ pub fn reach_field<'d, 'v>(
         }
         Called::Given(given) => match object {
             AnyObject::Stored(value) => {
-                reach_stored(alloc, setting, table, slot, field, given.get(), value, run)
+                reach_stored(alloc, setting, table, slot, field, given, value, run)
             }
             AnyObject::Described(node) => {
                 let node = answering(&field.source, node);
-                return reach_value(alloc, setting, table, slot, field, given.get(), node, run);
+                return reach_value(alloc, setting, table, slot, field, given, node, run);
             }
         },
     }

@@ -21,6 +21,7 @@ ghost use Rattle.gql_steps.specs.declared.table.Table.{Table as ATable};
 use crate::below::object_below;
 use crate::done::done;
 use crate::frames::{AnyObject, Group, NodesFrame, Reached};
+use gql_coerce::CoercedObject;
 use gql_inputs::name_in;
 use gql_intro::{IntroAnswer, IntroNode, IntroNodes};
 use gql_steps::ended::Ended;
@@ -33,7 +34,6 @@ use gql_steps::refusal::ExecRefusal;
 use gql_steps::run::Run;
 use gql_steps::setting::Setting;
 use gql_steps::table::{Slot, Table};
-use serde_json::Value;
 use std::alloc::Global;
 
 /// The list of the nodes that a field gives, each of the type of this name.
@@ -103,7 +103,7 @@ pub fn reach_value<'d, 'v>(
     table: &mut Table<'d>,
     slot: Slot,
     field: &FieldPlan<'d>,
-    arguments: &Value,
+    arguments: &CoercedObject,
     node: IntroNode<'d>,
     run: &mut Run<'d>,
 ) -> Result<Reached<'d, 'v>, ExecRefusal>

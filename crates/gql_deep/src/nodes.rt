@@ -11,6 +11,7 @@ ghost use Rattle.gql_steps.specs.ValueParts.{IsAt, Keeps};
 
 use crate::machine::finish;
 use crate::node_values::reach_value;
+use gql_coerce::CoercedObject;
 use gql_intro::IntroNode;
 use gql_steps::ended::Ended;
 use gql_steps::planning::FieldPlan;
@@ -18,7 +19,6 @@ use gql_steps::refusal::ExecRefusal;
 use gql_steps::run::Run;
 use gql_steps::setting::Setting;
 use gql_steps::table::{Slot, Table};
-use serde_json::Value;
 use std::alloc::Global;
 
 /// The value of a field of a node of introspection, called with these arguments. Each step enters a
@@ -29,7 +29,7 @@ pub fn call_node<'d>(
     table: &mut Table<'d>,
     slot: Slot,
     field: &FieldPlan<'d>,
-    arguments: &Value,
+    arguments: &CoercedObject,
     node: IntroNode<'d>,
     run: &mut Run<'d>,
 ) -> Result<Ended, ExecRefusal>

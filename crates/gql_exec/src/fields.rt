@@ -12,6 +12,7 @@ ghost use Rattle.gql_steps.specs.ValueParts as part;
 ghost use Rattle.gql_steps.specs.ValueParts.{IsAt, Keeps};
 
 use crate::values::complete_resolved;
+use gql_coerce::CoercedObject;
 use gql_deep::call_node;
 use gql_inputs::is_non_null;
 use gql_intro::IntroNode;
@@ -153,12 +154,9 @@ fn call_field<'d>(
         Called::Refused(message) => {
             raise(alloc, run, field.place, Reason::Refused(message.as_str()))
         }
-        Called::Given(given) => {
-            let arguments = given.get();
-            call_stored(
-                alloc, setting, table, slot, field, arguments, object, columns, run,
-            )
-        }
+        Called::Given(arguments) => call_stored(
+            alloc, setting, table, slot, field, arguments, object, columns, run,
+        ),
     }
 }
 
@@ -170,7 +168,7 @@ fn call_stored<'d>(
     table: &mut Table<'d>,
     slot: Slot,
     field: &FieldPlan<'d>,
-    arguments: &Value,
+    arguments: &CoercedObject,
     value: &Value,
     columns: &mut Columns,
     run: &mut Run<'d>,

@@ -18,7 +18,7 @@ ghost use Rattle.gql_steps.specs.ValueParts as values;
 
 use crate::fields::execute_field;
 use crate::values::complete;
-use gql_coerce::CoercedValue;
+use gql_coerce::CoercedObject;
 use gql_inputs::is_non_null;
 use gql_steps::columns::Columns;
 use gql_steps::ended::Ended;
@@ -47,7 +47,7 @@ pub struct Root<'v> {
 #[derive(Clone, Copy)]
 struct Addition<'d, 'v> {
     to: &'d str,
-    arguments: &'v CoercedValue,
+    arguments: &'v CoercedObject,
 }
 
 /// The effect of an addition.
@@ -87,14 +87,16 @@ fn add<'d>(
     if !has_list(stored, addition.to) {
         return raise(alloc, run, field.place, Reason::NoList(addition.to));
     }
-    effects.push(effect(alloc, addition)?)?;
+    let effect = effect(alloc, addition)?;
     let site = Site {
         slot,
         place: field.place,
         kind: field.kind,
     };
-    let value = addition.arguments.get();
-    complete(alloc, setting, table, site, field.of_type, value, run)
+    let value = effect.value.get();
+    let ended = complete(alloc, setting, table, site, field.of_type, value, run)?;
+    effects.push(effect)?;
+    Ok(ended)
 }
 
 /// The value of such a field at its place. Where a null bubbles up to a nullable place, it stays.

@@ -211,7 +211,7 @@ fn execute_request<'d>(
             let context = Context {
                 schema,
                 fragments,
-                values: values.get(),
+                values: &values,
             };
             let setting = Setting { context, made };
             execute_operation(alloc, &setting, file, operation, stored)

@@ -9,6 +9,8 @@ ghost use Rattle.gql_steps.specs.Resolution.{member_or_null};
 
 use crate::filter::Test;
 use crate::prints::{mixed, print_of, print_of_member};
+use gql_ast::Shared;
+use gql_coerce::CoercedValue;
 use serde_json::{Map, Value};
 use std::alloc::{AllocError, Global};
 
@@ -125,7 +127,7 @@ impl Columns {
         &mut self,
         alloc: Global,
         list: &str,
-        arguments: &Map<String, Value>,
+        arguments: &Map<String, Shared<CoercedValue>>,
         items: &[Value],
     ) -> Result<(), AllocError>
         ensures { OnOk result ((object : Data)
@@ -146,7 +148,7 @@ impl Columns {
         &self,
         alloc: Global,
         list: &str,
-        arguments: &Map<String, Value>,
+        arguments: &Map<String, Shared<CoercedValue>>,
         items: &[Value],
     ) -> Result<Vec<Test<'_>>, AllocError>
         ensures { IfOk result (λ tests. (object : Data)
@@ -161,7 +163,7 @@ impl Columns {
         }
         for (name, argument) in arguments.iter() {
             if let Some(prints) = self.prints(list, name.as_str()) {
-                let print = print_of(argument);
+                let print = print_of(argument.get().get());
                 tests.push(Test { prints, print })?;
             }
         }

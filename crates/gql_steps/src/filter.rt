@@ -7,6 +7,8 @@ ghost use Rattle.gql_steps.specs.Columns.{AreTestsOf};
 ghost use Rattle.gql_steps.specs.Resolution as spec;
 
 use crate::same::is_same;
+use gql_ast::Shared;
+use gql_coerce::CoercedValue;
 use serde_json::{Map, Value};
 use std::alloc::{AllocError, Global};
 
@@ -37,14 +39,14 @@ fn equals_member(
 /// Whether an object has each argument as a member.
 fn has_members(
     alloc: Global,
-    arguments: &Map<String, Value>,
+    arguments: &Map<String, Shared<CoercedValue>>,
     object: &Value,
 ) -> Result<bool, AllocError>
     ensures { IfOk result (λ has. has
         ≡ spec.has_members (members_view arguments.now.entries) (view object.now)) }
 {
     for (name, argument) in arguments.iter() {
-        if !equals_member(alloc, argument, object, name.as_str())? {
+        if !equals_member(alloc, argument.get().get(), object, name.as_str())? {
             return Ok(false);
         }
     }
@@ -52,7 +54,11 @@ fn has_members(
 }
 
 /// Whether an item is an object that has each argument as a member.
-fn meets(alloc: Global, arguments: &Map<String, Value>, item: &Value) -> Result<bool, AllocError>
+fn meets(
+    alloc: Global,
+    arguments: &Map<String, Shared<CoercedValue>>,
+    item: &Value,
+) -> Result<bool, AllocError>
     ensures { IfOk result (λ meets. meets
         ≡ spec.meets (members_view arguments.now.entries) (view item.now)) }
 {
@@ -93,7 +99,7 @@ fn may_meet(tests: &[Test<'_>], i: usize) -> bool
 /// Whether the item of this number meets the arguments, which these tests are of.
 fn meets_at(
     alloc: Global,
-    arguments: &Map<String, Value>,
+    arguments: &Map<String, Shared<CoercedValue>>,
     tests: &[Test<'_>],
     i: usize,
     item: &Value,
@@ -113,7 +119,7 @@ fn meets_at(
 /// The items that meet the arguments, which these tests are of.
 pub fn kept<'v>(
     alloc: Global,
-    arguments: &Map<String, Value>,
+    arguments: &Map<String, Shared<CoercedValue>>,
     tests: &[Test<'_>],
     items: &'v [Value],
 ) -> Result<Vec<&'v Value>, AllocError>
@@ -134,7 +140,7 @@ pub fn kept<'v>(
 /// The first item that meets the arguments, which these tests are of, if there is one.
 pub fn first_kept<'v>(
     alloc: Global,
-    arguments: &Map<String, Value>,
+    arguments: &Map<String, Shared<CoercedValue>>,
     tests: &[Test<'_>],
     items: &'v [Value],
 ) -> Result<Option<&'v Value>, AllocError>

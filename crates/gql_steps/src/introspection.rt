@@ -23,12 +23,12 @@ use crate::run::Run;
 use crate::setting::Setting;
 use crate::steps::{count, write_byte, write_comma, write_text, write_text_bytes};
 use gql_ast::{DirectiveLocation, Literal, print_literal};
+use gql_coerce::CoercedObject;
 use gql_intro::{IntroAnswer, IntroArguments, IntroNode, intro_resolve, location_name};
-use serde_json::Value;
 use std::alloc::Global;
 
 /// The text of an argument, if it has one.
-fn text_argument<'a>(arguments: &'a Value, name: &str) -> Option<&'a str>
+fn text_argument<'a>(arguments: &'a CoercedObject, name: &str) -> Option<&'a str>
     ensures { option_copied result ≡ option_and_then as_str (get name.now (view arguments.now)) }
 {
     match arguments.get(name) {
@@ -38,7 +38,7 @@ fn text_argument<'a>(arguments: &'a Value, name: &str) -> Option<&'a str>
 }
 
 /// The truth value of an argument, if it has one.
-fn truth_argument(arguments: &Value, name: &str) -> Option<bool>
+fn truth_argument(arguments: &CoercedObject, name: &str) -> Option<bool>
     ensures { result ≡ option_and_then as_bool (get name.now (view arguments.now)) }
 {
     match arguments.get(name) {
@@ -48,7 +48,7 @@ fn truth_argument(arguments: &Value, name: &str) -> Option<bool>
 }
 
 /// The arguments that fields of introspection have.
-fn intro_arguments(arguments: &Value) -> IntroArguments<'_>
+fn intro_arguments(arguments: &CoercedObject) -> IntroArguments<'_>
     ensures { given_of result ≡ plans.intro_arguments (view arguments.now) }
 {
     IntroArguments {
@@ -62,7 +62,7 @@ pub fn introspect<'d>(
     setting: &Setting<'d, '_>,
     node: IntroNode<'d>,
     field: &str,
-    arguments: &Value,
+    arguments: &CoercedObject,
 ) -> Option<IntroAnswer<'d>>
     ensures { option_map (answer_of setting.now.context.schema.now) result
         ≡ plans.introspect_in (basis setting.now) (node_of node.entry) field.now

@@ -20,7 +20,7 @@ use crate::kinds::{ValueKind, value_kind};
 use crate::setting::Setting;
 use crate::strings::write_string;
 use gql_ast::{Field, FieldDefinition, FileName, OperationKind, Selection, Text, TypeRef};
-use gql_coerce::{CoerceFault, CoercedValue, Refusal, coerce_arguments, laws, path_text};
+use gql_coerce::{CoerceFault, CoercedObject, Refusal, coerce_arguments, laws, path_text};
 use gql_collect::{Context, FieldNode, Group, SelectionSet, collect, is_plain};
 use gql_inputs::name_in;
 use gql_text::Place;
@@ -30,7 +30,7 @@ use std::alloc::{AllocError, Global};
 /// What a field is called with: its arguments as an object, or the message of their refusal.
 #[derive(Drop)]
 pub enum Called {
-    Given(CoercedValue),
+    Given(CoercedObject),
     Refused(String),
 }
 

@@ -9,7 +9,8 @@ ghost use Rattle.gql_steps.specs.ValueParts.{IsOf, resolved_in};
 
 use crate::columns::Columns;
 use crate::filter::{Test, first_kept, kept};
-use gql_ast::TypeRef;
+use gql_ast::{Shared, TypeRef};
+use gql_coerce::{CoercedObject, CoercedValue};
 use gql_inputs::is_list;
 use serde_json::{Map, Value};
 use std::alloc::{AllocError, Global};
@@ -48,7 +49,7 @@ fn found_or_null<'v>(found: Option<&'v Value>) -> Resolved<'v>
 fn taken<'v>(
     alloc: Global,
     of_type: &TypeRef,
-    arguments: &Map<String, Value>,
+    arguments: &Map<String, Shared<CoercedValue>>,
     tests: &[Test<'_>],
     items: &'v [Value],
 ) -> Result<Resolved<'v>, AllocError>
@@ -69,7 +70,7 @@ fn taken<'v>(
 fn filtered<'v>(
     alloc: Global,
     of_type: &TypeRef,
-    arguments: &Map<String, Value>,
+    arguments: &Map<String, Shared<CoercedValue>>,
     member: Member<'_, 'v>,
     items: &'v [Value],
     columns: &mut Columns,
@@ -94,7 +95,7 @@ fn filtered<'v>(
 fn of_member<'v>(
     alloc: Global,
     of_type: &TypeRef,
-    arguments: &Value,
+    arguments: &CoercedObject,
     member: Member<'_, 'v>,
     columns: &mut Columns,
 ) -> Result<Resolved<'v>, AllocError>
@@ -108,12 +109,8 @@ fn of_member<'v>(
     let Some(items) = member.value.as_array() else {
         return Ok(Resolved::Value(member.value));
     };
-    match arguments.as_object() {
-        Some(arguments) => {
-            filtered(alloc, of_type, arguments, member, items.as_slice(), columns)
-        }
-        None => Ok(Resolved::Value(member.value)),
-    }
+    let arguments = arguments.members();
+    filtered(alloc, of_type, arguments, member, items.as_slice(), columns)
 }
 
 /// The value of the field of this name and type, called with these arguments, in an object, the
@@ -123,7 +120,7 @@ pub fn resolve_by_columns<'v>(
     alloc: Global,
     name: &str,
     of_type: &TypeRef,
-    arguments: &Value,
+    arguments: &CoercedObject,
     object: &'v Value,
     columns: &mut Columns,
 ) -> Result<Resolved<'v>, AllocError>
@@ -151,7 +148,7 @@ pub fn resolve<'v>(
     alloc: Global,
     name: &str,
     of_type: &TypeRef,
-    arguments: &Value,
+    arguments: &CoercedObject,
     object: &'v Value,
 ) -> Result<Resolved<'v>, AllocError>
     ensures is { IfOk result (λ r. resolved_in r ≡ spec.resolved name.now (written of_type.now)

@@ -1,5 +1,5 @@
 //! The results of the coercion of values, as the table writes them.
-use gql_coerce::{CoerceFault, CoercedValue, Refusal, path_text};
+use gql_coerce::{CoerceFault, CoercedObject, CoercedValue, Refusal, path_text};
 use gql_inputs::BadValue;
 use std::alloc::{AllocError, Global};
 
@@ -30,6 +30,17 @@ pub fn written_value(
 ) -> Result<String, AllocError> {
     match coerced {
         Ok(value) => value.get().to_string(alloc),
+        Err(fault) => written_fault(alloc, fault),
+    }
+}
+
+/// An object as JSON, or its refusal.
+pub fn written_object(
+    alloc: Global,
+    coerced: &Result<CoercedObject, CoerceFault>,
+) -> Result<String, AllocError> {
+    match coerced {
+        Ok(object) => object.copied(alloc)?.get().to_string(alloc),
         Err(fault) => written_fault(alloc, fault),
     }
 }

@@ -9,4 +9,4 @@ use Rattle.gql_coerce.proofs.requests.arguments.Given as goal
 
 abbrev pub invariant-loop-definition : goal.invariant-loop-definition
 invariant-loop-definition l = Eventually (λ n. object_of (map (named_argument n l.scope.schema.now (variables_of l.scope) (map (λ g. g.argument.now) l.given)) l.definitions) no_members
-    ≡ object_of (map (named_argument n l.scope.schema.now (variables_of l.scope) (map (λ g. g.argument.now) l.given)) (drop l.definition-index l.definitions)) (members_view l.members))
+    ≡ object_of (map (named_argument n l.scope.schema.now (variables_of l.scope) (map (λ g. g.argument.now) l.given)) (drop l.definition-index l.definitions)) (members_view l.members.entries))

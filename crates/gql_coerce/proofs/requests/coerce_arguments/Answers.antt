@@ -1,23 +1,22 @@
-use Rattle.std.proofs.Common.{◌≡◌}
+use Rattle.std.proofs.Common.{◌≡◌, ℕ}
 use Rattle.serde_json.specs.Data.{Data}
 use Rattle.serde_json.specs.View.{view}
 use Rattle.gql_coerce.specs.Comes.{Outcome, reached, value}
-use Rattle.gql_coerce.specs.Outcomes.{Reached, some, said}
+use Rattle.gql_coerce.specs.Outcomes.{request_said}
 use Rattle.gql_coerce.specs.Requests.{Tells, arguments, ArgumentsCome}
-use Rattle.gql_coerce.proofs.InTime.{onward, tells, ok_onward, err_onward}
+use Rattle.gql_coerce.proofs.InTime.{to, onward, tells, tells_of, ok_onward, err_onward}
 use Rattle.gql_coerce.proofs.requests.coerce_arguments.Goals as goal
 
 pub returns-clause-ok : goal.returns-clause-ok
-returns-clause-ok c = ok_onward c.of_object.result (λ v. (o : Reached Data) → some o ≡ said c.in_ok-coerced.coerced → o ≡ reached (value (view v)))
+returns-clause-ok c = ok_onward c.of_request.result (λ v. request_said c.in_ok-coerced.coerced ≡ reached (value (view v)))
     (λ v. ArgumentsCome c.args.schema.now c.args.definitions.now c.args.given.now (view c.args.values.now) (value (view v)))
-    (λ v is. onward (λ n. some (arguments n c.args.schema.now c.args.definitions.now c.args.given.now (view c.args.values.now)) ≡ said c.in_ok-coerced.coerced) (λ n. arguments n c.args.schema.now c.args.definitions.now c.args.given.now (view c.args.values.now) ≡ reached (value (view v)))
-    (λ n a. is (arguments n c.args.schema.now c.args.definitions.now c.args.given.now (view c.args.values.now)) a) c.in_ok-coerced.ensures)
-    c.of_object.ensures.ok
+    (λ v is. to (λ (n : ℕ). arguments n c.args.schema.now c.args.definitions.now c.args.given.now (view c.args.values.now)) _ _ c.in_ok-coerced.ensures is)
+    c.of_request.ensures.ok
 
 pub returns-clause-err : goal.returns-clause-err
-returns-clause-err c = err_onward c.of_object.result (λ e. (o : Reached Data) → some o ≡ said c.in_ok-coerced.coerced → Tells e (λ (p : Outcome Data). o ≡ reached p))
+returns-clause-err c = err_onward c.of_request.result (λ e. Tells e (λ (o : Outcome Data). request_said c.in_ok-coerced.coerced ≡ reached o))
     (λ e. Tells e (ArgumentsCome c.args.schema.now c.args.definitions.now c.args.given.now (view c.args.values.now)))
     (λ e is. tells e (λ n. arguments n c.args.schema.now c.args.definitions.now c.args.given.now (view c.args.values.now))
-    (onward (λ n. some (arguments n c.args.schema.now c.args.definitions.now c.args.given.now (view c.args.values.now)) ≡ said c.in_ok-coerced.coerced) (λ n. Tells e (λ (p : Outcome Data). arguments n c.args.schema.now c.args.definitions.now c.args.given.now (view c.args.values.now) ≡ reached p))
-    (λ n a. is (arguments n c.args.schema.now c.args.definitions.now c.args.given.now (view c.args.values.now)) a) c.in_ok-coerced.ensures))
-    c.of_object.ensures.err
+    (onward (λ n. arguments n c.args.schema.now c.args.definitions.now c.args.given.now (view c.args.values.now) ≡ request_said c.in_ok-coerced.coerced) (λ n. Tells e (λ (o : Outcome Data). arguments n c.args.schema.now c.args.definitions.now c.args.given.now (view c.args.values.now) ≡ reached o))
+    (λ n a. tells_of e (request_said c.in_ok-coerced.coerced) (arguments n c.args.schema.now c.args.definitions.now c.args.given.now (view c.args.values.now)) a is) c.in_ok-coerced.ensures))
+    c.of_request.ensures.err

@@ -8,4 +8,4 @@ use Rattle.gql_coerce.proofs.requests.variables.Given as goal
 
 abbrev pub invariant-loop-definition : goal.invariant-loop-definition
 invariant-loop-definition l = Eventually (λ n. object_of (map (named_variable n l.schema (view l.values)) l.definitions) no_members
-    ≡ object_of (map (named_variable n l.schema (view l.values)) (drop l.definition-index l.definitions)) (members_view l.members))
+    ≡ object_of (map (named_variable n l.schema (view l.values)) (drop l.definition-index l.definitions)) (members_view l.members.entries))
