@@ -1,4 +1,4 @@
-use Rattle.std.proofs.Common.{ℕ, Some, None, map, ap, sym, rules}
+use Rattle.std.proofs.Common.{ℕ, Some, None, map, ap, rules}
 use Rattle.gql_ast.specs.declared.type_system.InputValueDefinition.{InputValueDefinition}
 use Rattle.serde_json.specs.View.{view, members_view}
 use Rattle.gql_coerce.specs.Outcomes.{argument_said, value as given}

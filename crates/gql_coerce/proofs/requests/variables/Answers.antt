@@ -1,4 +1,4 @@
-use Rattle.std.proofs.Common.{ℕ, Some, None, ap, sym, rules}
+use Rattle.std.proofs.Common.{ℕ, Some, None, ap, rules}
 use Rattle.gql_ast.specs.declared.executable.VariableDefinition.{VariableDefinition}
 use Rattle.serde_json.specs.View.{view, members_view}
 use Rattle.gql_coerce.specs.Outcomes.{said, value as given}
