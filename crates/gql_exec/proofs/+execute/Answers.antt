@@ -275,10 +275,9 @@ pub fields::call_field-returns-in-Given-clause-does : goal.fields::call_field-re
 fields::call_field-returns-in-Given-clause-does t c = λ q h.
     let types = types_of (basis c.args.setting.now) in
     as_part (called_part types (object_of c.args.object) q (path_of c.args.run.now))
-    (source_part types (view c.get-arguments.result.now) (view c.args.object.now) q (path_of c.args.run.now))
+    (source_part types (view c.in-Given.arguments.now) (view c.args.object.now) q (path_of c.args.run.now))
     c.call_stored.result c.args.run.now c.call_stored.new.run
-    (called_stored types q (path_of c.args.run.now) c.args.field.now _ h.planned c.in-Given.is (view c.args.object.now)
-    ∙ ap (λ v. source_part types (view v) (view c.args.object.now) q (path_of c.args.run.now)) (sym c.get-arguments.ensures))
+    (called_stored types q (path_of c.args.run.now) c.args.field.now _ h.planned c.in-Given.is (view c.args.object.now))
     (c.call_stored.ensures.does q h)
 
 pub fields::call_stored-returns-in_ok-resolved-in-Stored-clause-does : goal.fields::call_stored-returns-in_ok-resolved-in-Stored-clause-does
