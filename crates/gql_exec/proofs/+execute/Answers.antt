@@ -275,7 +275,7 @@ pub fields::call_field-returns-in-Given-clause-does : goal.fields::call_field-re
 fields::call_field-returns-in-Given-clause-does t c = λ q h.
     let types = types_of (basis c.args.setting.now) in
     as_part (called_part types (object_of c.args.object) q (path_of c.args.run.now))
-    (source_part types (view c.in-Given.arguments.now) (view c.args.object.now) q (path_of c.args.run.now))
+    (source_part types (view c.in-Given.arguments) (view c.args.object.now) q (path_of c.args.run.now))
     c.call_stored.result c.args.run.now c.call_stored.new.run
     (called_stored types q (path_of c.args.run.now) c.args.field.now _ h.planned c.in-Given.is (view c.args.object.now))
     (c.call_stored.ensures.does q h)

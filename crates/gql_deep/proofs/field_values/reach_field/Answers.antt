@@ -16,7 +16,7 @@ returns-clause-does c = λ q h.
     let types = types_of (basis c.args.setting.now) in
     let p = path_of c.args.run.now in
     as_reached (basis c.args.setting.now) c.reach_stored.new.table (called_part types (object_in c.args.object) q p)
-    (source_part types (view c.in-Given.given.now) (view c.in-Stored.value.now) q p)
+    (source_part types (view c.in-Given.given) (view c.in-Stored.value.now) q p)
     c.reach_stored.result c.args.run.now c.reach_stored.new.run
     (ap (λ o. called_part types (object_in o) q p) c.in-Stored.is
     ∙ called_stored types q p c.args.field.now _ h.planned c.in-Given.is (view c.in-Stored.value.now))
@@ -27,11 +27,11 @@ returns-in-Described-clause-does c = λ q h.
     let types = types_of (basis c.args.setting.now) in
     let p = path_of c.args.run.now in
     as_reached (basis c.args.setting.now) c.reach_value.new.table (called_part types (object_in c.args.object) q p)
-    (answer_part types (view c.in-Given.given.now) (node_of c.answering-node.result) q p)
+    (answer_part types (view c.in-Given.given) (node_of c.answering-node.result) q p)
     c.reach_value.result c.args.run.now c.reach_value.new.run
     (ap (λ o. called_part types (object_in o) q p) c.in-Described.is
     ∙ called_described types q p c.args.field.now _ h.planned c.in-Given.is (node_of c.in-Described.node)
-    ∙ ap (λ n. answer_part types (view c.in-Given.given.now) n q p) (sym c.answering-node.ensures))
+    ∙ ap (λ n. answer_part types (view c.in-Given.given) n q p) (sym c.answering-node.ensures))
     (c.reach_value.ensures.does q h)
 
 pub returns-in-Refused-clause-keeps : goal.returns-in-Refused-clause-keeps
