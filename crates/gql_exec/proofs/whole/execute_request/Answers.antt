@@ -1,4 +1,4 @@
-use Rattle.std.proofs.Common.{◌≡◌, ◌<◌, ◌≤◌, subst, sym}
+use Rattle.std.proofs.Common.{◌≡◌, ◌<◌, ◌≤◌, subst}
 use Rattle.gql_coerce.specs.Comes as comes
 use Rattle.gql_coerce.specs.Requests.{VariablesCome}
 use Rattle.serde_json.specs.View.{view}
@@ -13,22 +13,20 @@ use Rattle.gql_exec.proofs.whole.execute_request.Goals as goal
 pub returns-in-Ok-clause-outcome : goal.returns-in-Ok-clause-outcome
 returns-in-Ok-clause-outcome c =
     let r : Request = request c.args.schema.now c.args.made.now c.args.fragments.now.all c.args.file.now c.args.operation.now (view c.args.variables.now) (view c.args.stored.now) in
-    let g : Basis = basis_of r (view c.get.result.now) in
-    let come : VariablesCome r.schema r.operation.variables r.variables (comes.value (view c.get.result.now)) =
-    subst (λ ds. VariablesCome r.schema ds r.variables (comes.value (view c.get.result.now))) c.as_slice-definitions.ensures
-    (subst (λ v. VariablesCome r.schema c.as_slice-definitions.result.now r.variables (comes.value (view v))) (sym c.get.ensures) c.in-Ok.ensures.ok) in
+    let g : Basis = basis_of r (view c.in-Ok.values) in
+    let come : VariablesCome r.schema r.operation.variables r.variables (comes.value (view c.in-Ok.values)) =
+    subst (λ ds. VariablesCome r.schema ds r.variables (comes.value (view c.in-Ok.values))) c.as_slice-definitions.ensures c.in-Ok.ensures.ok in
     ok_then c.execute_operation.result (λ o. Answering g c.args.file.now c.args.operation.now (view c.args.stored.now) (λ a. IsOutcomeOf (outcome_of o) a)) (λ o. IsOutcome r (outcome_of o))
-    (λ o h. answers r (view c.get.result.now) (λ p. (p.weight ≤ most_values) × (outcome_of o ≡ p.outcome)) c.one_of_variables.ensures come h) c.execute_operation.ensures.outcome
+    (λ o h. answers r (view c.in-Ok.values) (λ p. (p.weight ≤ most_values) × (outcome_of o ≡ p.outcome)) c.one_of_variables.ensures come h) c.execute_operation.ensures.outcome
 
 pub returns-in-Ok-clause-heavy : goal.returns-in-Ok-clause-heavy
 returns-in-Ok-clause-heavy c =
     let r : Request = request c.args.schema.now c.args.made.now c.args.fragments.now.all c.args.file.now c.args.operation.now (view c.args.variables.now) (view c.args.stored.now) in
-    let g : Basis = basis_of r (view c.get.result.now) in
-    let come : VariablesCome r.schema r.operation.variables r.variables (comes.value (view c.get.result.now)) =
-    subst (λ ds. VariablesCome r.schema ds r.variables (comes.value (view c.get.result.now))) c.as_slice-definitions.ensures
-    (subst (λ v. VariablesCome r.schema c.as_slice-definitions.result.now r.variables (comes.value (view v))) (sym c.get.ensures) c.in-Ok.ensures.ok) in
+    let g : Basis = basis_of r (view c.in-Ok.values) in
+    let come : VariablesCome r.schema r.operation.variables r.variables (comes.value (view c.in-Ok.values)) =
+    subst (λ ds. VariablesCome r.schema ds r.variables (comes.value (view c.in-Ok.values))) c.as_slice-definitions.ensures c.in-Ok.ensures.ok in
     err_then c.execute_operation.result (λ e. e ≡ TooHeavy → Answering g c.args.file.now c.args.operation.now (view c.args.stored.now) (λ a. most_values < a.weight)) (λ e. e ≡ TooHeavy → IsTooHeavy r)
-    (λ e h m. answers r (view c.get.result.now) (λ p. most_values < p.weight) c.one_of_variables.ensures come (h m)) c.execute_operation.ensures.heavy
+    (λ e h m. answers r (view c.in-Ok.values) (λ p. most_values < p.weight) c.one_of_variables.ensures come (h m)) c.execute_operation.ensures.heavy
 
 pub returns-in_ok-request_error-in-Err-Refused-clause-outcome : goal.returns-in_ok-request_error-in-Err-Refused-clause-outcome
 returns-in_ok-request_error-in-Err-Refused-clause-outcome c =
