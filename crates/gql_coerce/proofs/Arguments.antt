@@ -40,8 +40,11 @@ module _ (s : Schema) (t : Written) (x : Option Input) where
   -- an input that comes to a value with one level
   pub at_once : (name : List ℕ) (d : Option Literal) (v : Data) → ((n : ℕ) → given_at (suc n) s t x ≡ value (Some v))
       → Eventually (λ k. request_at k s name t d x ≡ value (Some v))
-  at_once name d v is = (1, λ n. subst (λ k. request_at k s name t d x ≡ value (Some v)) (omega arith)
-      (ap (λ o. within (Key name) (after o (or_default_at (suc n) s t d))) (is n)))
+  at_once name d v is = (
+    1,
+    λ n. subst (λ k. request_at k s name t d x ≡ value (Some v)) (omega arith)
+        (ap (λ o. within (Key name) (after o (or_default_at (suc n) s t d))) (is n)),
+  )
 
 -- the argument that is found by a name
 pub argument_is : (s : Schema) (values : Data) (arguments : List Argument) (d : InputValueDefinition) (n : List ℕ) (given : Option Argument) (o : Reached (Option Data)) → n ≡ d.name.text

@@ -19,8 +19,8 @@ use std::alloc::Global;
 /// The value of a literal at a type (GraphQL specification, 3.5 to 3.12), or the first refusal.
 /// Items are coerced in their order. Of an object, unknown fields are refused first; then come the
 /// fields that the type defines, in their order. The object `variables` has the values of the
-/// variables, which are copied; a variable without a value comes to none. `Memory` is returned, too, if a default
-/// value that the input takes leads back to itself.
+/// variables, which are copied; a variable without a value comes to none. `Memory` is returned, too,
+/// if a default value that the input takes leads back to itself.
 pub fn coerce_literal(
     alloc: Global,
     schema: &Schema,

@@ -317,8 +317,8 @@ fn all_arguments(
 /// type without a default is 121. `Memory` is returned, too, if a default value that an argument
 /// takes leads back to itself.
 ///
-/// An argument that is a variable shares the variable's value. A variable within a list or an object
-/// is copied.
+/// An argument that is a variable shares the variable's value. A variable within a list or an
+/// object is copied.
 pub fn coerce_arguments(
     alloc: Global,
     schema: &Schema,
