@@ -1,7 +1,10 @@
+pub mod AfterEdit
+pub mod Alike
 pub mod AtNames
 pub mod Members
 pub mod MetPairs
 pub mod Names
+pub mod OnTypes
 pub mod S19Edges
 pub mod S19Equations
 pub mod S19Faults

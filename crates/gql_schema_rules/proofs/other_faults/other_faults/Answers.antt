@@ -5,19 +5,19 @@ use Rattle.gql_schema_rules.specs.RuleGroups.{definition_faults, type_faults, ty
 use Rattle.gql_schema_rules.proofs.other_faults.other_faults.Goals as goal
 
 pub returns-clause-all : goal.returns-clause-all
-returns-clause-all c = λ whole.
+returns-clause-all c = λ all_interfaces whole.
     let s = c.args.schema.now in
     let n = lists c.in_ok-nodes.nodes in
     let types = c.args.types.now in
     let defaulted = c.args.defaulted.now in
-    let found = c.in_ok-faults.faults.items in
+    let found = c.args.interfaces.items in
     let joined : c.add_root_faults.new.faults.items ≡ (((found ++ joint_faults n s) ++ definition_faults n s) ++ type_faults_on s types defaulted) ++ root_faults n s = search rules in
     let all : c.add_root_faults.new.faults.items ≡ (((found ++ joint_faults n s) ++ definition_faults n s) ++ type_faults s) ++ root_faults n s
     = subst (λ fs. c.add_root_faults.new.faults.items ≡ (((found ++ joint_faults n s) ++ definition_faults n s) ++ fs) ++ root_faults n s) whole joined in
     record {
       interfaces = found;
-      sound = c.in_ok-faults.ensures.sound;
-      complete = c.in_ok-faults.ensures.complete;
+      sound = λ f. (all_interfaces f).0;
+      complete = λ f. (all_interfaces f).1;
       joined = subst (λ m. c.add_root_faults.new.faults.items ≡ (((found ++ joint_faults m s) ++ definition_faults m s) ++ type_faults s) ++ root_faults m s)
           c.in_ok-nodes.ensures all;
     }
