@@ -1,6 +1,7 @@
 pub mod AfterEdit
-pub mod Alike
+pub mod AlikeTypes
 pub mod AtNames
+pub mod KeptRows
 pub mod Members
 pub mod MetPairs
 pub mod Names

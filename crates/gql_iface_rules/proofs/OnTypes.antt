@@ -30,7 +30,7 @@ use Rattle.gql_iface_rules.specs.S12MissingFields as s12
 use Rattle.gql_iface_rules.specs.S13MissingArguments as s13
 use Rattle.gql_iface_rules.specs.S14ExtraRequiredArguments as s14
 use Rattle.gql_iface_rules.specs.S15IncompatibleFieldTypes as s15
-use Rattle.gql_iface_rules.proofs.Alike.{type_found}
+use Rattle.gql_iface_rules.proofs.AlikeTypes.{type_found}
 use Rattle.gql_iface_rules.proofs.Members.{Contains-flat_map, Contains-flat_map_from, either_of, first_of_all, nothing_in, one_more}
 
 -- ---- one type

@@ -18,7 +18,7 @@ texts names = map (λ (n : Sited Name). n.node.text) names
 -- two types of one name and kind, which are no interfaces, and list the same interfaces and members
 pub record AreAlike (t u : SchemaType) : Type 0 where
   pub name : name_of t ≡ name_of u
-  pub kind : t.kind ≡ u.kind
+  pub kinds : t.kind ≡ u.kind
   pub other : same_kind t.kind kind.Interface ≡ false
   pub interfaces : texts t.interfaces ≡ texts u.interfaces
   pub members : texts t.members ≡ texts u.members

@@ -34,11 +34,19 @@ fn have_same_texts(names: &[Sited<Name>], others: &[Sited<Name>]) -> bool
 fn are_alike(of_type: &SchemaType, other: &SchemaType) -> bool
     ensures { IsTrue result → spec.AreAlike of_type.now other.now }
 {
-    is_same_name(of_type.name(), other.name())
-        && of_type.kind.is(other.kind)
-        && !of_type.kind.is(TypeKind::Interface)
-        && have_same_texts(of_type.interfaces.as_slice(), other.interfaces.as_slice())
-        && have_same_texts(of_type.members.as_slice(), other.members.as_slice())
+    if !is_same_name(of_type.name(), other.name()) {
+        return false;
+    }
+    if !of_type.kind.is(other.kind) {
+        return false;
+    }
+    if of_type.kind.is(TypeKind::Interface) {
+        return false;
+    }
+    if !have_same_texts(of_type.interfaces.as_slice(), other.interfaces.as_slice()) {
+        return false;
+    }
+    have_same_texts(of_type.members.as_slice(), other.members.as_slice())
 }
 
 /// Whether a name has types before and after an edit that are alike, or has none.

@@ -1,7 +1,8 @@
 //! The rules of this crate together.
-ghost use Rattle.std.specs.Prelude.{◌≡◌, ◌++◌, ◌↔◌, ◌⊎◌, ℕ, List, IfOk, OnOk, IsTrue, Contains, flat_map, if◌then◌else◌};
+ghost use Rattle.std.specs.Prelude.{◌≡◌, ◌++◌, ◌↔◌, ◌⊎◌, ◌&&◌, [], ℕ, List, IfOk, OnOk, IsTrue, Contains, flat_map, if◌then◌else◌};
 ghost use Rattle.gql_ast.specs.declared.fault.Fault.{Fault as TheFault};
 ghost use Rattle.gql_cycles.specs.Names.{Leads};
+ghost use Rattle.gql_iface_rules.specs.Alike.{HaveSameInterfaces};
 ghost use Rattle.gql_iface_rules.specs.Checked.{AreEnough};
 ghost use Rattle.gql_iface_rules.specs.Implementing.{implementations_of, pairs_of};
 ghost use Rattle.gql_iface_rules.specs.InterfaceFaults as spec;
@@ -90,6 +91,13 @@ fn faults_of_types(
     Ok(faults)
 }
 
+/// Whether there are no faults.
+fn are_none(faults: &[Fault]) -> bool
+    ensures { IsTrue result → faults.now ≡ [] }
+{
+    faults.is_empty()
+}
+
 /// Adds the faults by S17, unless it is known that there are none. The result is whether there are
 /// none.
 fn check_inputs(
@@ -118,7 +126,7 @@ fn faults_by(alloc: Global, schema: &Schema, checked: &Checked<'_>) -> Result<Fo
     ensures { IfOk result (λ found. AreEnough schema.now checked.now → IsFound schema.now found) }
 {
     let mut faults = faults_of_types(alloc, schema, checked.interfaces)?;
-    let interfaces = faults.is_empty();
+    let interfaces = are_none(faults.as_slice());
     let inputs = check_inputs(alloc, schema, checked.skips_inputs, &mut faults)?;
     let defaults = s19_default_value_cycles::check(alloc, schema, checked.defaults, &mut faults)?;
     let directives = s26_directive_cycles::check(alloc, schema, checked.directives, &mut faults)?;
@@ -171,6 +179,24 @@ fn enough<'t>(
     if are_enough { types } else { all }
 }
 
+/// Whether both are so.
+fn both(is: bool, is_too: bool) -> bool
+    ensures { result ≡ (is && is_too) }
+{
+    is && is_too
+}
+
+/// Whether no type was at fault by the rules on interfaces, and an edit that changed types of these
+/// names alone changes nothing that these rules ask of names.
+fn keeps_names(were_quiet: bool, before: &Schema, after: &Schema, edited: &[Text]) -> bool
+    ensures quiet { IsTrue result → IsTrue were_quiet }
+    ensures same { IsTrue result → KeepsOthers edited.now before.now after.now
+        → KeepsOthers edited.now after.now before.now
+        → HaveSameInterfaces before.now after.now }
+{
+    were_quiet && keeps_interfaces(before, after, edited)
+}
+
 /// The same faults after an edit that changed types of these names alone; `types` are the types of
 /// these names. Of what was quiet before the edit, only these types are checked: by S09 to S15 if the
 /// edit changes nothing that these rules ask of names, by S17 only if one of them is an input object
@@ -191,13 +217,14 @@ pub fn iface_faults_after_edit(
         → IsQuiet before.now were → IsFound schema.now found) }
 {
     let all = schema.types();
-    let keeps = were.interfaces && keeps_interfaces(before, schema, edited.as_slice());
+    let keeps = keeps_names(were.interfaces, before, schema, edited.as_slice());
     let keeps_inputs = keeps_rows(alloc, before, types)?;
+    let keeps_directives = both(were.directives, has_same_directives);
     let checked = Checked {
         interfaces: enough(keeps, types, all),
-        skips_inputs: were.inputs && keeps_inputs,
+        skips_inputs: both(were.inputs, keeps_inputs),
         defaults: enough(were.defaults, types, all),
-        directives: enough(were.directives && has_same_directives, types, all),
+        directives: enough(keeps_directives, types, all),
     };
     let found = faults_by(alloc, schema, &checked)?;
     Ok(found)

@@ -151,6 +151,13 @@ fn input_cycles(alloc: Global, schema: &Schema) -> Result<Vec<&str>, AllocError>
     names_on_cycles(alloc, rows.as_slice())
 }
 
+/// Whether two names are the same.
+fn is_same(name: &str, other: &str) -> bool
+    ensures { IsTrue result → name.now ≡ other.now }
+{
+    is_same_name(name, other)
+}
+
 /// Whether two lists have the same names in the same order.
 fn have_same_names(names: &[&str], others: &[&str]) -> bool
     ensures { IsTrue result → map (λ n. n.now) names.now ≡ map (λ n. n.now) others.now }
@@ -159,7 +166,7 @@ fn have_same_names(names: &[&str], others: &[&str]) -> bool
         return false;
     }
     for i in 0..names.len() {
-        if !is_same_name(names[i], others[i]) {
+        if !is_same(names[i], others[i]) {
             return false;
         }
     }

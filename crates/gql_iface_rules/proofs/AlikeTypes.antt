@@ -1,8 +1,10 @@
 -- Two schemas whose types are alike name by name are the same, as far as the rules on interfaces ask.
-use Rattle.std.proofs.Common.{◌≡◌, ◌∙◌, ◌⊎◌, inl, inr, ◌||◌, ℕ, List, [], ◌∷◌, Bool, true, false, Option, Some, None, map, find, bytes_eq, Contains, refl, sym, ap, ap₂, subst}
+use Rattle.std.proofs.Common.{◌≡◌, ◌∙◌, ◌⊎◌, inl, inr, ◌||◌, ◌<◌, ◌+◌, ◌++◌, length, get_or, take, rules, ℕ, List, [], ◌∷◌, Bool, true, false, Option, Some, None, map, find, bytes_eq, Contains, refl, sym, ap, ap₂, subst}
 use Rattle.std.specs.Prelude.{is_some, option_map, option_and_then}
 use Rattle.std.specs.List.{list_any}
+use Rattle.std.proofs.lemmas.List.{take_more}
 use Rattle.std.proofs.lemmas.Slice.Eq.{bytes_eq-Decides}
+use denote.Enum.Bare.{same_true}
 use Rattle.gql_ast.specs.declared.text.Name.{Name}
 use Rattle.gql_built_in.specs.declared.sited.Sited.{Sited}
 use Rattle.gql_types.specs.Covariance.{is_among, is_object, stands_by, stands_for}
@@ -10,6 +12,7 @@ use Rattle.gql_types.specs.Edits.{KeepsOthers}
 use Rattle.gql_types.specs.Kinds.{same_kind}
 use Rattle.gql_types.specs.Possible.{name_of}
 use Rattle.gql_types.specs.Schemas.{kind_named, type_named}
+use Rattle.gql_types.specs.contracts.kind.TypeKind as the_kind
 use Rattle.gql_types.specs.declared.kind.TypeKind.{TypeKind}
 use Rattle.gql_types.specs.declared.kind.TypeKind.TheVariants as kind
 use Rattle.gql_types.specs.declared.schema.Schema.{Schema}
@@ -77,7 +80,7 @@ together o p = option_and_then (λ (t : SchemaType). option_map (λ (b : SchemaT
 
 stands_first : (k : TypeKind) (t u b : SchemaType) → AreAlike t u → stands_by k t b ≡ stands_by k u b
 stands_first kind.Interface t u b alike = same_among (name_of b) t.interfaces u.interfaces alike.interfaces
-stands_first kind.Union t u b alike = rw (alike.kind, alike.name) refl
+stands_first kind.Union t u b alike = rw (alike.kinds, alike.name) refl
 stands_first kind.Scalar t u b alike = refl
 stands_first kind.Object t u b alike = refl
 stands_first kind.Enum t u b alike = refl
@@ -99,7 +102,7 @@ with_first t u (Some b) alike = ap Some (stands_first b.kind t u b alike)
 with_second : (o : Option SchemaType) (b c : SchemaType) → AreAlike b c → together o (Some b) ≡ together o (Some c)
 unfolding together
 with_second None b c alike = refl
-with_second (Some t) b c alike = ap Some (ap (λ k. stands_by k t b) alike.kind ∙ stands_second c.kind t b c alike)
+with_second (Some t) b c alike = ap Some (ap (λ k. stands_by k t b) alike.kinds ∙ stands_second c.kind t b c alike)
 
 first_alike : (o p q : Option SchemaType) → IsAlike o p → together o q ≡ together p q
 first_alike o p q (inl same) = ap (λ x. together x q) same
@@ -111,7 +114,7 @@ second_alike o p q (inr (t, u, is, other, alike)) = ap (λ x. together o x) is �
 
 same_kinds : (o p : Option SchemaType) → IsAlike o p → option_map (λ (t : SchemaType). t.kind) o ≡ option_map (λ (t : SchemaType). t.kind) p
 same_kinds o p (inl same) = ap (λ x. option_map (λ (t : SchemaType). t.kind) x) same
-same_kinds o p (inr (t, u, is, other, alike)) = ap (λ x. option_map (λ (v : SchemaType). v.kind) x) is ∙ ap Some alike.kind ∙ ap (λ x. option_map (λ (v : SchemaType). v.kind) x) (sym other)
+same_kinds o p (inr (t, u, is, other, alike)) = ap (λ x. option_map (λ (v : SchemaType). v.kind) x) is ∙ ap Some alike.kinds ∙ ap (λ x. option_map (λ (v : SchemaType). v.kind) x) (sym other)
 
 no_interface : (t : SchemaType) → same_kind t.kind kind.Interface ≡ false → as_interface t ≡ None
 no_interface t is = rw is refl
@@ -120,7 +123,7 @@ same_as_interface : (o p : Option SchemaType) → IsAlike o p → option_and_the
 same_as_interface o p (inl same) = ap (λ x. option_and_then as_interface x) same
 same_as_interface o p (inr (t, u, is, other, alike)) =
     ap (λ x. option_and_then as_interface x) is ∙ no_interface t alike.other
-    ∙ sym (no_interface u (subst (λ k. same_kind k kind.Interface ≡ false) alike.kind alike.other))
+    ∙ sym (no_interface u (subst (λ k. same_kind k kind.Interface ≡ false) alike.kinds alike.other))
     ∙ ap (λ x. option_and_then as_interface x) (sym other)
 
 same_stand : (a b : Schema) → ((q : List ℕ) → IsAlike (type_named a q) (type_named b q)) → (n base : List ℕ) (e : Bool) → bytes_eq n base ≡ e → stands_for a n base ≡ stands_for b n base
@@ -147,10 +150,34 @@ kept_interfaces names a b keeps undone edited = all_alike a b (λ q. by q (is_so
 
 -- ---- names one after the other
 
--- a name that is found among one more
-pub among_more : (names : List (List ℕ)) (x q : List ℕ) → is_some (find (bytes_eq q) (x ∷ names)) ≡ true → (q ≡ x) ⊎ (is_some (find (bytes_eq q) names) ≡ true)
-among_more names x q is = by (bytes_eq q x) refl is
+-- a name that is found among names with one more at the end
+among_last : (names : List (List ℕ)) (x q : List ℕ) → is_some (find (bytes_eq q) (names ++ x ∷ [])) ≡ true → (is_some (find (bytes_eq q) names) ≡ true) ⊎ (q ≡ x)
+among_last [] x q is = by (bytes_eq q x) refl is
   where
-    by : (b : Bool) → bytes_eq q x ≡ b → is_some (find (bytes_eq q) (x ∷ names)) ≡ true → (q ≡ x) ⊎ (is_some (find (bytes_eq q) names) ≡ true)
-    by true at is = inl (same_text q x at)
-    by false at is = let later : is_some (find (bytes_eq q) names) ≡ true = rw at at is in inr later
+    by : (b : Bool) → bytes_eq q x ≡ b → is_some (find (bytes_eq q) (x ∷ [])) ≡ true → (is_some (find (bytes_eq q) []) ≡ true) ⊎ (q ≡ x)
+    by true at is = inr (same_text q x at)
+    by false at is = let none : false ≡ true = rw at at is in absurd (cc none)
+among_last (n ∷ names) x q is = by (bytes_eq q n) refl is (among_last names x q)
+  where
+    by : (b : Bool) → bytes_eq q n ≡ b → is_some (find (bytes_eq q) (n ∷ (names ++ x ∷ []))) ≡ true
+        → (is_some (find (bytes_eq q) (names ++ x ∷ [])) ≡ true → (is_some (find (bytes_eq q) names) ≡ true) ⊎ (q ≡ x)) → (is_some (find (bytes_eq q) (n ∷ names)) ≡ true) ⊎ (q ≡ x)
+    by true at is rest = inl (rw at refl)
+    by false at is rest =
+        let later : is_some (find (bytes_eq q) (names ++ x ∷ [])) ≡ true = rw at at is in
+        elim (rest later) [ inl e ↦ inl (rw at e) | inr e ↦ inr e ]
+
+-- kinds that are said to be the same are
+pub same_is : (a b : TypeKind) → same_kind a b ≡ true → a ≡ b
+unfolding same_kind
+same_is a b h = same_true the_kind.the_type (search rules) a b h
+
+-- the names up to one more
+pub alike_more : (a b : Schema) (names : List (List ℕ)) (i : ℕ) (x : List ℕ) → i < length names → get_or names i x ≡ x
+    → ((q : List ℕ) → is_some (find (bytes_eq q) (take i names)) ≡ true → IsAlike (type_named a q) (type_named b q)) → IsAlike (type_named a x) (type_named b x)
+    → (q : List ℕ) → is_some (find (bytes_eq q) (take (i + 1) names)) ≡ true → IsAlike (type_named a q) (type_named b q)
+alike_more a b names i x within item before now q is =
+    let whole : take (i + 1) names ≡ take i names ++ x ∷ [] = take_more names i x within ∙ ap (λ z. take i names ++ z ∷ []) item in
+    elim (among_last (take i names) x q (subst (λ ns. is_some (find (bytes_eq q) ns) ≡ true) whole is)) [
+      | inl earlier ↦ before q earlier
+      | inr same ↦ subst (λ z. IsAlike (type_named a z) (type_named b z)) (sym same) now
+    ]
