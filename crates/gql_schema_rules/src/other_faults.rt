@@ -3,8 +3,10 @@ ghost use Rattle.std.specs.Prelude.{◌≡◌, ◌↔◌, [], IfOk, IsTrue, if�
 ghost use Rattle.gql_schema_rules.specs.OtherFaults.{AreOthers, ListsInterfaces};
 ghost use Rattle.gql_schema_rules.specs.RuleGroups as groups;
 ghost use Rattle.gql_schema_rules.specs.SchemaFaults.{nodes_in};
+ghost use Rattle.gql_types.specs.Schemas.{schema_of};
 
 use crate::rules::{add_all, add_definition_faults, add_root_faults, type_faults};
+use crate::s01_duplicate_types;
 use gql_ast::{Fault, Files, Shared};
 use gql_node_rules::{SchemaChange, definition_nodes, joint_faults};
 use gql_types::{Schema, SchemaType};
@@ -57,7 +59,8 @@ pub fn other_faults(
     types: &[Shared<SchemaType>],
     defaulted: &[Shared<SchemaType>],
 ) -> Result<OtherFaults, AllocError>
-    ensures all { IfOk result (λ others. ListsInterfaces schema.now interfaces.items
+    ensures all { IfOk result (λ others. schema.now ≡ schema_of files.now
+        → ListsInterfaces schema.now interfaces.items
         → groups.type_faults_on schema.now types.now defaulted.now ≡ groups.type_faults schema.now
         → AreOthers (nodes_in files.now) schema.now others.faults.items) }
     ensures sound { IfOk result (λ others. IsTrue others.are_types_sound
@@ -67,7 +70,8 @@ pub fn other_faults(
     let mut faults = interfaces;
     let joint = joint_faults(alloc, &nodes, schema)?;
     add_all(&mut faults, joint)?;
-    add_definition_faults(alloc, schema, &nodes, &mut faults)?;
+    let are_once = s01_duplicate_types::are_once(schema, &nodes);
+    add_definition_faults(alloc, schema, are_once, &nodes, &mut faults)?;
     let of_types = type_faults(alloc, schema, types, defaulted)?;
     let are_types_sound = are_none(of_types.as_slice());
     add_all(&mut faults, of_types)?;
