@@ -13,7 +13,7 @@ returns-clause-all c = λ is all_interfaces whole.
     let defaulted = c.args.defaulted.now in
     let found = c.args.interfaces.items in
     let defined : c.add_definition_faults.new.faults.items ≡ c.add_all.new.faults.items ++ definition_faults n s
-    = c.in_ok-add_definition_faults.ensures (λ yes. c.are_once.ensures yes c.args.files.now is (ap (λ (m : AllNodes). m.types) c.in_ok-nodes.ensures)) in
+    = c.in_ok-add_definition_faults.ensures (λ yes. c.are_once-are_once.ensures yes c.args.files.now is (ap (λ (m : AllNodes). m.types) c.in_ok-nodes.ensures)) in
     let joined : c.add_root_faults.new.faults.items ≡ (((found ++ joint_faults n s) ++ definition_faults n s) ++ type_faults_on s types defaulted) ++ root_faults n s = search rules in
     let all : c.add_root_faults.new.faults.items ≡ (((found ++ joint_faults n s) ++ definition_faults n s) ++ type_faults s) ++ root_faults n s
     = subst (λ fs. c.add_root_faults.new.faults.items ≡ (((found ++ joint_faults n s) ++ definition_faults n s) ++ fs) ++ root_faults n s) whole joined in

@@ -1,4 +1,4 @@
-use Rattle.std.proofs.Common.{◌≡◌, ◌≤◌, ◌∙◌, ◌+◌, ℕ, List, ap, length, subst, sym}
+use Rattle.std.proofs.Common.{◌≡◌, ◌≤◌, ◌∙◌, ◌+◌, ℕ, List, ap, length, rules, subst, sym}
 use Rattle.gql_ast.specs.declared.rule.Rule.TheVariants as rule
 use Rattle.gql_ast.specs.declared.type_system.TypeDefinition.{TypeDefinition}
 use Rattle.gql_built_in.specs.declared.sited.Sited.{Sited}
@@ -16,7 +16,8 @@ pub returns : goal.returns
 returns c = λ e files is types.
     let nodes = c.args.nodes.now in
     let many = c.has_as_many.ensures e in
-    let same : length (lists nodes).types ≡ length nodes.types.items = length-map nodes.types.items one in
+    let counted : c.len.result ≡ length nodes.types.items = search rules in
+    let same : length (lists nodes).types ≡ c.len.result = length-map nodes.types.items one ∙ sym counted in
     no_repeated rule.S01 (each (λ (d : TypeDefinition). d.name) (lists nodes).types)
     (λ q. subst (λ (ts : List (Sited TypeDefinition)). count_of q (each (λ (d : TypeDefinition). d.name) ts) ≤ 1) (sym types)
     (defined_once (of_files files.schema)
