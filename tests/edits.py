@@ -118,6 +118,11 @@ scalar E
 type Mutation { m(a: Int): D @append(to: "ds") k: Int @append(to: "ds") }
 extend type Mutation { n: Int @append(to: "ds") @deprecated(reason: 3) }
 union N = C
+input R { p: P! q: Int }
+extend input P { r: R! }
+extend input P { r: R = {} }
+directive @deep(e: E, p: P) on ENUM_VALUE | INPUT_FIELD_DEFINITION
+extend enum E { DEEP @deep }
 """.strip().split("\n")
 
 DOCUMENTS = """

@@ -1,7 +1,11 @@
+pub mod AfterEdit
+pub mod AlikeTypes
 pub mod AtNames
+pub mod KeptRows
 pub mod Members
 pub mod MetPairs
 pub mod Names
+pub mod OnTypes
 pub mod S19Edges
 pub mod S19Equations
 pub mod S19Faults

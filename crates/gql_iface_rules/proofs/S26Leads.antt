@@ -64,17 +64,11 @@ module _ (s : Schema) (unsigned : list_any (λ n. is_some (without_sign n)) (dir
         no_sign_in (directive_leads s) b unsigned there r.0.node.name.text is
   ]
 
-  no_cycle : (name : List ℕ) → Leads (definition_rows s) (at_sign name) (at_sign name) → ⊥
-  no_cycle name h =
+  pub no_directive_cycle : (name : List ℕ) → Leads (definition_rows s) (at_sign name) (at_sign name) → ⊥
+  no_directive_cycle name h =
       let f = first_step h in
       let there = from_sign name f.0 f.1 in
       elim f.2 [
         | inl e ↦ no_sign_in (directive_leads s) f.0 unsigned there name e
         | inr t ↦ let g = first_step t in no_more f.0 g.0 there g.1
       ]
-
-pub no_directive_cycle : (s : Schema) (names names' : List (List ℕ)) → names ≡ directive_leads s → names' ≡ names → list_any (λ n. is_some (without_sign n)) names' ≡ false → All (LeadsNowhere names) s.types
-    → (name : List ℕ) → Leads (definition_rows s) (at_sign name) (at_sign name) → ⊥
-no_directive_cycle s names names' is same unsigned nowhere = no_cycle s
-    (subst (λ ns. list_any (λ n. is_some (without_sign n)) ns ≡ false) (same ∙ is) unsigned)
-    (subst (λ ns. All (LeadsNowhere ns) s.types) is nowhere)

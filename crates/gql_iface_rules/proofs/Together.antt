@@ -1,5 +1,5 @@
 -- The faults by the rules of this crate, from what the code adds by each.
-use Rattle.std.proofs.Common.{◌≡◌, ◌↔◌, ◌⊎◌, inl, inr, sym, subst, List, ◌++◌, Contains}
+use Rattle.std.proofs.Common.{◌↔◌, ◌⊎◌, inl, inr, List, ◌++◌, Contains}
 use Rattle.std.proofs.lemmas.List.Elements.{Contains-append_left, Contains-append_right, Contains-append_cases}
 use Rattle.gql_ast.specs.declared.fault.Fault.{Fault}
 use Rattle.gql_iface_rules.specs.InterfaceFaults.{listed_faults, IsInterfaceFault, by_s09, by_s10, by_s11, by_s12, by_s13, by_s14, by_s15, by_s17, by_s19, by_s26}
@@ -15,6 +15,7 @@ use Rattle.gql_iface_rules.specs.S19DefaultValueCycles as s19
 use Rattle.gql_iface_rules.specs.S26DirectiveCycles as s26
 use Rattle.gql_types.specs.declared.schema.Schema.{Schema}
 use Rattle.gql_iface_rules.specs.Pairing.{IsFaultOfTypes}
+use Rattle.gql_iface_rules.specs.Quiet.{IsFaultOn}
 use Rattle.gql_iface_rules.proofs.MetPairs.{by_type_13, by_type_14, by_type_15, of_types}
 
 module _ (s : Schema) (f : Fault) where
@@ -37,7 +38,7 @@ module _ (s : Schema) (f : Fault) where
   ]
 
   -- what the code holds after each of the steps
-  module _ (zero one two three four : List Fault) (is : zero ≡ listed_faults s) (by_pairs : Contains one f ↔ (Contains zero f ⊎ IsFaultOfTypes s s.types f))
+  module _ (one two three four : List Fault) (by_types : Contains one f ↔ IsFaultOn s s.types f)
       (by17 : Contains two f ↔ (Contains one f ⊎ s17.IsFault s f))
       (by19 : Contains three f ↔ (Contains two f ⊎ s19.IsFault s f)) (by26 : Contains four f ↔ (Contains three f ⊎ s26.IsFault s f)) where
     pub sound : Contains four f → IsInterfaceFault s f
@@ -47,7 +48,7 @@ module _ (s : Schema) (f : Fault) where
         | inr c ↦ by_s19 c
         | inl h2 ↦ elim (by17.0 h2) [
           | inr c ↦ by_s17 c
-          | inl h1 ↦ elim (by_pairs.0 h1) [ inr c ↦ of_pairs c | inl h0 ↦ of_listed (subst (λ xs. Contains xs f) is h0) ]
+          | inl h1 ↦ elim (by_types.0 h1) [ inr c ↦ of_pairs c | inl h0 ↦ of_listed h0 ]
         ]
       ]
     ]
@@ -56,10 +57,10 @@ module _ (s : Schema) (f : Fault) where
     from_first h = by26.1 (inl (by19.1 (inl (by17.1 (inl h)))))
 
     from_listed : Contains (listed_faults s) f → Contains four f
-    from_listed h = from_first (by_pairs.1 (inl (subst (λ xs. Contains xs f) (sym is) h)))
+    from_listed h = from_first (by_types.1 (inl h))
 
     from_pairs : IsFaultOfTypes s s.types f → Contains four f
-    from_pairs h = from_first (by_pairs.1 (inr h))
+    from_pairs h = from_first (by_types.1 (inr h))
 
     pub complete : IsInterfaceFault s f → Contains four f
     complete (by_s09 h) = from_listed (Contains-append_left (s09.faults s) (s10.faults s ++ (s11.faults s ++ s12.faults s)) f h)

@@ -1,7 +1,10 @@
+pub mod Alike
 pub mod Borrowed
+pub mod Checked
 pub mod Implementing
 pub mod InterfaceFaults
 pub mod Pairing
+pub mod Quiet
 pub mod S09BadInterfaceNames
 pub mod S10SelfImplementation
 pub mod S11UndeclaredInterfaces

@@ -5,10 +5,12 @@
 //! A function that adds to a list may have added a part of it if an allocation fails.
 #![tactic(auto)]
 
+mod alike;
 mod arguments;
 mod implementing;
 mod name_set;
 mod pairing;
+mod quiet;
 mod rules;
 mod s09_bad_interface_names;
 mod s10_self_implementation;
@@ -29,4 +31,5 @@ mod s26_leads;
 mod s26_parts;
 mod s26_rows;
 
-pub use rules::iface_faults;
+pub use quiet::{Found, Quiet};
+pub use rules::{iface_faults, iface_faults_after_edit, iface_faults_of};

@@ -7,7 +7,7 @@
 ghost use Rattle.std.specs.Prelude.{◌≡◌, ◌++◌, OnOk, flat_map};
 ghost use Rattle.gql_iface_rules.specs.S09BadInterfaceNames as spec;
 
-use gql_ast::{Fault, Name, Rule};
+use gql_ast::{Fault, Name, Rule, Shared};
 use gql_built_in::Sited;
 use gql_faults::{NamePlace, add_fault_of, add_repeated_names};
 use gql_types::{Schema, SchemaType, TypeKind};
@@ -65,11 +65,17 @@ fn check_type(
     add_repeated_names(alloc, Rule::S09, of_type.interfaces.as_slice(), faults)
 }
 
-/// Adds the faults by S09.
-pub fn check(alloc: Global, schema: &Schema, faults: &mut Vec<Fault>) -> Result<(), AllocError>
-    ensures { OnOk result (faults.new.items ≡ faults.old.items ++ spec.faults schema.now) }
+/// Adds the faults of these types by S09.
+pub fn check(
+    alloc: Global,
+    schema: &Schema,
+    types: &[Shared<SchemaType>],
+    faults: &mut Vec<Fault>,
+) -> Result<(), AllocError>
+    ensures { OnOk result (faults.new.items
+        ≡ faults.old.items ++ flat_map (spec.bad_interface_names schema.now) types.now) }
 {
-    for of_type in schema.types() {
+    for of_type in types {
         check_type(alloc, schema, of_type.get(), faults)?;
     }
     Ok(())

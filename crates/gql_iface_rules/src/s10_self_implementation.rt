@@ -6,10 +6,10 @@
 ghost use Rattle.std.specs.Prelude.{◌≡◌, ◌++◌, OnOk, flat_map};
 ghost use Rattle.gql_iface_rules.specs.S10SelfImplementation as spec;
 
-use gql_ast::{Fault, Name, Rule};
+use gql_ast::{Fault, Name, Rule, Shared};
 use gql_built_in::Sited;
 use gql_faults::{NamePlace, add_fault_of};
-use gql_types::{HasName, Schema, SchemaType, TypeKind};
+use gql_types::{HasName, SchemaType, TypeKind};
 use std::alloc::{AllocError, Global};
 
 /// Adds the fault at a name, if the type has that name.
@@ -57,11 +57,16 @@ fn check_type(
     Ok(())
 }
 
-/// Adds the faults by S10.
-pub fn check(alloc: Global, schema: &Schema, faults: &mut Vec<Fault>) -> Result<(), AllocError>
-    ensures { OnOk result (faults.new.items ≡ faults.old.items ++ spec.faults schema.now) }
+/// Adds the faults of these types by S10.
+pub fn check(
+    alloc: Global,
+    types: &[Shared<SchemaType>],
+    faults: &mut Vec<Fault>,
+) -> Result<(), AllocError>
+    ensures { OnOk result (faults.new.items
+        ≡ faults.old.items ++ flat_map spec.faults_of_type types.now) }
 {
-    for of_type in schema.types() {
+    for of_type in types {
         check_type(alloc, of_type.get(), faults)?;
     }
     Ok(())

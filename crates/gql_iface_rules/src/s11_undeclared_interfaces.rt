@@ -13,7 +13,7 @@ ghost use Rattle.gql_iface_rules.specs.S11UndeclaredInterfaces as spec;
 
 use crate::implementing::{Implementation, interface_named};
 use crate::name_set::NameSet;
-use gql_ast::{Fault, Name, Rule};
+use gql_ast::{Fault, Name, Rule, Shared};
 use gql_built_in::Sited;
 use gql_faults::{NamePlace, add_fault};
 use gql_types::{Schema, SchemaType};
@@ -102,11 +102,17 @@ fn check_type(
     Ok(())
 }
 
-/// Adds the faults by S11.
-pub fn check(alloc: Global, schema: &Schema, faults: &mut Vec<Fault>) -> Result<(), AllocError>
-    ensures { OnOk result (faults.new.items ≡ faults.old.items ++ spec.faults schema.now) }
+/// Adds the faults of these types by S11.
+pub fn check(
+    alloc: Global,
+    schema: &Schema,
+    types: &[Shared<SchemaType>],
+    faults: &mut Vec<Fault>,
+) -> Result<(), AllocError>
+    ensures { OnOk result (faults.new.items
+        ≡ faults.old.items ++ flat_map (spec.faults_of_type schema.now) types.now) }
 {
-    for of_type in schema.types() {
+    for of_type in types {
         check_type(alloc, schema, of_type.get(), faults)?;
     }
     Ok(())

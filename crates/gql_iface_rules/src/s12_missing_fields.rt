@@ -119,11 +119,17 @@ fn check_type(
     Ok(())
 }
 
-/// Adds the faults by S12.
-pub fn check(alloc: Global, schema: &Schema, faults: &mut Vec<Fault>) -> Result<(), AllocError>
-    ensures { OnOk result (faults.new.items ≡ faults.old.items ++ spec.faults schema.now) }
+/// Adds the faults of these types by S12.
+pub fn check(
+    alloc: Global,
+    schema: &Schema,
+    types: &[Shared<SchemaType>],
+    faults: &mut Vec<Fault>,
+) -> Result<(), AllocError>
+    ensures { OnOk result (faults.new.items ≡ faults.old.items
+        ++ flat_map spec.missing_fields (flat_map (implementations_of schema.now) types.now)) }
 {
-    for of_type in schema.types() {
+    for of_type in types {
         check_type(alloc, schema, of_type.get(), faults)?;
     }
     Ok(())

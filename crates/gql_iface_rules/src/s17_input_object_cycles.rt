@@ -3,10 +3,11 @@
 //!
 //! At fault: `type Query { a(i: I): Int } input I { i: I! }`
 //! No fault: `type Query { a(i: I): Int } input I { i: [I!]! }`
-ghost use Rattle.std.specs.Prelude.{◌≡◌, ◌↔◌, ◌⊎◌, ◌++◌, ℕ, List, IfOk, OnOk, Contains, map, flat_map};
+ghost use Rattle.std.specs.Prelude.{◌≡◌, ◌↔◌, ◌⊎◌, ◌++◌, ◌∷◌, [], ℕ, List, IfOk, OnOk, IsTrue, Contains, map, flat_map};
 ghost use Rattle.std.specs.Option.{option_copied};
 ghost use Rattle.gql_ast.specs.declared.fault.Fault.{Fault as TheFault};
 ghost use Rattle.gql_cycles.specs.Names.{Leads, row_of};
+ghost use Rattle.gql_iface_rules.specs.Checked.{HasRowsOf};
 ghost use Rattle.gql_iface_rules.specs.S17InputObjectCycles as spec;
 ghost use Rattle.gql_types.specs.Written.{written};
 
@@ -14,7 +15,7 @@ use gql_ast::{Fault, InputValueDefinition, Rule, Shared, TypeRef};
 use gql_built_in::Sited;
 use gql_cycles::{Row, names_on_cycles};
 use gql_faults::{NamePlace, add_fault_of};
-use gql_types::{HasName, Schema, SchemaType, TypeKind};
+use gql_types::{HasName, Schema, SchemaType, TypeKind, is_same_name};
 use std::alloc::{AllocError, Global};
 
 /// The name of a type, unless it is a list or Non-Null.
@@ -150,12 +151,85 @@ fn input_cycles(alloc: Global, schema: &Schema) -> Result<Vec<&str>, AllocError>
     names_on_cycles(alloc, rows.as_slice())
 }
 
-/// Adds the faults by S17.
-pub fn check(alloc: Global, schema: &Schema, faults: &mut Vec<Fault>) -> Result<(), AllocError>
-    ensures { OnOk result ((f : TheFault)
+/// Whether two names are the same.
+fn is_same(name: &str, other: &str) -> bool
+    ensures { IsTrue result → name.now ≡ other.now }
+{
+    is_same_name(name, other)
+}
+
+/// Whether two lists have the same names in the same order.
+fn have_same_names(names: &[&str], others: &[&str]) -> bool
+    ensures { IsTrue result → map (λ n. n.now) names.now ≡ map (λ n. n.now) others.now }
+{
+    if names.len() != others.len() {
+        return false;
+    }
+    for i in 0..names.len() {
+        if !is_same(names[i], others[i]) {
+            return false;
+        }
+    }
+    true
+}
+
+/// Whether two input objects of one name need the same types.
+fn needs_the_same(
+    alloc: Global,
+    of_type: &SchemaType,
+    other: &SchemaType,
+) -> Result<bool, AllocError>
+    ensures { IfOk result (λ is_same. IsTrue is_same
+        → spec.needs of_type.now.input_fields ≡ spec.needs other.now.input_fields) }
+{
+    let names = needs(alloc, of_type.input_fields.as_slice())?;
+    let others = needs(alloc, other.input_fields.as_slice())?;
+    Ok(have_same_names(names.as_slice(), others.as_slice()))
+}
+
+/// Whether a type is no input object, or one that its name was before, which needs the same.
+fn has_kept_row(alloc: Global, before: &Schema, of_type: &SchemaType) -> Result<bool, AllocError>
+    ensures { IfOk result (λ is_kept. IsTrue is_kept → HasRowsOf before.now (of_type.now ∷ [])) }
+{
+    if !of_type.kind.is(TypeKind::InputObject) {
+        return Ok(true);
+    }
+    match before.get(of_type.name()) {
+        Some(its) => {
+            if !its.kind.is(TypeKind::InputObject) {
+                return Ok(false);
+            }
+            let is_same = needs_the_same(alloc, of_type, its)?;
+            Ok(is_same && is_same_name(of_type.name(), its.name()))
+        }
+        None => Ok(false),
+    }
+}
+
+/// Whether each input object among these types was one before, which needed the same.
+pub fn keeps_rows(
+    alloc: Global,
+    before: &Schema,
+    types: &[Shared<SchemaType>],
+) -> Result<bool, AllocError>
+    ensures { IfOk result (λ keeps. IsTrue keeps → HasRowsOf before.now types.now) }
+{
+    for of_type in types {
+        if !has_kept_row(alloc, before, of_type.get())? {
+            return Ok(false);
+        }
+    }
+    Ok(true)
+}
+
+/// Adds the faults by S17. The result is whether it finds nothing.
+pub fn check(alloc: Global, schema: &Schema, faults: &mut Vec<Fault>) -> Result<bool, AllocError>
+    ensures faults { OnOk result ((f : TheFault)
         → Contains faults.new.items f ↔ (Contains faults.old.items f ⊎ spec.IsFault schema.now f)) }
+    ensures none { IfOk result (λ finds_none. IsTrue finds_none → (n : List ℕ)
+        → Leads (spec.input_rows schema.now) n n → ⊥) }
 {
     let names = input_cycles(alloc, schema)?;
     add_at_types(alloc, schema, names.as_slice(), faults)?;
-    Ok(())
+    Ok(names.is_empty())
 }

@@ -3,18 +3,20 @@
 //!
 //! At fault: `type Query { a(i: I): Int } input I { i: I = {} }`
 //! No fault: `type Query { a(i: I): Int } input I { i: I = null }`
-ghost use Rattle.std.specs.Prelude.{◌≡◌, ◌↔◌, ◌⊎◌, ◌++◌, ℕ, OnOk, Contains, map, flat_map};
+ghost use Rattle.std.specs.Prelude.{◌≡◌, ◌↔◌, ◌⊎◌, ◌++◌, ℕ, IfOk, OnOk, IsTrue, Contains, map, flat_map};
+ghost use Rattle.std.specs.List.{All};
 ghost use Rattle.gql_ast.specs.declared.fault.Fault.{Fault as TheFault};
 ghost use Rattle.gql_iface_rules.specs.S19DefaultValueCycles as spec;
+ghost use Rattle.gql_iface_rules.specs.S19Plain.{TypeNeedsNone};
 
 use crate::s19_ends::{all_ends, end_rows};
 use crate::s19_inputs::{Input, all_inputs};
 use crate::s19_plain::may_types_need;
 use crate::s19_ranges::all_ranges;
-use gql_ast::{Fault, Rule};
+use gql_ast::{Fault, Rule, Shared};
 use gql_cycles::nodes_on_cycles_over_ranges;
 use gql_faults::{NamePlace, add_fault_of};
-use gql_types::Schema;
+use gql_types::{Schema, SchemaType};
 use std::alloc::{AllocError, Global};
 
 /// Adds a fault at the input field of a number.
@@ -49,14 +51,11 @@ fn add_at_inputs(
     Ok(())
 }
 
-/// Adds the faults by S19.
-pub fn check(alloc: Global, schema: &Schema, faults: &mut Vec<Fault>) -> Result<(), AllocError>
+/// Adds the faults of all input fields whose default values need themselves.
+fn check_all(alloc: Global, schema: &Schema, faults: &mut Vec<Fault>) -> Result<(), AllocError>
     ensures { OnOk result ((f : TheFault)
         → Contains faults.new.items f ↔ (Contains faults.old.items f ⊎ spec.IsFault schema.now f)) }
 {
-    if !may_types_need(schema.types()) {
-        return Ok(());
-    }
     let inputs = all_inputs(alloc, schema)?;
     let fields = inputs.fields.as_slice();
     let ranges = all_ranges(alloc, fields, &inputs.objects)?;
@@ -65,4 +64,24 @@ pub fn check(alloc: Global, schema: &Schema, faults: &mut Vec<Fault>) -> Result<
     let numbers = nodes_on_cycles_over_ranges(alloc, ranges.as_slice(), ends.as_slice())?;
     add_at_inputs(alloc, fields, numbers.as_slice(), faults)?;
     Ok(())
+}
+
+/// Adds the faults by S19, if a default value of these types may hold an object: of all others it is
+/// known that none does. The result is whether none does.
+pub fn check(
+    alloc: Global,
+    schema: &Schema,
+    types: &[Shared<SchemaType>],
+    faults: &mut Vec<Fault>,
+) -> Result<bool, AllocError>
+    ensures faults { OnOk result ((All TypeNeedsNone types.now → All TypeNeedsNone schema.now.types)
+        → (f : TheFault) → Contains faults.new.items f
+        ↔ (Contains faults.old.items f ⊎ spec.IsFault schema.now f)) }
+    ensures none { IfOk result (λ finds_none. IsTrue finds_none → All TypeNeedsNone types.now) }
+{
+    if !may_types_need(types) {
+        return Ok(true);
+    }
+    check_all(alloc, schema, faults)?;
+    Ok(false)
 }

@@ -3,19 +3,22 @@
 //!
 //! At fault: `type Query { a: Int } directive @d(a: Int @d) on ARGUMENT_DEFINITION`
 //! No fault: `type Query { a(b: Int @d): Int } directive @d(a: Int) on ARGUMENT_DEFINITION`
-ghost use Rattle.std.specs.Prelude.{◌≡◌, ◌↔◌, ◌⊎◌, ◌++◌, ℕ, List, IfOk, OnOk, Contains, map, flat_map};
+ghost use Rattle.std.specs.Prelude.{◌≡◌, ◌↔◌, ◌⊎◌, ◌++◌, ℕ, List, IfOk, OnOk, IsTrue, Contains, map, flat_map};
+ghost use Rattle.std.specs.List.{All};
 ghost use Rattle.std.specs.Option.{option_copied};
 ghost use Rattle.gql_ast.specs.declared.fault.Fault.{Fault as TheFault};
 ghost use Rattle.gql_cycles.specs.Names.{Leads, row_of};
 ghost use Rattle.gql_iface_rules.specs.Borrowed.{steps};
+ghost use Rattle.gql_iface_rules.specs.Quiet.{DirectivesEnd};
 ghost use Rattle.gql_iface_rules.specs.S26DirectiveCycles as spec;
+ghost use Rattle.gql_iface_rules.specs.S26Leads.{LeadsNowhere, directive_leads};
 
 use crate::s26_leads::may_cycle;
 use crate::s26_rows::{OwnedRow, definition_rows};
-use gql_ast::{Fault, Rule, Text};
+use gql_ast::{Fault, Rule, Shared, Text};
 use gql_cycles::{Row, names_on_cycles};
 use gql_faults::{NamePlace, add_fault_of};
-use gql_types::Schema;
+use gql_types::{Schema, SchemaType};
 use std::alloc::{AllocError, Global};
 
 /// These names, borrowed.
@@ -117,17 +120,38 @@ fn cycle_names<'n>(alloc: Global, owned: &'n [OwnedRow]) -> Result<Vec<&'n str>,
     names_on_cycles(alloc, rows.as_slice())
 }
 
-/// Adds the faults by S26.
-pub fn check(alloc: Global, schema: &Schema, faults: &mut Vec<Fault>) -> Result<(), AllocError>
+/// Adds the faults of all directives that lead back to themselves.
+fn check_all(alloc: Global, schema: &Schema, faults: &mut Vec<Fault>) -> Result<(), AllocError>
     ensures { OnOk result ((f : TheFault)
         → Contains faults.new.items f ↔ (Contains faults.old.items f ⊎ spec.IsFault schema.now f)) }
 {
-    let may = may_cycle(alloc, schema)?;
-    if !may {
-        return Ok(());
-    }
     let owned = definition_rows(alloc, schema)?;
     let names = cycle_names(alloc, owned.as_slice())?;
     add_at_names(alloc, schema, names.as_slice(), faults)?;
     Ok(())
+}
+
+/// Adds the faults by S26, if a directive may lead back to itself by these types: of all others it is
+/// known that they lead nowhere. The result is whether none may.
+pub fn check(
+    alloc: Global,
+    schema: &Schema,
+    types: &[Shared<SchemaType>],
+    faults: &mut Vec<Fault>,
+) -> Result<bool, AllocError>
+    ensures faults { OnOk result ((All (LeadsNowhere (directive_leads schema.now)) types.now
+        → All (LeadsNowhere (directive_leads schema.now)) schema.now.types)
+        → (f : TheFault) → Contains faults.new.items f
+        ↔ (Contains faults.old.items f ⊎ spec.IsFault schema.now f)) }
+    ensures none { IfOk result (λ finds_none. IsTrue finds_none
+        → (All (LeadsNowhere (directive_leads schema.now)) types.now
+        → All (LeadsNowhere (directive_leads schema.now)) schema.now.types)
+        → DirectivesEnd schema.now) }
+{
+    let may = may_cycle(alloc, schema, types)?;
+    if !may {
+        return Ok(true);
+    }
+    check_all(alloc, schema, faults)?;
+    Ok(false)
 }

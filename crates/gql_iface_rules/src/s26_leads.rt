@@ -3,8 +3,7 @@
 ghost use Rattle.std.specs.Prelude.{◌≡◌, ◌++◌, ℕ, List, false, map, flat_map, find, bytes_eq, is_some, IfOk, OnOk};
 ghost use Rattle.std.specs.List.{All, list_any};
 ghost use Rattle.gql_iface_rules.specs.Borrowed.{steps};
-ghost use Rattle.gql_cycles.specs.Names.{Leads};
-ghost use Rattle.gql_iface_rules.specs.S26DirectiveCycles.{at_sign, definition_rows, without_sign};
+ghost use Rattle.gql_iface_rules.specs.S26DirectiveCycles.{without_sign};
 ghost use Rattle.gql_iface_rules.specs.S26Leads as spec;
 
 use crate::s26_directive_cycles::without_sign;
@@ -96,15 +95,21 @@ fn directive_leads(alloc: Global, schema: &Schema) -> Result<Named<Text>, AllocE
     lead_names(alloc, rows.as_slice())
 }
 
-/// Whether a directive may lead back to itself.
-pub fn may_cycle(alloc: Global, schema: &Schema) -> Result<bool, AllocError>
-    ensures { IfOk result (λ may. may ≡ false → (name : List ℕ)
-        → Leads (definition_rows schema.now) (at_sign name) (at_sign name) → ⊥) }
+/// Whether a directive may lead back to itself: by these types, as all others lead nowhere.
+pub fn may_cycle(
+    alloc: Global,
+    schema: &Schema,
+    types: &[Shared<SchemaType>],
+) -> Result<bool, AllocError>
+    ensures unsigned { IfOk result (λ may. may ≡ false
+        → list_any (λ n. is_some (without_sign n)) (spec.directive_leads schema.now) ≡ false) }
+    ensures nowhere { IfOk result (λ may. may ≡ false
+        → All (spec.LeadsNowhere (spec.directive_leads schema.now)) types.now) }
 {
     let names = directive_leads(alloc, schema)?;
     if any_has_sign(names.as_slice()) {
         return Ok(true);
     }
-    let on = is_any_led_on(alloc, schema.types(), &names)?;
+    let on = is_any_led_on(alloc, types, &names)?;
     Ok(on)
 }

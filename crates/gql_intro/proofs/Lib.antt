@@ -1,7 +1,9 @@
 pub mod Answering
 pub mod Containing
 pub mod Defined
+pub mod EditedNames
 pub mod EveryNode
 pub mod Finding
+pub mod InOrder
 pub mod Listed
 pub mod Typed

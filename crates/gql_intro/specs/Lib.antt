@@ -1,6 +1,7 @@
 pub mod AnswerTypes
 pub mod Applied
 pub mod Borrowed
+pub mod EditedNames
 pub mod Examples
 pub mod InFiles
 pub mod Introspection

@@ -4,6 +4,7 @@
 
 mod answer;
 mod applied;
+mod edited_names;
 pub mod laws;
 mod made;
 mod meta_fields;

@@ -2,17 +2,19 @@
 ghost use Rattle.std.specs.Prelude.{◌≡◌, ◌++◌, map, filter, IfOk};
 ghost use Rattle.std.specs.Option.{option_copied};
 ghost use Rattle.gql_ast.specs.declared.files.Files.{Files as TheFiles};
+ghost use Rattle.gql_types.specs.Edits.{KeepsOthers};
 ghost use Rattle.gql_types.specs.Possible.{name_of};
 ghost use Rattle.gql_intro.specs.Made as spec;
 ghost use Rattle.gql_intro.specs.MetaFields.{meta_field};
 
+use crate::edited_names::{are_none, names_after, names_only_in};
 use crate::meta_fields::MetaFields;
 use crate::references::refer;
 use gql_ast::{
     Definition, Document, FieldDefinition, FileMap, Files, Items, SchemaDefinition, Shared, Text,
     Tree,
 };
-use gql_types::{HasName, Schema, SchemaType, in_order};
+use gql_types::{HasName, Named, Schema, SchemaType, in_order};
 use std::alloc::{AllocError, Global};
 
 /// The schema as introspection shows it. It is made once for a schema, and is valid as long as the
@@ -40,7 +42,7 @@ impl Drop for IntroSchema {
 }
 
 /// Whether introspection shows a type of that name.
-fn is_shown(has_int: bool, has_id: bool, name: &str) -> bool
+pub(crate) fn is_shown(has_int: bool, has_id: bool, name: &str) -> bool
     ensures { result ≡ spec.is_shown has_int has_id name.now }
 {
     if name == "Int" {
@@ -149,43 +151,57 @@ pub fn intro_schema(
     })
 }
 
-/// The names of the types that introspection shows after an edit, by what was made of the schema
-/// before it.
+/// The names of the types that introspection shows after an edit that changed types of these names
+/// alone, by what was made of the schema before it. If no type came or went, they are shared.
 fn types_after_edit(
     alloc: Global,
     schema: &Schema,
     has_int: bool,
     has_id: bool,
+    edited: &Named<Text>,
     before: &Schema,
     made: &IntroSchema,
 ) -> Result<Shared<Items<Text>>, AllocError>
-    ensures { IfOk result (λ names.
-        made.now.types ≡ spec.shown_types before.now made.now.has_int made.now.has_id
+    ensures { IfOk result (λ names. KeepsOthers edited.now before.now schema.now
+        → KeepsOthers edited.now schema.now before.now
+        → made.now.types ≡ spec.shown_types before.now made.now.has_int made.now.has_id
         → names ≡ spec.shown_types schema.now has_int has_id) }
 {
-    let has_same_scalars = has_int == made.has_int && has_id == made.has_id;
-    if has_same_scalars && schema.named_types().has_names_of(before.named_types()) {
-        return made.types.clone();
+    if has_int != made.has_int || has_id != made.has_id {
+        let names = shown_types(alloc, schema, has_int, has_id)?;
+        let names = Shared::new(alloc, names)?;
+        return Ok(names);
     }
-    let names = shown_types(alloc, schema, has_int, has_id)?;
-    Shared::new(alloc, names)
+    let gone = names_only_in(alloc, before, schema, edited.as_slice())?;
+    let came = names_only_in(alloc, schema, before, edited.as_slice())?;
+    if are_none(gone.as_slice()) && are_none(came.as_slice()) {
+        let same = made.types.clone()?;
+        return Ok(same);
+    }
+    let gone = Named::new(alloc, gone)?;
+    let names = names_after(alloc, made.types(), &gone, came.as_slice(), has_int, has_id)?;
+    let names = Shared::new(alloc, names)?;
+    Ok(names)
 }
 
-/// The schema of these files as introspection shows it, after an edit of a schema file. `made` is
-/// what was made of the schema before it. If no type came or went, both share the names of types.
+/// The schema of these files as introspection shows it, after an edit of a schema file that changed
+/// types of these names alone. `made` is what was made of the schema before it. Names of types are
+/// sorted only where types came or went.
 pub fn intro_schema_after_edit(
     alloc: Global,
     files: &Files,
     schema: &Schema,
+    edited: &Named<Text>,
     before: &Schema,
     made: &IntroSchema,
 ) -> Result<IntroSchema, AllocError>
-    ensures { IfOk result (λ after. (old : TheFiles) → made.now ≡ spec.made_of old before.now
+    ensures { IfOk result (λ after. (old : TheFiles) → KeepsOthers edited.now before.now schema.now
+        → KeepsOthers edited.now schema.now before.now → made.now ≡ spec.made_of old before.now
         → after ≡ spec.made_of files.now schema.now) }
 {
     let has_int = refer(&files.schema, "Int");
     let has_id = refer(&files.schema, "ID");
-    let types = types_after_edit(alloc, schema, has_int, has_id, before, made)?;
+    let types = types_after_edit(alloc, schema, has_int, has_id, edited, before, made)?;
     Ok(IntroSchema {
         types,
         has_int,

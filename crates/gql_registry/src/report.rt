@@ -92,8 +92,16 @@ fn faults_after_edit(
     ensures { IfOk result (AreFaultsOf files.now) }
 {
     let change = SchemaChange::between(alloc, &before.schema, schema, edited)?;
-    let kept = &before.kept;
-    let kept = SchemaFaults::after_edit(alloc, files, schema, name, edited, &change, kept)?;
+    let kept = SchemaFaults::after_edit(
+        alloc,
+        files,
+        schema,
+        name,
+        edited,
+        &change,
+        &before.schema,
+        &before.kept,
+    )?;
     Ok(kept)
 }
 
@@ -113,7 +121,9 @@ pub fn side_after_edit(
     let schema = assemble_after_edit(alloc, files, &before.schema, edited)?;
     let facts = SchemaFacts::after_edit(alloc, &schema, &before.facts, edited)?;
     let kept = faults_after_edit(alloc, files, &schema, before, name, edited)?;
-    let made = intro_schema_after_edit(alloc, files, &schema, &before.schema, &before.made)?;
+    let schema_before = &before.schema;
+    let made_before = &before.made;
+    let made = intro_schema_after_edit(alloc, files, &schema, edited, schema_before, made_before)?;
     let side = side_of(alloc, schema, facts, made, kept)?;
     Ok(side)
 }

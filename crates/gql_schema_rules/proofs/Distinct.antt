@@ -17,7 +17,7 @@ none_kept : (xs ys : List (Sited Name)) → ((q : List ℕ) → count_of q ys �
 none_kept [] ys once = refl
 none_kept (x ∷ xs) ys once = grind (arith, common_steps, once x.node.text, none_kept xs ys once)
 
-no_repeated : (rule : Rule) (names : List (Sited Name)) → ((q : List ℕ) → count_of q names ≤ 1)
+pub no_repeated : (rule : Rule) (names : List (Sited Name)) → ((q : List ℕ) → count_of q names ≤ 1)
     → repeated_faults rule names ≡ []
 no_repeated rule names once = ap (faults_of rule) (none_kept names names once)
 

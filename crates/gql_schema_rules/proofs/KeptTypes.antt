@@ -1,5 +1,5 @@
 -- The types that an edit leaves to be checked, where no type was at fault before it.
-use Rattle.std.proofs.Common.{◌≡◌, ◌∙◌, ◌++◌, ◌⊎◌, inl, inr, zero, suc, ℕ, List, [], ◌∷◌, Bool, true, false, Option, Some, find, filter, flat_map, length, nat_eq, refl, sym, ap, subst, bytes_eq, Contains, arith}
+use Rattle.std.proofs.Common.{◌≡◌, ◌∙◌, ◌++◌, ◌⊎◌, inl, inr, zero, suc, ℕ, List, [], ◌∷◌, Bool, true, false, Option, Some, find, filter, flat_map, length, nat_eq, refl, sym, ap, subst, bytes_eq, Contains, arith, not}
 use Rattle.std.specs.Prelude.{if◌then◌else◌}
 use Rattle.std.proofs.lemmas.List.Elements.{Contains-append_left, Contains-append_right, Contains-push}
 use Rattle.gql_ast.specs.declared.fault.Fault.{Fault}
@@ -94,6 +94,11 @@ faults_with look t = flat_map (λ (v : Sited InputValueDefinition). fault_with l
 same_defaults : (old s : Schema) (t : SchemaType) → ((name : List ℕ) → in_schema old name ≡ in_schema s name) → s18.faults_of_type old t ≡ s18.faults_of_type s t
 unfolding fault_with faults_with
 same_defaults old s t same = λ k. faults_with (λ name. same name k) t
+
+-- what is not so
+pub is_not : (b : Bool) → not b ≡ true → b ≡ false
+is_not true is = absurd (cc is)
+is_not false is = refl
 
 -- ---- the types
 

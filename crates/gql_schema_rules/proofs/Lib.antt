@@ -1,4 +1,5 @@
 pub mod ByFiles
+pub mod DefinedOnce
 pub mod Distinct
 pub mod Earlier
 pub mod FirstChecks

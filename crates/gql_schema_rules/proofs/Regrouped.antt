@@ -1,5 +1,5 @@
 -- Two lists have the same elements, if one has in its parts what the other has in one part.
-use Rattle.std.proofs.Common.{◌↔◌, ◌⊎◌, inl, inr, List, ◌++◌, Contains}
+use Rattle.std.proofs.Common.{◌≡◌, ◌∙◌, ◌↔◌, ◌⊎◌, inl, inr, List, ◌++◌, Contains, ap, append_assoc}
 use Rattle.std.proofs.lemmas.List.Elements.{Contains-append_left, Contains-append_right, Contains-append_cases}
 
 module _ {X : Type 0} (x : X) where
@@ -45,3 +45,10 @@ module _ {X : Type 0} (x : X) where
           | inr o ↦ Contains-append_right fs ((((is ++ js) ++ ds) ++ ts) ++ rs) x o
         ],
   )
+
+-- five parts, one after the other
+pub five_added : {X : Type 0} (old a b c d e p q r s t : List X) → a ≡ old ++ p → b ≡ a ++ q → c ≡ b ++ r → d ≡ c ++ s → e ≡ d ++ t
+    → e ≡ old ++ (p ++ (q ++ (r ++ (s ++ t))))
+five_added old a b c d e p q r s t one two three four five =
+    five ∙ ap (λ xs. xs ++ t) (four ∙ ap (λ xs. xs ++ s) (three ∙ ap (λ xs. xs ++ r) (two ∙ ap (λ xs. xs ++ q) one)))
+    ∙ append_assoc (((old ++ p) ++ q) ++ r) s t ∙ append_assoc ((old ++ p) ++ q) r (s ++ t) ∙ append_assoc (old ++ p) q (r ++ (s ++ t)) ∙ append_assoc old p (q ++ (r ++ (s ++ t)))

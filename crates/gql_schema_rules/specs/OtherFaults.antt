@@ -1,6 +1,6 @@
 -- Helper definitions for private contracts: the faults of the checks of files, and those that no
 -- file has by itself.
-use Rattle.std.specs.Prelude.{◌≡◌, ◌++◌, ℕ, List, flat_map, Contains}
+use Rattle.std.specs.Prelude.{◌≡◌, ◌↔◌, ◌++◌, ℕ, List, flat_map, Contains}
 use Rattle.gql_ast.specs.declared.fault.Fault.{Fault}
 use Rattle.gql_types.specs.declared.schema.Schema.{Schema}
 use Rattle.gql_iface_rules.specs.InterfaceFaults.{IsInterfaceFault}
@@ -12,6 +12,10 @@ use Rattle.gql_schema_rules.specs.RuleGroups.{definition_faults, type_faults, ro
 -- the faults of these checks
 abbrev pub faults_in : List (List ℕ × FileCheck) → List Fault
 faults_in checks = flat_map (λ (c : List ℕ × FileCheck). c.1.faults.items) checks
+
+-- these are all faults by the rules on interfaces and on cycles
+abbrev pub ListsInterfaces : Schema → List Fault → Type 0
+ListsInterfaces s faults = (f : Fault) → Contains faults f ↔ IsInterfaceFault s f
 
 -- the faults by the rules that are checked for all files together
 pub record AreOthers (n : AllNodes) (s : Schema) (others : List Fault) : Type 0 where

@@ -3,6 +3,7 @@
 ghost use Rattle.std.specs.Prelude.{◌≡◌, ◌↔◌, ◌++◌, IfOk, OnOk, Contains};
 ghost use Rattle.gql_ast.specs.declared.fault.Fault.{Fault as TheFault};
 ghost use Rattle.gql_ast.specs.declared.files.Files.{Files as TheFiles};
+ghost use Rattle.gql_iface_rules.specs.Quiet.{IsFound};
 ghost use Rattle.gql_node_rules.specs.SchemaChanges.{IsChange};
 ghost use Rattle.gql_types.specs.Edits.{KeepsOthers};
 ghost use Rattle.gql_types.specs.Schemas.{schema_of};
@@ -17,6 +18,7 @@ use crate::file_checks::{checks_after_edit, checks_of};
 use crate::other_faults::{OtherFaults, keeps_defaults, other_faults, types_to_check};
 use crate::types_among::types_among;
 use gql_ast::{Fault, FileMap, FileName, Files, Shared, Text};
+use gql_iface_rules::{Found, Quiet, iface_faults_after_edit, iface_faults_of};
 use gql_node_rules::{FileCheck, SchemaChange, laws};
 use gql_types::{Named, Schema, SchemaType};
 use std::alloc::{AllocError, Global};
@@ -29,6 +31,8 @@ pub struct SchemaFaults {
     all: Vec<Shared<Fault>>,
     /// Whether none of them is by S05 to S08 or S18.
     are_types_sound: bool,
+    /// Which rules on interfaces and cycles find nothing.
+    quiet: Quiet,
 }
 
 impl Drop for SchemaFaults {
@@ -37,6 +41,7 @@ impl Drop for SchemaFaults {
             checks: _,
             all: _,
             are_types_sound: _,
+            quiet: _,
         } = self;
     }
 }
@@ -96,22 +101,29 @@ fn all_faults(
 }
 
 impl SchemaFaults {
-    /// All faults of the schema of these files, by the checks of the files, and by S05 to S08 on
-    /// some types and S18 on others: those that may be at fault.
+    /// All faults of the schema of these files, by the checks of the files, by those of the rules on
+    /// interfaces and cycles, and by S05 to S08 on some types and S18 on others: those that may be at
+    /// fault.
     fn with_checks(
         alloc: Global,
         files: &Files,
         schema: &Schema,
         checks: FileMap<Shared<FileCheck>>,
+        found: Found,
         types: &[Shared<SchemaType>],
         defaulted: &[Shared<SchemaType>],
     ) -> Result<SchemaFaults, AllocError>
         requires { schema.now ≡ schema_of files.now }
         ensures { IfOk result (λ k. AreChecksOf schema.now files.now.schema checks
+            → IsFound schema.now found
             → type_faults_on schema.now types.now defaulted.now ≡ type_faults schema.now
             → AreFaultsOf files.now k) }
     {
-        let others = other_faults(alloc, files, schema, types, defaulted)?;
+        let Found {
+            faults: interfaces,
+            quiet,
+        } = found;
+        let others = other_faults(alloc, files, schema, interfaces, types, defaulted)?;
         let OtherFaults {
             faults,
             are_types_sound,
@@ -121,6 +133,7 @@ impl SchemaFaults {
             checks,
             all,
             are_types_sound,
+            quiet,
         })
     }
 
@@ -130,8 +143,9 @@ impl SchemaFaults {
         ensures { IfOk result (AreFaultsOf files.now) }
     {
         let checks = checks_of(alloc, files, schema)?;
+        let found = iface_faults_of(alloc, schema)?;
         let all = schema.types();
-        let faults = SchemaFaults::with_checks(alloc, files, schema, checks, all, all)?;
+        let faults = SchemaFaults::with_checks(alloc, files, schema, checks, found, all, all)?;
         Ok(faults)
     }
 
@@ -139,7 +153,8 @@ impl SchemaFaults {
     /// alone, by the faults before it. The files and their schema are those after the edit. A file
     /// is checked again only if it is edited, or if the change of the schema matters to it. If no
     /// type was at fault by S05 to S08 and S18, the edited types alone are checked by these rules;
-    /// by S18 all, if the edit changed an input type.
+    /// by S18 all, if the edit changed an input type. So are the rules on interfaces and cycles
+    /// (`iface_faults_after_edit`); `schema_before` is the schema before the edit.
     pub fn after_edit(
         alloc: Global,
         files: &Files,
@@ -147,21 +162,38 @@ impl SchemaFaults {
         file: &FileName,
         edited: &Named<Text>,
         change: &SchemaChange,
+        schema_before: &Schema,
         before: &SchemaFaults,
     ) -> Result<SchemaFaults, AllocError>
         requires { schema.now ≡ schema_of files.now }
         ensures { IfOk result (λ k. (old : TheFiles) → AreFaultsOf old before.now
+            → schema_before.now ≡ schema_of old
             → KeepsOthers edited.now (schema_of old) schema.now
+            → KeepsOthers edited.now schema.now (schema_of old)
             → IsChange change.now (schema_of old) schema.now
             → DiffersAt file.now old files.now → AreFaultsOf files.now k) }
     {
         let checks = checks_after_edit(alloc, files, schema, file, change, &before.checks)?;
-        let found = types_among(alloc, schema, edited)?;
+        let among = types_among(alloc, schema, edited)?;
+        let among = among.as_slice();
+        let same = !change.directives;
+        let were = before.quiet;
+        let found = iface_faults_after_edit(
+            alloc,
+            schema_before,
+            schema,
+            edited,
+            among,
+            same,
+            were,
+        )?;
         let were_sound = before.are_types_sound;
-        let types = types_to_check(were_sound, found.as_slice(), schema.types());
+        let types = types_to_check(were_sound, among, schema.types());
         let keeps = keeps_defaults(were_sound, change);
-        let defaulted = types_to_check(keeps, found.as_slice(), schema.types());
-        let faults = SchemaFaults::with_checks(alloc, files, schema, checks, types, defaulted)?;
+        let defaulted = types_to_check(keeps, among, schema.types());
+        let faults = SchemaFaults::with_checks(
+            alloc, files, schema, checks, found, types, defaulted,
+        )?;
         Ok(faults)
     }
 
@@ -180,6 +212,7 @@ impl SchemaFaults {
             checks: _,
             all,
             are_types_sound: _,
+            quiet: _,
         } = self;
         all
     }

@@ -1,12 +1,13 @@
 //! The faults by the rules that are checked for all files together.
 ghost use Rattle.std.specs.Prelude.{◌≡◌, ◌↔◌, [], IfOk, IsTrue, if◌then◌else◌};
-ghost use Rattle.gql_schema_rules.specs.OtherFaults.{AreOthers};
+ghost use Rattle.gql_schema_rules.specs.OtherFaults.{AreOthers, ListsInterfaces};
 ghost use Rattle.gql_schema_rules.specs.RuleGroups as groups;
 ghost use Rattle.gql_schema_rules.specs.SchemaFaults.{nodes_in};
+ghost use Rattle.gql_types.specs.Schemas.{schema_of};
 
 use crate::rules::{add_all, add_definition_faults, add_root_faults, type_faults};
+use crate::s01_duplicate_types;
 use gql_ast::{Fault, Files, Shared};
-use gql_iface_rules::iface_faults;
 use gql_node_rules::{SchemaChange, definition_nodes, joint_faults};
 use gql_types::{Schema, SchemaType};
 use std::alloc::{AllocError, Global};
@@ -47,26 +48,30 @@ fn are_none(faults: &[Fault]) -> bool
 }
 
 /// The faults by the rules that are checked for all files together. They visit definitions and
-/// extensions, directives, roots and types, but no other nodes of the files. S05 to S08 are checked
-/// on some types and S18 on others: those that may be at fault.
+/// extensions, directives, roots and types, but no other nodes of the files. Those by the rules on
+/// interfaces and on cycles are given. S05 to S08 are checked on some types and S18 on others: those
+/// that may be at fault.
 pub fn other_faults(
     alloc: Global,
     files: &Files,
     schema: &Schema,
+    interfaces: Vec<Fault>,
     types: &[Shared<SchemaType>],
     defaulted: &[Shared<SchemaType>],
 ) -> Result<OtherFaults, AllocError>
-    ensures all { IfOk result (λ others.
-        groups.type_faults_on schema.now types.now defaulted.now ≡ groups.type_faults schema.now
+    ensures all { IfOk result (λ others. schema.now ≡ schema_of files.now
+        → ListsInterfaces schema.now interfaces.items
+        → groups.type_faults_on schema.now types.now defaulted.now ≡ groups.type_faults schema.now
         → AreOthers (nodes_in files.now) schema.now others.faults.items) }
     ensures sound { IfOk result (λ others. IsTrue others.are_types_sound
         ↔ (groups.type_faults_on schema.now types.now defaulted.now ≡ [])) }
 {
     let nodes = definition_nodes(alloc, files)?;
-    let mut faults = iface_faults(alloc, schema)?;
+    let mut faults = interfaces;
     let joint = joint_faults(alloc, &nodes, schema)?;
     add_all(&mut faults, joint)?;
-    add_definition_faults(alloc, schema, &nodes, &mut faults)?;
+    let are_once = s01_duplicate_types::are_once(schema, &nodes);
+    add_definition_faults(alloc, schema, are_once, &nodes, &mut faults)?;
     let of_types = type_faults(alloc, schema, types, defaulted)?;
     let are_types_sound = are_none(of_types.as_slice());
     add_all(&mut faults, of_types)?;

@@ -6,4 +6,4 @@ use Rattle.gql_iface_rules.proofs.rules.check_pairs.Given as goal
 
 abbrev pub invariant-loop-of_type : goal.invariant-loop-of_type
 invariant-loop-of_type l = (f : Fault) → Contains l.faults.items f
-    ↔ (Contains l.initial.faults.items f ⊎ IsFaultOfTypes l.schema (take l.of_type-index l.of_type-items) f)
+    ↔ (Contains l.initial.faults.items f ⊎ IsFaultOfTypes l.schema (take l.of_type-index l.types) f)

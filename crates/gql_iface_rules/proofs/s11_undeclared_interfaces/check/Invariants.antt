@@ -4,4 +4,4 @@ use Rattle.gql_iface_rules.proofs.s11_undeclared_interfaces.check.Given as goal
 
 abbrev pub invariant-loop-of_type : goal.invariant-loop-of_type
 invariant-loop-of_type l = l.faults.items
-    ≡ l.initial.faults.items ++ flat_map (faults_of_type l.schema) (take l.of_type-index l.of_type-items)
+    ≡ l.initial.faults.items ++ flat_map (faults_of_type l.schema) (take l.of_type-index l.types)

@@ -3,8 +3,8 @@ use Rattle.gql_iface_rules.specs.S17InputObjectCycles.{IsFault, fault_at_type}
 use Rattle.gql_iface_rules.proofs.Members.{added}
 use Rattle.gql_iface_rules.proofs.s17_input_object_cycles.check.Goals as goal
 
-pub returns : goal.returns
-returns c =
+pub returns-clause-faults : goal.returns-clause-faults
+returns-clause-faults c =
     let s = c.args.schema.now in
     let old = c.args.faults.now.items in
     added (fault_at_type s) (map (λ n. n.now) c.in_ok-names.names.items) old c.add_at_types.new.faults.items (IsFault s)

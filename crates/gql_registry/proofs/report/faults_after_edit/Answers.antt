@@ -22,4 +22,4 @@ returns c =
     let undone : KeepsOthers names after (schema_of b.before) = subst (λ s. KeepsOthers names s (schema_of b.before)) (sym c.requires.schema) b.edit.undone in
     let change : IsChange c.in_ok-change.change (schema_of b.before) after = subst (λ s. IsChange c.in_ok-change.change s after) b.side_of.schema
     (c.in_ok-change.ensures (subst (λ s. KeepsOthers names s after) (sym b.side_of.schema) keeps) (subst (KeepsOthers names after) (sym b.side_of.schema) undone)) in
-    c.in_ok-kept.ensures b.before b.side_of.kept keeps change b.elsewhere
+    c.in_ok-kept.ensures b.before b.side_of.kept b.side_of.schema keeps undone change b.elsewhere

@@ -32,9 +32,17 @@ pub returns-in_err-side : goal.returns-in_err-side
 returns-in_err-side c = ok_of_error c.from_residual-in_err-side.result (IsSideOf c.args.files.now) _ c.from_residual-in_err-side.ensures.1
 
 pub returns : goal.returns
-returns c = c.in_ok-side.ensures c.args.files.now c.in_ok-schema.ensures
+returns c =
+    let b = c.requires in
+    let names = c.args.edited.now in
+    let s = c.in_ok-schema.schema in
+    let keeps : KeepsOthers names c.args.before.now.schema s = subst (λ o. KeepsOthers names o s) (sym b.side_of.schema)
+    (subst (KeepsOthers names (schema_of b.before)) (sym c.in_ok-schema.ensures) b.edit.keeps) in
+    let undone : KeepsOthers names s c.args.before.now.schema = subst (λ o. KeepsOthers names s o) (sym b.side_of.schema)
+    (subst (λ o. KeepsOthers names o (schema_of b.before)) (sym c.in_ok-schema.ensures) b.edit.undone) in
+    c.in_ok-side.ensures c.args.files.now c.in_ok-schema.ensures
     (c.in_ok-facts.ensures (schema_of c.requires.before) c.requires.side_of.facts
     (subst (KeepsOthers c.args.edited.now (schema_of c.requires.before)) (sym c.in_ok-schema.ensures) c.requires.edit.keeps)
     ∙ ap tables_of c.in_ok-schema.ensures)
-    (c.in_ok-made.ensures c.requires.before (c.requires.side_of.made ∙ ap (made_of c.requires.before) (sym c.requires.side_of.schema)))
+    (c.in_ok-made.ensures c.requires.before keeps undone (c.requires.side_of.made ∙ ap (made_of c.requires.before) (sym c.requires.side_of.schema)))
     c.in_ok-kept.ensures

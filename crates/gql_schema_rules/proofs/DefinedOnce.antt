@@ -1,0 +1,159 @@
+-- Where a schema has as many types as its files define, and as are built in, no two definitions have one name.
+use Rattle.std.proofs.Common.{◌≡◌, ◌∙◌, ◌++◌, ◌+◌, ◌≤◌, ℕ, suc, List, [], ◌∷◌, Bool, true, false, not, Option, filter, flat_map, map, length, bytes_eq, refl, sym, ap, ap₂, subst, arith}
+use Rattle.std.proofs.lemmas.List.{length-append, length-map}
+use Rattle.std.proofs.lemmas.List.Concat.{flat_map-append}
+use Rattle.std.proofs.lemmas.List.Elements.{filter-append}
+use Rattle.std.proofs.lemmas.List.Filters.{length-filter_both}
+use Rattle.std.proofs.lemmas.List.Sums.{count_by-le-length, length-filter}
+use Rattle.std.proofs.lemmas.Slice.Eq.{bytes_eq-Decides}
+use Rattle.gql_ast.specs.declared.definition.Tree.{Tree}
+use Rattle.gql_ast.specs.declared.definition.Tree.TheVariants as tree
+use Rattle.gql_ast.specs.declared.text.Name.{Name}
+use Rattle.gql_ast.specs.declared.type_system.TypeDefinition.{TypeDefinition}
+use Rattle.gql_built_in.specs.BuiltIn.{built_in, scalars, introspection, type_kinds, directive_locations, directives, skip, include, deprecated, specified_by, append}
+use Rattle.gql_built_in.specs.BuiltInWords.{directive, of_no_file, type_of as type_in_words, word}
+use Rattle.gql_built_in.specs.declared.sited.Sited.{Sited}
+use Rattle.gql_faults.specs.Names.{count_of}
+use Rattle.gql_types.specs.Definitions.{names_a_type, type_definitions, type_extensions, type_in}
+use Rattle.gql_types.specs.Parts.{sited}
+use Rattle.gql_types.specs.Schemas.{types_in}
+use Rattle.gql_types.specs.Types.{assembled, extensions_of, first_definitions}
+use Rattle.gql_node_rules.specs.Nodes.{each, type_of, types}
+
+-- ---- lists
+
+module _ {A : Type 0} (p : A → Bool) where
+  pub filter_short : (xs : List A) → length (filter p xs) ≤ length xs
+  filter_short xs = omega (arith, length-filter p xs, count_by-le-length p xs)
+
+  pub filter_whole : (xs : List A) → length (filter p xs) ≡ length xs → filter p xs ≡ xs
+  filter_whole [] e = refl
+  filter_whole (x ∷ xs) e = by (p x) refl (filter_whole xs)
+    where
+      by : (b : Bool) → p x ≡ b → (length (filter p xs) ≡ length xs → filter p xs ≡ xs) → filter p (x ∷ xs) ≡ x ∷ xs
+      by true is rest =
+          let longer : length (x ∷ filter p xs) ≡ length (x ∷ xs) = rw is at e in
+          rw is (ap (λ ys. x ∷ ys) (rest (omega (arith, longer))))
+      by false is rest =
+          let longer : length (filter p xs) ≡ length (x ∷ xs) = rw is at e in
+          absurd (omega (arith, longer, filter_short xs))
+
+  -- if nothing that does not pass is left out, nothing passes
+  pub none_pass : (xs : List A) → length (filter (λ x. not (p x)) xs) ≡ length xs → length (filter p xs) ≡ 0
+  none_pass xs e = omega (arith, e, length-filter_both p (λ x. not (p x)) (λ x. refl) xs)
+
+-- ---- definitions
+
+abbrev is_named : List ℕ → Sited TypeDefinition → Bool
+is_named q d = bytes_eq q d.node.name.text
+
+abbrev is_other : Sited TypeDefinition → Sited TypeDefinition → Bool
+is_other d e = not (bytes_eq d.node.name.text e.node.name.text)
+
+first_short : (ds : List (Sited TypeDefinition)) → length (first_definitions ds) ≤ length ds
+first_short [] = omega arith
+first_short (d ∷ ds) = omega (arith, first_short ds, filter_short (is_other d) (first_definitions ds))
+
+first_whole : (ds : List (Sited TypeDefinition)) → length (first_definitions ds) ≡ length ds → first_definitions ds ≡ ds
+first_whole [] e = refl
+first_whole (d ∷ ds) e =
+    let shorter = filter_short (is_other d) (first_definitions ds) in
+    let short = first_short ds in
+    let all : length (first_definitions ds) ≡ length ds = omega (arith, e, shorter, short) in
+    let kept : length (filter (is_other d) (first_definitions ds)) ≡ length (first_definitions ds) = omega (arith, e, shorter, short) in
+    ap (λ xs. d ∷ xs) (filter_whole (is_other d) (first_definitions ds) kept ∙ first_whole ds all)
+
+one_by : (q : List ℕ) (d : Sited TypeDefinition) (ds : List (Sited TypeDefinition)) (b : Bool) → bytes_eq q d.node.name.text ≡ b
+    → length (filter (is_named d.node.name.text) ds) ≡ 0 → length (filter (is_named q) ds) ≤ 1 → length (filter (is_named q) (d ∷ ds)) ≤ 1
+one_by q d ds true is none rest =
+    let same : q ≡ d.node.name.text = (bytes_eq-Decides q d.node.name.text).0 is in
+    let zero : length (filter (is_named q) ds) ≡ 0 = subst (λ z. length (filter (is_named z) ds) ≡ 0) (sym same) none in
+    rw is (omega (arith, zero))
+one_by q d ds false is none rest = rw is rest
+
+once : (q : List ℕ) (ds : List (Sited TypeDefinition)) → length (first_definitions ds) ≡ length ds → length (filter (is_named q) ds) ≤ 1
+once q [] e = omega arith
+once q (d ∷ ds) e =
+    let shorter = filter_short (is_other d) (first_definitions ds) in
+    let short = first_short ds in
+    let all : length (first_definitions ds) ≡ length ds = omega (arith, e, shorter, short) in
+    let kept : length (filter (is_other d) (first_definitions ds)) ≡ length (first_definitions ds) = omega (arith, e, shorter, short) in
+    let whole = first_whole ds all in
+    let none = none_pass (is_named d.node.name.text) ds (subst (λ xs. length (filter (is_other d) xs) ≡ length xs) whole kept) in
+    one_by q d ds (bytes_eq q d.node.name.text) refl none (once q ds all)
+
+-- ---- definitions of files
+
+abbrev names_one : Sited TypeDefinition → Bool
+names_one d = names_a_type d.node.name.text
+
+by_name : (file : Option (List ℕ)) (definition : TypeDefinition) (ds : List (Sited Tree)) (b : Bool) → names_a_type definition.name.text ≡ b → type_definitions ds ≡ filter names_one (types ds)
+    → type_in file (tree.Type definition) ++ type_definitions ds ≡ filter names_one (sited file (type_of (tree.Type definition)) ++ types ds)
+by_name file definition ds true is rest = rw is (ap (λ xs. record { file = file; node = definition } ∷ xs) rest)
+by_name file definition ds false is rest = rw is rest
+
+one_tree : (file : Option (List ℕ)) (t : Tree) (ds : List (Sited Tree)) → type_definitions ds ≡ filter names_one (types ds)
+    → type_in file t ++ type_definitions ds ≡ filter names_one (sited file (type_of t) ++ types ds)
+one_tree file (tree.Type definition) ds rest = by_name file definition ds (names_a_type definition.name.text) refl rest
+one_tree file (tree.Operation operation) ds rest = rest
+one_tree file (tree.Fragment fragment) ds rest = rest
+one_tree file (tree.Schema definition) ds rest = rest
+one_tree file (tree.Directive definition) ds rest = rest
+one_tree file (tree.SchemaExtension extension) ds rest = rest
+one_tree file (tree.TypeExtension extension) ds rest = rest
+
+in_files : (ds : List (Sited Tree)) → type_definitions ds ≡ filter names_one (types ds)
+in_files [] = refl
+in_files (d ∷ ds) = one_tree d.file d.node ds (in_files ds)
+
+count_built_in : length (type_definitions built_in) ≡ 12
+unfolding built_in scalars introspection type_kinds directive_locations directives skip include deprecated specified_by append type_in_words directive of_no_file word
+count_built_in = refl
+
+named_step : (q : List ℕ) (d : Sited TypeDefinition) (ds : List (Sited TypeDefinition)) (b : Bool) → bytes_eq q d.node.name.text ≡ b
+    → length (filter (λ (n : Sited Name). bytes_eq q n.node.text) (each (λ (x : TypeDefinition). x.name) ds)) ≡ length (filter (is_named q) ds)
+    → length (filter (λ (n : Sited Name). bytes_eq q n.node.text) (each (λ (x : TypeDefinition). x.name) (d ∷ ds))) ≡ length (filter (is_named q) (d ∷ ds))
+named_step q d ds true is rest = rw is (ap suc rest)
+named_step q d ds false is rest = rw is rest
+
+named_times : (q : List ℕ) (ds : List (Sited TypeDefinition)) → length (filter (λ (n : Sited Name). bytes_eq q n.node.text) (each (λ (x : TypeDefinition). x.name) ds)) ≡ length (filter (is_named q) ds)
+named_times q [] = refl
+named_times q (d ∷ ds) = named_step q d ds (bytes_eq q d.node.name.text) refl (named_times q ds)
+
+module _ (ds : List (Sited Tree)) (is : length (types ds) + 12 ≡ length (types_in (built_in ++ ds))) where
+  abbrev built : List (Sited TypeDefinition)
+  built = type_definitions built_in
+
+  joined : type_definitions (built_in ++ ds) ≡ built ++ type_definitions ds
+  joined = flat_map-append (λ (d : Sited Tree). type_in d.file d.node) built_in ds
+
+  in_all : length (type_definitions (built_in ++ ds)) ≡ 12 + length (type_definitions ds)
+  in_all = ap length joined ∙ length-append built (type_definitions ds) ∙ ap (λ n. n + length (type_definitions ds)) count_built_in
+
+  firsts : length (types_in (built_in ++ ds)) ≡ length (first_definitions (type_definitions (built_in ++ ds)))
+  firsts = length-map (first_definitions (type_definitions (built_in ++ ds))) (λ (d : Sited TypeDefinition). assembled d (extensions_of (type_extensions (built_in ++ ds)) d))
+
+  fewer : length (type_definitions ds) ≤ length (types ds)
+  fewer = subst (λ xs. length xs ≤ length (types ds)) (sym (in_files ds)) (filter_short names_one (types ds))
+
+  all_types : length (first_definitions (type_definitions (built_in ++ ds))) ≡ length (type_definitions (built_in ++ ds))
+  all_types = omega (arith, is, firsts, in_all, fewer, first_short (type_definitions (built_in ++ ds)))
+
+  no_float : length (filter names_one (types ds)) ≡ length (types ds)
+  no_float =
+      let same : length (type_definitions ds) ≡ length (filter names_one (types ds)) = ap length (in_files ds) in
+      omega (arith, is, firsts, in_all, fewer, same, first_short (type_definitions (built_in ++ ds)))
+
+  these : type_definitions ds ≡ types ds
+  these = in_files ds ∙ filter_whole names_one (types ds) no_float
+
+  -- each name of a type is defined once
+  pub defined_once : (q : List ℕ) → count_of q (each (λ (d : TypeDefinition). d.name) (types ds)) ≤ 1
+  defined_once q =
+      let all : length (filter (is_named q) (built ++ type_definitions ds)) ≤ 1 = subst (λ xs. length (filter (is_named q) xs) ≤ 1) joined (once q (type_definitions (built_in ++ ds)) all_types) in
+      let parts : length (filter (is_named q) (built ++ type_definitions ds)) ≡ length (filter (is_named q) built) + length (filter (is_named q) (type_definitions ds)) =
+      ap length (filter-append (is_named q) built (type_definitions ds)) ∙ length-append (filter (is_named q) built) (filter (is_named q) (type_definitions ds)) in
+      let same : length (filter (is_named q) (type_definitions ds)) ≡ length (filter (is_named q) (types ds)) = ap (λ xs. length (filter (is_named q) xs)) these in
+      let counted : length (filter (λ (n : Sited Name). bytes_eq q n.node.text) (each (λ (x : TypeDefinition). x.name) (types ds))) ≡ count_of q (each (λ (x : TypeDefinition). x.name) (types ds)) =
+      length-filter (λ (n : Sited Name). bytes_eq q n.node.text) (each (λ (x : TypeDefinition). x.name) (types ds)) in
+      omega (arith, all, parts, same, counted, named_times q (types ds))
