@@ -19,7 +19,9 @@ use Rattle.gql_readers.specs.Readers.{InReadingOrder, Reader}
 use Rattle.gql_readers.proofs.Merging.{pairs_head, pairs_none, pairs_tail}
 use Rattle.gql_readers.proofs.Reading.{pairs_map_from, pairs_map_to}
 use Rattle.gql_reads.proofs.Members.{Contains-map_from}
-use Rattle.gql_reads.specs.Observations.{Hold}
+use Rattle.gql_reads.specs.Leading.{AreLed}
+use Rattle.gql_reads.specs.Observations.{Hold, observed_in}
+use Rattle.gql_reads.specs.declared.observation.Observation.{Observation}
 use Rattle.gql_verdict.specs.FileOrder.{InFileOrder, IsBefore}
 use Rattle.gql_verdict.specs.Marks.{AreKept, AreNew, IsMarked, IsShelved, gone}
 use Rattle.gql_verdict.specs.Plans.{IsStep}
@@ -230,7 +232,8 @@ module _ (F : Facts) (kept : List Slot) (ds : List Definition) (steps : List Slo
                 o.1 k.0 k.1 (ap (λ (x : Reader). x.id) k.2 ∙ e ∙ sym (ap (λ (x : Reader). x.id) m.2)),
           )
         ];
-    holds = λ r c. let m = Contains-map_from reader_of (verdicts (map (resolve kept) steps)) r c in subst (λ (x : Reader). Hold F x.observations) m.2 (serve.holds m.0 m.1);
+    holds = λ r c. let m = Contains-map_from reader_of (verdicts (map (resolve kept) steps)) r c in subst (λ (x : Reader). Hold F (observed_in x.answers)) m.2 (subst (λ (os : List Observation). Hold F os) (serve.reads m.0 m.1).flat (serve.holds m.0 m.1));
+    led = λ r c. let m = Contains-map_from reader_of (verdicts (map (resolve kept) steps)) r c in subst (λ (x : Reader). AreLed x.answers) m.2 (serve.reads m.0 m.1).led;
   }
 
 -- ---- one step more
