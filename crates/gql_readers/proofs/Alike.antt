@@ -4,7 +4,6 @@ use Rattle.gql_facts.specs.declared.fact.Fact.{Fact}
 use Rattle.gql_facts.specs.declared.key.Key.{Key}
 use Rattle.gql_facts.specs.declared.key.Key.TheVariants as key
 use Rattle.gql_facts.specs.ListMembers.{Contains-there, Contains-cases, Contains-map, Contains-flat_map, Contains-flat_map_from}
-use Rattle.gql_facts.specs.Members.{Lists}
 use Rattle.gql_facts.specs.Worlds.{Facts}
 use Rattle.gql_reads.specs.Leading.{IsLed, LeadsTo, names_in}
 use Rattle.gql_reads.specs.Observations.{Hold, about, about_all, observed, observed_in}

@@ -1,4 +1,4 @@
-use Rattle.std.proofs.Common.{◌++◌, ◌∷◌, [], List, append-nil, subst, sym, take}
+use Rattle.std.proofs.Common.{◌++◌, List, append-nil, subst, sym, take}
 use Rattle.std.proofs.lemmas.List.{take_all}
 use Rattle.gql_reads.specs.declared.observation.Answer.{Answer}
 use Rattle.gql_readers.specs.Merged.{AreGoing}
