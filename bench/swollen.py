@@ -193,6 +193,20 @@ def input_chain(count):
         document("d", "".join("query O%d { f }" % n for n in range(count)))]
 
 
+def wide_inputs(count):
+    """So many operations, in 16 files, of two fields that have arguments of 7,000 input types."""
+    types = ["input I%x{a:Int}" % n for n in range(7000)]
+    arguments = [" ".join("a%x:I%x" % (n, n) for n in some) for some in (range(3500), range(3500, 7000))]
+    requests = [
+        request("PUT", "/schema/i%d" % k, "".join(types[k * 2400:(k + 1) * 2400])) for k in range(3)]
+    requests += [
+        request("PUT", "/schema/%s" % f, "extend type Query{%s(%s):Int}" % (f, some))
+        for f, some in zip("fg", arguments)]
+    return requests + [
+        document("d%d" % k, "".join("query O%d_%d{f g}" % (k, n) for n in range(count // 16)))
+        for k in range(16)]
+
+
 KINDS = {
     "chain": chain, "links": links, "links_first": links_first, "over": over, "aliases": aliases,
     "names": names, "spreads": spreads, "lower": lower, "equal": equal, "interfaces": interfaces,
@@ -200,7 +214,7 @@ KINDS = {
     "document_edits": document_edits, "moved": moved, "clashing": clashing, "faults": faults,
     "beside": beside, "faulty": faulty, "defaults": defaults,
     "variables": variables, "inner_variables": inner_variables,
-    "filters": filters, "inputs": inputs, "input_chain": input_chain,
+    "filters": filters, "inputs": inputs, "input_chain": input_chain, "wide_inputs": wide_inputs,
 }
 
 if __name__ == "__main__":

@@ -8,11 +8,15 @@ use Rattle.gql_facts.specs.declared.fact.FragmentFact.{FragmentFact}
 use Rattle.gql_facts.specs.declared.key.Key.{Key}
 use Rattle.gql_facts.specs.declared.key.Key.TheVariants as key
 use Rattle.gql_merge.specs.Between.{name_of}
+use Rattle.gql_reads.proofs.ObservedKeys.{about_each}
+use Rattle.gql_reads.proofs.Recorded.{about_key}
 use Rattle.gql_reads.proofs.Takes.{seen_more}
-use Rattle.gql_reads.specs.Observations.{Hold}
+use Rattle.gql_reads.specs.Observations.{Hold, about, about_all, observed, observed_in}
 use Rattle.gql_reads.specs.Readings.{own_name, seen_in}
 use Rattle.gql_reads.specs.Records.{Kept}
+use Rattle.gql_reads.specs.declared.observation.Answer.{Answer}
 use Rattle.gql_reads.specs.declared.observation.Observation.{Observation}
+use Rattle.gql_reads.specs.declared.observation.TypeAnswers.{TypeAnswers}
 use Rattle.gql_pairs.specs.Doubts.{AllHoldUndoubted, HoldUndoubted, in_doubt}
 use Rattle.gql_pairs.specs.Groups.{KeptGroup, pair_of}
 use Rattle.gql_pairs.specs.Tables.{AllHold}
@@ -35,20 +39,30 @@ nothing_doubted (key.FragmentOf n) = refl
 abbrev pub Undoubted : Doubt → List Observation → Type 0
 Undoubted d os = (o : Observation) → Contains os o → in_doubt d o.key ≡ false
 
-module _ (d : Doubt) (os : List Observation) (i : ℕ) (x : Observation) (lt : i < length os) (is : x ≡ get_or os i x) where
-  pub undoubted_more : Undoubted d (take i os) → in_doubt d x.key ≡ false → Undoubted d (take (i + 1) os)
-  undoubted_more before here o c = elim (seen_more os i x lt is o c) [
-    | inl s ↦ before o s
-    | inr e ↦ subst (λ (p : Observation). in_doubt d p.key ≡ false) e here
-  ]
+-- what was observed of a type is of no fragment
+type_undoubted : (names : List (List ℕ)) (t : TypeAnswers) (o : Observation) → Contains (about t) o → in_doubt (doubt.Fragments names) o.key ≡ false
+type_undoubted names t o c = about_each t.name (λ k. in_doubt (doubt.Fragments names) k ≡ false) refl refl refl refl o.key (about_key t o c)
+
+module _ (names : List (List ℕ)) (xs : List Answer) (i : ℕ) (x : Answer) (lt : i < length xs) (is : x ≡ get_or xs i x) where
+  pub undoubted_more : Undoubted (doubt.Fragments names) (observed_in (take i xs)) → in_doubt (doubt.Fragments names) x.observation.key ≡ false
+      → Undoubted (doubt.Fragments names) (observed_in (take (i + 1) xs))
+  undoubted_more before here o c =
+      let r = Contains-flat_map_from observed (take (i + 1) xs) o c in
+      elim (seen_more xs i x lt is r.0 r.1) [
+        | inl s ↦ before o (Contains-flat_map observed (take i xs) r.0 o s r.2)
+        | inr e ↦ elim (Contains-cases o x.observation (about_all x.types) (subst (λ (a : Answer). Contains (observed a) o) (sym e) r.2)) [
+          | inl q ↦ subst (λ (p : Observation). in_doubt (doubt.Fragments names) p.key ≡ false) (sym q) here
+          | inr t ↦ let m = Contains-flat_map_from about x.types o t in type_undoubted names m.0 o m.2
+        ]
+      ]
 
 module _ (d : Doubt) (parts : List Kept) (i : ℕ) (p : Kept) (lt : i < length parts) (is : p ≡ get_or parts i p) where
-  pub undoubted_part : Undoubted d (seen_in (take i parts)) → Undoubted d p.seen → Undoubted d (seen_in (take (i + 1) parts))
+  pub undoubted_part : Undoubted d (seen_in (take i parts)) → Undoubted d (observed_in p.seen) → Undoubted d (seen_in (take (i + 1) parts))
   undoubted_part before here o c =
-      let r = Contains-flat_map_from (λ (q : Kept). q.seen) (take (i + 1) parts) o c in
+      let r = Contains-flat_map_from (λ (q : Kept). observed_in q.seen) (take (i + 1) parts) o c in
       elim (seen_more parts i p lt is r.0 r.1) [
-        | inl s ↦ before o (Contains-flat_map (λ (q : Kept). q.seen) (take i parts) r.0 o s r.2)
-        | inr e ↦ here o (subst (λ (q : Kept). Contains q.seen o) (sym e) r.2)
+        | inl s ↦ before o (Contains-flat_map (λ (q : Kept). observed_in q.seen) (take i parts) r.0 o s r.2)
+        | inr e ↦ here o (subst (λ (q : Kept). Contains (observed_in q.seen) o) (sym e) r.2)
       ]
 
 -- the name, the own reads and the parts

@@ -10,22 +10,22 @@ use Rattle.gql_facts.specs.declared.fact.FragmentFact.{FragmentFact}
 use Rattle.gql_facts.specs.declared.key.Key.TheVariants as key
 use Rattle.gql_merge.specs.Between.{name_of}
 use Rattle.gql_reads.proofs.Takes.{seen_more}
-use Rattle.gql_reads.specs.Observations.{Hold, IsBroken}
+use Rattle.gql_reads.specs.Observations.{Hold, IsBroken, observed_in}
 use Rattle.gql_reads.specs.Readings.{own_name, seen_in}
 use Rattle.gql_reads.specs.Records.{Kept}
 use Rattle.gql_reads.specs.declared.observation.Observation.{Observation}
 
 -- the parts of a member
 module _ (F : Facts) (parts : List Kept) (i : ℕ) (p : Kept) (lt : i < length parts) (is : p ≡ get_or parts i p) where
-  pub part_broken : IsBroken F p.seen → IsBroken F (seen_in parts)
-  part_broken b = (b.0, Contains-flat_map (λ (q : Kept). q.seen) parts p b.0 (i, lt, sym is) b.1, b.2)
+  pub part_broken : IsBroken F (observed_in p.seen) → IsBroken F (seen_in parts)
+  part_broken b = (b.0, Contains-flat_map (λ (q : Kept). observed_in q.seen) parts p b.0 (i, lt, sym is) b.1, b.2)
 
-  pub part_more : Hold F (seen_in (take i parts)) → Hold F p.seen → Hold F (seen_in (take (i + 1) parts))
+  pub part_more : Hold F (seen_in (take i parts)) → Hold F (observed_in p.seen) → Hold F (seen_in (take (i + 1) parts))
   part_more before here o c =
-      let r = Contains-flat_map_from (λ (q : Kept). q.seen) (take (i + 1) parts) o c in
+      let r = Contains-flat_map_from (λ (q : Kept). observed_in q.seen) (take (i + 1) parts) o c in
       elim (seen_more parts i p lt is r.0 r.1) [
-        | inl s ↦ before o (Contains-flat_map (λ (q : Kept). q.seen) (take i parts) r.0 o s r.2)
-        | inr e ↦ here o (subst (λ (q : Kept). Contains q.seen o) (sym e) r.2)
+        | inl s ↦ before o (Contains-flat_map (λ (q : Kept). observed_in q.seen) (take i parts) r.0 o s r.2)
+        | inr e ↦ here o (subst (λ (q : Kept). Contains (observed_in q.seen) o) (sym e) r.2)
       ]
 
 pub parts_all : (F : Facts) (parts : List Kept) (i : ℕ) → length parts ≤ i → Hold F (seen_in (take i parts)) → Hold F (seen_in parts)

@@ -22,7 +22,7 @@ use crate::table::PairTable;
 use gql_ast::{Definition, Shared};
 use gql_facts::{FragmentFact, World};
 use gql_merge::spread_sets;
-use gql_reads::{KeptParts, KnownAnswers, ReadTable};
+use gql_reads::{KeptParts, ReadTable};
 use std::alloc::{AllocError, Global};
 
 /// The group of these members, which are those of some fragments. If nothing is bad between any two
@@ -79,7 +79,6 @@ impl PairTable {
         world: &mut W,
         kept: &K,
         reads: &mut ReadTable,
-        known: &mut KnownAnswers,
         fragments: &[FragmentFact],
         are_clean: bool,
     ) -> Result<(), AllocError>
@@ -98,7 +97,7 @@ impl PairTable {
         ensures has { OnOk result (HasPairs self.new fragments.now) }
     {
         let groups = self.groups.as_slice();
-        let members = members_of(alloc, world, kept, groups, reads, known, fragments)?;
+        let members = members_of(alloc, world, kept, groups, reads, fragments)?;
         let group = group_of_members(alloc, world, members, are_clean)?;
         self.add(alloc, group)
     }
@@ -111,7 +110,6 @@ impl PairTable {
         world: &mut W,
         kept: &K,
         reads: &mut ReadTable,
-        known: &mut KnownAnswers,
         fragments: &[FragmentFact],
         at: usize,
     ) -> Result<(), AllocError>
@@ -133,7 +131,7 @@ impl PairTable {
     {
         let groups = self.groups.as_slice();
         let base = groups[at].get();
-        let members = grown_members(alloc, world, kept, groups, base, reads, known, fragments)?;
+        let members = grown_members(alloc, world, kept, groups, base, reads, fragments)?;
         let group = clean_group(alloc, members)?;
         self.replace(alloc, at, group)
     }
@@ -147,7 +145,6 @@ impl PairTable {
         world: &mut W,
         kept: &K,
         reads: &mut ReadTable,
-        known: &mut KnownAnswers,
         fragments: &[FragmentFact],
         are_clean: bool,
     ) -> Result<(), AllocError>
@@ -171,10 +168,10 @@ impl PairTable {
         if are_clean {
             let names = names_of(alloc, fragments)?;
             if let Some(at) = largest_base(self.groups.as_slice(), &names) {
-                return self.grow(alloc, world, kept, reads, known, fragments, at);
+                return self.grow(alloc, world, kept, reads, fragments, at);
             }
         }
-        self.cover_anew(alloc, world, kept, reads, known, fragments, are_clean)
+        self.cover_anew(alloc, world, kept, reads, fragments, are_clean)
     }
 
     /// Keeps an entry for each two of these fragments, and for each one with itself. If there is no
@@ -186,7 +183,6 @@ impl PairTable {
         world: &mut W,
         kept: &K,
         reads: &mut ReadTable,
-        known: &mut KnownAnswers,
         fragments: &[FragmentFact],
     ) -> Result<(), AllocError>
         requires holds { AllHold (W.facts world.old) self.old }
@@ -202,7 +198,7 @@ impl PairTable {
         ensures keeps { Keeps self.old self.new }
         ensures has { OnOk result (HasPairs self.new fragments.now) }
     {
-        self.cover_all(alloc, world, kept, reads, known, fragments, false)
+        self.cover_all(alloc, world, kept, reads, fragments, false)
     }
 
     /// As `cover`, if nothing is bad between any two of these fragments: nothing is searched.
@@ -212,7 +208,6 @@ impl PairTable {
         world: &mut W,
         kept: &K,
         reads: &mut ReadTable,
-        known: &mut KnownAnswers,
         fragments: &[FragmentFact],
     ) -> Result<(), AllocError>
         requires holds { AllHold (W.facts world.old) self.old }
@@ -229,7 +224,7 @@ impl PairTable {
         ensures keeps { Keeps self.old self.new }
         ensures has { OnOk result (HasPairs self.new fragments.now) }
     {
-        self.cover_all(alloc, world, kept, reads, known, fragments, true)
+        self.cover_all(alloc, world, kept, reads, fragments, true)
     }
 
     /// Keeps an entry for each two fragments that one selection set of a definition spreads, in any
@@ -243,7 +238,6 @@ impl PairTable {
         world: &mut W,
         kept: &K,
         reads: &mut ReadTable,
-        known: &mut KnownAnswers,
         definition: &Definition,
         members: &[FragmentFact],
         is_clean: bool,
@@ -270,7 +264,7 @@ impl PairTable {
         let sets = spread_sets(alloc, definition, members)?;
         for set in sets.as_slice() {
             let fragments = set.fragments.as_slice();
-            self.cover_all(alloc, world, kept, reads, known, fragments, is_clean)?;
+            self.cover_all(alloc, world, kept, reads, fragments, is_clean)?;
         }
         Ok(())
     }

@@ -3,13 +3,14 @@ ghost use Rattle.std.specs.Prelude.{◌≡◌, Contains, bytes_eq, false, find, 
 ghost use Rattle.gql_facts.specs.declared.key.Key.{Key as AKey};
 ghost use Rattle.gql_pairs.specs.Doubts as spec;
 ghost use Rattle.gql_pairs.specs.declared.doubt.Doubt.TheVariants as doubted;
+ghost use Rattle.gql_reads.specs.Observations.{observed_in};
 ghost use Rattle.gql_reads.specs.Readings.{seen_in};
 ghost use Rattle.gql_reads.specs.declared.observation.Observation.{Observation as AnObservation};
 
 use crate::member::Member;
 use gql_ast::{Shared, Text};
 use gql_facts::Key;
-use gql_reads::{Observation, Part};
+use gql_reads::{Answer, Part};
 use gql_types::Named;
 
 /// Which answers may have changed: all, or only those for the fragments of these names.
@@ -59,13 +60,14 @@ fn is_of_one(key: &Key, names: &Named<Text>) -> bool
     }
 }
 
-/// Whether one of these observations is of a fragment of one of these names.
-fn has_one(observations: &[Shared<Observation>], names: &Named<Text>) -> bool
-    ensures { result ≡ false → (o : AnObservation) → Contains observations.now o
+/// Whether one of these answers is of a fragment of one of these names. What they observed of types is
+/// of none.
+fn has_one(answers: &[Shared<Answer>], names: &Named<Text>) -> bool
+    ensures { result ≡ false → (o : AnObservation) → Contains (observed_in answers.now) o
         → spec.in_doubt (doubted.Fragments names.now) o.key ≡ false }
 {
-    for observation in observations {
-        if is_of_one(&observation.get().key, names) {
+    for answer in answers {
+        if is_of_one(&answer.get().observation.key, names) {
             return true;
         }
     }
@@ -78,7 +80,7 @@ fn parts_have_one(parts: &[Part], names: &Named<Text>) -> bool
         → spec.in_doubt (doubted.Fragments names.now) o.key ≡ false }
 {
     for part in parts {
-        if has_one(part.seen().get().observations(), names) {
+        if has_one(part.seen().get().answers(), names) {
             return true;
         }
     }
@@ -95,7 +97,7 @@ fn member_has_one(member: &Member, names: &Named<Text>) -> bool
     if is_one(name, names) {
         return true;
     }
-    if has_one(reading.own.record.get().observations(), names) {
+    if has_one(reading.own.record.get().answers(), names) {
         return true;
     }
     parts_have_one(reading.parts.as_slice(), names)

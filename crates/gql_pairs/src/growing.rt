@@ -15,7 +15,7 @@ use crate::member::Member;
 use crate::members::member_for;
 use gql_ast::{Shared, Text};
 use gql_facts::{FragmentFact, World};
-use gql_reads::{KeptParts, KnownAnswers, ReadTable};
+use gql_reads::{KeptParts, ReadTable};
 use indexmap::IndexSet;
 use std::alloc::{AllocError, Global};
 
@@ -77,7 +77,6 @@ fn add_other<W: World, K: KeptParts>(
     groups: &[Shared<Group>],
     base: &Group,
     reads: &mut ReadTable,
-    known: &mut KnownAnswers,
     fragment: &FragmentFact,
     members: &mut Vec<Member>,
 ) -> Result<(), AllocError>
@@ -95,7 +94,7 @@ fn add_other<W: World, K: KeptParts>(
     if base.has_name(fragment.fragment.get().name.as_str()) {
         return Ok(());
     }
-    members.push(member_for(alloc, world, kept, groups, reads, known, fragment)?)?;
+    members.push(member_for(alloc, world, kept, groups, reads, fragment)?)?;
     Ok(())
 }
 
@@ -107,7 +106,6 @@ pub fn grown_members<W: World, K: KeptParts>(
     groups: &[Shared<Group>],
     base: &Group,
     reads: &mut ReadTable,
-    known: &mut KnownAnswers,
     fragments: &[FragmentFact],
 ) -> Result<Vec<Member>, AllocError>
     requires groups { table.AllHold (W.facts world.old) groups.now }
@@ -138,7 +136,6 @@ pub fn grown_members<W: World, K: KeptParts>(
             groups,
             base,
             reads,
-            known,
             fragment,
             &mut members,
         )?;

@@ -6,48 +6,10 @@ ghost use Rattle.gql_reads.specs.Observations.{Hold, IsBroken};
 ghost use Rattle.gql_reads.specs.Readings.{seen_in};
 
 use crate::member::Member;
-use gql_ast::{Same, Shared};
+use gql_ast::Same;
 use gql_facts::{Fact, FragmentFact, Key, World};
-use gql_reads::{Observation, Part};
+use gql_reads::{Part, answers_hold};
 use std::alloc::{AllocError, Global};
-
-/// Whether a world still gives this answer.
-fn is_as_observed<W: World>(
-    alloc: Global,
-    world: &mut W,
-    observation: &Observation,
-) -> Result<bool, AllocError>
-    ensures facts { W.facts world.new ≡ W.facts world.old }
-    ensures names { W.names world.new ≡ W.names world.old }
-    ensures lent { W.lent world.new ≡ W.lent world.old }
-    ensures answer { IfOk result (λ is_same.
-        IsTrue is_same ↔ (W.facts world.old observation.now.key ≡ observation.now.fact)) }
-{
-    let fact = world.fact(alloc, &observation.key)?;
-    Ok(fact.same(&observation.fact))
-}
-
-/// Whether a world still gives these answers.
-fn observations_hold<W: World>(
-    alloc: Global,
-    world: &mut W,
-    observations: &[Shared<Observation>],
-) -> Result<bool, AllocError>
-    ensures facts { W.facts world.new ≡ W.facts world.old }
-    ensures names { W.names world.new ≡ W.names world.old }
-    ensures lent { W.lent world.new ≡ W.lent world.old }
-    ensures answer { IfOk result (λ hold. MatchBool hold
-        (Hold (W.facts world.old) observations.now)
-        (IsBroken (W.facts world.old) observations.now)) }
-{
-    for observation in observations {
-        let is_same = is_as_observed(alloc, world, observation.get())?;
-        if !is_same {
-            return Ok(false);
-        }
-    }
-    Ok(true)
-}
 
 /// Whether an answer is this fragment.
 fn is_fragment(fact: &Fact, fragment: &FragmentFact) -> bool
@@ -86,7 +48,7 @@ fn parts_hold<W: World>(alloc: Global, world: &mut W, parts: &[Part]) -> Result<
         (IsBroken (W.facts world.old) (seen_in parts.now))) }
 {
     for part in parts {
-        let hold = observations_hold(alloc, world, part.seen().get().observations())?;
+        let hold = answers_hold(alloc, world, part.seen().get().answers())?;
         if !hold {
             return Ok(false);
         }
@@ -112,7 +74,7 @@ pub fn member_holds<W: World>(
     if !is_named {
         return Ok(false);
     }
-    let own = observations_hold(alloc, world, reading.own.record.get().observations())?;
+    let own = answers_hold(alloc, world, reading.own.record.get().answers())?;
     if !own {
         return Ok(false);
     }

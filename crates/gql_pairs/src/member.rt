@@ -9,7 +9,7 @@ ghost use Rattle.gql_pairs.specs.Fragments.{KeptFragment};
 
 use gql_ast::{Definition, Shared, Tree};
 use gql_facts::{FragmentFact, World};
-use gql_reads::{KeptParts, KnownAnswers, ReadTable, Reading, reads_of};
+use gql_reads::{KeptParts, ReadTable, Reading, reads_of};
 use gql_types::HasName;
 use std::alloc::{AllocError, Global};
 use std::marker::Model;
@@ -109,7 +109,6 @@ pub fn member_of<W: World, K: KeptParts>(
     world: &mut W,
     kept: &K,
     reads: &mut ReadTable,
-    known: &mut KnownAnswers,
     fragment: &FragmentFact,
 ) -> Result<Member, AllocError>
     requires holds { AllHold (W.facts world.old) reads.old }
@@ -124,7 +123,7 @@ pub fn member_of<W: World, K: KeptParts>(
     ensures certificate { IfOk result spec.IsCertified }
 {
     let definition = as_definition(fragment)?;
-    let read = reads_of(alloc, world, kept, reads, known, &definition)?;
+    let read = reads_of(alloc, world, kept, reads, &definition)?;
     let reading = Shared::new(alloc, read)?;
     let fragment = fragment.copy()?;
     Ok(Member { fragment, reading })

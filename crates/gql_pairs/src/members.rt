@@ -12,7 +12,7 @@ use crate::group::Group;
 use crate::member::{Member, member_of};
 use gql_ast::Shared;
 use gql_facts::{FragmentFact, World};
-use gql_reads::{KeptParts, KnownAnswers, ReadTable};
+use gql_reads::{KeptParts, ReadTable};
 use std::alloc::{AllocError, Global};
 
 /// The member of this name in one of these groups.
@@ -36,7 +36,6 @@ pub fn member_for<W: World, K: KeptParts>(
     kept: &K,
     groups: &[Shared<Group>],
     reads: &mut ReadTable,
-    known: &mut KnownAnswers,
     fragment: &FragmentFact,
 ) -> Result<Member, AllocError>
     requires groups { table.AllHold (W.facts world.old) groups.now }
@@ -54,7 +53,7 @@ pub fn member_for<W: World, K: KeptParts>(
     if let Some(member) = known_member(groups, fragment.fragment.get().name.as_str()) {
         return member.copy();
     }
-    member_of(alloc, world, kept, reads, known, fragment)
+    member_of(alloc, world, kept, reads, fragment)
 }
 
 /// The members for these fragments, each of which is the one of its name. They share what groups
@@ -65,7 +64,6 @@ pub fn members_of<W: World, K: KeptParts>(
     kept: &K,
     groups: &[Shared<Group>],
     reads: &mut ReadTable,
-    known: &mut KnownAnswers,
     fragments: &[FragmentFact],
 ) -> Result<Vec<Member>, AllocError>
     requires groups { table.AllHold (W.facts world.old) groups.now }
@@ -84,7 +82,7 @@ pub fn members_of<W: World, K: KeptParts>(
 {
     let mut members = Vec::with_capacity(alloc, fragments.len())?;
     for fragment in fragments {
-        members.push(member_for(alloc, world, kept, groups, reads, known, fragment)?)?;
+        members.push(member_for(alloc, world, kept, groups, reads, fragment)?)?;
     }
     Ok(members)
 }

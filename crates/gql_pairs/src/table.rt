@@ -12,7 +12,7 @@ ghost use Rattle.gql_reads.specs.Observations.{Hold, keys_of};
 use crate::group::{Group, PairBad};
 use gql_ast::{Definition, Same, Shared, Tree};
 use gql_facts::{FragmentFact, World};
-use gql_reads::{KnownAnswers, NoParts, ReadTable};
+use gql_reads::{NoParts, ReadTable};
 use std::alloc::{AllocError, Global};
 use std::marker::Model;
 
@@ -204,13 +204,11 @@ impl PairTable {
         let other = second.fragment.get().name.text.copy()?;
         let both = both_of(alloc, first, second)?;
         let mut reads = ReadTable::new(alloc);
-        let mut known = KnownAnswers::new(alloc);
         self.cover(
             alloc,
             world,
             &NoParts {},
             &mut reads,
-            &mut known,
             both.as_slice(),
         )?;
         let found = self.get(alloc, name.as_str(), other.as_str())?;

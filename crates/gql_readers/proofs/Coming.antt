@@ -1,5 +1,5 @@
 -- One observation more of the reader that came last, or of the one that went last.
-use Rattle.std.proofs.Common.{◌||◌, true, ◌≡◌, inl, inr, List, [], ◌∷◌, ◌++◌, ◌+◌, ◌<◌, ℕ, ap, append-nil, append_assoc, get_or, length, refl, sym, subst, take, ◌∙◌, Contains}
+use Rattle.std.proofs.Common.{flat_map, ◌||◌, true, ◌≡◌, inl, inr, List, [], ◌∷◌, ◌++◌, ◌+◌, ◌<◌, ℕ, ap, append-nil, append_assoc, get_or, length, refl, sym, subst, take, ◌∙◌, Contains}
 use Rattle.std.proofs.lemmas.List.{take_more}
 use Rattle.std.proofs.lemmas.List.Elements.{Contains-append_left, Contains-append_right, Contains-append_cases, Contains-push}
 use Rattle.std.specs.List.{list_any}
@@ -8,31 +8,28 @@ use Rattle.indexmap.specs.IndexSet.{insert_key}
 use Rattle.gql_ast.specs.declared.definition.DefinitionId.{DefinitionId}
 use Rattle.gql_facts.specs.Keys.{is_key, is_key_decides}
 use Rattle.gql_facts.specs.ListMembers.{Contains-nil, Contains-here, Contains-cases, Contains-map, either}
-use Rattle.gql_facts.specs.declared.fact.Fact.{Fact}
+use Rattle.gql_reads.specs.declared.observation.Answer.{Answer}
 use Rattle.gql_facts.specs.declared.key.Key.{Key}
-use Rattle.gql_reads.specs.Observations.{keys_of}
-use Rattle.gql_reads.specs.Readings.{seen_in}
 use Rattle.gql_reads.specs.Records.{Kept}
-use Rattle.gql_reads.specs.declared.observation.Observation.{Observation}
 use Rattle.gql_readers.specs.Changes.{AreNotes, IsNew, Noted, Notes, WasTold, noted_of}
 use Rattle.gql_reads.proofs.Members.{Contains-map_from}
 use Rattle.gql_reads.proofs.Takes.{inserted_cases}
 use Rattle.gql_readers.specs.Merged.{AreSeen, NotesAt, come_noted, go_noted, noted_or}
-use Rattle.gql_readers.specs.Readers.{Reader, observes, readers_of, with_reader}
+use Rattle.gql_readers.specs.Readers.{Reader, keys_in, observes, readers_of, with_reader}
 use Rattle.gql_readers.proofs.Reading.{observes_has}
 use Rattle.gql_readers.proofs.Noting.{any_more, begun, or_false, fresh_of, list_more, list_stays, one_more, told_all, told_gone, told_step}
 
-abbrev reader : DefinitionId → List Observation → Reader
-reader id os = record { id = id; observations = os }
+abbrev reader : DefinitionId → List Answer → Reader
+reader id os = record { id = id; answers = os }
 
 -- a reader that has observed more was told what it was told
-told_wider : (others : List Reader) (id : DefinitionId) (os : List Observation) (o : Observation) (k : Key) (f : Fact)
+told_wider : (others : List Reader) (id : DefinitionId) (os : List Answer) (o : Answer) (k : Key) (f : Answer)
     → WasTold (with_reader others id os) k f → WasTold (with_reader others id (os ++ o ∷ [])) k f
 told_wider others id os o k f t = elim (Contains-append_cases others (reader id os ∷ []) t.0 t.2) [
   | inl a ↦ (t.0, t.1, Contains-append_left others (reader id (os ++ o ∷ []) ∷ []) t.0 a, t.3, t.4, t.5)
   | inr b ↦ elim (Contains-cases t.0 (reader id os) [] b) [
     | inl e ↦
-        let m : Contains os t.1 = subst (λ (r : Reader). Contains r.observations t.1) e t.3 in (
+        let m : Contains os t.1 = subst (λ (r : Reader). Contains r.answers t.1) e t.3 in (
           reader id (os ++ o ∷ []),
           t.1,
           Contains-append_right others (reader id (os ++ o ∷ []) ∷ []) (reader id (os ++ o ∷ [])) (Contains-here (reader id (os ++ o ∷ [])) []),
@@ -45,14 +42,14 @@ told_wider others id os o k f t = elim (Contains-append_cases others (reader id 
 ]
 
 -- a key that was observed is observed no more than it was
-observed_again : (id : DefinitionId) (os : List Observation) (o : Observation) (k : Key) → Contains (keys_of os) o.key
+observed_again : (id : DefinitionId) (os : List Answer) (o : Answer) (k : Key) → Contains (keys_in os) o.observation.key
     → observes k (reader id os) ≡ observes k (reader id (os ++ o ∷ []))
 observed_again id os o k has =
-    let p = λ (q : Observation). is_key q.key k in
-    elim (either (is_key o.key k)) [
+    let p = λ (q : Answer). is_key q.observation.key k in
+    elim (either (is_key o.observation.key k)) [
       | inl t ↦
-          let s : o.key ≡ k = (is_key_decides o.key k).0 t in
-          let m = Contains-map_from (λ (q : Observation). q.key) os o.key has in
+          let s : o.observation.key ≡ k = (is_key_decides o.observation.key k).0 t in
+          let m = Contains-map_from (λ (q : Answer). q.observation.key) os o.observation.key has in
           observes_has k (reader id os) m.0 m.1 (m.2 ∙ s) ∙ sym (observes_has k (reader id (os ++ o ∷ [])) o (Contains-push os o) s)
       | inr f ↦ sym (any_more p os o ∙ ap (λ b. list_any p os || b) f ∙ or_false (list_any p os))
     ]
@@ -63,98 +60,102 @@ module _ (id : DefinitionId) (others : List Reader) where
   come_none notes going are = record {
     comes = λ k. are.comes k ∙ sym (one_more k others (reader id []) ∙ append-nil (readers_of k others));
     goes = are.goes;
-    facts = told_all notes others (reader id []) are.facts;
+    answers = told_all notes others (reader id []) are.answers;
   }
 
   pub go_none : (notes : Notes) (coming : List Reader) → AreNotes notes coming others → AreNotes notes coming (with_reader others id [])
   go_none notes coming are = record {
     comes = are.comes;
     goes = λ k. are.goes k ∙ sym (one_more k others (reader id []) ∙ append-nil (readers_of k others));
-    facts = are.facts;
+    answers = are.answers;
   }
 
   -- an observation of a key that the reader has observed
-  module _ (notes : Notes) (os : List Observation) (o : Observation) where
+  module _ (notes : Notes) (os : List Answer) (o : Answer) where
     abbrev again : Reader
     again = reader id (os ++ o ∷ [])
 
-    pub come_again : (going : List Reader) → Contains (keys_of os) o.key → AreNotes notes (with_reader others id os) going → AreNotes notes (with_reader others id (os ++ o ∷ [])) going
+    pub come_again : (going : List Reader) → Contains (keys_in os) o.observation.key → AreNotes notes (with_reader others id os) going → AreNotes notes (with_reader others id (os ++ o ∷ [])) going
     come_again going has are = record {
       comes = λ k. are.comes k ∙ one_more k others (reader id os) ∙ ap (begun (readers_of k others) id) (observed_again id os o k has) ∙ sym (one_more k others again);
       goes = are.goes;
-      facts = λ k m e some. told_wider others id os o k m.fact (are.facts k m e some);
+      answers = λ k m e some. told_wider others id os o k m.answer (are.answers k m e some);
     }
 
-    pub go_again : (coming : List Reader) → Contains (keys_of os) o.key → AreNotes notes coming (with_reader others id os) → AreNotes notes coming (with_reader others id (os ++ o ∷ []))
+    pub go_again : (coming : List Reader) → Contains (keys_in os) o.observation.key → AreNotes notes coming (with_reader others id os) → AreNotes notes coming (with_reader others id (os ++ o ∷ []))
     go_again coming has are = record {
       comes = are.comes;
       goes = λ k. are.goes k ∙ one_more k others (reader id os) ∙ ap (begun (readers_of k others) id) (observed_again id os o k has) ∙ sym (one_more k others again);
-      facts = are.facts;
+      answers = are.answers;
     }
 
   -- one observation more
-  module _ (fresh : IsNew id others) (old new : Notes) (os : List Observation) (o : Observation) where
+  module _ (fresh : IsNew id others) (old new : Notes) (os : List Answer) (o : Answer) where
     abbrev more : Reader
     more = reader id (os ++ o ∷ [])
 
-    pub come_one : (going : List Reader) → NotesAt old new o.key (come_noted (noted_or o.fact (noted_of old o.key)) o.fact id)
+    pub come_one : (going : List Reader) → NotesAt old new o.observation.key (come_noted (noted_or o (noted_of old o.observation.key)) o id)
         → AreNotes old (with_reader others id os) going → AreNotes new (with_reader others id (os ++ o ∷ [])) going
     come_one going at are =
-        let n = come_noted (noted_or o.fact (noted_of old o.key)) o.fact id in
+        let n = come_noted (noted_or o (noted_of old o.observation.key)) o id in
         record {
           comes = λ k. list_more (λ (m : Noted). m.comes) (λ x. refl) old new (λ j. readers_of j others) id (fresh_of others id fresh) os o
               (λ j. are.comes j ∙ one_more j others (reader id os)) n at refl k ∙ sym (one_more k others more);
-          goes = λ k. list_stays (λ (m : Noted). m.goes) (λ x. refl) old new o.key o.fact n at refl k ∙ are.goes k;
-          facts = told_step old new (with_reader others id (os ++ o ∷ [])) more o id (Contains-append_right others (more ∷ []) more (Contains-here more []))
-              (Contains-push os o) at (λ k m e some. told_wider others id os o k m.fact (are.facts k m e some));
+          goes = λ k. list_stays (λ (m : Noted). m.goes) (λ x. refl) old new o.observation.key o n at refl k ∙ are.goes k;
+          answers = told_step old new (with_reader others id (os ++ o ∷ [])) more o id (Contains-append_right others (more ∷ []) more (Contains-here more []))
+              (Contains-push os o) at (λ k m e some. told_wider others id os o k m.answer (are.answers k m e some));
         }
 
-    pub go_one : (coming : List Reader) → NotesAt old new o.key (go_noted (noted_or o.fact (noted_of old o.key)) id)
+    pub go_one : (coming : List Reader) → NotesAt old new o.observation.key (go_noted (noted_or o (noted_of old o.observation.key)) id)
         → AreNotes old coming (with_reader others id os) → AreNotes new coming (with_reader others id (os ++ o ∷ []))
     go_one coming at are =
-        let n = go_noted (noted_or o.fact (noted_of old o.key)) id in
+        let n = go_noted (noted_or o (noted_of old o.observation.key)) id in
         record {
-          comes = λ k. list_stays (λ (m : Noted). m.comes) (λ x. refl) old new o.key o.fact n at refl k ∙ are.comes k;
+          comes = λ k. list_stays (λ (m : Noted). m.comes) (λ x. refl) old new o.observation.key o n at refl k ∙ are.comes k;
           goes = λ k. list_more (λ (m : Noted). m.goes) (λ x. refl) old new (λ j. readers_of j others) id (fresh_of others id fresh) os o
               (λ j. are.goes j ∙ one_more j others (reader id os)) n at refl k ∙ sym (one_more k others more);
-          facts = told_gone old new coming o id at are.facts;
+          answers = told_gone old new coming o id at are.answers;
         }
 
 -- ---- how far a loop is
 
 -- one observation more, after those before
-pub more_seen : (before os : List Observation) (i : ℕ) (o : Observation) → i < length os → o ≡ get_or os i o
+pub more_seen : (before os : List Answer) (i : ℕ) (o : Answer) → i < length os → o ≡ get_or os i o
     → (before ++ take i os) ++ o ∷ [] ≡ before ++ take (i + 1) os
 more_seen before os i o lt is =
     append_assoc before (take i os) (o ∷ []) ∙ ap (λ l. before ++ l) (sym (take_more os i o lt ∙ ap (λ y. take i os ++ y ∷ []) (sym is)))
 
-seen_append : (a b : List Kept) → seen_in (a ++ b) ≡ seen_in a ++ seen_in b
+-- the answers of these parts
+abbrev pub answers_of : List Kept → List Answer
+answers_of ps = flat_map (λ (p : Kept). p.seen) ps
+
+seen_append : (a b : List Kept) → answers_of (a ++ b) ≡ answers_of a ++ answers_of b
 seen_append [] b = refl
-seen_append (p ∷ a) b = ap (λ l. p.seen ++ l) (seen_append a b) ∙ sym (append_assoc p.seen (seen_in a) (seen_in b))
+seen_append (p ∷ a) b = ap (λ l. p.seen ++ l) (seen_append a b) ∙ sym (append_assoc p.seen (answers_of a) (answers_of b))
 
 -- one part more
-pub more_parts : (own : List Observation) (ps : List Kept) (i : ℕ) (p : Kept) → i < length ps → p ≡ get_or ps i p
-    → (own ++ seen_in (take i ps)) ++ p.seen ≡ own ++ seen_in (take (i + 1) ps)
+pub more_parts : (own : List Answer) (ps : List Kept) (i : ℕ) (p : Kept) → i < length ps → p ≡ get_or ps i p
+    → (own ++ answers_of (take i ps)) ++ p.seen ≡ own ++ answers_of (take (i + 1) ps)
 more_parts own ps i p lt is =
-    append_assoc own (seen_in (take i ps)) p.seen
-    ∙ ap (λ l. own ++ l) (sym (ap seen_in (take_more ps i p lt ∙ ap (λ y. take i ps ++ y ∷ []) (sym is))
-    ∙ seen_append (take i ps) (p ∷ []) ∙ ap (λ l. seen_in (take i ps) ++ l) (append-nil p.seen)))
+    append_assoc own (answers_of (take i ps)) p.seen
+    ∙ ap (λ l. own ++ l) (sym (ap answers_of (take_more ps i p lt ∙ ap (λ y. take i ps ++ y ∷ []) (sym is))
+    ∙ seen_append (take i ps) (p ∷ []) ∙ ap (λ l. answers_of (take i ps) ++ l) (append-nil p.seen)))
 
 -- ---- keys that were observed
 
-pub seen_none : (os : List Observation) → AreSeen [] os
+pub seen_none : (os : List Answer) → AreSeen [] os
 seen_none os k c = absurd (Contains-nil k c)
 
 pub seen_has : (keys : List Key) (k : Key) → list_any (is_key k) keys ≡ true → Contains keys k
 seen_has keys k e = Contains-from_any (λ x y. (is_key_decides x y).0) k keys e
 
-pub seen_stays : (keys : List Key) (os : List Observation) (o : Observation) → AreSeen keys os → AreSeen keys (os ++ o ∷ [])
+pub seen_stays : (keys : List Key) (os : List Answer) (o : Answer) → AreSeen keys os → AreSeen keys (os ++ o ∷ [])
 seen_stays keys os o seen k c =
-    let m = Contains-map_from (λ (q : Observation). q.key) os k (seen k c) in
-    subst (Contains (keys_of (os ++ o ∷ []))) m.2 (Contains-map (λ (q : Observation). q.key) (os ++ o ∷ []) m.0 (Contains-append_left os (o ∷ []) m.0 m.1))
+    let m = Contains-map_from (λ (q : Answer). q.observation.key) os k (seen k c) in
+    subst (Contains (keys_in (os ++ o ∷ []))) m.2 (Contains-map (λ (q : Answer). q.observation.key) (os ++ o ∷ []) m.0 (Contains-append_left os (o ∷ []) m.0 m.1))
 
-pub seen_next : (keys new : List Key) (os : List Observation) (o : Observation) → new ≡ insert_key is_key keys o.key → AreSeen keys os → AreSeen new (os ++ o ∷ [])
-seen_next keys new os o is seen k c = elim (inserted_cases is_key keys o.key k (subst (λ (ks : List Key). Contains ks k) is c)) [
+pub seen_next : (keys new : List Key) (os : List Answer) (o : Answer) → new ≡ insert_key is_key keys o.observation.key → AreSeen keys os → AreSeen new (os ++ o ∷ [])
+seen_next keys new os o is seen k c = elim (inserted_cases is_key keys o.observation.key k (subst (λ (ks : List Key). Contains ks k) is c)) [
   | inl a ↦ seen_stays keys os o seen k a
-  | inr e ↦ subst (Contains (keys_of (os ++ o ∷ []))) (sym e) (Contains-map (λ (q : Observation). q.key) (os ++ o ∷ []) o (Contains-push os o))
+  | inr e ↦ subst (Contains (keys_in (os ++ o ∷ []))) (sym e) (Contains-map (λ (q : Answer). q.observation.key) (os ++ o ∷ []) o (Contains-push os o))
 ]

@@ -14,14 +14,14 @@ use Rattle.std.proofs.lemmas.List.Kept.{AllPairs-cons}
 use Rattle.gql_ast.specs.declared.definition.DefinitionId.{DefinitionId}
 use Rattle.gql_facts.specs.ListMembers.{Contains-nil, Contains-here, Contains-there, Contains-cases, Contains-map}
 use Rattle.gql_facts.specs.Worlds.{Facts}
-use Rattle.gql_facts.specs.declared.fact.Fact.{Fact}
+use Rattle.gql_reads.specs.declared.observation.Answer.{Answer}
 use Rattle.gql_facts.specs.declared.key.Key.{Key}
-use Rattle.gql_reads.specs.declared.observation.Observation.{Observation}
 use Rattle.gql_readers.specs.Changes.{AreNotes, IsEdit, Noted, Notes}
-use Rattle.gql_readers.specs.Indexes.{IsIndexOf, Reading}
-use Rattle.gql_readers.specs.Merged.{IsUnchanged, changed_key, edited, entry_if, fact_after, fact_by, here, index_after, key_of, made, readers_after, readers_found}
+use Rattle.gql_readers.specs.Indexes.{AreAlike, IsIndexOf, Reading}
+use Rattle.gql_readers.specs.Merged.{IsUnchanged, changed_key, edited, entry_if, answer_after, answer_by, here, index_after, key_of, made, readers_after, readers_found}
 use Rattle.gql_readers.specs.Orders.{AreInOrder, key_order}
 use Rattle.gql_readers.specs.Readers.{Reader, readers_of}
+use Rattle.gql_readers.proofs.Alike.{alike, answer_held}
 use Rattle.gql_readers.proofs.Merging.{about, here_from, here_has, merged_from, merged_keeps, merged_makes, merged_rises, not_less, pairs_head, pairs_none, pairs_one, pairs_tail}
 use Rattle.gql_readers.specs.OrderLaws.{key_exact, key_total}
 use Rattle.gql_readers.proofs.Reading.{about_id, edited_in_order, edited_readers, none_reads, observes_from, observes_has, reads_from, reads_has, reads_in_order, same_ids, same_readers, with_from, with_new, with_old, without_from, without_has}
@@ -76,18 +76,18 @@ one_entry (x ∷ es) up d e m n same =
       ]
     ]
 
-entry_from : (k : Key) (f : Fact) (ids : List DefinitionId) (y : Reading) → Contains (entry_if k f ids) y → (y.key ≡ k) × (y.readers ≡ ids)
+entry_from : (k : Key) (f : Answer) (ids : List DefinitionId) (y : Reading) → Contains (entry_if k f ids) y → (y.key ≡ k) × (y.readers ≡ ids)
 entry_from k f [] y m = absurd (Contains-nil y m)
-entry_from k f (id ∷ ids) y m = elim (Contains-cases y (record { key = k; fact = f; readers = id ∷ ids }) [] m) [
+entry_from k f (id ∷ ids) y m = elim (Contains-cases y (record { key = k; answer = f; readers = id ∷ ids }) [] m) [
   | inl e ↦ (ap (λ (z : Reading). z.key) e, ap (λ (z : Reading). z.readers) e)
   | inr t ↦ absurd (Contains-nil y t)
 ]
 
-entry_has : (k : Key) (f : Fact) (ids : List DefinitionId) (id : DefinitionId) → Contains ids id → (y : Reading) × Contains (entry_if k f ids) y × (y.key ≡ k) × (y.fact ≡ f)
+entry_has : (k : Key) (f : Answer) (ids : List DefinitionId) (id : DefinitionId) → Contains ids id → (y : Reading) × Contains (entry_if k f ids) y × (y.key ≡ k) × (y.answer ≡ f)
 entry_has k f [] id m = absurd (Contains-nil id m)
-entry_has k f (x ∷ ids) id m = (record { key = k; fact = f; readers = x ∷ ids }, Contains-here _ [], refl, refl)
+entry_has k f (x ∷ ids) id m = (record { key = k; answer = f; readers = x ∷ ids }, Contains-here _ [], refl, refl)
 
-entry_once : (k : Key) (f : Fact) (ids : List DefinitionId) → AllPairs (λ (x y : Reading). key_order (key_of x) (key_of y) ≡ Less) (entry_if k f ids)
+entry_once : (k : Key) (f : Answer) (ids : List DefinitionId) → AllPairs (λ (x y : Reading). key_order (key_of x) (key_of y) ≡ Less) (entry_if k f ids)
 entry_once k f [] = pairs_none (λ (x y : Reading). key_order (key_of x) (key_of y) ≡ Less)
 entry_once k f (id ∷ ids) = pairs_one (λ (x y : Reading). key_order (key_of x) (key_of y) ≡ Less) _
 
@@ -118,7 +118,7 @@ module _ (F : Facts) (es : List Reading) (notes : Notes) (old going coming new :
   found_readers : (k : Key) (found : List Reading) → ((e : Reading) → Contains found e → Contains es e × (e.key ≡ k)) → ((e : Reading) → Contains es e → e.key ≡ k → Contains found e) → readers_found found ≡ readers_of k old
   found_readers k [] from has = sym (none_reads k old (λ r c o.
       let x = observes_from k r o in
-      let e = index.facts r x.0 c x.1 in
+      let e = index.answers r x.0 c x.1 in
       Contains-nil e.0 (has e.0 e.1 (e.2 ∙ x.2))))
   found_readers k (e ∷ rest) from has = let f = from e (Contains-here e rest) in index.exact e f.0 ∙ ap (λ j. readers_of j old) f.1
 
@@ -135,63 +135,66 @@ module _ (F : Facts) (es : List Reading) (notes : Notes) (old going coming new :
   -- ---- answers
 
   -- what those had who come is what a new reader has
-  come_fact : (c : Key × Noted) → Contains notes c → c.1.comes ≢ [] → (r : Reader) (o : Observation) → Contains new r → Contains r.observations o → o.key ≡ c.0 → c.1.fact ≡ o.fact
-  come_fact c m some r o in_new n e =
-      let told = are.facts c.0 c.1 (noted_at notes sorted c m) some in
-      sym told.5 ∙ sym (edit.holds told.0 (edit.comes told.0 told.2) told.1 told.3) ∙ ap F (told.4 ∙ sym e) ∙ edit.holds r in_new o n
+  come_answer : (c : Key × Noted) → Contains notes c → c.1.comes ≢ [] → (r : Reader) (o : Answer) → Contains new r → Contains r.answers o → o.observation.key ≡ c.0 → AreAlike c.1.answer o
+  come_answer c m some r o in_new n e =
+      let told = are.answers c.0 c.1 (noted_at notes sorted c m) some in
+      let there = edit.comes told.0 told.2 in
+      subst (λ a. AreAlike a o) told.5
+      (alike F told.1 o (told.4 ∙ sym e) (answer_held F told.0.answers told.1 (edit.holds told.0 there) told.3) (answer_held F r.answers o (edit.holds r in_new) n)
+      (edit.led told.0 there told.1 told.3) (edit.led r in_new o n))
 
   -- a new reader of a key that nobody comes to had it before
-  was_old : (k : Key) → readers_of k coming ≡ [] → (r : Reader) (o : Observation) → Contains new r → Contains r.observations o → o.key ≡ k → Contains old r
+  was_old : (k : Key) → readers_of k coming ≡ [] → (r : Reader) (o : Answer) → Contains new r → Contains r.answers o → o.observation.key ≡ k → Contains old r
   was_old k none r o m n e = elim (edit.from r m) [
     | inl j ↦ absurd (no_reader (readers_of k coming) r.id none (reads_has k coming r j (observes_has k r o n e)))
     | inr s ↦ s.0
   ]
 
-  fact_comes : (comes : List DefinitionId) (come kept : Fact) (o : Observation) → (comes ≢ [] → come ≡ o.fact) → (comes ≡ [] → kept ≡ o.fact) → fact_by comes come kept ≡ o.fact
-  fact_comes [] come kept o some none = none refl
-  fact_comes (id ∷ ids) come kept o some none = some (λ e. let t : id ∷ ids ≡ [] = e in cc t)
+  answer_comes : (comes : List DefinitionId) (come kept : Answer) (o : Answer) → (comes ≢ [] → AreAlike come o) → (comes ≡ [] → AreAlike kept o) → AreAlike (answer_by comes come kept) o
+  answer_comes [] come kept o some none = none refl
+  answer_comes (id ∷ ids) come kept o some none = some (λ e. let t : id ∷ ids ≡ [] = e in cc t)
 
-  fact_found : (c : Key × Noted) → Contains notes c → (r : Reader) (o : Observation) → Contains new r → Contains r.observations o → o.key ≡ c.0
-      → (found : List Reading) → ((e : Reading) → Contains found e → Contains es e × (e.key ≡ c.0)) → ((e : Reading) → Contains es e → e.key ≡ c.0 → Contains found e) → fact_after found c.1 ≡ o.fact
-  fact_found c m r o in_new n e [] from has = come_fact c m (λ none.
+  answer_found : (c : Key × Noted) → Contains notes c → (r : Reader) (o : Answer) → Contains new r → Contains r.answers o → o.observation.key ≡ c.0
+      → (found : List Reading) → ((e : Reading) → Contains found e → Contains es e × (e.key ≡ c.0)) → ((e : Reading) → Contains es e → e.key ≡ c.0 → Contains found e) → AreAlike (answer_after found c.1) o
+  answer_found c m r o in_new n e [] from has = come_answer c m (λ none.
       let kept = was_old c.0 (sym (comes_are c m) ∙ none) r o in_new n e in
-      let f = index.facts r o kept n in
+      let f = index.answers r o kept n in
       Contains-nil f.0 (has f.0 f.1 (f.2 ∙ e))) r o in_new n e
-  fact_found c m r o in_new n e (d ∷ rest) from has = fact_comes c.1.comes c.1.fact d.fact o (λ some. come_fact c m some r o in_new n e)
+  answer_found c m r o in_new n e (d ∷ rest) from has = answer_comes c.1.comes c.1.answer d.answer o (λ some. come_answer c m some r o in_new n e)
       (λ none.
       let kept = was_old c.0 (sym (comes_are c m) ∙ none) r o in_new n e in
-      let f = index.facts r o kept n in
+      let f = index.answers r o kept n in
       let g = from d (Contains-here d rest) in
       let same : d ≡ f.0 = one_entry es index.order d f.0 g.0 f.1 (g.1 ∙ sym (f.2 ∙ e)) in
-      ap (λ (z : Reading). z.fact) same ∙ f.3)
+      subst (λ (z : Reading). AreAlike z.answer o) (sym same) f.3)
 
   pub index_then : IsIndexOf (index_after es notes) new
   index_then = record {
     order = merged_rises key_order key_total key_exact key_of changed_key made es notes sorted index.order
         (λ ys c. record {
-          place = λ y m. (entry_from c.0 (fact_after ys c.1) (readers_after (readers_found ys) c.1) y m).0;
-          once = entry_once c.0 (fact_after ys c.1) (readers_after (readers_found ys) c.1);
+          place = λ y m. (entry_from c.0 (answer_after ys c.1) (readers_after (readers_found ys) c.1) y m).0;
+          once = entry_once c.0 (answer_after ys c.1) (readers_after (readers_found ys) c.1);
         });
     exact = λ e m. elim (merged_from key_order key_total key_exact key_of changed_key made es notes sorted e m) [
       | inl o ↦ index.exact e o.0 ∙ same_readers F old going coming new edit e.key (nobody_comes e.key (λ c h q. o.1 c h (sym q))) (nobody_goes e.key (λ c h q. o.1 c h (sym q)))
       | inr o ↦
-          let f = entry_from o.0.0 (fact_after (here key_order key_of o.0.0 es) o.0.1) (readers_after (readers_found (here key_order key_of o.0.0 es)) o.0.1) e o.2 in
+          let f = entry_from o.0.0 (answer_after (here key_order key_of o.0.0 es) o.0.1) (readers_after (readers_found (here key_order key_of o.0.0 es)) o.0.1) e o.2 in
           f.1 ∙ readers_then o.0 o.1 ∙ ap (λ k. readers_of k new) (sym f.0)
     ];
-    facts = λ r o m n. elim (about key_order key_total key_exact changed_key notes o.key) [
+    answers = λ r o m n. elim (about key_order key_total key_exact changed_key notes o.observation.key) [
       | inl c ↦
           let found = here key_order key_of c.0.0 es in
           let ids = readers_after (readers_found found) c.0.1 in
           let there : Contains ids r.id = subst (λ zs. Contains zs r.id) (sym (readers_then c.0 c.1)) (reads_has c.0.0 new r m (observes_has c.0.0 r o n (sym c.2))) in
-          let y = entry_has c.0.0 (fact_after found c.0.1) ids r.id there in (
+          let y = entry_has c.0.0 (answer_after found c.0.1) ids r.id there in (
             y.0,
             merged_makes key_order key_total key_exact key_of changed_key made es notes sorted c.0 y.0 c.1 y.1,
             y.2 ∙ c.2,
-            y.3 ∙ fact_found c.0 c.1 r o m n (sym c.2) found (here_from key_order key_total key_exact key_of c.0.0 es) (here_has key_order key_total key_exact key_of c.0.0 es),
+            subst (λ a. AreAlike a o) (sym y.3) (answer_found c.0 c.1 r o m n (sym c.2) found (here_from key_order key_total key_exact key_of c.0.0 es) (here_has key_order key_total key_exact key_of c.0.0 es)),
           )
       | inr lacks ↦
-          let kept = was_old o.key (nobody_comes o.key lacks) r o m n refl in
-          let f = index.facts r o kept n in
+          let kept = was_old o.observation.key (nobody_comes o.observation.key lacks) r o m n refl in
+          let f = index.answers r o kept n in
           (f.0, merged_keeps key_order key_total key_exact key_of changed_key made es notes f.0 f.1 (λ c h q. lacks c h (sym q ∙ f.2)), f.2, f.3)
     ];
   }
@@ -222,16 +225,16 @@ edited_same ids cs up vp among =
       | inr n ↦ with_old rest cs vp z (without_has ids cs vp z c n) n
     ])
 
-abbrev entry_of : Key → Fact → List DefinitionId → Reading
-entry_of k f ids = record { key = k; fact = f; readers = ids }
+abbrev entry_of : Key → Answer → List DefinitionId → Reading
+entry_of k f ids = record { key = k; answer = f; readers = ids }
 
-entry_is : (e : Reading) (k : Key) (f : Fact) (ids : List DefinitionId) → e.key ≡ k → e.fact ≡ f → e.readers ≡ ids → ids ≢ [] → e ∷ [] ≡ entry_if k f ids
+entry_is : (e : Reading) (k : Key) (f : Answer) (ids : List DefinitionId) → e.key ≡ k → e.answer ≡ f → e.readers ≡ ids → ids ≢ [] → e ∷ [] ≡ entry_if k f ids
 entry_is e k f [] a b c n = absurd (n refl)
-entry_is e k f (x ∷ ids) a b c n = ap (λ j. entry_of j e.fact e.readers ∷ []) a ∙ ap (λ g. entry_of k g e.readers ∷ []) b ∙ ap (λ zs. entry_of k f zs ∷ []) c
+entry_is e k f (x ∷ ids) a b c n = ap (λ j. entry_of j e.answer e.readers ∷ []) a ∙ ap (λ g. entry_of k g e.readers ∷ []) b ∙ ap (λ zs. entry_of k f zs ∷ []) c
 
-fact_stays : (comes : List DefinitionId) (come kept : Fact) → kept ≡ come → kept ≡ fact_by comes come kept
-fact_stays [] come kept e = refl
-fact_stays (id ∷ ids) come kept e = e
+answer_stays : (comes : List DefinitionId) (come kept : Answer) → kept ≡ come → kept ≡ answer_by comes come kept
+answer_stays [] come kept e = refl
+answer_stays (id ∷ ids) come kept e = e
 
 pub unchanged_made : (found : List Reading) (c : Key × Noted) → IsUnchanged found c.1 → AreInOrder (readers_found found) → AreInOrder c.1.goes → ((id : DefinitionId) → Contains c.1.goes id → Contains (readers_found found) id)
     → ((e : Reading) → Contains found e → e.key ≡ c.0) → found ≡ made found c
@@ -240,9 +243,9 @@ unchanged_made found c u up vp among named =
     let readers : readers_found found ≡ e.readers = ap readers_found u.one in
     let after : readers_after (readers_found found) c.1 ≡ readers_found found = ap (λ cs. edited true (edited false (readers_found found) c.1.goes) cs) u.same ∙ edited_same (readers_found found) c.1.goes up vp among in
     let key : e.key ≡ c.0 = named e (subst (λ (zs : List Reading). Contains zs e) (sym u.one) (Contains-here e [])) in
-    let fact : e.fact ≡ fact_after found c.1 = fact_stays c.1.comes c.1.fact e.fact u.fact ∙ sym (ap (λ (zs : List Reading). fact_after zs c.1) u.one) in
+    let answer : e.answer ≡ answer_after found c.1 = answer_stays c.1.comes c.1.answer e.answer u.answer ∙ sym (ap (λ (zs : List Reading). answer_after zs c.1) u.one) in
     let some : readers_after (readers_found found) c.1 ≢ [] = λ none. not_none c.1.comes u.some (λ id h. Contains-nil id (subst (λ ids. Contains ids id) (sym after ∙ none) (among id (subst (λ ids. Contains ids id) u.same h)))) in
-    u.one ∙ entry_is e c.0 (fact_after found c.1) (readers_after (readers_found found) c.1) key fact (sym readers ∙ sym after) some
+    u.one ∙ entry_is e c.0 (answer_after found c.1) (readers_after (readers_found found) c.1) key answer (sym readers ∙ sym after) some
   where
     not_none : (ids : List DefinitionId) → ids ≢ [] → ((id : DefinitionId) → Contains ids id → ⊥) → ⊥
     not_none [] n lacks = n refl

@@ -34,7 +34,7 @@ readers_some es k e at rs index = index.exact e at.0 ∙ ap (λ j. readers_of j 
 pub readers_none : (es : List Reading) (k : Key) → ((e : Reading) → Contains es e → e.key ≡ k → ⊥) → (rs : List Reader) → IsIndexOf es rs → readers_of k rs ≡ []
 readers_none es k lacks rs index = none_reads k rs (λ r c o.
     let x = observes_from k r o in
-    let e = index.facts r x.0 c x.1 in
+    let e = index.answers r x.0 c x.1 in
     lacks e.0 e.1 (e.2 ∙ x.2))
 
 pub one_is : {A : Type 0} (xs : List A) (x : A) → length xs ≡ 1 → x ≡ get_or xs 0 x → xs ≡ x ∷ []

@@ -1,3 +1,4 @@
+pub mod Alike
 pub mod Coming
 pub mod Editing
 pub mod Found

@@ -15,11 +15,10 @@ use Rattle.std.proofs.lemmas.Slice.Eq.{bytes_eq-Decides}
 use Rattle.gql_ast.specs.declared.definition.DefinitionId.{DefinitionId}
 use Rattle.gql_facts.specs.Keys.{is_key, is_key_decides}
 use Rattle.gql_facts.specs.ListMembers.{Contains-here, Contains-there, either}
-use Rattle.gql_facts.specs.declared.fact.Fact.{Fact}
+use Rattle.gql_reads.specs.declared.observation.Answer.{Answer}
 use Rattle.gql_facts.specs.declared.key.Key.{Key}
-use Rattle.gql_reads.specs.declared.observation.Observation.{Observation}
 use Rattle.gql_readers.specs.Changes.{IsNew, Noted, Notes, WasTold, noted_of}
-use Rattle.gql_readers.specs.Merged.{NotesAt, come_noted, fact_by, go_noted, is_last, noted_or, nothing_noted, with_last}
+use Rattle.gql_readers.specs.Merged.{NotesAt, come_noted, answer_by, go_noted, is_last, noted_or, nothing_noted, with_last}
 use Rattle.gql_readers.specs.OrderLaws.{key_exact, key_total}
 use Rattle.gql_readers.specs.Orders.{is_id, key_order}
 use Rattle.gql_readers.specs.Readers.{Reader, observes, readers_of}
@@ -89,7 +88,7 @@ not_at j k e = elim (either (is_key j k)) [
 is_that : (j k : Key) → j ≡ k → is_key j k ≡ true
 is_that j k e = (is_key_decides j k).1 e
 
-pub any_more : (p : Observation → Bool) (os : List Observation) (o : Observation) → list_any p (os ++ o ∷ []) ≡ list_any p os || p o
+pub any_more : (p : Answer → Bool) (os : List Answer) (o : Answer) → list_any p (os ++ o ∷ []) ≡ list_any p os || p o
 any_more p os o = list_any-append p os (o ∷ []) ∙ ap (λ b. list_any p os || b) (or_none (p o)) where
   or_none : (b : Bool) → b || false ≡ b
   or_none true = refl
@@ -107,33 +106,33 @@ or_false false = refl
 abbrev list_in : (Noted → List DefinitionId) → Notes → Key → List DefinitionId
 list_in f notes k = option_map_or f (noted_of notes k) []
 
-or_list : (f : Noted → List DefinitionId) → ((x : Fact) → f (nothing_noted x) ≡ []) → (x : Fact) (o : Option Noted) → f (noted_or x o) ≡ option_map_or f o []
+or_list : (f : Noted → List DefinitionId) → ((x : Answer) → f (nothing_noted x) ≡ []) → (x : Answer) (o : Option Noted) → f (noted_or x o) ≡ option_map_or f o []
 or_list f none x None = none x
 or_list f none x (Some n) = refl
 
 -- one observation more, in the list of those who come, or of those who go
-pub list_more : (f : Noted → List DefinitionId) → ((x : Fact) → f (nothing_noted x) ≡ []) → (old new : Notes) (base : Key → List DefinitionId) (id : DefinitionId) → ((k : Key) → Contains (base k) id → ⊥)
-    → (os : List Observation) (o : Observation)
-    → ((k : Key) → list_in f old k ≡ begun (base k) id (list_any (λ (p : Observation). is_key p.key k) os))
-    → (n : Noted) → NotesAt old new o.key n → f n ≡ with_last (f (noted_or o.fact (noted_of old o.key))) id
-    → (k : Key) → list_in f new k ≡ begun (base k) id (list_any (λ (p : Observation). is_key p.key k) (os ++ o ∷ []))
+pub list_more : (f : Noted → List DefinitionId) → ((x : Answer) → f (nothing_noted x) ≡ []) → (old new : Notes) (base : Key → List DefinitionId) (id : DefinitionId) → ((k : Key) → Contains (base k) id → ⊥)
+    → (os : List Answer) (o : Answer)
+    → ((k : Key) → list_in f old k ≡ begun (base k) id (list_any (λ (p : Answer). is_key p.observation.key k) os))
+    → (n : Noted) → NotesAt old new o.observation.key n → f n ≡ with_last (f (noted_or o (noted_of old o.observation.key))) id
+    → (k : Key) → list_in f new k ≡ begun (base k) id (list_any (λ (p : Answer). is_key p.observation.key k) (os ++ o ∷ []))
 list_more f none old new base id fresh os o so_far n at made k =
-    let p = λ (q : Observation). is_key q.key k in
-    elim (either (is_at (key_order o.key) k)) [
+    let p = λ (q : Answer). is_key q.observation.key k in
+    elim (either (is_at (key_order o.observation.key) k)) [
       | inl t ↦
-          let s : o.key ≡ k = at_key o.key k t in
+          let s : o.observation.key ≡ k = at_key o.observation.key k t in
           let here : list_in f new k ≡ f n = ap (λ (z : Option Noted). option_map_or f z []) (at k ∙ ap (λ (b : Bool). cond b (Some n) (noted_of old k)) t) in
-          let before : f (noted_or o.fact (noted_of old o.key)) ≡ begun (base k) id (list_any p os) = or_list f none o.fact (noted_of old o.key) ∙ ap (λ z. list_in f old z) s ∙ so_far k in
+          let before : f (noted_or o (noted_of old o.observation.key)) ≡ begun (base k) id (list_any p os) = or_list f none o (noted_of old o.observation.key) ∙ ap (λ z. list_in f old z) s ∙ so_far k in
           here ∙ made ∙ ap (λ zs. with_last zs id) before ∙ last_added (base k) id (fresh k) (list_any p os)
-          ∙ ap (begun (base k) id) (sym (any_more p os o ∙ ap (λ b. list_any p os || b) (is_that o.key k s) ∙ or_true (list_any p os)))
+          ∙ ap (begun (base k) id) (sym (any_more p os o ∙ ap (λ b. list_any p os || b) (is_that o.observation.key k s) ∙ or_true (list_any p os)))
       | inr e ↦
           ap (λ (z : Option Noted). option_map_or f z []) (at k ∙ ap (λ (b : Bool). cond b (Some n) (noted_of old k)) e)
           ∙ so_far k
-          ∙ ap (begun (base k) id) (sym (any_more p os o ∙ ap (λ b. list_any p os || b) (not_at o.key k e) ∙ or_false (list_any p os)))
+          ∙ ap (begun (base k) id) (sym (any_more p os o ∙ ap (λ b. list_any p os || b) (not_at o.observation.key k e) ∙ or_false (list_any p os)))
     ]
 
 -- the other list stays
-pub list_stays : (f : Noted → List DefinitionId) → ((x : Fact) → f (nothing_noted x) ≡ []) → (old new : Notes) (key : Key) (x : Fact) (n : Noted) → NotesAt old new key n → f n ≡ f (noted_or x (noted_of old key)) → (k : Key) → list_in f new k ≡ list_in f old k
+pub list_stays : (f : Noted → List DefinitionId) → ((x : Answer) → f (nothing_noted x) ≡ []) → (old new : Notes) (key : Key) (x : Answer) (n : Noted) → NotesAt old new key n → f n ≡ f (noted_or x (noted_of old key)) → (k : Key) → list_in f new k ≡ list_in f old k
 list_stays f none old new key x n at same k = elim (either (is_at (key_order key) k)) [
   | inl t ↦
       let s : key ≡ k = at_key key k t in
@@ -157,53 +156,53 @@ fresh_of rs id new k c = let r = reads_from k rs id c in new r.0 r.1 r.2
 
 -- ---- answers
 
-told_more : (coming : List Reader) (r : Reader) (k : Key) (f : Fact) → WasTold coming k f → WasTold (coming ++ r ∷ []) k f
+told_more : (coming : List Reader) (r : Reader) (k : Key) (f : Answer) → WasTold coming k f → WasTold (coming ++ r ∷ []) k f
 told_more coming r k f t = (t.0, t.1, Contains-append_left coming (r ∷ []) t.0 t.2, t.3, t.4, t.5)
 
-told_here : (coming : List Reader) (r : Reader) (o : Observation) → Contains r.observations o → WasTold (coming ++ r ∷ []) o.key o.fact
+told_here : (coming : List Reader) (r : Reader) (o : Answer) → Contains r.answers o → WasTold (coming ++ r ∷ []) o.observation.key o
 told_here coming r o m = (r, o, Contains-append_right coming (r ∷ []) r (Contains-here r []), m, refl, refl)
 
 -- those who come to a key have had the answer that is noted of it
 abbrev pub AreTold : Notes → List Reader → Type 0
-AreTold notes readers = (k : Key) (n : Noted) → noted_of notes k ≡ Some n → n.comes ≢ [] → WasTold readers k n.fact
+AreTold notes readers = (k : Key) (n : Noted) → noted_of notes k ≡ Some n → n.comes ≢ [] → WasTold readers k n.answer
 
 pub told_all : (notes : Notes) (coming : List Reader) (r : Reader) → AreTold notes coming → AreTold notes (coming ++ r ∷ [])
-told_all notes coming r all k n e some = told_more coming r k n.fact (all k n e some)
+told_all notes coming r all k n e some = told_more coming r k n.answer (all k n e some)
 
 some_is : (x y : Noted) → Some x ≡ Some y → x ≡ y
 some_is x y e = cc e
 
-come_told_by : (cs : List DefinitionId) (readers : List Reader) (k : Key) (f g : Fact) → WasTold readers k g → (cs ≢ [] → WasTold readers k f) → WasTold readers k (fact_by cs f g)
+come_told_by : (cs : List DefinitionId) (readers : List Reader) (k : Key) (f g : Answer) → WasTold readers k g → (cs ≢ [] → WasTold readers k f) → WasTold readers k (answer_by cs f g)
 come_told_by [] readers k f g here before = here
 come_told_by (c ∷ cs) readers k f g here before = before (λ e. let t : c ∷ cs ≡ [] = e in cc t)
 
-come_told : (readers : List Reader) (o : Observation) (n : Noted) → WasTold readers o.key o.fact → (n.comes ≢ [] → WasTold readers o.key n.fact) → WasTold readers o.key (fact_by n.comes n.fact o.fact)
-come_told readers o n here before = come_told_by n.comes readers o.key n.fact o.fact here before
+come_told : (readers : List Reader) (o : Answer) (n : Noted) → WasTold readers o.observation.key o → (n.comes ≢ [] → WasTold readers o.observation.key n.answer) → WasTold readers o.observation.key (answer_by n.comes n.answer o)
+come_told readers o n here before = come_told_by n.comes readers o.observation.key n.answer o here before
 
-noted_told : (readers : List Reader) (k : Key) (x : Fact) (o : Option Noted) → ((n : Noted) → o ≡ Some n → n.comes ≢ [] → WasTold readers k n.fact) → (noted_or x o).comes ≢ [] → WasTold readers k (noted_or x o).fact
+noted_told : (readers : List Reader) (k : Key) (x : Answer) (o : Option Noted) → ((n : Noted) → o ≡ Some n → n.comes ≢ [] → WasTold readers k n.answer) → (noted_or x o).comes ≢ [] → WasTold readers k (noted_or x o).answer
 noted_told readers k x None all some = absurd (some refl)
 noted_told readers k x (Some n) all some = all n refl some
 
-pub told_step : (old new : Notes) (readers : List Reader) (r : Reader) (o : Observation) (id : DefinitionId) → Contains readers r → Contains r.observations o
-    → NotesAt old new o.key (come_noted (noted_or o.fact (noted_of old o.key)) o.fact id) → AreTold old readers → AreTold new readers
-told_step old new readers r o id cr co at all k n e some = elim (either (is_at (key_order o.key) k)) [
+pub told_step : (old new : Notes) (readers : List Reader) (r : Reader) (o : Answer) (id : DefinitionId) → Contains readers r → Contains r.answers o
+    → NotesAt old new o.observation.key (come_noted (noted_or o (noted_of old o.observation.key)) o id) → AreTold old readers → AreTold new readers
+told_step old new readers r o id cr co at all k n e some = elim (either (is_at (key_order o.observation.key) k)) [
   | inl t ↦
-      let s : o.key ≡ k = at_key o.key k t in
-      let m = noted_or o.fact (noted_of old o.key) in
-      let is : come_noted m o.fact id ≡ n = some_is (come_noted m o.fact id) n (sym (at k ∙ ap (λ (b : Bool). cond b (Some (come_noted m o.fact id)) (noted_of old k)) t) ∙ e) in
-      subst (λ (z : Key). WasTold readers z n.fact) s (subst (λ (z : Noted). WasTold readers o.key z.fact) is
-      (come_told readers o m (r, o, cr, co, refl, refl) (noted_told readers o.key o.fact (noted_of old o.key) (all o.key))))
-  | inr f ↦ all k n (sym (at k ∙ ap (λ (b : Bool). cond b (Some (come_noted (noted_or o.fact (noted_of old o.key)) o.fact id)) (noted_of old k)) f) ∙ e) some
+      let s : o.observation.key ≡ k = at_key o.observation.key k t in
+      let m = noted_or o (noted_of old o.observation.key) in
+      let is : come_noted m o id ≡ n = some_is (come_noted m o id) n (sym (at k ∙ ap (λ (b : Bool). cond b (Some (come_noted m o id)) (noted_of old k)) t) ∙ e) in
+      subst (λ (z : Key). WasTold readers z n.answer) s (subst (λ (z : Noted). WasTold readers o.observation.key z.answer) is
+      (come_told readers o m (r, o, cr, co, refl, refl) (noted_told readers o.observation.key o (noted_of old o.observation.key) (all o.observation.key))))
+  | inr f ↦ all k n (sym (at k ∙ ap (λ (b : Bool). cond b (Some (come_noted (noted_or o (noted_of old o.observation.key)) o id)) (noted_of old k)) f) ∙ e) some
 ]
 
-pub told_gone : (old new : Notes) (readers : List Reader) (o : Observation) (id : DefinitionId)
-    → NotesAt old new o.key (go_noted (noted_or o.fact (noted_of old o.key)) id) → AreTold old readers → AreTold new readers
-told_gone old new readers o id at all k n e some = elim (either (is_at (key_order o.key) k)) [
+pub told_gone : (old new : Notes) (readers : List Reader) (o : Answer) (id : DefinitionId)
+    → NotesAt old new o.observation.key (go_noted (noted_or o (noted_of old o.observation.key)) id) → AreTold old readers → AreTold new readers
+told_gone old new readers o id at all k n e some = elim (either (is_at (key_order o.observation.key) k)) [
   | inl t ↦
-      let s : o.key ≡ k = at_key o.key k t in
-      let m = noted_or o.fact (noted_of old o.key) in
+      let s : o.observation.key ≡ k = at_key o.observation.key k t in
+      let m = noted_or o (noted_of old o.observation.key) in
       let is : go_noted m id ≡ n = some_is (go_noted m id) n (sym (at k ∙ ap (λ (b : Bool). cond b (Some (go_noted m id)) (noted_of old k)) t) ∙ e) in
-      subst (λ (z : Key). WasTold readers z n.fact) s (subst (λ (z : Noted). WasTold readers o.key z.fact) is
-      (noted_told readers o.key o.fact (noted_of old o.key) (all o.key) (λ q. some (sym (ap (λ (z : Noted). z.comes) is) ∙ q))))
-  | inr f ↦ all k n (sym (at k ∙ ap (λ (b : Bool). cond b (Some (go_noted (noted_or o.fact (noted_of old o.key)) id)) (noted_of old k)) f) ∙ e) some
+      subst (λ (z : Key). WasTold readers z n.answer) s (subst (λ (z : Noted). WasTold readers o.observation.key z.answer) is
+      (noted_told readers o.observation.key o (noted_of old o.observation.key) (all o.observation.key) (λ q. some (sym (ap (λ (z : Noted). z.comes) is) ∙ q))))
+  | inr f ↦ all k n (sym (at k ∙ ap (λ (b : Bool). cond b (Some (go_noted (noted_or o (noted_of old o.observation.key)) id)) (noted_of old k)) f) ∙ e) some
 ]

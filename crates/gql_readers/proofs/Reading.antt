@@ -6,9 +6,11 @@ use Rattle.std.proofs.lemmas.List.Kept.{AllPairs-cons, AllPairs-filter}
 use Rattle.std.proofs.lemmas.List.Elements.{Contains-get_or}
 use Rattle.gql_ast.specs.declared.definition.DefinitionId.{DefinitionId}
 use Rattle.gql_facts.specs.Keys.{is_key, is_key_decides}
-use Rattle.gql_facts.specs.ListMembers.{Contains-nil, Contains-here, Contains-there, Contains-cases, Contains-map}
+use Rattle.gql_facts.specs.ListMembers.{Contains-nil, Contains-here, Contains-there, Contains-cases, Contains-map, either}
 use Rattle.gql_facts.specs.Worlds.{Facts}
 use Rattle.gql_facts.specs.declared.key.Key.{Key}
+use Rattle.gql_reads.specs.Observations.{keys_of}
+use Rattle.gql_reads.specs.declared.observation.Answer.{Answer}
 use Rattle.gql_reads.specs.declared.observation.Observation.{Observation}
 use Rattle.gql_readers.specs.Changes.{IsEdit}
 use Rattle.gql_readers.specs.Merged.{edited, itself, one_if}
@@ -63,11 +65,11 @@ reads_from k rs id c =
 pub reads_has : (k : Key) (rs : List Reader) (r : Reader) → Contains rs r → observes k r ≡ true → Contains (readers_of k rs) r.id
 reads_has k rs r c e = Contains-map (λ (x : Reader). x.id) (filter (observes k) rs) r (filter_has (observes k) rs r e c)
 
-pub observes_from : (k : Key) (r : Reader) → observes k r ≡ true → (o : Observation) × Contains r.observations o × (o.key ≡ k)
-observes_from k r e = let a = any_from (λ (o : Observation). is_key o.key k) r.observations e in (a.0, a.1, (is_key_decides a.0.key k).0 a.2)
+pub observes_from : (k : Key) (r : Reader) → observes k r ≡ true → (o : Answer) × Contains r.answers o × (o.observation.key ≡ k)
+observes_from k r e = let a = any_from (λ (o : Answer). is_key o.observation.key k) r.answers e in (a.0, a.1, (is_key_decides a.0.observation.key k).0 a.2)
 
-pub observes_has : (k : Key) (r : Reader) (o : Observation) → Contains r.observations o → o.key ≡ k → observes k r ≡ true
-observes_has k r o c e = any_has (λ (p : Observation). is_key p.key k) r.observations o c ((is_key_decides o.key k).1 e)
+pub observes_has : (k : Key) (r : Reader) (o : Answer) → Contains r.answers o → o.observation.key ≡ k → observes k r ≡ true
+observes_has k r o c e = any_has (λ (p : Answer). is_key p.observation.key k) r.answers o c ((is_key_decides o.observation.key k).1 e)
 
 pub none_reads : (k : Key) (rs : List Reader) → ((r : Reader) → Contains rs r → observes k r ≡ true → ⊥) → readers_of k rs ≡ []
 none_reads k rs lacks = none (readers_of k rs) (λ id c. let r = reads_from k rs id c in lacks r.0 r.1 r.3) where
@@ -213,3 +215,22 @@ module _ (F : Facts) (old going coming new : List Reader) (edit : IsEdit F old g
   -- a key that nobody comes to or goes from has the readers that it had
   pub same_readers : readers_of k coming ≡ [] → readers_of k going ≡ [] → readers_of k old ≡ readers_of k new
   same_readers nc ng = sym (ap (λ zs. edited true (edited false (readers_of k old) zs) (readers_of k coming)) ng ∙ ap (λ zs. edited true (readers_of k old) zs) nc) ∙ edited_readers
+
+-- ---- tests of what was observed
+
+-- a test that is true exactly if a key was observed
+pub observes_is : (b : Bool) (k : Key) (os : List Observation) → (b ≡ true → Contains (keys_of os) k) → (Contains (keys_of os) k → b ≡ true) → b ≡ list_any (λ (o : Observation). is_key o.key k) os
+observes_is b k os to from =
+    let p = λ (o : Observation). is_key o.key k in
+    elim (either b) [
+      | inl t ↦
+          let m = Contains-map_from (λ (o : Observation). o.key) os k (to t) in
+          t ∙ sym (any_has p os m.0 m.1 ((is_key_decides m.0.key k).1 m.2))
+      | inr f ↦ elim (either (list_any p os)) [
+        | inl t ↦
+            let a = any_from p os t in
+            let c : Contains (keys_of os) k = subst (Contains (keys_of os)) ((is_key_decides a.0.key k).0 a.2) (Contains-map (λ (o : Observation). o.key) os a.0 a.1) in
+            from c ∙ sym t
+        | inr n ↦ f ∙ sym n
+      ]
+    ]

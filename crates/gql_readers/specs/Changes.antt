@@ -5,17 +5,17 @@ use Rattle.std.specs.Map.{lookup}
 use Rattle.std.specs.Option.{option_map_or}
 use Rattle.gql_ast.specs.declared.definition.DefinitionId.{DefinitionId}
 use Rattle.gql_facts.specs.Worlds.{Facts}
-use Rattle.gql_facts.specs.declared.fact.Fact.{Fact}
+use Rattle.gql_reads.specs.declared.observation.Answer.{Answer}
 use Rattle.gql_facts.specs.declared.key.Key.{Key}
-use Rattle.gql_reads.specs.Observations.{Hold}
-use Rattle.gql_reads.specs.declared.observation.Observation.{Observation}
+use Rattle.gql_reads.specs.Leading.{AreLed}
+use Rattle.gql_reads.specs.Observations.{Hold, observed_in}
 use Rattle.gql_readers.specs.Indexes.{IsIndexOf, Reading}
 use Rattle.gql_readers.specs.Orders.{key_order}
 use Rattle.gql_readers.specs.Readers.{InReadingOrder, Reader, readers_of}
 
 -- of one key: the answer, the readers that come, and those that go
 pub record Noted : Type 0 where
-  pub fact : Fact
+  pub answer : Answer
   pub comes : List DefinitionId
   pub goes : List DefinitionId
 
@@ -36,20 +36,21 @@ abbrev pub goes_in : Notes → Key → List DefinitionId
 goes_in notes k = option_map_or (λ (n : Noted). n.goes) (noted_of notes k) []
 
 -- some reader had this answer to the key
-abbrev pub WasTold : List Reader → Key → Fact → Type 0
-WasTold readers k f = (r : Reader) × (o : Observation) × Contains readers r
-    × Contains r.observations o × (o.key ≡ k) × (o.fact ≡ f)
+abbrev pub WasTold : List Reader → Key → Answer → Type 0
+WasTold readers k a = (r : Reader) × (o : Answer) × Contains readers r
+    × Contains r.answers o × (o.observation.key ≡ k) × (o ≡ a)
 
 -- The notes say of each key exactly which of these readers come to it, and which of those go from
 -- it. Where one comes, the answer is one that such a reader had.
 pub record AreNotes (notes : Notes) (coming going : List Reader) : Type 0 where
   pub comes : (k : Key) → comes_in notes k ≡ readers_of k coming
   pub goes : (k : Key) → goes_in notes k ≡ readers_of k going
-  pub facts : (k : Key) (n : Noted) → noted_of notes k ≡ Some n → n.comes ≢ []
-      → WasTold coming k n.fact
+  pub answers : (k : Key) (n : Noted) → noted_of notes k ≡ Some n → n.comes ≢ []
+      → WasTold coming k n.answer
 
 -- Some of the old readers go, others come, and those are the new readers: all in file order, each
--- definition once. What the new readers observed holds.
+-- definition once. What the new readers observed holds, and each of their answers has exactly the types
+-- that it leads to.
 pub record IsEdit (facts : Facts) (old going coming new : List Reader) : Type 0 where
   pub old_order : InReadingOrder old
   pub going_order : InReadingOrder going
@@ -61,7 +62,8 @@ pub record IsEdit (facts : Facts) (old going coming new : List Reader) : Type 0 
       → Contains new r
   pub from : (r : Reader) → Contains new r → Contains coming r
       ⊎ (Contains old r × ((g : Reader) → Contains going g → g.id ≡ r.id → ⊥))
-  pub holds : (r : Reader) → Contains new r → Hold facts r.observations
+  pub holds : (r : Reader) → Contains new r → Hold facts (observed_in r.answers)
+  pub led : (r : Reader) → Contains new r → AreLed r.answers
 
 -- the readers on which a definition is not
 abbrev pub IsNew : DefinitionId → List Reader → Type 0

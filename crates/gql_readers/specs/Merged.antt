@@ -4,12 +4,10 @@ use Rattle.std.specs.BTreeMap.{is_at}
 use Rattle.std.specs.Ordering.{is_eq, is_gt, is_lt}
 use Rattle.std.specs.declared.cmp.Ordering.{Ordering}
 use Rattle.gql_ast.specs.declared.definition.DefinitionId.{DefinitionId}
-use Rattle.gql_facts.specs.declared.fact.Fact.{Fact}
+use Rattle.gql_reads.specs.declared.observation.Answer.{Answer}
 use Rattle.gql_facts.specs.declared.key.Key.{Key}
-use Rattle.gql_reads.specs.Observations.{keys_of}
-use Rattle.gql_reads.specs.declared.observation.Observation.{Observation}
 use Rattle.gql_readers.specs.Changes.{AreNotes, Noted, Notes, noted_of}
-use Rattle.gql_readers.specs.Readers.{Reader, with_reader}
+use Rattle.gql_readers.specs.Readers.{Reader, keys_in, with_reader}
 use Rattle.gql_readers.specs.Indexes.{Reading}
 use Rattle.gql_readers.specs.Orders.{id_order, is_id, key_order}
 
@@ -59,22 +57,22 @@ readers_found [] = []
 readers_found (e ∷ es) = e.readers
 
 -- the answer: what the readers had that come, or if none comes, what was kept
-abbrev pub fact_by : List DefinitionId → Fact → Fact → Fact
-fact_by [] come kept = kept
-fact_by (id ∷ ids) come kept = come
+abbrev pub answer_by : List DefinitionId → Answer → Answer → Answer
+answer_by [] come kept = kept
+answer_by (id ∷ ids) come kept = come
 
-abbrev pub fact_after : List Reading → Noted → Fact
-fact_after [] noted = noted.fact
-fact_after (e ∷ es) noted = fact_by noted.comes noted.fact e.fact
+abbrev pub answer_after : List Reading → Noted → Answer
+answer_after [] noted = noted.answer
+answer_after (e ∷ es) noted = answer_by noted.comes noted.answer e.answer
 
 -- an entry, if it has readers
-abbrev pub entry_if : Key → Fact → List DefinitionId → List Reading
+abbrev pub entry_if : Key → Answer → List DefinitionId → List Reading
 entry_if k f [] = []
-entry_if k f (id ∷ ids) = record { key = k; fact = f; readers = id ∷ ids } ∷ []
+entry_if k f (id ∷ ids) = record { key = k; answer = f; readers = id ∷ ids } ∷ []
 
 -- what stands for a key after the change, where this was found for it
 abbrev pub made : List Reading → Key × Noted → List Reading
-made found c = entry_if c.0 (fact_after found c.1) (readers_after (readers_found found) c.1)
+made found c = entry_if c.0 (answer_after found c.1) (readers_after (readers_found found) c.1)
 
 -- those who come to a key are those who go from it, and its answer is as it was
 pub record IsUnchanged (found : List Reading) (noted : Noted) : Type 0 where
@@ -82,7 +80,7 @@ pub record IsUnchanged (found : List Reading) (noted : Noted) : Type 0 where
   pub one : found ≡ entry ∷ []
   pub some : noted.comes ≢ []
   pub same : noted.comes ≡ noted.goes
-  pub fact : entry.fact ≡ noted.fact
+  pub answer : entry.answer ≡ noted.answer
 
 -- the key of an entry, and that of a change
 abbrev pub key_of : Reading → Key
@@ -107,18 +105,18 @@ abbrev pub with_last : List DefinitionId → DefinitionId → List DefinitionId
 with_last ids id = cond (is_last id ids) ids (ids ++ id ∷ [])
 
 -- what is noted once a reader comes that had this answer, and once one goes
-abbrev pub come_noted : Noted → Fact → DefinitionId → Noted
-come_noted n f id = record { fact = fact_by n.comes n.fact f; comes = with_last n.comes id; goes = n.goes }
+abbrev pub come_noted : Noted → Answer → DefinitionId → Noted
+come_noted n f id = record { answer = answer_by n.comes n.answer f; comes = with_last n.comes id; goes = n.goes }
 
 abbrev pub go_noted : Noted → DefinitionId → Noted
-go_noted n id = record { fact = n.fact; comes = n.comes; goes = with_last n.goes id }
+go_noted n id = record { answer = n.answer; comes = n.comes; goes = with_last n.goes id }
 
 -- nobody comes or goes
-abbrev pub nothing_noted : Fact → Noted
-nothing_noted f = record { fact = f; comes = []; goes = [] }
+abbrev pub nothing_noted : Answer → Noted
+nothing_noted f = record { answer = f; comes = []; goes = [] }
 
 -- what is noted of a key, or that nobody comes or goes
-abbrev pub noted_or : Fact → Option Noted → Noted
+abbrev pub noted_or : Answer → Option Noted → Noted
 noted_or f None = nothing_noted f
 noted_or f (Some n) = n
 
@@ -128,17 +126,17 @@ NotesAt old new key n = (k : Key)
     → noted_of new k ≡ cond (is_at (key_order key) k) (Some n) (noted_of old k)
 
 -- these keys were observed
-abbrev pub AreSeen : List Key → List Observation → Type 0
-AreSeen keys observations = (k : Key) → Contains keys k → Contains (keys_of observations) k
+abbrev pub AreSeen : List Key → List Answer → Type 0
+AreSeen keys answers = (k : Key) → Contains keys k → Contains (keys_in answers) k
 
 -- readers come, the last of which has observed this so far, these keys among it
 abbrev pub AreComing : Notes → List Key → List Reader → List Reader → DefinitionId
-    → List Observation → Type 0
-AreComing notes seen coming going id observations =
-    AreNotes notes (with_reader coming id observations) going × AreSeen seen observations
+    → List Answer → Type 0
+AreComing notes seen coming going id answers =
+    AreNotes notes (with_reader coming id answers) going × AreSeen seen answers
 
 -- readers go, the last of which had observed this so far, these keys among it
 abbrev pub AreGoing : Notes → List Key → List Reader → List Reader → DefinitionId
-    → List Observation → Type 0
-AreGoing notes seen coming going id observations =
-    AreNotes notes coming (with_reader going id observations) × AreSeen seen observations
+    → List Answer → Type 0
+AreGoing notes seen coming going id answers =
+    AreNotes notes coming (with_reader going id answers) × AreSeen seen answers

@@ -1,7 +1,7 @@
 //! Changes of the index: readers that come, and readers that go.
 ghost use Rattle.std.specs.Prelude.{◌≡◌, ◌++◌, ◌∷◌, [], List, IfOk, OnOk};
-ghost use Rattle.gql_reads.specs.Readings.{flat};
-ghost use Rattle.gql_reads.specs.declared.observation.Observation.{Observation as AnObservation};
+ghost use Rattle.gql_reads.specs.Readings.{answers_in};
+ghost use Rattle.gql_reads.specs.declared.observation.Answer.{Answer as AnAnswer};
 ghost use Rattle.gql_readers.specs.Changes.{AreNotes, IsNew, noted_of};
 ghost use Rattle.gql_readers.specs.Merged.{AreComing, AreGoing, NotesAt, come_noted, go_noted, is_last, noted_or, nothing_noted, with_last};
 ghost use Rattle.gql_readers.specs.Readers.{Reader, with_reader};
@@ -9,8 +9,8 @@ ghost use Rattle.gql_readers.specs.Readers.{Reader, with_reader};
 use crate::ids::is_same;
 use crate::orders::OrderedKey;
 use gql_ast::{DefinitionId, Shared};
-use gql_facts::{Fact, Key};
-use gql_reads::{Observation, Reading};
+use gql_facts::Key;
+use gql_reads::{Answer, Reading};
 use indexmap::IndexSet;
 use std::alloc::{AllocError, Global};
 use std::collections::BTreeMap;
@@ -19,7 +19,7 @@ use std::marker::Model;
 /// Of one key: the answer, the readers that come, and those that go, in file order.
 #[derive(Drop)]
 pub struct Noted {
-    pub(crate) fact: Fact,
+    pub(crate) answer: Shared<Answer>,
     pub(crate) comes: Vec<Shared<DefinitionId>>,
     pub(crate) goes: Vec<Shared<DefinitionId>>,
 }
@@ -27,14 +27,14 @@ pub struct Noted {
 impl Model for Noted {
     ghost use Rattle.std.specs.Coded.{codes};
     ghost use Rattle.gql_ast.specs.contracts.definition.DefinitionId as of_id;
-    ghost use Rattle.gql_facts.specs.contracts.fact.Fact as of_fact;
+    ghost use Rattle.gql_reads.specs.contracts.observation.Answer as of_answer;
     ghost use Rattle.gql_readers.specs.Changes.{Noted};
 
     ghost Value = { Noted };
 
-    ghost coded = { Prim.hlevel (codes, of_id.the_row.coded, of_fact.the_row.coded) };
+    ghost coded = { Prim.hlevel (codes, of_id.the_row.coded, of_answer.the_row.coded) };
 
-    ghost view = { λ n. record { fact = n.fact; comes = n.comes.items; goes = n.goes.items } };
+    ghost view = { λ n. record { answer = n.answer; comes = n.comes.items; goes = n.goes.items } };
 }
 
 /// Whether the last of some definitions is this one.
@@ -62,22 +62,26 @@ fn add_last(
 
 impl Noted {
     /// Nobody comes or goes.
-    fn new(alloc: Global, fact: &Fact) -> Result<Noted, AllocError>
-        ensures { IfOk result (λ noted. noted ≡ nothing_noted fact.now) }
+    fn new(alloc: Global, answer: &Shared<Answer>) -> Result<Noted, AllocError>
+        ensures { IfOk result (λ noted. noted ≡ nothing_noted answer.now) }
     {
         Ok(Noted {
-            fact: fact.copy()?,
+            answer: answer.clone()?,
             comes: Vec::new(alloc),
             goes: Vec::new(alloc),
         })
     }
 
     /// Notes that a reader comes, which had this answer.
-    fn come(&mut self, fact: &Fact, id: &Shared<DefinitionId>) -> Result<(), AllocError>
-        ensures { OnOk result (self.new ≡ come_noted self.old fact.now id.now) }
+    fn come(
+        &mut self,
+        answer: &Shared<Answer>,
+        id: &Shared<DefinitionId>,
+    ) -> Result<(), AllocError>
+        ensures { OnOk result (self.new ≡ come_noted self.old answer.now id.now) }
     {
         if self.comes.is_empty() {
-            self.fact = fact.copy()?;
+            self.answer = answer.clone()?;
         }
         add_last(&mut self.comes, id)
     }
@@ -100,7 +104,7 @@ impl Model for Changes {
     ghost use Rattle.std.specs.Coded.{codes};
     ghost use Rattle.gql_ast.specs.contracts.definition.DefinitionId as of_id;
     ghost use Rattle.gql_facts.specs.contracts.key.Key as of_key;
-    ghost use Rattle.gql_facts.specs.contracts.fact.Fact as of_fact;
+    ghost use Rattle.gql_reads.specs.contracts.observation.Answer as of_answer;
     ghost use Rattle.gql_readers.specs.Changes.{Notes};
 
     ghost Value = { Notes };
@@ -109,7 +113,7 @@ impl Model for Changes {
       codes,
       of_id.the_row.coded,
       of_key.the_row.coded,
-      of_fact.the_row.coded,
+      of_answer.the_row.coded,
     ) };
 
     ghost view = { λ c. c.notes.entries };
@@ -141,21 +145,21 @@ impl Changes {
         &mut self,
         alloc: Global,
         id: &Shared<DefinitionId>,
-        observation: &Observation,
+        answer: &Shared<Answer>,
     ) -> Result<(), AllocError>
-        ensures { OnOk result (NotesAt self.old self.new observation.now.key (come_noted
-            (noted_or observation.now.fact (noted_of self.old observation.now.key))
-            observation.now.fact id.now)) }
+        ensures { OnOk result (NotesAt self.old self.new answer.now.observation.key (come_noted
+            (noted_or answer.now (noted_of self.old answer.now.observation.key))
+            answer.now id.now)) }
     {
         let key = OrderedKey {
-            key: observation.key.copy()?,
+            key: answer.get().observation.key.copy()?,
         };
         if let Some(noted) = self.notes.get_mut(&key) {
-            noted.come(&observation.fact, id)?;
+            noted.come(answer, id)?;
             return Ok(());
         }
-        let mut noted = Noted::new(alloc, &observation.fact)?;
-        noted.come(&observation.fact, id)?;
+        let mut noted = Noted::new(alloc, answer)?;
+        noted.come(answer, id)?;
         self.put(key, noted)?;
         Ok(())
     }
@@ -165,19 +169,19 @@ impl Changes {
         &mut self,
         alloc: Global,
         id: &Shared<DefinitionId>,
-        observation: &Observation,
+        answer: &Shared<Answer>,
     ) -> Result<(), AllocError>
-        ensures { OnOk result (NotesAt self.old self.new observation.now.key (go_noted
-            (noted_or observation.now.fact (noted_of self.old observation.now.key)) id.now)) }
+        ensures { OnOk result (NotesAt self.old self.new answer.now.observation.key (go_noted
+            (noted_or answer.now (noted_of self.old answer.now.observation.key)) id.now)) }
     {
         let key = OrderedKey {
-            key: observation.key.copy()?,
+            key: answer.get().observation.key.copy()?,
         };
         if let Some(noted) = self.notes.get_mut(&key) {
             noted.go(id)?;
             return Ok(());
         }
-        let mut noted = Noted::new(alloc, &observation.fact)?;
+        let mut noted = Noted::new(alloc, answer)?;
         noted.go(id)?;
         self.put(key, noted)?;
         Ok(())
@@ -189,18 +193,18 @@ impl Changes {
         &mut self,
         alloc: Global,
         id: &Shared<DefinitionId>,
-        observation: &Observation,
+        answer: &Shared<Answer>,
         seen: &mut IndexSet<Key>,
     ) -> Result<(), AllocError>
-        ensures { OnOk result ((coming going : List Reader) (before : List AnObservation)
+        ensures { OnOk result ((coming going : List Reader) (before : List AnAnswer)
             → IsNew id.now coming → AreComing self.old seen.old.keys coming going id.now before
-            → AreComing self.new seen.new.keys coming going id.now (before ++ observation.now ∷ [])) }
+            → AreComing self.new seen.new.keys coming going id.now (before ++ answer.now ∷ [])) }
     {
-        if seen.contains(&observation.key) {
+        if seen.contains(&answer.get().observation.key) {
             return Ok(());
         }
-        self.note_come(alloc, id, observation)?;
-        seen.insert(observation.key.copy()?)?;
+        self.note_come(alloc, id, answer)?;
+        seen.insert(answer.get().observation.key.copy()?)?;
         Ok(())
     }
 
@@ -209,20 +213,20 @@ impl Changes {
         &mut self,
         alloc: Global,
         id: &Shared<DefinitionId>,
-        observations: &[Shared<Observation>],
+        answers: &[Shared<Answer>],
         seen: &mut IndexSet<Key>,
     ) -> Result<(), AllocError>
-        ensures { OnOk result ((coming going : List Reader) (before : List AnObservation)
+        ensures { OnOk result ((coming going : List Reader) (before : List AnAnswer)
             → IsNew id.now coming → AreComing self.old seen.old.keys coming going id.now before
-            → AreComing self.new seen.new.keys coming going id.now (before ++ observations.now)) }
+            → AreComing self.new seen.new.keys coming going id.now (before ++ answers.now)) }
     {
-        for observation in observations {
-            self.come_once(alloc, id, observation.get(), seen)?;
+        for answer in answers {
+            self.come_once(alloc, id, answer, seen)?;
         }
         Ok(())
     }
 
-    /// Notes that a definition comes, with what it observed.
+    /// Notes that a definition comes, with the answers that it observed.
     pub fn come(
         &mut self,
         alloc: Global,
@@ -231,17 +235,17 @@ impl Changes {
     ) -> Result<(), AllocError>
         ensures { OnOk result ((coming going : List Reader) → AreNotes self.old coming going
             → IsNew id.now coming
-            → AreNotes self.new (with_reader coming id.now (flat reading.now)) going) }
+            → AreNotes self.new (with_reader coming id.now (answers_in reading.now)) going) }
     {
         let mut seen = IndexSet::new(alloc);
         self.come_with(
             alloc,
             id,
-            reading.own.record.get().observations(),
+            reading.own.record.get().answers(),
             &mut seen,
         )?;
         for part in reading.parts.as_slice() {
-            self.come_with(alloc, id, part.seen().get().observations(), &mut seen)?;
+            self.come_with(alloc, id, part.seen().get().answers(), &mut seen)?;
         }
         Ok(())
     }
@@ -252,18 +256,18 @@ impl Changes {
         &mut self,
         alloc: Global,
         id: &Shared<DefinitionId>,
-        observation: &Observation,
+        answer: &Shared<Answer>,
         seen: &mut IndexSet<Key>,
     ) -> Result<(), AllocError>
-        ensures { OnOk result ((coming going : List Reader) (before : List AnObservation)
+        ensures { OnOk result ((coming going : List Reader) (before : List AnAnswer)
             → IsNew id.now going → AreGoing self.old seen.old.keys coming going id.now before
-            → AreGoing self.new seen.new.keys coming going id.now (before ++ observation.now ∷ [])) }
+            → AreGoing self.new seen.new.keys coming going id.now (before ++ answer.now ∷ [])) }
     {
-        if seen.contains(&observation.key) {
+        if seen.contains(&answer.get().observation.key) {
             return Ok(());
         }
-        self.note_go(alloc, id, observation)?;
-        seen.insert(observation.key.copy()?)?;
+        self.note_go(alloc, id, answer)?;
+        seen.insert(answer.get().observation.key.copy()?)?;
         Ok(())
     }
 
@@ -272,20 +276,20 @@ impl Changes {
         &mut self,
         alloc: Global,
         id: &Shared<DefinitionId>,
-        observations: &[Shared<Observation>],
+        answers: &[Shared<Answer>],
         seen: &mut IndexSet<Key>,
     ) -> Result<(), AllocError>
-        ensures { OnOk result ((coming going : List Reader) (before : List AnObservation)
+        ensures { OnOk result ((coming going : List Reader) (before : List AnAnswer)
             → IsNew id.now going → AreGoing self.old seen.old.keys coming going id.now before
-            → AreGoing self.new seen.new.keys coming going id.now (before ++ observations.now)) }
+            → AreGoing self.new seen.new.keys coming going id.now (before ++ answers.now)) }
     {
-        for observation in observations {
-            self.go_once(alloc, id, observation.get(), seen)?;
+        for answer in answers {
+            self.go_once(alloc, id, answer, seen)?;
         }
         Ok(())
     }
 
-    /// Notes that a definition goes, with what it had observed.
+    /// Notes that a definition goes, with the answers that it had observed.
     pub fn go(
         &mut self,
         alloc: Global,
@@ -294,17 +298,17 @@ impl Changes {
     ) -> Result<(), AllocError>
         ensures { OnOk result ((coming going : List Reader) → AreNotes self.old coming going
             → IsNew id.now going
-            → AreNotes self.new coming (with_reader going id.now (flat reading.now))) }
+            → AreNotes self.new coming (with_reader going id.now (answers_in reading.now))) }
     {
         let mut seen = IndexSet::new(alloc);
         self.go_with(
             alloc,
             id,
-            reading.own.record.get().observations(),
+            reading.own.record.get().answers(),
             &mut seen,
         )?;
         for part in reading.parts.as_slice() {
-            self.go_with(alloc, id, part.seen().get().observations(), &mut seen)?;
+            self.go_with(alloc, id, part.seen().get().answers(), &mut seen)?;
         }
         Ok(())
     }

@@ -2,14 +2,15 @@
 ghost use Rattle.std.specs.Prelude.{◌≡◌};
 
 use gql_ast::{DefinitionId, Shared};
-use gql_facts::{Fact, Key};
+use gql_facts::Key;
+use gql_reads::Answer;
 use std::marker::Model;
 
-/// A key, the answer that it had, and the definitions that read it, in file order. Lists share what
-/// identifies a definition, so that a reader takes a handle here.
+/// A key, the answer that it had, with the types that this leads to, and the definitions whose nodes
+/// read it, in file order. Lists share what identifies a definition, so that a reader takes a handle.
 pub struct Entry {
     pub(crate) key: Key,
-    pub(crate) fact: Fact,
+    pub(crate) answer: Shared<Answer>,
     pub(crate) readers: Vec<Shared<DefinitionId>>,
 }
 
@@ -17,7 +18,7 @@ impl Drop for Entry {
     fn drop(self) {
         let Entry {
             key: _,
-            fact: _,
+            answer: _,
             readers: _,
         } = self;
     }
@@ -27,7 +28,7 @@ impl Model for Entry {
     ghost use Rattle.std.specs.Coded.{codes};
     ghost use Rattle.gql_ast.specs.contracts.definition.DefinitionId as of_id;
     ghost use Rattle.gql_facts.specs.contracts.key.Key as of_key;
-    ghost use Rattle.gql_facts.specs.contracts.fact.Fact as of_fact;
+    ghost use Rattle.gql_reads.specs.contracts.observation.Answer as of_answer;
     ghost use Rattle.gql_readers.specs.Indexes.{Reading};
 
     ghost Value = { Reading };
@@ -36,10 +37,10 @@ impl Model for Entry {
       codes,
       of_id.the_row.coded,
       of_key.the_row.coded,
-      of_fact.the_row.coded,
+      of_answer.the_row.coded,
     ) };
 
-    ghost view = { λ e. record { key = e.key; fact = e.fact; readers = e.readers.items } };
+    ghost view = { λ e. record { key = e.key; answer = e.answer; readers = e.readers.items } };
 }
 
 impl Entry {
@@ -50,11 +51,11 @@ impl Entry {
         &self.key
     }
 
-    /// The answer that the key had.
-    pub fn fact(&self) -> &Fact
-        ensures { result.now ≡ self.now.fact }
+    /// The answer that the key had, with the types that it leads to.
+    pub fn answer(&self) -> &Shared<Answer>
+        ensures { result.now ≡ self.now.answer }
     {
-        &self.fact
+        &self.answer
     }
 
     /// The definitions that read the key.

@@ -16,7 +16,8 @@ use crate::entries::Entry;
 use crate::ids::{are_same, edit};
 use crate::orders::key_order;
 use gql_ast::{DefinitionId, Same, Shared};
-use gql_facts::{Fact, Key};
+use gql_facts::Key;
+use gql_reads::Answer;
 use std::alloc::{AllocError, Global};
 use std::marker::Model;
 
@@ -93,15 +94,15 @@ fn readers_after(
 }
 
 /// The answer after a change.
-fn fact_after(here: &[Shared<Entry>], noted: &Noted) -> Result<Fact, AllocError>
-    ensures { IfOk result (λ fact. fact ≡ merged.fact_after here.now noted.now) }
+fn answer_after(here: &[Shared<Entry>], noted: &Noted) -> Result<Shared<Answer>, AllocError>
+    ensures { IfOk result (λ answer. answer ≡ merged.answer_after here.now noted.now) }
 {
     if noted.comes.is_empty() {
         if let Some(entry) = here.first() {
-            return Ok(entry.get().fact().copy()?);
+            return entry.get().answer().clone();
         }
     }
-    Ok(noted.fact.copy()?)
+    noted.answer.clone()
 }
 
 /// Whether a change leaves the entry of a key as it is.
@@ -114,7 +115,7 @@ fn is_unchanged(here: &[Shared<Entry>], noted: &Noted) -> bool
     if !are_same(noted.comes.as_slice(), noted.goes.as_slice()) {
         return false;
     }
-    here[0].get().fact().same(&noted.fact)
+    here[0].get().answer().get().same(noted.answer.get())
 }
 
 /// Adds the entry of a key after a change, if the key has readers then. An entry that the change
@@ -141,8 +142,15 @@ fn add_made(
     if readers.is_empty() {
         return Ok(());
     }
-    let fact = fact_after(here, noted)?;
-    all.push(Shared::new(alloc, Entry { key, fact, readers })?)?;
+    let answer = answer_after(here, noted)?;
+    all.push(Shared::new(
+        alloc,
+        Entry {
+            key,
+            answer,
+            readers,
+        },
+    )?)?;
     Ok(())
 }
 
@@ -162,7 +170,7 @@ impl Model for Index {
     ghost use Rattle.std.specs.Prelude.{List};
     ghost use Rattle.gql_ast.specs.contracts.definition.DefinitionId as of_id;
     ghost use Rattle.gql_facts.specs.contracts.key.Key as of_key;
-    ghost use Rattle.gql_facts.specs.contracts.fact.Fact as of_fact;
+    ghost use Rattle.gql_reads.specs.contracts.observation.Answer as of_answer;
     ghost use Rattle.gql_readers.specs.Indexes.{AreEntriesInOrder, Reading};
 
     ghost Value = { List Reading };
@@ -171,7 +179,7 @@ impl Model for Index {
       codes,
       of_id.the_row.coded,
       of_key.the_row.coded,
-      of_fact.the_row.coded,
+      of_answer.the_row.coded,
     ) };
 
     ghost view = { λ i. i.entries.items };
@@ -207,7 +215,7 @@ impl Index {
         }
     }
 
-    /// The definitions that read a key, in file order. It takes no memory.
+    /// The definitions whose nodes read a key, in file order. It takes no memory.
     pub fn readers(&self, key: &Key) -> &[Shared<DefinitionId>]
         ensures { (readers : List Reader) → IsIndexOf self.now readers
             → result.now ≡ readers_of key.now readers }

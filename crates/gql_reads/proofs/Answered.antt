@@ -1,5 +1,5 @@
 -- Answers that are kept, each once.
-use Rattle.std.proofs.Common.{◌≡◌, inl, inr, ℕ, zero, suc, List, [], ◌∷◌, ◌++◌, true, false, Some, None, is_some, ap, sym, subst, ◌∙◌, refl, Contains, slice_get, if◌then◌else◌}
+use Rattle.std.proofs.Common.{◌≡◌, inl, inr, List, [], ◌∷◌, ◌++◌, true, false, Some, None, is_some, ap, sym, subst, ◌∙◌, refl, Contains, if◌then◌else◌}
 use Rattle.std.specs.List.{list_any}
 use Rattle.std.specs.Map.{keys_of, lookup}
 use Rattle.std.proofs.lemmas.List.Elements.{Contains-push_cases}
@@ -11,11 +11,9 @@ use Rattle.indexmap.proofs.CallerLemmas.{insert_entry-new}
 use Rattle.gql_facts.specs.declared.fact.Fact.{Fact}
 use Rattle.gql_facts.specs.declared.key.Key.{Key}
 use Rattle.gql_facts.specs.Keys.{is_key, is_key_decides}
-use Rattle.gql_facts.specs.ListMembers.{some_same}
 use Rattle.gql_facts.specs.Scans.{add_keys}
 use Rattle.gql_facts.specs.Worlds.{Facts}
 use Rattle.gql_reads.specs.Closings.{AreRight}
-use Rattle.gql_reads.proofs.Takes.{at_there}
 
 -- a list of keys that has a key
 kept_key : (ks : List Key) (k : Key) → list_any (is_key k) ks ≡ true → insert_key is_key ks k ≡ ks
@@ -51,12 +49,3 @@ module _ {S : Type 0} (F : Facts) (m : IndexMap Key Fact S) (k : Key) (f : Fact)
     | inl o ↦ right e o
     | inr s ↦ subst (λ (p : Key × Fact). p.1 ≡ F p.0) s answer
   ]
-
--- the answer at a place
-at_key : (es : List (Key × Fact)) (i : ℕ) (e : Key × Fact) (k : Key) → slice_get es i ≡ Some e → slice_get (keys_of es) i ≡ Some k → e.0 ≡ k
-at_key [] i e k p q = absurd (cc p)
-at_key (x ∷ es) zero e k p q = ap (λ (y : Key × Fact). y.0) (sym (some_same x e p)) ∙ some_same x.0 k q
-at_key (x ∷ es) (suc i) e k p q = at_key es i e k p q
-
-pub answer_at : (F : Facts) (es : List (Key × Fact)) (i : ℕ) (e : Key × Fact) (k : Key) → AreRight F es → slice_get es i ≡ Some e → slice_get (keys_of es) i ≡ Some k → e.1 ≡ F k
-answer_at F es i e k right p q = right e (at_there es i e p) ∙ ap F (at_key es i e k p q)

@@ -1,5 +1,7 @@
+pub mod Held
+pub mod ObservedKeys
 pub mod Answered
-pub mod Entered
+pub mod Led
 pub mod Meeting
 pub mod Members
 pub mod Owning

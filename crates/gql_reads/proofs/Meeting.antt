@@ -1,6 +1,7 @@
 -- Parts of fragments: of the table, added to it, and met one after another.
 use Rattle.std.proofs.Common.{◌≡◌, ◌⊎◌, inl, inr, ℕ, ◌+◌, ◌<◌, List, [], ◌∷◌, ◌++◌, true, false, Some, None, Option, Bor, length, slice_get, take, get_or, map, bytes_eq, ap, sym, subst, ◌∙◌, refl, arith, append-nil, append_assoc, Contains, if◌then◌else◌}
 use Rattle.std.specs.List.{list_any}
+use Rattle.std.specs.Map.{lookup}
 use Rattle.std.specs.Option.{option_copied}
 use Rattle.std.proofs.lemmas.List.{take_more}
 use Rattle.std.proofs.lemmas.List.Elements.{Contains-append_left, Contains-append_cases, Contains-push, Contains-push_cases}
@@ -9,17 +10,19 @@ use Rattle.std.proofs.lemmas.Slice.Eq.{bytes_eq-Decides}
 use Rattle.indexmap.specs.IndexSet.{insert_key}
 use Rattle.gql_facts.specs.declared.fact.Fact.TheVariants as fact
 use Rattle.gql_facts.specs.declared.fact.FragmentFact.{FragmentFact}
+use Rattle.gql_facts.specs.declared.key.Key.{Key}
 use Rattle.gql_facts.specs.declared.key.Key.TheVariants as key
 use Rattle.gql_facts.specs.ListMembers.{Contains-nil, Contains-cases, Contains-map, either, some_same}
 use Rattle.gql_facts.specs.Members.{Lists}
+use Rattle.gql_facts.specs.Keys.{is_key, is_key_decides}
 use Rattle.gql_facts.specs.Worlds.{Facts}
 use Rattle.gql_reads.specs.Own.{Own, tree_of}
-use Rattle.gql_reads.specs.Observations.{Hold, keys_of}
+use Rattle.gql_reads.specs.Observations.{Hold, keys_of, observed_in}
 use Rattle.gql_reads.specs.Reaching.{AreMet, IsNamed, IsPartOf, Meets}
 use Rattle.gql_reads.specs.Readings.{members_of, name_of}
 use Rattle.gql_reads.specs.Records.{IsCertified, IsRecord, IsTold, Kept}
-use Rattle.gql_reads.specs.Tables.{AllHold, Entries, Holds, Keeps, entry_at}
-use Rattle.gql_reads.specs.declared.observation.Observation.{Observation}
+use Rattle.gql_reads.specs.Tables.{AllHold, Entries, Holds, IsAnswer, Keeps, answer_at, entry_at}
+use Rattle.gql_reads.specs.declared.observation.Answer.{Answer}
 use Rattle.gql_reads.proofs.Members.{Contains-map_from}
 
 fragment_same : (f g : FragmentFact) → fact.Fragment f ≡ fact.Fragment g → f ≡ g
@@ -30,7 +33,7 @@ name_there names n e = Contains-from_any (λ x y. (bytes_eq-Decides x y).0) n na
 
 -- ---- entries
 
-module _ (es new : Entries) (n : List ℕ) (p : Kept) (here : entry_at new n ≡ Some p) (others : (m : List ℕ) → bytes_eq n m ≡ false → entry_at new m ≡ entry_at es m) where
+module _ (es new : Entries) (n : List ℕ) (p : Kept) (here : entry_at new n ≡ Some p) (others : (m : List ℕ) → bytes_eq n m ≡ false → entry_at new m ≡ entry_at es m) (answers : new.answers ≡ es.answers) where
   pub added_holds : (F : Facts) → Holds F n p → AllHold F es → AllHold F new
   added_holds F h all = record {
     each = λ m k c. elim (either (bytes_eq n m)) [
@@ -40,6 +43,7 @@ module _ (es new : Entries) (n : List ℕ) (p : Kept) (here : entry_at new n ≡
           subst (λ j. Holds F j k) s (subst (λ q. Holds F n q) e h)
       | inr f ↦ all.each m k (sym (others m f) ∙ c)
     ];
+    answers = λ k a c. all.answers k a (subst (λ l. lookup (is_key k) l ≡ Some a) answers c);
   }
 
   pub added_keeps : entry_at es n ≡ None → Keeps es new
@@ -47,6 +51,24 @@ module _ (es new : Entries) (n : List ℕ) (p : Kept) (here : entry_at new n ≡
     | inl t ↦ absurd (let s : n ≡ m = (bytes_eq-Decides n m).0 t in let i : None ≡ Some k = sym none ∙ ap (λ j. entry_at es j) s ∙ c in cc i)
     | inr f ↦ others m f ∙ c
   ]
+
+-- the answer to one key more
+pub answer_added : (F : Facts) (es new : Entries) (k : Key) (a : Answer) → answer_at new k ≡ Some a → ((j : Key) → is_key k j ≡ false → answer_at new j ≡ answer_at es j)
+    → new.parts ≡ es.parts → IsAnswer F k a → AllHold F es → AllHold F new
+answer_added F es new k a here others parts is all = record {
+  each = λ n q c. all.each n q (subst (λ l. lookup (bytes_eq n) l ≡ Some q) parts c);
+  answers = λ j b c. elim (either (is_key k j)) [
+    | inl t ↦
+        let s : k ≡ j = (is_key_decides k j).0 t in
+        let e : a ≡ b = some_same a b (sym here ∙ ap (λ i. answer_at new i) s ∙ c) in
+        subst (λ i. IsAnswer F i b) s (subst (λ x. IsAnswer F k x) e is)
+    | inr f ↦ all.answers j b (sym (others j f) ∙ c)
+  ];
+}
+
+-- where the parts are the same, so are the entries
+pub parts_keep : (es new : Entries) → new.parts ≡ es.parts → Keeps es new
+parts_keep es new same n k c = subst (λ l. lookup (bytes_eq n) l ≡ Some k) (sym same) c
 
 pub keeps_all : (es : Entries) → Keeps es es
 keeps_all es n k c = c
@@ -57,10 +79,11 @@ keeps_then a b c p q n k h = q n k (p n k h)
 -- ---- the part of a fragment
 
 -- the record of one that was made before, where it holds
-pub record_stays : (F : Facts) (g : FragmentFact) (p : Kept) → p.fragment ≡ g → IsCertified p.fragment p.seen → Hold F p.seen → IsRecord F (tree_of g) p.seen
+pub record_stays : (F : Facts) (g : FragmentFact) (p : Kept) → p.fragment ≡ g → IsCertified p.fragment p.seen → Hold F (observed_in p.seen) → IsRecord F (tree_of g) p.seen
 record_stays F g p is certified hold = record {
   hold = hold;
-  keys = subst (λ f. Lists (keys_of p.seen) (Own F (tree_of f))) is (certified F hold);
+  keys = subst (λ f. Lists (keys_of (observed_in p.seen)) (Own F (tree_of f))) is (certified.reads F hold);
+  led = certified.led;
 }
 
 module _ (F : Facts) (es : Entries) (g : FragmentFact) (p : Kept) where
@@ -72,7 +95,7 @@ module _ (F : Facts) (es : Entries) (g : FragmentFact) (p : Kept) where
       record {
         is = e;
         entry = there;
-        seen = record { hold = h.1; keys = subst (λ f. Lists (keys_of p.seen) (Own F (tree_of f))) e (certified F h.1) };
+        seen = record { hold = h.1; keys = subst (λ f. Lists (keys_of (observed_in p.seen)) (Own F (tree_of f))) e (certified.reads F h.1); led = certified.led };
       }
 
   -- one that was made
@@ -169,7 +192,7 @@ met_count F es names parts met = ap (λ (x : List (List ℕ)). length x) met.nam
   counted (p ∷ ps) = let h = counted ps in omega (arith, h)
 
 -- what a record tells is met
-pub meets_told : (gs : List FragmentFact) (os : List Observation) (a b : List Kept) → Lists gs (IsTold os) → Meets (Contains gs) a b → Meets (IsTold os) a b
+pub meets_told : (gs : List FragmentFact) (os : List Answer) (a b : List Kept) → Lists gs (IsTold os) → Meets (Contains gs) a b → Meets (IsTold os) a b
 meets_told gs os a b l m = meets_as (Contains gs) (IsTold os) a b l.sound l.complete m
 
 -- a part at a place

@@ -1,5 +1,5 @@
 -- A walk over the parts that are met: it reaches exactly what the definition reaches.
-use Rattle.std.proofs.Common.{◌≡◌, inl, inr, ℕ, suc, ◌+◌, ◌-◌, ◌≤◌, ◌<◌, List, [], ◌∷◌, ◌++◌, Some, length, take, slice_get, bytes_eq, ap, sym, subst, ◌∙◌, arith, Contains}
+use Rattle.std.proofs.Common.{◌≡◌, flat_map, inl, inr, ℕ, suc, ◌+◌, ◌-◌, ◌≤◌, ◌<◌, List, [], ◌∷◌, ◌++◌, Some, length, take, slice_get, bytes_eq, ap, sym, subst, ◌∙◌, arith, Contains}
 use Rattle.std.specs.List.{IsDistinct}
 use Rattle.std.specs.Cmp.{decided}
 use Rattle.std.proofs.lemmas.List.Elements.{Contains-append_left, Contains-append_right, Contains-append_cases, Contains-push_cases}
@@ -7,7 +7,6 @@ use Rattle.std.proofs.lemmas.Map.Made.{length-le_from_is_member}
 use Rattle.std.proofs.lemmas.Map.Views.{Contains-from_any, list_any-from_Contains}
 use Rattle.std.proofs.lemmas.Slice.Eq.{bytes_eq-Decides}
 use Rattle.gql_ast.specs.declared.definition.Definition.{Definition}
-use Rattle.gql_facts.specs.declared.fact.Fact.{Fact}
 use Rattle.gql_facts.specs.declared.fact.Fact.TheVariants as fact
 use Rattle.gql_facts.specs.declared.fact.FragmentFact.{FragmentFact}
 use Rattle.gql_facts.specs.declared.key.Key.{Key}
@@ -16,20 +15,22 @@ use Rattle.gql_facts.specs.ListMembers.{Contains-nil, Contains-map, Contains-fla
 use Rattle.gql_facts.specs.Members.{Lists}
 use Rattle.gql_facts.specs.Reads.{Reads, Reaches, by_definition, by_fragment}
 use Rattle.gql_facts.specs.Worlds.{Facts, IsWorld}
-use Rattle.gql_reads.specs.Observations.{Hold, keys_of}
+use Rattle.gql_reads.specs.Leading.{AreLed}
+use Rattle.gql_reads.specs.Observations.{Hold, keys_of, observed_in}
 use Rattle.gql_reads.specs.Own.{Own, tree_of}
 use Rattle.gql_reads.specs.Reaching.{AreMet, IsReaching, Meets}
 use Rattle.gql_reads.specs.Readings.{members_of, name_of, own_name, seen_in}
 use Rattle.gql_reads.specs.Records.{IsRecord, IsTold, Kept}
 use Rattle.gql_reads.specs.Tables.{AllHold, Entries, entry_at}
+use Rattle.gql_reads.specs.declared.observation.Answer.{Answer}
 use Rattle.gql_reads.specs.declared.observation.Observation.{Observation}
 use Rattle.gql_reads.proofs.Members.{Contains-map_from}
 use Rattle.gql_reads.proofs.Meeting.{met_count, met_stays}
 use Rattle.gql_reads.proofs.Owning.{fragment_read, own_read, split}
-use Rattle.gql_reads.proofs.Recorded.{node_told, own_reached, part_reached, told_key}
+use Rattle.gql_reads.proofs.Recorded.{key_is, node_told, observed_so, own_reached, part_reached, told_observed}
 use Rattle.gql_reads.proofs.Takes.{all_taken, at_there, longer, member_at, take_next}
 
-module _ (F : Facts) (names : List (List ℕ)) (world : IsWorld F names) (d : Definition) (own : List Observation) (is_own : IsRecord F d.tree own) where
+module _ (F : Facts) (names : List (List ℕ)) (world : IsWorld F names) (d : Definition) (own : List Answer) (is_own : IsRecord F d.tree own) where
   -- ---- the steps
 
   pub reaching_first : (old parts : List Kept) → old ≡ [] → Meets (IsTold own) old parts → IsReaching F d own 0 parts
@@ -70,7 +71,7 @@ module _ (F : Facts) (names : List (List ℕ)) (world : IsWorld F names) (d : De
 
   module _ (at : ℕ) (es : Entries) (ns : List (List ℕ)) (parts : List Kept) (w : IsReaching F d own at parts) (met : AreMet F es ns parts) (end : length parts ≤ at) where
     abbrev all : List Observation
-    all = own ++ seen_in parts
+    all = observed_in own ++ seen_in parts
 
     all_followed : (p : Kept) (g : FragmentFact) → Contains parts p → IsTold p.seen g → Contains (members_of parts) g
     all_followed p g c t = w.followed p g (subst (λ l. Contains l p) (sym (all_taken parts at end)) c) t
@@ -92,30 +93,30 @@ module _ (F : Facts) (names : List (List ℕ)) (world : IsWorld F names) (d : De
     }
 
     pub all_hold : Hold F all
-    all_hold o c = elim (Contains-append_cases own (seen_in parts) o c) [
+    all_hold o c = elim (Contains-append_cases (observed_in own) (seen_in parts) o c) [
       | inl a ↦ is_own.hold o a
-      | inr b ↦ let m = Contains-flat_map_from (λ (p : Kept). p.seen) parts o b in (met.each m.0 m.1).seen.hold o m.2
+      | inr b ↦ let m = Contains-flat_map_from (λ (p : Kept). observed_in p.seen) parts o b in (met.each m.0 m.1).seen.hold o m.2
     ]
 
     from_own : (k : Key) → Own F d.tree k → Contains (keys_of all) k
     from_own k o =
-        let m = Contains-map_from (λ (x : Observation). x.key) own k (is_own.keys.complete k o) in
-        subst (Contains (keys_of all)) m.2 (Contains-map (λ (x : Observation). x.key) all m.0 (Contains-append_left own (seen_in parts) m.0 m.1))
+        let m = Contains-map_from (λ (x : Observation). x.key) (observed_in own) k (is_own.keys.complete k o) in
+        subst (Contains (keys_of all)) m.2 (Contains-map (λ (x : Observation). x.key) all m.0 (Contains-append_left (observed_in own) (seen_in parts) m.0 m.1))
 
     from_part : (g : FragmentFact) (k : Key) → Reaches F d g → Own F (tree_of g) k → Contains (keys_of all) k
     from_part g k r o =
         let p = part_for g (member_reached r) in
         let own_there : Own F (tree_of p.0.fragment) k = subst (λ h. Own F (tree_of h) k) (sym p.2) o in
-        let m = Contains-map_from (λ (x : Observation). x.key) p.0.seen k ((met.each p.0 p.1).seen.keys.complete k own_there) in
+        let m = Contains-map_from (λ (x : Observation). x.key) (observed_in p.0.seen) k ((met.each p.0 p.1).seen.keys.complete k own_there) in
         subst (Contains (keys_of all)) m.2 (Contains-map (λ (x : Observation). x.key) all m.0
-        (Contains-append_right own (seen_in parts) m.0 (Contains-flat_map (λ (q : Kept). q.seen) parts p.0 m.0 p.1 m.1)))
+        (Contains-append_right (observed_in own) (seen_in parts) m.0 (Contains-flat_map (λ (q : Kept). observed_in q.seen) parts p.0 m.0 p.1 m.1)))
 
     observation_read : (o : Observation) → Contains all o → Reads F d o.key
-    observation_read o c = elim (Contains-append_cases own (seen_in parts) o c) [
-      | inl a ↦ own_read F d (is_own.keys.sound o.key (Contains-map (λ (x : Observation). x.key) own o a))
+    observation_read o c = elim (Contains-append_cases (observed_in own) (seen_in parts) o c) [
+      | inl a ↦ own_read F d (is_own.keys.sound o.key (Contains-map (λ (x : Observation). x.key) (observed_in own) o a))
       | inr b ↦
-          let m = Contains-flat_map_from (λ (p : Kept). p.seen) parts o b in
-          fragment_read F d (w.reached m.0 m.1) ((met.each m.0 m.1).seen.keys.sound o.key (Contains-map (λ (x : Observation). x.key) m.0.seen o m.2))
+          let m = Contains-flat_map_from (λ (p : Kept). observed_in p.seen) parts o b in
+          fragment_read F d (w.reached m.0 m.1) ((met.each m.0 m.1).seen.keys.sound o.key (Contains-map (λ (x : Observation). x.key) (observed_in m.0.seen) o m.2))
     ]
 
     pub all_keys : Lists (keys_of all) (Reads F d)
@@ -124,28 +125,30 @@ module _ (F : Facts) (names : List (List ℕ)) (world : IsWorld F names) (d : De
       complete = λ k r. elim (split F d r) [ inl o ↦ from_own k o | inr q ↦ from_part q.0 k q.1 q.2 ];
     }
 
-    abbrev observation_at : Key → Fact → Observation
-    observation_at k f = record { key = k; fact = f }
-
     -- what a part is of was told
-    told_by : {g : FragmentFact} → Reaches F d g → IsTold all g
+    told_by : {g : FragmentFact} → Reaches F d g → (o : Observation) × Contains all o × (o.fact ≡ fact.Fragment g)
     told_by (by_definition {n} {g} c e) =
-        let t = node_told F d.tree own n g is_own c e in (t.0, Contains-append_left own (seen_in parts) t.0 t.1, t.2)
+        let t = node_told F d.tree own n g is_own c e in
+        (t.0.observation, Contains-append_left (observed_in own) (seen_in parts) t.0.observation (told_observed own g t), t.2)
     told_by (by_fragment {n} {f} {g} r c e) =
         let p = part_for f (member_reached r) in
         let seen : IsRecord F (tree_of f) p.0.seen = subst (λ h. IsRecord F (tree_of h) p.0.seen) p.2 (met.each p.0 p.1).seen in
         let t = node_told F (tree_of f) p.0.seen n g seen c e in
-        (t.0, Contains-append_right own (seen_in parts) t.0 (Contains-flat_map (λ (q : Kept). q.seen) parts p.0 t.0 p.1 t.1), t.2)
-
-    observed_so : (o : Observation) (k : Key) (g : FragmentFact) → o.key ≡ k → o.fact ≡ fact.Fragment g → o ≡ record { key = k; fact = fact.Fragment g }
-    observed_so o k g e f =
-        ap (λ (j : Key). observation_at j o.fact) e ∙ ap (λ (x : Fact). observation_at k x) f
+        (t.0.observation, Contains-append_right (observed_in own) (seen_in parts) t.0.observation
+        (Contains-flat_map (λ (q : Kept). observed_in q.seen) parts p.0 t.0.observation p.1 (told_observed p.0.seen g t)), t.2)
 
     pub all_shared : (p : Kept) → Contains parts p → (entry_at es (name_of p.fragment) ≡ Some p) × Contains all (own_name p.fragment)
     all_shared p c =
         let t = told_by (w.reached p c) in
-        let k = told_key F names world all p.fragment all_hold t in
-        ((met.each p c).entry, subst (Contains all) (observed_so t.0 (key.FragmentOf (name_of p.fragment)) p.fragment k t.2) t.1)
+        let k = key_is F names world t.0.key p.fragment (all_hold t.0 t.1 ∙ t.2) in
+        ((met.each p c).entry, subst (Contains all) (observed_so t.0 (key.FragmentOf (name_of p.fragment)) (fact.Fragment p.fragment) k t.2) t.1)
+
+    -- each answer has exactly the types that it leads to
+    pub all_led : AreLed (own ++ flat_map (λ (p : Kept). p.seen) parts)
+    all_led a c = elim (Contains-append_cases own (flat_map (λ (p : Kept). p.seen) parts) a c) [
+      | inl o ↦ is_own.led a o
+      | inr q ↦ let m = Contains-flat_map_from (λ (p : Kept). p.seen) parts a q in (met.each m.0 m.1).seen.led a m.2
+    ]
 
   -- ---- a walk ends
 

@@ -1,4 +1,5 @@
 pub mod Observations
+pub mod Leading
 pub mod Own
 pub mod Records
 pub mod Tables

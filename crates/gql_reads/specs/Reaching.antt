@@ -10,7 +10,7 @@ use Rattle.gql_reads.specs.Own.{tree_of}
 use Rattle.gql_reads.specs.Readings.{members_of, name_of}
 use Rattle.gql_reads.specs.Records.{IsRecord, IsTold, Kept}
 use Rattle.gql_reads.specs.Tables.{Entries, entry_at}
-use Rattle.gql_reads.specs.declared.observation.Observation.{Observation}
+use Rattle.gql_reads.specs.declared.observation.Answer.{Answer}
 
 -- the fragment is the one of its name
 abbrev pub IsNamed : Facts → FragmentFact → Type 0
@@ -38,7 +38,7 @@ pub record Meets (P : FragmentFact → Type 0) (old new : List Kept) : Type 0 wh
 
 -- What a walk from d has done: the fragments that its own record tells were met, and those that the
 -- records of the first `at` parts tell.
-pub record IsReaching (facts : Facts) (d : Definition) (own : List Observation)
+pub record IsReaching (facts : Facts) (d : Definition) (own : List Answer)
     (at : ℕ) (parts : List Kept) : Type 0 where
   pub within : at ≤ length parts
   pub reached : (p : Kept) → Contains parts p → Reaches facts d p.fragment

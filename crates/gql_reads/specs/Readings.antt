@@ -3,8 +3,10 @@ use Rattle.std.specs.Prelude.{◌≡◌, ◌++◌, ℕ, List, Contains, Some, fl
 use Rattle.gql_facts.specs.declared.fact.FragmentFact.{FragmentFact}
 use Rattle.gql_facts.specs.declared.fact.Fact.TheVariants as fact
 use Rattle.gql_facts.specs.declared.key.Key.TheVariants as key
+use Rattle.gql_reads.specs.Observations.{observed_in}
 use Rattle.gql_reads.specs.Records.{Kept}
 use Rattle.gql_reads.specs.Tables.{Entries, entry_at}
+use Rattle.gql_reads.specs.declared.observation.Answer.{Answer}
 use Rattle.gql_reads.specs.declared.observation.Observation.{Observation}
 use Rattle.gql_reads.specs.declared.reading.Reading.{Reading}
 
@@ -14,11 +16,15 @@ name_of g = g.fragment.name.text
 
 -- the observations of these parts
 abbrev pub seen_in : List Kept → List Observation
-seen_in parts = flat_map (λ (p : Kept). p.seen) parts
+seen_in parts = flat_map (λ (p : Kept). observed_in p.seen) parts
 
 -- all observations, as one list
 abbrev pub flat : Reading → List Observation
-flat r = r.own.record ++ seen_in r.parts.items
+flat r = observed_in r.own.record ++ seen_in r.parts.items
+
+-- all answers, as one list
+abbrev pub answers_in : Reading → List Answer
+answers_in r = r.own.record ++ flat_map (λ (p : Kept). p.seen) r.parts.items
 
 -- the fragments of these parts
 abbrev pub members_of : List Kept → List FragmentFact

@@ -3,9 +3,10 @@ ghost use Rattle.std.specs.Prelude.{◌≡◌, IfOk};
 ghost use Rattle.gql_reads.specs.Own.{tree_of};
 ghost use Rattle.gql_reads.specs.Readings.{name_of};
 ghost use Rattle.gql_reads.specs.Records.{IsCertified, IsRecord};
+ghost use Rattle.gql_reads.specs.Tables.{AllHold};
 
-use crate::known::KnownAnswers;
 use crate::record::{Record, record_of};
+use crate::table::ReadTable;
 use gql_ast::{Shared, Text, Tree};
 use gql_facts::{FragmentFact, World};
 use std::alloc::{AllocError, Global};
@@ -40,9 +41,8 @@ impl Drop for Part {
 
 impl Model for Part {
     ghost use Rattle.std.specs.Coded.{codes};
-    ghost use Rattle.gql_facts.specs.contracts.fact.Fact as fact;
     ghost use Rattle.gql_facts.specs.contracts.fact.FragmentFact as fragment_fact;
-    ghost use Rattle.gql_facts.specs.contracts.key.Key as key;
+    ghost use Rattle.gql_reads.specs.contracts.observation.Answer as answer;
     ghost use Rattle.gql_reads.specs.Records.{IsCertified, Kept};
 
     ghost Value = { Kept };
@@ -50,8 +50,7 @@ impl Model for Part {
     ghost coded = { Prim.hlevel (
       codes,
       fragment_fact.the_row.coded,
-      key.the_row.coded,
-      fact.the_row.coded,
+      answer.the_row.coded,
     ) };
 
     ghost view = { λ p. record { fragment = p.held.fragment; seen = p.held.seen } };
@@ -97,17 +96,20 @@ pub fn walk_fragment<W: World>(
     alloc: Global,
     world: &mut W,
     fragment: &FragmentFact,
-    known: &mut KnownAnswers,
+    table: &mut ReadTable,
 ) -> Result<Part, AllocError>
+    requires holds { AllHold (W.facts world.old) table.old }
     ensures facts { W.facts world.new ≡ W.facts world.old }
     ensures names { W.names world.new ≡ W.names world.old }
     ensures lent { W.lent world.new ≡ W.lent world.old }
+    ensures holds { AllHold (W.facts world.old) table.new }
+    ensures keeps { table.new.parts ≡ table.old.parts }
     ensures fragment { IfOk result (λ part. part.fragment ≡ fragment.now) }
     ensures seen { IfOk result (λ part.
         IsRecord (W.facts world.old) (tree_of fragment.now) part.seen) }
 {
     let tree = Tree::Fragment(fragment.fragment.clone()?);
-    let seen = record_of(alloc, world, &tree, known)?;
+    let seen = record_of(alloc, world, &tree, table)?;
     let seen = Shared::new(alloc, seen)?;
     let fragment = fragment.copy()?;
     let held = Shared::new(alloc, Held { fragment, seen })?;

@@ -6,13 +6,13 @@ ghost use Rattle.gql_facts.specs.Members.{Lists};
 ghost use Rattle.gql_facts.specs.Reads.{Reaches, Reads};
 ghost use Rattle.gql_facts.specs.declared.fact.FragmentFact.{FragmentFact as AFragment};
 ghost use Rattle.gql_reads.specs.Observations.{Hold, keys_of};
-ghost use Rattle.gql_reads.specs.Readings.{AreShared, flat, members_of, name_of};
+ghost use Rattle.gql_reads.specs.Leading.{AreLed};
+ghost use Rattle.gql_reads.specs.Readings.{AreShared, answers_in, flat, members_of, name_of};
 ghost use Rattle.gql_reads.specs.Reaching.{AreMet, IsNamed, IsPartOf, Meets};
 ghost use Rattle.gql_reads.specs.Records.{IsRecord, IsTold, Kept};
 ghost use Rattle.gql_reads.specs.Tables.{AllHold, Keeps, entry_at};
 
 use crate::holds::is_named;
-use crate::known::KnownAnswers;
 use crate::part::Part;
 use crate::record::{Record, record_of};
 use crate::retest::{KeptParts, part_for};
@@ -73,7 +73,6 @@ fn add_part<W: World, K: KeptParts>(
     world: &mut W,
     kept: &K,
     table: &mut ReadTable,
-    known: &mut KnownAnswers,
     fragment: &FragmentFact,
 ) -> Result<Part, AllocError>
     requires holds { AllHold (W.facts world.old) table.old }
@@ -86,7 +85,7 @@ fn add_part<W: World, K: KeptParts>(
     ensures keeps { Keeps table.old table.new }
     ensures part { IfOk result (IsPartOf (W.facts world.old) table.new fragment.now) }
 {
-    let part = part_for(alloc, world, kept, fragment, known)?;
+    let part = part_for(alloc, world, kept, fragment, table)?;
     let entry = part.copy()?;
     let name = fragment.fragment.get().name.text.copy()?;
     table.add(name, entry)?;
@@ -99,7 +98,6 @@ fn part_of<W: World, K: KeptParts>(
     world: &mut W,
     kept: &K,
     table: &mut ReadTable,
-    known: &mut KnownAnswers,
     fragment: &FragmentFact,
 ) -> Result<Part, AllocError>
     requires holds { AllHold (W.facts world.old) table.old }
@@ -114,7 +112,7 @@ fn part_of<W: World, K: KeptParts>(
     if let Some(part) = table.get(&fragment.fragment.get().name.text) {
         return part.copy();
     }
-    add_part(alloc, world, kept, table, known, fragment)
+    add_part(alloc, world, kept, table, fragment)
 }
 
 /// Adds the part of a fragment, unless it was met.
@@ -123,7 +121,6 @@ fn meet<W: World, K: KeptParts>(
     world: &mut W,
     kept: &K,
     table: &mut ReadTable,
-    known: &mut KnownAnswers,
     fragment: &FragmentFact,
     met: &mut Met,
 ) -> Result<(), AllocError>
@@ -144,7 +141,7 @@ fn meet<W: World, K: KeptParts>(
     if met.names.contains(name) {
         return Ok(());
     }
-    let part = part_of(alloc, world, kept, table, known, fragment)?;
+    let part = part_of(alloc, world, kept, table, fragment)?;
     met.names.insert(name.copy()?)?;
     met.parts.push(part)?;
     Ok(())
@@ -156,7 +153,6 @@ fn meet_all<W: World, K: KeptParts>(
     world: &mut W,
     kept: &K,
     table: &mut ReadTable,
-    known: &mut KnownAnswers,
     fragments: &[FragmentFact],
     met: &mut Met,
 ) -> Result<(), AllocError>
@@ -174,7 +170,7 @@ fn meet_all<W: World, K: KeptParts>(
         met.old.parts.items met.new.parts.items) }
 {
     for fragment in fragments {
-        meet(alloc, world, kept, table, known, fragment, met)?;
+        meet(alloc, world, kept, table, fragment, met)?;
     }
     Ok(())
 }
@@ -192,7 +188,6 @@ fn visit<W: World, K: KeptParts>(
     world: &mut W,
     kept: &K,
     table: &mut ReadTable,
-    known: &mut KnownAnswers,
     at: usize,
     met: &mut Met,
 ) -> Result<(), AllocError>
@@ -212,7 +207,7 @@ fn visit<W: World, K: KeptParts>(
         return Ok(());
     };
     let seen = part.seen().clone()?;
-    meet_all(alloc, world, kept, table, known, seen.get().spreads(), met)?;
+    meet_all(alloc, world, kept, table, seen.get().spreads(), met)?;
     Ok(())
 }
 
@@ -222,7 +217,6 @@ fn own_part<W: World, K: KeptParts>(
     world: &mut W,
     kept: &K,
     table: &mut ReadTable,
-    known: &mut KnownAnswers,
     definition: &Definition,
 ) -> Result<Option<Part>, AllocError>
     requires holds { AllHold (W.facts world.old) table.old }
@@ -245,7 +239,7 @@ fn own_part<W: World, K: KeptParts>(
     if !is_named {
         return Ok(None);
     }
-    let part = part_of(alloc, world, kept, table, known, &fragment)?;
+    let part = part_of(alloc, world, kept, table, &fragment)?;
     Ok(Some(part))
 }
 
@@ -255,7 +249,6 @@ fn own_of<W: World, K: KeptParts>(
     world: &mut W,
     kept: &K,
     table: &mut ReadTable,
-    known: &mut KnownAnswers,
     definition: &Definition,
 ) -> Result<OwnReads, AllocError>
     requires holds { AllHold (W.facts world.old) table.old }
@@ -266,7 +259,7 @@ fn own_of<W: World, K: KeptParts>(
     ensures keeps { Keeps table.old table.new }
     ensures own { IfOk result (λ own. IsRecord (W.facts world.old) definition.now.tree own.record) }
 {
-    match own_part(alloc, world, kept, table, known, definition)? {
+    match own_part(alloc, world, kept, table, definition)? {
         Some(part) => {
             let record = part.seen().clone()?;
             Ok(OwnReads {
@@ -275,7 +268,7 @@ fn own_of<W: World, K: KeptParts>(
             })
         }
         None => {
-            let record = record_of(alloc, world, &definition.tree, known)?;
+            let record = record_of(alloc, world, &definition.tree, table)?;
             let record = Shared::new(alloc, record)?;
             Ok(OwnReads { record, part: None })
         }
@@ -285,14 +278,13 @@ fn own_of<W: World, K: KeptParts>(
 /// What was observed of a definition: a handle of its own record, and a part of each fragment that
 /// it reaches. A fragment that the table has is not walked. Of each other, a part that is kept is
 /// added to the table if what was observed then still holds; else the fragment is walked, once.
-/// Answers that are known are shared. Whether it succeeds or an allocation fails, no entry is lost,
+/// Answers that the table has are shared. Whether it succeeds or an allocation fails, no entry is lost,
 /// and all entries hold.
 pub fn reads_of<W: World, K: KeptParts>(
     alloc: Global,
     world: &mut W,
     kept: &K,
     table: &mut ReadTable,
-    known: &mut KnownAnswers,
     definition: &Definition,
 ) -> Result<Reading, AllocError>
     requires holds { AllHold (W.facts world.old) table.old }
@@ -307,8 +299,9 @@ pub fn reads_of<W: World, K: KeptParts>(
     ensures members { IfOk result (λ r.
         Lists (members_of r.parts.items) (Reaches (W.facts world.old) definition.now)) }
     ensures shared { IfOk result (AreShared table.new) }
+    ensures led { IfOk result (λ r. AreLed (answers_in r)) }
 {
-    let own = own_of(alloc, world, kept, table, known, definition)?;
+    let own = own_of(alloc, world, kept, table, definition)?;
     let mut met = Met {
         names: IndexSet::new(alloc),
         parts: Vec::new(alloc),
@@ -318,13 +311,12 @@ pub fn reads_of<W: World, K: KeptParts>(
         world,
         kept,
         table,
-        known,
         own.record.get().spreads(),
         &mut met,
     )?;
     let mut at = 0;
     'walk: while at < met.names.len() {
-        visit(alloc, world, kept, table, known, at, &mut met)?;
+        visit(alloc, world, kept, table, at, &mut met)?;
         at += 1;
     }
     let Met { names: _, parts } = met;

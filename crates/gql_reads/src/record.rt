@@ -1,22 +1,24 @@
 //! What was observed of one definition or fragment alone.
-ghost use Rattle.std.specs.Prelude.{◌≡◌, ◌++◌, IfOk, OnOk, map};
-ghost use Rattle.gql_facts.specs.Members.{Lists};
+ghost use Rattle.std.specs.Prelude.{◌≡◌, ◌++◌, IfOk, OnOk};
 ghost use Rattle.gql_facts.specs.Walks.{member_in};
-ghost use Rattle.gql_reads.specs.Closings.{observation_of};
+ghost use Rattle.gql_reads.specs.Closings.{AreAnswers, AreRight};
 ghost use Rattle.gql_reads.specs.Records.{IsRecord, IsTold};
+ghost use Rattle.gql_reads.specs.Tables.{AllHold, Keeps};
+ghost use Rattle.gql_facts.specs.Members.{Lists};
 
-use crate::closing::own_answers;
-use crate::known::KnownAnswers;
-use crate::observation::Observation;
+use crate::observation::Answer;
+use crate::scan::scan_tree;
+use crate::table::ReadTable;
 use gql_ast::{Shared, Tree};
 use gql_facts::{Fact, FragmentFact, Key, World};
 use indexmap::IndexMap;
 use std::alloc::{AllocError, Global};
 use std::marker::Model;
 
-/// The answers to the own reads of a definition or fragment. Contracts see the list of them.
+/// The answers to what the nodes of a definition or fragment read, each with the types that it leads
+/// to. Contracts see the list of them.
 pub struct Record {
-    observations: Vec<Shared<Observation>>,
+    answers: Vec<Shared<Answer>>,
     /// The fragments that are among the answers.
     spreads: Vec<FragmentFact>,
 }
@@ -24,7 +26,7 @@ pub struct Record {
 impl Drop for Record {
     fn drop(self) {
         let Record {
-            observations: _,
+            answers: _,
             spreads: _,
         } = self;
     }
@@ -37,23 +39,24 @@ impl Model for Record {
     ghost use Rattle.gql_facts.specs.contracts.fact.Fact as fact;
     ghost use Rattle.gql_facts.specs.contracts.key.Key as key;
     ghost use Rattle.gql_reads.specs.Records.{IsTold};
-    ghost use Rattle.gql_reads.specs.declared.observation.Observation.{Observation};
+    ghost use Rattle.gql_reads.specs.contracts.observation.Answer as answer;
+    ghost use Rattle.gql_reads.specs.declared.observation.Answer.{Answer};
 
-    ghost Value = { List Observation };
+    ghost Value = { List Answer };
 
-    ghost coded = { Prim.hlevel (codes, key.the_row.coded, fact.the_row.coded) };
+    ghost coded = { Prim.hlevel (codes, answer.the_row.coded) };
 
-    ghost view = { λ r. r.observations.items };
+    ghost view = { λ r. r.answers.items };
 
-    ghost invariant = { λ r. Lists r.spreads.items (IsTold r.observations.items) };
+    ghost invariant = { λ r. Lists r.spreads.items (IsTold r.answers.items) };
 }
 
 impl Record {
     /// The answers, each shared with the records that have it, too.
-    pub fn observations(&self) -> &[Shared<Observation>]
+    pub fn answers(&self) -> &[Shared<Answer>]
         ensures { result.now ≡ self.now }
     {
-        self.observations.as_slice()
+        self.answers.as_slice()
     }
 
     /// The fragments that are among the answers: those that the definition spreads itself.
@@ -74,41 +77,53 @@ fn add_spread(fact: &Fact, spreads: &mut Vec<FragmentFact>) -> Result<(), AllocE
     Ok(())
 }
 
-/// These answers as a record. Answers that are known are shared.
-fn record_from(
+/// These answers as a record, each with the types that it leads to.
+fn record_from<W: World>(
     alloc: Global,
+    world: &mut W,
     answers: IndexMap<Key, Fact>,
-    known: &mut KnownAnswers,
+    table: &mut ReadTable,
 ) -> Result<Record, AllocError>
-    ensures { IfOk result (λ r. r ≡ map observation_of answers.entries) }
+    requires right { AreRight (W.facts world.old) answers.entries }
+    requires holds { AllHold (W.facts world.old) table.old }
+    ensures facts { W.facts world.new ≡ W.facts world.old }
+    ensures names { W.names world.new ≡ W.names world.old }
+    ensures lent { W.lent world.new ≡ W.lent world.old }
+    ensures holds { AllHold (W.facts world.old) table.new }
+    ensures keeps { table.new.parts ≡ table.old.parts }
+    ensures answers { IfOk result (AreAnswers (W.facts world.old) answers.entries) }
 {
-    let mut observations = Vec::with_capacity(alloc, answers.len())?;
+    let mut found = Vec::with_capacity(alloc, answers.len())?;
     let mut spreads = Vec::new(alloc);
     for (key, fact) in answers {
         add_spread(&fact, &mut spreads)?;
-        observations.push(known.observation(alloc, key, fact)?)?;
+        found.push(table.answer(alloc, world, key, fact)?)?;
     }
     spreads.shrink_to_fit();
     Ok(Record {
-        observations,
+        answers: found,
         spreads,
     })
 }
 
-/// What a world answers to exactly the own reads of a definition or fragment. Each is asked once.
-/// Answers that are known are shared.
+/// What a world answers to exactly the own reads of a definition or fragment. Answers that the table
+/// has are shared.
 pub fn record_of<W: World>(
     alloc: Global,
     world: &mut W,
     tree: &Tree,
-    known: &mut KnownAnswers,
+    table: &mut ReadTable,
 ) -> Result<Record, AllocError>
+    requires holds { AllHold (W.facts world.old) table.old }
     ensures facts { W.facts world.new ≡ W.facts world.old }
     ensures names { W.names world.new ≡ W.names world.old }
     ensures lent { W.lent world.new ≡ W.lent world.old }
+    ensures holds { AllHold (W.facts world.old) table.new }
+    ensures keeps { table.new.parts ≡ table.old.parts }
     ensures seen { IfOk result (IsRecord (W.facts world.old) tree.now) }
 {
-    let answers = own_answers(alloc, world, tree)?;
-    let seen = record_from(alloc, answers, known)?;
+    let mut answers = IndexMap::new(alloc);
+    scan_tree(alloc, world, tree, &mut answers)?;
+    let seen = record_from(alloc, world, answers, table)?;
     Ok(seen)
 }

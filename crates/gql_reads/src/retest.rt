@@ -1,13 +1,13 @@
 //! Parts that were made before: one is taken again if all that was observed of its fragment alone
 //! still holds.
 ghost use Rattle.std.specs.Prelude.{◌≡◌, ◌↔◌, IfOk, IfSome, IsTrue, true};
-ghost use Rattle.gql_reads.specs.Observations.{Hold};
 ghost use Rattle.gql_reads.specs.Own.{tree_of};
 ghost use Rattle.gql_reads.specs.Records.{IsRecord, Kept};
+ghost use Rattle.gql_reads.specs.Tables.{AllHold};
 
-use crate::holds::observations_hold;
-use crate::known::KnownAnswers;
+use crate::holds::answers_hold;
 use crate::part::{Part, walk_fragment};
+use crate::table::ReadTable;
 use gql_ast::Same;
 use gql_facts::{FragmentFact, World};
 use std::alloc::{AllocError, Global};
@@ -46,7 +46,7 @@ fn is_still_of<W: World>(
     if !part.fragment().same(fragment) {
         return Ok(false);
     }
-    let hold = observations_hold(alloc, world, part.seen().get().observations())?;
+    let hold = answers_hold(alloc, world, part.seen().get().answers())?;
     Ok(hold)
 }
 
@@ -83,17 +83,20 @@ pub fn part_for<W: World, K: KeptParts>(
     world: &mut W,
     kept: &K,
     fragment: &FragmentFact,
-    known: &mut KnownAnswers,
+    table: &mut ReadTable,
 ) -> Result<Part, AllocError>
+    requires holds { AllHold (W.facts world.old) table.old }
     ensures facts { W.facts world.new ≡ W.facts world.old }
     ensures names { W.names world.new ≡ W.names world.old }
     ensures lent { W.lent world.new ≡ W.lent world.old }
+    ensures holds { AllHold (W.facts world.old) table.new }
+    ensures keeps { table.new.parts ≡ table.old.parts }
     ensures fragment { IfOk result (λ part. part.fragment ≡ fragment.now) }
     ensures seen { IfOk result (λ part.
         IsRecord (W.facts world.old) (tree_of fragment.now) part.seen) }
 {
     match older_part(alloc, world, kept, fragment)? {
         Some(part) => Ok(part),
-        None => walk_fragment(alloc, world, fragment, known),
+        None => walk_fragment(alloc, world, fragment, table),
     }
 }

@@ -1,32 +1,42 @@
-//! What was observed of fragments, each under its name.
-ghost use Rattle.std.specs.Prelude.{◌≡◌, ℕ, List, [], OnOk, OnErr, Some, false, bytes_eq};
+//! What was observed of fragments, each under its name, and answers, each under its key.
+ghost use Rattle.std.specs.Prelude.{◌≡◌, ℕ, List, IfOk, OnOk, OnErr, None, Some, false, bytes_eq};
 ghost use Rattle.std.specs.Option.{option_copied};
+ghost use Rattle.gql_facts.specs.Keys.{is_key};
 ghost use Rattle.gql_facts.specs.Worlds.{Facts};
-ghost use Rattle.gql_reads.specs.Tables.{AllHold, entry_at};
+ghost use Rattle.gql_facts.specs.declared.key.Key.{Key as AKey};
+ghost use Rattle.gql_reads.specs.Tables.{AllHold, IsAnswer, answer_at, entry_at, no_entries};
 
+use crate::leading::types_led_to;
+use crate::observation::{Answer, Observation};
 use crate::part::Part;
-use gql_ast::Text;
+use gql_ast::{Items, Shared, Text};
+use gql_facts::{Fact, Key, World};
 use indexmap::IndexMap;
 use std::alloc::{AllocError, Global};
 use std::marker::Model;
 
-/// What was observed of fragments, each under its name. Contracts see a list of entries.
+/// What was observed of fragments, each under its name, and answers with the types that they lead to,
+/// each under its key. It is of one world, so that all who read a key share its answer.
 pub struct ReadTable {
     entries: IndexMap<Text, Part>,
+    answers: IndexMap<Key, Shared<Answer>>,
 }
 
 impl Drop for ReadTable {
     fn drop(self) {
-        let ReadTable { entries: _ } = self;
+        let ReadTable {
+            entries: _,
+            answers: _,
+        } = self;
     }
 }
 
 impl Model for ReadTable {
     ghost use Rattle.std.specs.Coded.{codes};
-    ghost use Rattle.gql_facts.specs.contracts.fact.Fact as fact;
     ghost use Rattle.gql_facts.specs.contracts.fact.FragmentFact as fragment_fact;
     ghost use Rattle.gql_facts.specs.contracts.key.Key as key;
     ghost use Rattle.gql_reads.specs.Tables.{Entries};
+    ghost use Rattle.gql_reads.specs.contracts.observation.Answer as answer;
 
     ghost Value = { Entries };
 
@@ -34,20 +44,21 @@ impl Model for ReadTable {
       codes,
       fragment_fact.the_row.coded,
       key.the_row.coded,
-      fact.the_row.coded,
+      answer.the_row.coded,
     ) };
 
-    ghost view = { λ t. t.entries.entries };
+    ghost view = { λ t. record { parts = t.entries.entries; answers = t.answers.entries } };
 }
 
 impl ReadTable {
     /// A table without entries.
     pub fn new(alloc: Global) -> ReadTable
-        ensures empty { result ≡ [] }
+        ensures empty { result ≡ no_entries }
         ensures holds { (facts : Facts) → AllHold facts result }
     {
         ReadTable {
             entries: IndexMap::new(alloc),
+            answers: IndexMap::new(alloc),
         }
     }
 
@@ -63,9 +74,79 @@ impl ReadTable {
         ensures here { OnOk result (entry_at self.new name ≡ Some part) }
         ensures others { OnOk result ((n : List ℕ) → bytes_eq name n ≡ false
             → entry_at self.new n ≡ entry_at self.old n) }
+        ensures answers { self.new.answers ≡ self.old.answers }
         ensures err { OnErr result (self.new ≡ self.old) }
     {
         self.entries.insert(name, part)?;
         Ok(())
     }
+
+    /// The answer of a key, if it is known.
+    fn known(&self, key: &Key) -> Result<Option<Shared<Answer>>, AllocError>
+        ensures { IfOk result (λ found. found ≡ answer_at self.now key.now) }
+    {
+        match self.answers.get(key) {
+            Some(answer) => Ok(Some(answer.clone()?)),
+            None => Ok(None),
+        }
+    }
+
+    /// Adds the answer of a key.
+    fn add_answer(&mut self, key: Key, answer: Shared<Answer>) -> Result<(), AllocError>
+        ensures here { OnOk result (answer_at self.new key ≡ Some answer) }
+        ensures others { OnOk result ((k : AKey) → is_key key k ≡ false
+            → answer_at self.new k ≡ answer_at self.old k) }
+        ensures parts { self.new.parts ≡ self.old.parts }
+        ensures err { OnErr result (self.new ≡ self.old) }
+    {
+        self.answers.insert(key, answer)?;
+        Ok(())
+    }
+
+    /// The answer that a world gives to a key, with the types that it leads to: the one that is known,
+    /// or else a new one, which is known from then on.
+    pub(crate) fn answer<W: World>(
+        &mut self,
+        alloc: Global,
+        world: &mut W,
+        key: Key,
+        fact: Fact,
+    ) -> Result<Shared<Answer>, AllocError>
+        requires right { fact ≡ W.facts world.old key }
+        requires holds { AllHold (W.facts world.old) self.old }
+        ensures facts { W.facts world.new ≡ W.facts world.old }
+        ensures names { W.names world.new ≡ W.names world.old }
+        ensures lent { W.lent world.new ≡ W.lent world.old }
+        ensures holds { AllHold (W.facts world.old) self.new }
+        ensures parts { self.new.parts ≡ self.old.parts }
+        ensures answer { IfOk result (IsAnswer (W.facts world.old) key) }
+    {
+        if let Some(known) = self.known(&key)? {
+            return Ok(known);
+        }
+        let answer = answer_with(alloc, world, key.copy()?, fact)?;
+        let answer = Shared::new(alloc, answer)?;
+        self.add_answer(key, answer.clone()?)?;
+        Ok(answer)
+    }
+}
+
+/// An answer of a world, with the types that it leads to.
+fn answer_with<W: World>(
+    alloc: Global,
+    world: &mut W,
+    key: Key,
+    fact: Fact,
+) -> Result<Answer, AllocError>
+    requires { fact ≡ W.facts world.old key }
+    ensures facts { W.facts world.new ≡ W.facts world.old }
+    ensures names { W.names world.new ≡ W.names world.old }
+    ensures lent { W.lent world.new ≡ W.lent world.old }
+    ensures answer { IfOk result (IsAnswer (W.facts world.old) key) }
+{
+    let types = types_led_to(alloc, world, &fact)?;
+    Ok(Answer {
+        observation: Observation { key, fact },
+        types: Items::from_vec(types),
+    })
 }

@@ -5,6 +5,7 @@ use Rattle.gql_ast.specs.declared.definition.DefinitionId.{DefinitionId}
 use Rattle.std.specs.List.{list_any}
 use Rattle.gql_facts.specs.Keys.{is_key}
 use Rattle.gql_facts.specs.declared.key.Key.{Key}
+use Rattle.gql_reads.specs.Observations.{observed_in}
 use Rattle.gql_reads.specs.Readings.{flat, name_of}
 use Rattle.gql_reads.specs.Records.{Kept}
 use Rattle.gql_reads.specs.declared.observation.Observation.{Observation}
@@ -18,7 +19,7 @@ has_key k observations = list_any (λ (o : Observation). is_key o.key k) observa
 
 -- the name of a fragment, if it reads the key by itself
 abbrev pub name_if : Key → Kept → List (List ℕ)
-name_if k p = if has_key k p.seen then name_of p.fragment ∷ [] else []
+name_if k p = if has_key k (observed_in p.seen) then name_of p.fragment ∷ [] else []
 
 -- the names of the fragments among these that read the key by themselves
 abbrev pub names_through : Key → List Kept → List (List ℕ)
@@ -31,7 +32,7 @@ pub record IsReader (k : Key) (v : Judgement) (r : Reader) : Type 0 where
   pub reading : Reading
   pub observed : flat reading ≡ v.observations
   pub definition : r.definition ≡ v.def
-  pub by_itself : r.by_itself ≡ has_key k reading.own.record
+  pub by_itself : r.by_itself ≡ has_key k (observed_in reading.own.record)
   pub through : r.through.items ≡ names_through k reading.parts.items
 
 -- the reader is the definition of one of these verdicts

@@ -8,7 +8,7 @@ ghost use Rattle.gql_verdict.specs.Shelves.{readers_of as all_readers};
 
 use gql_ast::{Definition, DefinitionId, FilePlace, FileSide, Shared, Text};
 use gql_facts::Key;
-use gql_reads::{Observation, Part, Reading};
+use gql_reads::{Part, one_observes};
 use gql_verdict::{Shelf, Verdict};
 use std::alloc::{AllocError, Global};
 
@@ -21,20 +21,11 @@ pub struct Reader {
     pub through: Vec<Text>,
 }
 
-/// Whether one of these observations is of this key.
-fn has_key(observations: &[Shared<Observation>], key: &Key) -> bool
-    ensures { result ≡ spec.has_key key.now observations.now }
-{
-    observations
-        .iter()
-        .any(|observation| observation.get().key == *key)
-}
-
 /// Adds the name of a fragment, if it reads the key by itself.
 fn add_name(part: &Part, key: &Key, names: &mut Vec<Text>) -> Result<(), AllocError>
     ensures { OnOk result (names.new.items ≡ names.old.items ++ spec.name_if key.now part.now) }
 {
-    if has_key(part.seen().get().observations(), key) {
+    if one_observes(part.seen().get().answers(), key) {
         names.push(part.name().copy()?)?;
     }
     Ok(())
@@ -58,7 +49,7 @@ fn reader_of(alloc: Global, verdict: &Verdict, key: &Key) -> Result<Reader, Allo
     let reading = verdict.reading();
     Ok(Reader {
         definition: verdict.def().copy()?,
-        by_itself: has_key(reading.own.record.get().observations(), key),
+        by_itself: one_observes(reading.own.record.get().answers(), key),
         through: names_through(alloc, reading.parts.as_slice(), key)?,
     })
 }
@@ -110,7 +101,8 @@ pub fn readers_of(alloc: Global, shelf: &Shelf, key: &Key) -> Result<Vec<Reader>
     ensures each { IfOk result (λ found. (r : AReader) → Contains found.items r
         → spec.IsReaderAmong key.now shelf.now.verdicts r) }
 {
-    readers_at(alloc, shelf, key, shelf.readers(key))
+    let ids = shelf.readers(alloc, key)?;
+    readers_at(alloc, shelf, key, ids.as_slice())
 }
 
 /// Where a definition begins.

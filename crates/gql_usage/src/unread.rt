@@ -36,7 +36,7 @@ pub struct Unread {
 pub fn is_unread(shelf: &Shelf, key: &Key) -> bool
     ensures { result ≡ spec.is_unread shelf.now.verdicts key.now }
 {
-    shelf.readers(key).is_empty()
+    !shelf.has_reader(key)
 }
 
 /// Whether no definition reads this field of a type.

@@ -1,6 +1,6 @@
 -- What a world recorded of what a definition reads, with the faults, makes a verdict.
 use Rattle.std.specs.Prelude.{◌≡◌, ◌⊎◌, List, ◌++◌}
-use Rattle.std.proofs.Common.{sym, ◌∙◌, subst, inl, inr}
+use Rattle.std.proofs.Common.{sym, ◌∙◌, ap, append_assoc, flat_map, refl, subst, inl, inr, [], ◌∷◌}
 use Rattle.std.proofs.lemmas.List.Elements.{Contains-append_left, Contains-append_right, Contains-append_cases}
 use Rattle.gql_ast.specs.declared.definition.Definition.{Definition}
 use Rattle.gql_ast.specs.declared.fault.Fault.{Fault}
@@ -14,7 +14,12 @@ use Rattle.gql_rules.proofs.View as definitions
 use Rattle.gql_vars.specs.VariableFaults.{IsVariableFault}
 use Rattle.gql_vars.proofs.View as variables
 use Rattle.gql_verdict.specs.Faults.{IsFaultIn, by_definition, by_merging, by_variables}
-use Rattle.gql_reads.specs.Observations.{Hold, keys_of}
+use Rattle.gql_reads.specs.Leading.{AreLed}
+use Rattle.gql_reads.specs.Observations.{Hold, keys_of, observed, observed_in}
+use Rattle.gql_reads.specs.Readings.{answers_in, flat, seen_in}
+use Rattle.gql_reads.specs.Records.{Kept}
+use Rattle.gql_reads.specs.declared.observation.Answer.{Answer}
+use Rattle.gql_reads.specs.declared.reading.Reading.{Reading}
 use Rattle.gql_reads.specs.declared.observation.Observation.{Observation}
 use Rattle.gql_reads.proofs.Members.{Contains-map_from}
 use Rattle.gql_verdict.specs.Verdicts.{IsCertificate, Judges}
@@ -77,6 +82,17 @@ module _ (F : Facts) (d : Definition) (os : List Observation) (holds : Hold F os
     complete = λ f q. l.complete f (faults_back F u d (agrees u h) f q);
   })
 
-  pub judged : (e : Definition) (faults : List Fault) → e ≡ d → Lists faults (IsFaultIn F d)
-      → Judges F d (record { def = e; faults = faults; observations = os })
-  judged e faults is l = record { def = is; certificate = certificate e faults is l; holds = holds; keys = keys }
+  pub judged : (e : Definition) (faults : List Fault) (xs : List Answer) → e ≡ d → Lists faults (IsFaultIn F d) → os ≡ observed_in xs → AreLed xs
+      → Judges F d (record { def = e; faults = faults; observations = os; answers = xs })
+  judged e faults xs is l flat led = record { def = is; certificate = certificate e faults is l; holds = holds; keys = keys; read = record { flat = flat; led = led } }
+
+-- all observations of a reading are those of its answers
+pub flat_is : (r : Reading) → flat r ≡ observed_in (answers_in r)
+flat_is r = ap (λ l. observed_in r.own.record ++ l) (parts r.parts.items) ∙ sym (observed_append r.own.record (flat_map (λ (p : Kept). p.seen) r.parts.items)) where
+  observed_append : (xs ys : List Answer) → observed_in (xs ++ ys) ≡ observed_in xs ++ observed_in ys
+  observed_append [] ys = refl
+  observed_append (x ∷ xs) ys = ap (λ l. observed x ++ l) (observed_append xs ys) ∙ sym (append_assoc (observed x) (observed_in xs) (observed_in ys))
+
+  parts : (ps : List Kept) → seen_in ps ≡ observed_in (flat_map (λ (p : Kept). p.seen) ps)
+  parts [] = refl
+  parts (p ∷ ps) = ap (λ l. observed_in p.seen ++ l) (parts ps) ∙ sym (observed_append p.seen (flat_map (λ (q : Kept). q.seen) ps))

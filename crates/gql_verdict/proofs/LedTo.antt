@@ -13,18 +13,17 @@ use Rattle.gql_facts.specs.Worlds.{Facts}
 use Rattle.gql_readers.specs.Changes.{AreNotes, IsChange, IsEdit, IsNew, Notes}
 use Rattle.gql_readers.specs.Indexes.{Reading}
 use Rattle.gql_readers.specs.Orders.{id_order}
-use Rattle.gql_facts.specs.declared.key.Key.{Key}
-use Rattle.gql_readers.specs.Readers as reading
 use Rattle.gql_readers.specs.Readers.{InReadingOrder, Reader}
 use Rattle.gql_readers.proofs.Merging.{pairs_head, pairs_none, pairs_tail}
 use Rattle.gql_readers.proofs.Reading.{pairs_map_from, pairs_map_to}
 use Rattle.gql_reads.proofs.Members.{Contains-map_from}
-use Rattle.gql_reads.specs.Observations.{Hold}
+use Rattle.gql_reads.specs.Leading.{AreLed}
+use Rattle.gql_reads.specs.Observations.{Hold, observed_in}
+use Rattle.gql_reads.specs.declared.observation.Observation.{Observation}
 use Rattle.gql_verdict.specs.FileOrder.{InFileOrder, IsBefore}
 use Rattle.gql_verdict.specs.Marks.{AreKept, AreNew, IsMarked, IsShelved, gone}
 use Rattle.gql_verdict.specs.Plans.{IsStep}
 use Rattle.gql_verdict.specs.Readings.{reader_of, readers}
-use Rattle.gql_verdict.specs.Shelves as shelves
 use Rattle.gql_verdict.specs.Shelves.{defs}
 use Rattle.gql_verdict.specs.Slots.{IsAt, IsInOrder, resolve, verdicts}
 use Rattle.gql_verdict.specs.Verdicts.{Judgement}
@@ -230,7 +229,8 @@ module _ (F : Facts) (kept : List Slot) (ds : List Definition) (steps : List Slo
                 o.1 k.0 k.1 (ap (λ (x : Reader). x.id) k.2 ∙ e ∙ sym (ap (λ (x : Reader). x.id) m.2)),
           )
         ];
-    holds = λ r c. let m = Contains-map_from reader_of (verdicts (map (resolve kept) steps)) r c in subst (λ (x : Reader). Hold F x.observations) m.2 (serve.holds m.0 m.1);
+    holds = λ r c. let m = Contains-map_from reader_of (verdicts (map (resolve kept) steps)) r c in subst (λ (x : Reader). Hold F (observed_in x.answers)) m.2 (subst (λ (os : List Observation). Hold F os) (serve.reads m.0 m.1).flat (serve.holds m.0 m.1));
+    led = λ r c. let m = Contains-map_from reader_of (verdicts (map (resolve kept) steps)) r c in subst (λ (x : Reader). AreLed x.answers) m.2 (serve.reads m.0 m.1).led;
   }
 
 -- ---- one step more
@@ -287,17 +287,6 @@ module _ (slots : List Slot) (marks : List Bool) (i : ℕ) (s : Slot) (b : Bool)
 
   pub gone_readers : readers (gone (take i slots) (take i marks)) ++ readers (gone (s ∷ []) (b ∷ [])) ≡ readers (gone (take (i + 1) slots) (take (i + 1) marks))
   gone_readers = sym (map-append reader_of (gone (take i slots) (take i marks)) (gone (s ∷ []) (b ∷ []))) ∙ ap readers gone_more
-
--- ---- who reads a key
-
-by_test : (k : Key) (b : Bool) (v : Judgement) (rs : List Reader) (vs : List Judgement) → map (λ (r : Reader). r.id) rs ≡ map (λ (w : Judgement). id_of w.def) vs
-    → map (λ (r : Reader). r.id) (cond b (reader_of v ∷ rs) rs) ≡ map (λ (w : Judgement). id_of w.def) (cond b (v ∷ vs) vs)
-by_test k true v rs vs e = ap (λ ids. id_of v.def ∷ ids) e
-by_test k false v rs vs e = e
-
-pub readers_are : (k : Key) (vs : List Judgement) → reading.readers_of k (readers vs) ≡ shelves.readers_of k vs
-readers_are k [] = refl
-readers_are k (v ∷ vs) = by_test k (shelves.observes k v) v (filter (reading.observes k) (readers vs)) (filter (shelves.observes k) vs) (readers_are k vs)
 
 -- ---- one verdict noted
 

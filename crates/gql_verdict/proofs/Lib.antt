@@ -1,3 +1,4 @@
+pub mod AskedKeys
 pub mod Adding
 pub mod Answered
 pub mod Certified

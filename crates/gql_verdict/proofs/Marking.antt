@@ -5,16 +5,22 @@ use Rattle.std.proofs.lemmas.List.{get_or-map, get_or-set_other, get_or-set_same
 use Rattle.std.specs.Cmp.Lexicographic.{same_text}
 use Rattle.gql_ast.specs.Trees.{id_of}
 use Rattle.gql_ast.specs.declared.definition.DefinitionId.{DefinitionId}
-use Rattle.gql_facts.specs.ListMembers.{Contains-nil, Contains-here, Contains-cases, Contains-map, found_in}
+use Rattle.gql_facts.specs.ListMembers.{Contains-nil, Contains-here, Contains-cases, Contains-map, Contains-flat_map, Contains-flat_map_from, found_in}
 use Rattle.gql_facts.specs.Worlds.{Facts}
 use Rattle.gql_facts.specs.declared.key.Key.{Key}
 use Rattle.gql_facts.specs.declared.key.Key.TheVariants as key
-use Rattle.gql_readers.specs.Indexes.{Reading}
+use Rattle.gql_readers.specs.Indexes.{AreAlike, Reading}
 use Rattle.gql_readers.specs.Readers.{Reader, observes}
+use Rattle.gql_readers.proofs.Alike.{alike_back, alike_there}
 use Rattle.gql_readers.proofs.Editing.{one_entry}
 use Rattle.gql_readers.proofs.Reading.{observes_from, observes_has, reads_from, reads_has}
 use Rattle.gql_reads.proofs.Members.{Contains-map_from}
-use Rattle.gql_reads.specs.Observations.{IsBroken}
+use Rattle.gql_reads.proofs.ObservedKeys.{about_each}
+use Rattle.gql_reads.proofs.Recorded.{about_key}
+use Rattle.gql_reads.specs.Observations.{IsBroken, about, about_all, observed, observed_in}
+use Rattle.gql_reads.specs.declared.observation.Answer.{Answer}
+use Rattle.gql_reads.specs.declared.observation.Observation.{Observation}
+use Rattle.gql_reads.specs.declared.observation.TypeAnswers.{TypeAnswers}
 use Rattle.gql_verdict.specs.Marks.{AreBroken, AreMarked, IsCompared, IsMarked, IsShelved, KeepMarks, OnlyMarks}
 use Rattle.gql_verdict.specs.Readings.{reader_of, readers}
 use Rattle.gql_verdict.specs.Slots.{IsAt, IsInOrder, verdicts}
@@ -24,7 +30,7 @@ use Rattle.gql_verdict.specs.declared.slot.Slot.{Slot}
 use Rattle.gql_verdict.specs.declared.slot.Slot.TheVariants.{At, Here}
 use Rattle.gql_verdict.specs.declared.touched.FileEdit.{FileEdit}
 use Rattle.gql_verdict.specs.declared.touched.Touched.{Touched}
-use Rattle.gql_verdict.specs.declared.touched.Touched.TheVariants.{File}
+use Rattle.gql_verdict.specs.declared.touched.Touched.TheVariants.{All, File}
 use Rattle.gql_verdict.proofs.Ordered.{kept_at, same_definition, same_verdict, def_at}
 
 -- ---- indices
@@ -88,36 +94,55 @@ only_here slots marks id j v a e k w b m = elim (set_only marks j k m) [
 pub marked_none : (slots : List Slot) → IsInOrder slots → (marks : List Bool) (id : DefinitionId) → ((v : Judgement) → Contains (verdicts slots) v → id_of v.def ≡ id → ⊥) → AreMarked slots marks (id ∷ [])
 marked_none slots o marks id lacks k w b c = absurd (lacks w (kept_at slots o k w b) (one_id id (id_of w.def) c))
 
+-- ---- what an edit touches of an answer
+
+-- the keys about types are touched by no edit of a document file
+type_touched : (edit : FileEdit) (t : TypeAnswers) (o : Observation) → Contains (about t) o → touches (File edit) o.key ≡ false
+type_touched edit t o c = about_each t.name (λ k. touches (File edit) k ≡ false) refl refl refl refl o.key (about_key t o c)
+
+-- what is touched of an answer is the answer itself, or all of it
+touched_answer : (t : Touched) (a : Answer) (o : Observation) → Contains (observed a) o → touches t o.key ≡ true → touches t a.observation.key ≡ true
+touched_answer All a o c y = refl
+touched_answer (File edit) a o c y = elim (Contains-cases o a.observation (about_all a.types) c) [
+  | inl e ↦ subst (λ (p : Observation). touches (File edit) p.key ≡ true) e y
+  | inr r ↦ absurd (let m = Contains-flat_map_from about a.types o r in let z : true ≡ false = sym y ∙ type_touched edit m.0 o m.2 in cc z)
+]
+
 -- ---- readers
 
 module _ (F : Facts) (slots : List Slot) (es : List Reading) (shelved : IsShelved slots es) where
   -- a reader of a key whose answer has changed is broken
-  pub reader_broken : (e : Reading) → Contains es e → (F e.key ≡ e.fact → ⊥) → (j : ℕ) (v : Judgement) → IsAt slots j v → Contains e.readers (id_of v.def) → IsBroken F v.observations
+  pub reader_broken : (e : Reading) → Contains es e → IsBroken F (observed e.answer) → (j : ℕ) (v : Judgement) → IsAt slots j v → Contains e.readers (id_of v.def) → IsBroken F v.observations
   reader_broken e c bad j v a m =
       let V = verdicts slots in
       let r = reads_from e.key (readers V) (id_of v.def) (subst (λ ids. Contains ids (id_of v.def)) (shelved.reads.exact e c) m) in
       let w = Contains-map_from reader_of V r.0 r.1 in
-      let same : w.0 ≡ v = same_verdict V shelved.order.order w.0 v w.1 (kept_at slots shelved.order j v a) (ap (λ (x : Reader). x.id) w.2 ∙ r.2) in
+      let there = kept_at slots shelved.order j v a in
+      let same : w.0 ≡ v = same_verdict V shelved.order.order w.0 v w.1 there (ap (λ (x : Reader). x.id) w.2 ∙ r.2) in
       let reads : observes e.key (reader_of v) ≡ true = subst (λ (x : Reader). observes e.key x ≡ true) (sym w.2 ∙ ap reader_of same) r.3 in
       let o = observes_from e.key (reader_of v) reads in
-      let f = shelved.reads.facts (reader_of v) o.0 (Contains-map reader_of V v (kept_at slots shelved.order j v a)) o.1 in
+      let f = shelved.reads.answers (reader_of v) o.0 (Contains-map reader_of V v there) o.1 in
       let one : f.0 ≡ e = one_entry es shelved.reads.order f.0 e f.1 c (f.2 ∙ o.2) in
-      (o.0, o.1, λ h. bad (ap F (sym o.2) ∙ h ∙ sym f.3 ∙ ap (λ (x : Reading). x.fact) one))
+      let alike : AreAlike e.answer o.0 = subst (λ (x : Reading). AreAlike x.answer o.0) one f.3 in
+      let seen : Contains (observed_in v.answers) bad.0 = Contains-flat_map observed v.answers o.0 bad.0 o.1 (alike_there e.answer o.0 alike bad.0 bad.1) in
+      (bad.0, subst (λ os. Contains os bad.0) (sym (shelved.order.reads v there).flat) seen, bad.2)
 
   -- where each touched key was compared, what is not marked holds in what is touched
   pub unmarked_hold : (t : Touched) (marks : List Bool) → ((e : Reading) → Contains es e → touches t e.key ≡ true → IsCompared F slots marks e)
       → (j : ℕ) (v : Judgement) → IsAt slots j v → (IsMarked marks j → ⊥) → HoldWhere F t v.observations
   unmarked_hold t marks compared j v a n o m y =
       let V = verdicts slots in
-      let c = Contains-map reader_of V v (kept_at slots shelved.order j v a) in
-      let f = shelved.reads.facts (reader_of v) o c m in
-      elim (compared f.0 f.1 (subst (λ k. touches t k ≡ true) (sym f.2) y)) [
-        | inl h ↦ ap F (sym f.2) ∙ h ∙ f.3
+      let there = kept_at slots shelved.order j v a in
+      let c = Contains-map reader_of V v there in
+      let r = Contains-flat_map_from observed v.answers o (subst (λ os. Contains os o) (shelved.order.reads v there).flat m) in
+      let f = shelved.reads.answers (reader_of v) r.0 c r.1 in
+      elim (compared f.0 f.1 (subst (λ k. touches t k ≡ true) (sym f.2) (touched_answer t r.0 o r.2 y))) [
+        | inl h ↦ h o (alike_there r.0 f.0.answer (alike_back f.0.answer r.0 f.3) o r.2)
         | inr marked ↦ absurd (n (marked j v a (subst (λ ids. Contains ids (id_of v.def)) (sym (shelved.reads.exact f.0 f.1))
-            (reads_has f.0.key (readers V) (reader_of v) c (observes_has f.0.key (reader_of v) o m (sym f.2))))))
+            (reads_has f.0.key (readers V) (reader_of v) c (observes_has f.0.key (reader_of v) r.0 r.1 (sym f.2))))))
       ]
 
-  pub broken_more : (old new : List Bool) (e : Reading) → Contains es e → (F e.key ≡ e.fact → ⊥) → AreBroken F slots old → length new ≡ length slots → OnlyMarks slots old new e.readers → AreBroken F slots new
+  pub broken_more : (old new : List Bool) (e : Reading) → Contains es e → IsBroken F (observed e.answer) → AreBroken F slots old → length new ≡ length slots → OnlyMarks slots old new e.readers → AreBroken F slots new
   broken_more old new e c bad b long only = record {
     long = long;
     broken = λ j v a m. elim (only j v a m) [

@@ -6,10 +6,10 @@ use Rattle.gql_ast.specs.declared.definition.Definition.{Definition}
 use Rattle.gql_facts.specs.Worlds.{Facts}
 use Rattle.gql_facts.specs.ListMembers.{Contains-nil, Contains-cases}
 use Rattle.gql_reads.specs.Observations.{Hold}
-use Rattle.gql_verdict.specs.Verdicts.{Judgement}
+use Rattle.gql_verdict.specs.Verdicts.{IsRead, Judgement}
 use Rattle.gql_verdict.specs.Shelves.{IsCurrent, Serves, defs}
 use Rattle.gql_verdict.specs.FileOrder.{InFileOrder}
-use Rattle.gql_verdict.specs.Plans.{IsPlanned, IsStep, Preparation}
+use Rattle.gql_verdict.specs.Plans.{IsUsable, IsPlanned, IsStep, Preparation}
 use Rattle.gql_verdict.specs.Slots.{verdicts, resolve, IsInOrder, IsApart}
 use Rattle.gql_verdict.specs.declared.slot.Slot.{Slot}
 use Rattle.gql_verdict.specs.declared.slot.Slot.TheVariants.{Here, At}
@@ -32,7 +32,7 @@ steps_apart F kept ds steps up z a b j la lb ea eb =
     let t : IsStep F kept q.0 (At j) = subst (λ (y : Slot). IsStep F kept q.0 y) (sym (q.4 (At j)) ∙ eb) q.5 in
     let h : Here s.0 ≡ Here t.0 = sym (s.1.is (At j)) ∙ t.1.is (At j) in
     let v : s.0 ≡ t.0 = cc in
-    let d : p.0 ≡ q.0 = sym s.2.def ∙ (ap (λ (w : Judgement). w.def) v ∙ t.2.def) in
+    let d : p.0 ≡ q.0 = sym s.2.serves.def ∙ (ap (λ (w : Judgement). w.def) v ∙ t.2.serves.def) in
     same_definition ds up a b p.0 q.0 p.2 q.2 (p.3 p.0) (q.3 q.0) (ap id_of d)
 
 -- each definition has its verdict, here
@@ -40,20 +40,22 @@ pub record IsServed (F : Facts) (ds : List Definition) (slots : List Slot) : Typ
   pub all_here : slots ≡ map Here (verdicts slots)
   pub each : defs (verdicts slots) ≡ ds
   pub holds : (v : Judgement) → Contains (verdicts slots) v → Hold F v.observations
+  pub reads : (v : Judgement) → Contains (verdicts slots) v → IsRead v
 
-served_more : (F : Facts) (d : Definition) (v : Judgement) (ds : List Definition) (slots : List Slot) → Serves F d v → IsServed F ds slots → IsServed F (d ∷ ds) (Here v ∷ slots)
+served_more : (F : Facts) (d : Definition) (v : Judgement) (ds : List Definition) (slots : List Slot) → IsUsable F d v → IsServed F ds slots → IsServed F (d ∷ ds) (Here v ∷ slots)
 served_more F d v ds slots s all = record {
   all_here = ap (λ ss. Here v ∷ ss) all.all_here;
-  each = ap (λ es. v.def ∷ es) all.each ∙ ap (λ e. e ∷ ds) s.def;
-  holds = λ w c. elim (Contains-cases w v (verdicts slots) c) [ inl e ↦ subst (λ (z : Judgement). Hold F z.observations) (sym e) s.holds | inr t ↦ all.holds w t ];
+  each = ap (λ es. v.def ∷ es) all.each ∙ ap (λ e. e ∷ ds) s.serves.def;
+  holds = λ w c. elim (Contains-cases w v (verdicts slots) c) [ inl e ↦ subst (λ (z : Judgement). Hold F z.observations) (sym e) s.serves.holds | inr t ↦ all.holds w t ];
+  reads = λ w c. elim (Contains-cases w v (verdicts slots) c) [ inl e ↦ subst IsRead (sym e) s.read | inr t ↦ all.reads w t ];
 }
 
-pub resolved : (F : Facts) (kept : List Slot) (d : Definition) (s : Slot) → IsStep F kept d s → (v : Judgement) × (resolve kept s ≡ Here v) × Serves F d v
+pub resolved : (F : Facts) (kept : List Slot) (d : Definition) (s : Slot) → IsStep F kept d s → (v : Judgement) × (resolve kept s ≡ Here v) × IsUsable F d v
 resolved F kept d (Here v) h = (v, refl, h)
 resolved F kept d (At j) h = (h.0, h.1.is (At j), h.2)
 
 pub served : (F : Facts) (kept : List Slot) (ds : List Definition) (steps : List Slot) → AllZip (IsStep F kept) ds steps → IsServed F ds (map (resolve kept) steps)
-served F kept [] [] z = record { all_here = refl; each = refl; holds = λ v c. absurd (Contains-nil v c) }
+served F kept [] [] z = record { all_here = refl; each = refl; holds = λ v c. absurd (Contains-nil v c); reads = λ v c. absurd (Contains-nil v c) }
 served F kept [] (s ∷ ss) z = absurd z
 served F kept (d ∷ ds) [] z = absurd z
 served F kept (d ∷ ds) (s ∷ ss) z =
@@ -61,7 +63,7 @@ served F kept (d ∷ ds) (s ∷ ss) z =
     subst (λ (x : Slot). IsServed F (d ∷ ds) (x ∷ map (resolve kept) ss)) (sym r.1) (served_more F d r.0 ds (map (resolve kept) ss) r.2 (served F kept ds ss z.1))
 
 pub served_in_order : (F : Facts) (ds : List Definition) (slots : List Slot) → InFileOrder ds → IsServed F ds slots → IsInOrder slots
-served_in_order F ds slots up s = record { all_here = s.all_here; order = subst (λ (es : List Definition). InFileOrder es) (sym s.each) up }
+served_in_order F ds slots up s = record { all_here = s.all_here; order = subst (λ (es : List Definition). InFileOrder es) (sym s.each) up; reads = s.reads }
 
 pub served_current : (F : Facts) (ds : List Definition) (slots : List Slot) → IsServed F ds slots → IsCurrent F ds (verdicts slots)
 served_current F ds slots s = record { each = s.each; holds = s.holds }

@@ -102,7 +102,8 @@ found_bad F slots o d j v at p (inr broken) = inr (v, kept_at slots o j v at, br
 pub found_good : (F : Facts) (slots : List Slot) → IsInOrder slots → (t : Touched) (d : Definition) → IsKnown F (d ∷ []) (verdicts slots) t → (j : ℕ) (v w : Judgement) → IsAt slots j v → v ≡ w → (w.def ≡ d) × HoldWhere F t w.observations → IsStep F slots d (At j)
 found_good F slots o t d known j v w at e good =
     let g : (v.def ≡ d) × HoldWhere F t v.observations = subst (λ (z : Judgement). (z.def ≡ d) × HoldWhere F t z.observations) (sym e) good in
-    (v, at, record { def = g.0; holds = holds_all F (d ∷ []) (verdicts slots) t known v (kept_at slots o j v at) g.1 })
+    let there = kept_at slots o j v at in
+    (v, at, record { serves = record { def = g.0; holds = holds_all F (d ∷ []) (verdicts slots) t known v there g.1 }; read = o.reads v there })
 
 -- what was read at an index is the verdict there
 pub read_at : (slots : List Slot) (j : ℕ) (v w : Judgement) (s : Slot) → IsAt slots j v → s ≡ get_or slots j s → s ≡ Here w → v ≡ w

@@ -1,15 +1,16 @@
 -- Helper definitions for private contracts: marks of the kept verdicts that an edit has broken.
-use Rattle.std.specs.Prelude.{◌≡◌, ◌⊎◌, ◌<◌, ℕ, List, [], ◌∷◌, Bool, true, false, length, slice_index_or, Contains}
+use Rattle.std.specs.Prelude.{◌≡◌, ◌≢◌, ◌⊎◌, ◌<◌, ℕ, List, [], ◌∷◌, Bool, true, false, length, slice_index_or, Contains}
 use Rattle.std.specs.List.{AllZip}
 use Rattle.gql_ast.specs.Trees.{id_of}
 use Rattle.gql_ast.specs.declared.definition.Definition.{Definition}
 use Rattle.gql_ast.specs.declared.definition.DefinitionId.{DefinitionId}
 use Rattle.gql_facts.specs.Worlds.{Facts}
+use Rattle.gql_facts.specs.declared.key.Key.{Key}
 use Rattle.gql_facts.specs.declared.key.Key.TheVariants as key
 use Rattle.gql_readers.specs.Changes.{IsNew}
 use Rattle.gql_readers.specs.Indexes.{IsIndexOf, Reading}
 use Rattle.gql_readers.specs.Readers.{Reader}
-use Rattle.gql_reads.specs.Observations.{IsBroken}
+use Rattle.gql_reads.specs.Observations.{Hold, IsBroken, keys_of, observed}
 use Rattle.gql_verdict.specs.FileOrder.{InFileOrder}
 use Rattle.gql_verdict.specs.Plans.{IsStep}
 use Rattle.gql_verdict.specs.Readings.{readers}
@@ -43,9 +44,11 @@ abbrev pub OnlyMarks : List Slot → List Bool → List Bool → List Definition
 OnlyMarks slots old new ids = (j : ℕ) (v : Judgement) → IsAt slots j v → IsMarked new j
     → IsMarked old j ⊎ Contains ids (id_of v.def)
 
--- the answer to a key is as it was, or else all its readers are marked
+-- the answer to a key and those about the types that it leads to are as they were, or else all
+-- readers of the key are marked
 abbrev pub IsCompared : Facts → List Slot → List Bool → Reading → Type 0
-IsCompared facts slots marks e = (facts e.key ≡ e.fact) ⊎ AreMarked slots marks e.readers
+IsCompared facts slots marks e =
+    Hold facts (observed e.answer) ⊎ AreMarked slots marks e.readers
 
 -- there is a mark for each slot, and a verdict is marked only if an observation of it does not hold
 pub record AreBroken (facts : Facts) (slots : List Slot) (marks : List Bool) : Type 0 where
@@ -92,3 +95,15 @@ AreNew vs readers = (v : Judgement) → Contains vs v → IsNew (id_of v.def) re
 abbrev pub AreDone : Facts → List Slot → List Reading → List Bool → (List ℕ → Bool) → Type 0
 AreDone facts slots index marks done = (n : List ℕ) → done n ≡ true
     → IsFragmentCompared facts slots index marks n
+
+-- the entry has readers, and its answer observed the key
+abbrev pub IsSomeAsked : Reading → Key → Type 0
+IsSomeAsked e k = (e.readers ≢ []) × Contains (keys_of (observed e.answer)) k
+
+-- whether a key is about a type
+abbrev pub is_about_type : Key → Bool
+is_about_type (key.KindOf n) = true
+is_about_type (key.PossibleOf n) = true
+is_about_type (key.InputOf n) = true
+is_about_type (key.EnumOf n) = true
+is_about_type _ = false

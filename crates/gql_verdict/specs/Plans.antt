@@ -10,14 +10,19 @@ use Rattle.gql_verdict.specs.FileOrder.{InFileOrder}
 use Rattle.gql_verdict.specs.Readings.{readers}
 use Rattle.gql_verdict.specs.Shelves.{Serves}
 use Rattle.gql_verdict.specs.Slots.{IsAt, resolve, verdicts}
-use Rattle.gql_verdict.specs.Verdicts.{Judgement}
+use Rattle.gql_verdict.specs.Verdicts.{IsRead, Judgement}
 use Rattle.gql_verdict.specs.declared.slot.Slot.{Slot}
 use Rattle.gql_verdict.specs.declared.slot.Slot.TheVariants.{Here, At}
 
+-- a verdict on d that holds, with the answers that it observed
+pub record IsUsable (facts : Facts) (d : Definition) (v : Judgement) : Type 0 where
+  pub serves : Serves facts d v
+  pub read : IsRead v
+
 -- a verdict on d that holds: a new one, or one of those that are kept
 abbrev pub IsStep : Facts → List Slot → Definition → Slot → Type 0
-IsStep facts kept d (Here v) = Serves facts d v
-IsStep facts kept d (At j) = (v : Judgement) × IsAt kept j v × Serves facts d v
+IsStep facts kept d (Here v) = IsUsable facts d v
+IsStep facts kept d (At j) = (v : Judgement) × IsAt kept j v × IsUsable facts d v
 
 -- what is prepared: a step for each definition, who reads each key afterwards, and what is kept of
 -- pairs of fragments

@@ -7,7 +7,7 @@ use Rattle.gql_ast.specs.declared.definition.DefinitionId.{DefinitionId}
 use Rattle.gql_ast.specs.declared.fault.Fault.{Fault}
 use Rattle.gql_verdict.specs.FileOrder.{InFileOrder, id_order}
 use Rattle.gql_verdict.specs.Shelves.{defs}
-use Rattle.gql_verdict.specs.Verdicts.{IsCertificate, Judgement}
+use Rattle.gql_verdict.specs.Verdicts.{IsCertificate, IsRead, Judgement}
 use Rattle.gql_verdict.specs.declared.slot.Slot.{Slot}
 use Rattle.gql_verdict.specs.declared.slot.Slot.TheVariants.{Here, At}
 
@@ -32,10 +32,11 @@ verdicts [] = []
 verdicts (Here v ∷ slots) = v ∷ verdicts slots
 verdicts (At j ∷ slots) = verdicts slots
 
--- every slot has a verdict, in file order
+-- every slot has a verdict, with the answers that it observed, in file order
 pub record IsInOrder (slots : List Slot) : Type 0 where
   pub all_here : slots ≡ map Here (verdicts slots)
   pub order : InFileOrder (defs (verdicts slots))
+  pub reads : (v : Judgement) → Contains (verdicts slots) v → IsRead v
 
 -- the index of the verdict on the definition of a name, or none if there is no such verdict
 abbrev pub IsFound : List Slot → DefinitionId → Option ℕ → Type 0

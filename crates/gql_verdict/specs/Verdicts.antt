@@ -6,7 +6,9 @@ use Rattle.gql_facts.specs.Members.{Lists}
 use Rattle.gql_facts.specs.Reads.{Reads}
 use Rattle.gql_facts.specs.Worlds.{Facts}
 use Rattle.gql_verdict.specs.Faults.{IsFaultIn}
-use Rattle.gql_reads.specs.Observations.{Hold, keys_of}
+use Rattle.gql_reads.specs.Leading.{AreLed}
+use Rattle.gql_reads.specs.Observations.{Hold, keys_of, observed_in}
+use Rattle.gql_reads.specs.declared.observation.Answer.{Answer}
 use Rattle.gql_reads.specs.declared.observation.Observation.{Observation}
 
 -- these are the faults of d wherever the observations hold
@@ -14,11 +16,17 @@ abbrev pub IsCertificate : Definition → List Fault → List Observation → Ty
 IsCertificate d faults observations = (facts : Facts) → Hold facts observations
     → Lists faults (IsFaultIn facts d)
 
--- a verdict, as specifications see it
+-- a verdict, as specifications see it: what it observed are the observations of its answers
 pub record Judgement : Type 0 where
   pub def : Definition
   pub faults : List Fault
   pub observations : List Observation
+  pub answers : List Answer
+
+-- the observations are those of the answers, each of which has exactly the types that it leads to
+pub record IsRead (v : Judgement) : Type 0 where
+  pub flat : v.observations ≡ observed_in v.answers
+  pub led : AreLed v.answers
 
 -- The verdict on d that is made with these facts: it has a certificate, its observations hold, and
 -- their keys are those that d reads.
@@ -27,3 +35,4 @@ pub record Judges (facts : Facts) (d : Definition) (v : Judgement) : Type 0 wher
   pub certificate : IsCertificate v.def v.faults v.observations
   pub holds : Hold facts v.observations
   pub keys : Lists (keys_of v.observations) (Reads facts d)
+  pub read : IsRead v

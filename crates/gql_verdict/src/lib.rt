@@ -4,6 +4,7 @@
 //! A function that adds to a list may have added a part of it if an allocation fails.
 #![tactic(auto)]
 
+mod asked;
 mod definitions;
 mod indexing;
 pub mod laws;

@@ -1,5 +1,5 @@
 //! Which kept verdicts an edit has broken: the readers of each key whose answer has changed.
-ghost use Rattle.std.specs.Prelude.{◌≡◌, ◌∷◌, [], ℕ, IfOk, OnOk, IsTrue, ◌↔◌, Contains, bytes_eq, is_some, length};
+ghost use Rattle.std.specs.Prelude.{◌≡◌, ◌∷◌, [], ℕ, IfOk, OnOk, Contains, bytes_eq, is_some, length};
 ghost use Rattle.std.specs.HashMap as hash;
 ghost use Rattle.gql_verdict.specs.Marks.{AreBroken, AreDone, AreMarked, AreMarks, IsCompared, IsFragmentCompared, IsMarked, IsShelved, KeepMarks, OnlyMarks};
 ghost use Rattle.gql_verdict.specs.Slots.{IsInOrder};
@@ -8,9 +8,10 @@ ghost use Rattle.gql_verdict.specs.declared.touched.Touched.TheVariants.{All, Fi
 use crate::slot::{Slot, find};
 use crate::spreads::add_name;
 use crate::touched::{FileEdit, Touched};
-use gql_ast::{DefinitionId, Same, Shared, Text};
+use gql_ast::{DefinitionId, Shared, Text};
 use gql_facts::{Key, World};
 use gql_readers::{Entry, Index};
+use gql_reads::answer_holds;
 use std::alloc::{AllocError, Global};
 use std::collections::HashMap;
 
@@ -52,19 +53,8 @@ fn mark_all(slots: &[Slot], ids: &[Shared<DefinitionId>], marks: &mut [bool])
     }
 }
 
-/// Whether a world still gives the answer that a key had.
-fn is_as_observed<W: World>(alloc: Global, world: &mut W, entry: &Entry) -> Result<bool, AllocError>
-    ensures facts { W.facts world.new ≡ W.facts world.old }
-    ensures names { W.names world.new ≡ W.names world.old }
-    ensures lent { W.lent world.new ≡ W.lent world.old }
-    ensures answer { IfOk result (λ is_same.
-        IsTrue is_same ↔ (W.facts world.old entry.now.key ≡ entry.now.fact)) }
-{
-    let fact = world.fact(alloc, entry.key())?;
-    Ok(fact.same(entry.fact()))
-}
-
-/// Compares the answer to a key, once for all its readers: if it has changed, they are marked.
+/// Compares the answer to a key, with those about the types that it leads to, once for all readers of
+/// the key: if one has changed, they are marked.
 fn compare<W: World>(
     alloc: Global,
     world: &mut W,
@@ -83,8 +73,8 @@ fn compare<W: World>(
     ensures kept { KeepMarks marks.old marks.new }
     ensures compared { OnOk result (IsCompared (W.facts world.old) slots.now marks.new entry.now) }
 {
-    let is_same = is_as_observed(alloc, world, entry)?;
-    if !is_same {
+    let holds = answer_holds(alloc, world, entry.answer().get())?;
+    if !holds {
         mark_all(slots, entry.readers(), marks);
     }
     Ok(())

@@ -5,16 +5,15 @@ ghost use Rattle.gql_verdict.specs.SharedWorks.{Holds};
 
 use gql_merge::CleanFragments;
 use gql_pairs::PairTable;
-use gql_reads::{KnownAnswers, ReadTable};
+use gql_reads::ReadTable;
 use std::alloc::Global;
 
-/// What the examinations of one edit share: what was observed of each fragment alone, the answers that
-/// were observed, which fragments are known to have no fault by the merging of fields, and what
+/// What the examinations of one edit share: what was observed of each fragment alone and of each key,
+/// which fragments are known to have no fault by the merging of fields, and what
 /// clashes between fragments.
 #[derive(Drop)]
 pub struct SharedWork {
     pub reads: ReadTable,
-    pub known: KnownAnswers,
     pub clean: CleanFragments,
     pub pairs: PairTable,
 }
@@ -29,7 +28,6 @@ impl SharedWork {
     {
         SharedWork {
             reads: ReadTable::new(alloc),
-            known: KnownAnswers::new(alloc),
             clean: CleanFragments::new(alloc),
             pairs,
         }

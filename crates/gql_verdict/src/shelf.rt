@@ -1,7 +1,7 @@
 //! The verdicts that are kept, one for each definition that is present.
 ghost use Rattle.gql_facts.specs.declared.key.Key.{Key as AKey};
 ghost use Rattle.gql_pairs.specs.Doubts.{in_doubt};
-ghost use Rattle.std.specs.Prelude.{◌≡◌, ◌++◌, List, IfOk, OnOk, OnErr, flat_map};
+ghost use Rattle.std.specs.Prelude.{◌≡◌, ◌↔◌, ◌++◌, ◌∷◌, [], Contains, List, IfOk, IsTrue, OnOk, OnErr, flat_map};
 ghost use Rattle.std.specs.Option.{option_copied};
 ghost use Rattle.gql_ast.specs.declared.definition.Definition.{Definition};
 ghost use Rattle.gql_facts.specs.Members.{Lists};
@@ -12,9 +12,12 @@ ghost use Rattle.gql_pairs.specs.Tables.{AllHold, KeepsHolding};
 ghost use Rattle.gql_verdict.specs.Shelves.{nothing_shelved};
 ghost use Rattle.gql_verdict.specs.Shelves.{Answers, IsCurrent, IsFaultOfAny, IsVerdictAt, IsWork, readers_of};
 ghost use Rattle.gql_verdict.specs.Plans.{IsPlanned, IsPrepared};
-ghost use Rattle.gql_verdict.specs.Slots.{IsSlotCertified, slot_faults};
+ghost use Rattle.gql_reads.specs.Observations.{keys_of};
+ghost use Rattle.gql_verdict.specs.Slots.{IsSlotCertified, slot_faults, verdicts};
+ghost use Rattle.gql_verdict.specs.Verdicts.{Judgement};
 ghost use Rattle.gql_verdict.specs.TouchedFacts.{ArePairsKnown, IsKnown, touches};
 
+use crate::asked::has_reader_in;
 use crate::indexing::index_after;
 use crate::marks::broken_marks;
 use crate::meter::Meter;
@@ -50,6 +53,24 @@ fn add_slot(slot: &Slot, found: &mut Vec<Shared<Fault>>) -> Result<(), AllocErro
         Slot::Here(verdict) => add_all(verdict.faults(), found),
         Slot::At(_) => Ok(()),
     }
+}
+
+/// Adds the definition of a verdict, if the verdict observes a key.
+fn add_reader(
+    alloc: Global,
+    slot: &Slot,
+    key: &Key,
+    ids: &mut Vec<Shared<DefinitionId>>,
+) -> Result<(), AllocError>
+    ensures { OnOk result (ids.new.items ≡ ids.old.items
+        ++ readers_of key.now (verdicts (slot.now ∷ []))) }
+{
+    if let Slot::Here(verdict) = slot {
+        if verdict.observes(key) {
+            ids.push(Shared::new(alloc, verdict.def().id())?)?;
+        }
+    }
+    Ok(())
 }
 
 /// A verdict for each definition of the document files, in their order, and what clashes between
@@ -320,11 +341,27 @@ impl Shelf {
         }
     }
 
-    /// The definitions whose verdicts observe a key, by file and offset. It takes no memory.
-    pub fn readers(&self, key: &Key) -> &[Shared<DefinitionId>]
-        ensures { result.now ≡ readers_of key.now self.now.verdicts }
+    /// The definitions whose verdicts observe a key, by file and offset.
+    pub fn readers(
+        &self,
+        alloc: Global,
+        key: &Key,
+    ) -> Result<Vec<Shared<DefinitionId>>, AllocError>
+        ensures { IfOk result (λ ids. ids.items ≡ readers_of key.now self.now.verdicts) }
     {
-        self.index.readers(key)
+        let mut ids = Vec::new(alloc);
+        for slot in self.slots.as_slice() {
+            add_reader(alloc, slot, key, &mut ids)?;
+        }
+        Ok(ids)
+    }
+
+    /// Whether a verdict observes a key. It takes no memory.
+    pub fn has_reader(&self, key: &Key) -> bool
+        ensures { IsTrue result ↔ ((v : Judgement) × Contains self.now.verdicts v
+            × Contains (keys_of v.observations) key.now) }
+    {
+        has_reader_in(self.slots.as_slice(), &self.index, key)
     }
 
     /// What clashes between fragments: an entry for each two that were spread by one set of a

@@ -1,9 +1,10 @@
 //! Verdicts: the faults of a definition, with all that they depend on.
-ghost use Rattle.std.specs.Prelude.{◌≡◌, ◌↔◌, ◌++◌, ◌∷◌, [], IfOk, OnOk, OnErr, IsTrue};
+ghost use Rattle.std.specs.Prelude.{◌≡◌, ◌↔◌, ◌++◌, ◌∷◌, [], Contains, IfOk, OnOk, OnErr, IsTrue};
 ghost use Rattle.gql_ast.specs.Trees.{id_of};
 ghost use Rattle.gql_facts.specs.Members.{Lists};
 ghost use Rattle.gql_facts.specs.Reads.{Reaches};
-ghost use Rattle.gql_reads.specs.Readings.{flat};
+ghost use Rattle.gql_reads.specs.Observations.{keys_of};
+ghost use Rattle.gql_reads.specs.Readings.{answers_in, flat, seen_in};
 ghost use Rattle.gql_ast.specs.declared.fault.Fault.{Fault as AFault};
 ghost use Rattle.gql_facts.specs.declared.fact.FragmentFact.{FragmentFact as AFragment};
 ghost use Rattle.gql_merge.specs.Between.{name_of};
@@ -20,9 +21,9 @@ use crate::meter::Meter;
 use crate::shared_work::SharedWork;
 use crate::sharing::{add_shared, share_into, shared_faults};
 use gql_ast::{Definition, Fault, Same, Shared};
-use gql_facts::{FragmentFact, World};
+use gql_facts::{FragmentFact, Key, World};
 use gql_merge::{CleanFragments, merge_faults_with};
-use gql_reads::{KeptParts, Part, Reading, reads_of};
+use gql_reads::{KeptParts, Part, Reading, one_observes, reads_of};
 use gql_rules::local_faults;
 use gql_vars::variable_faults;
 use std::alloc::{AllocError, Global};
@@ -64,7 +65,8 @@ impl Model for Verdict {
     ghost use Rattle.gql_ast.specs.contracts.fault.Fault as fault;
     ghost use Rattle.gql_facts.specs.contracts.key.Key as key;
     ghost use Rattle.gql_facts.specs.contracts.fact.Fact as fact;
-    ghost use Rattle.gql_reads.specs.Readings.{flat};
+    ghost use Rattle.gql_reads.specs.Readings.{answers_in, flat};
+    ghost use Rattle.gql_reads.specs.contracts.observation.Answer as answer;
     ghost use Rattle.gql_verdict.specs.Verdicts.{Judgement, IsCertificate};
 
     ghost Value = { Judgement };
@@ -75,12 +77,14 @@ impl Model for Verdict {
       fault.the_row.coded,
       key.the_row.coded,
       fact.the_row.coded,
+      answer.the_row.coded,
     ) };
 
     ghost view = { λ v. record {
       def = v.held.def;
       faults = v.held.faults.items;
       observations = flat v.held.reading;
+      answers = answers_in v.held.reading;
     } };
 
     ghost invariant = { λ v. IsCertificate v.held.def v.held.faults.items (flat v.held.reading) };
@@ -105,9 +109,21 @@ impl Verdict {
     /// The answers that the faults depend on, absences too: those to what the definition reads
     /// alone, and for each fragment that it reaches those to what the fragment reads alone.
     pub fn reading(&self) -> &Reading
-        ensures { flat result.now ≡ self.now.observations }
+        ensures flat { flat result.now ≡ self.now.observations }
+        ensures answers { answers_in result.now ≡ self.now.answers }
     {
         &self.held.get().reading
+    }
+
+    /// Whether it observed a key.
+    pub fn observes(&self, key: &Key) -> bool
+        ensures { IsTrue result ↔ Contains (keys_of self.now.observations) key.now }
+    {
+        let reading = self.reading();
+        if one_observes(reading.own.record.get().answers(), key) {
+            return true;
+        }
+        one_part_observes(reading.parts.as_slice(), key)
     }
 
     /// The part of the definition, if it is the fragment of its name.
@@ -121,6 +137,18 @@ impl Verdict {
     {
         self.def().same(definition)
     }
+}
+
+/// Whether what was observed of one of these fragments is of this key.
+fn one_part_observes(parts: &[Part], key: &Key) -> bool
+    ensures { IsTrue result ↔ Contains (keys_of (seen_in parts.now)) key.now }
+{
+    for part in parts {
+        if one_observes(part.seen().get().answers(), key) {
+            return true;
+        }
+    }
+    false
 }
 
 /// The faults of a definition, and whether none of them is by the merging of fields.
@@ -193,14 +221,7 @@ pub fn examine<W: World, K: KeptParts>(
     ensures ok { OnOk result (meter.new ≡ meter.old ++ id_of definition.now ∷ []) }
     ensures err { OnErr result (meter.new ≡ meter.old) }
 {
-    let reading = reads_of(
-        alloc,
-        world,
-        kept,
-        &mut shared.reads,
-        &mut shared.known,
-        definition,
-    )?;
+    let reading = reads_of(alloc, world, kept, &mut shared.reads, definition)?;
     let members = reading.members(alloc)?;
     let found = faults_in(
         alloc,
@@ -214,7 +235,6 @@ pub fn examine<W: World, K: KeptParts>(
         world,
         kept,
         &mut shared.reads,
-        &mut shared.known,
         definition,
         members.as_slice(),
         found.is_clean,

@@ -3,7 +3,7 @@ use crate::faults::add_faults;
 use crate::step::{Step, written_refusal};
 use gql_ast::{Definition, DefinitionId, FileName, FileSide, Same, same_items};
 use gql_facts::{Fact, Key};
-use gql_reads::Record;
+use gql_reads::{Record, TypeAnswers};
 use gql_registry::Registry;
 use gql_verdict::Verdict;
 use serde_json::Value;
@@ -26,12 +26,24 @@ pub struct State {
 impl State {
     /// Adds what was observed of a definition or a fragment alone.
     fn add_record(&mut self, record: &Record) -> Option<()> {
-        for observation in record.observations() {
-            let observation = observation.get();
-            self.keys.push(observation.key.copy().ok()?).ok()?;
-            self.facts.push(observation.fact.copy().ok()?).ok()?;
+        for answer in record.answers() {
+            let answer = answer.get();
+            self.keys.push(answer.observation.key.copy().ok()?).ok()?;
+            self.facts.push(answer.observation.fact.copy().ok()?).ok()?;
+            for of_type in answer.types.as_slice() {
+                self.add_type(of_type.get())?;
+            }
         }
         Some(())
+    }
+
+    /// Adds what was observed of a type.
+    fn add_type(&mut self, of_type: &TypeAnswers) -> Option<()> {
+        self.keys.push(Key::KindOf(of_type.name.copy().ok()?)).ok()?;
+        self.facts.push(of_type.kind.copy().ok()?).ok()?;
+        self.facts.push(of_type.possible.copy().ok()?).ok()?;
+        self.facts.push(of_type.input.copy().ok()?).ok()?;
+        self.facts.push(of_type.values.copy().ok()?).ok()
     }
 
     fn add_verdict(&mut self, id: &DefinitionId, verdict: &Verdict) -> Option<()> {

@@ -133,7 +133,8 @@ impl Editing {
     /// The definitions whose verdicts observe a key, each as `FILE OFFSET`, or `nobody`.
     fn readers(&self, rest: &str) -> Option<String> {
         let key = read_key(self.alloc, rest)?;
-        written_readers(self.alloc, self.registry.shelf().readers(&key))
+        let ids = self.registry.shelf().readers(self.alloc, &key).ok()?;
+        written_readers(self.alloc, ids.as_slice())
     }
 
     /// What is kept of two fragments, which `FIRST SECOND` names.

@@ -2,6 +2,7 @@ use Rattle.std.proofs.Common.{◌≡◌, ◌∙◌, List, ap, false, rules, subs
 use Rattle.std.specs.Prelude.{ℕ, bytes_eq, find, is_some}
 use Rattle.gql_facts.specs.declared.key.Key.TheVariants as key
 use Rattle.gql_merge.specs.Between.{name_of}
+use Rattle.gql_reads.specs.Observations.{observed_in}
 use Rattle.gql_reads.specs.Readings.{seen_in}
 use Rattle.gql_reads.specs.declared.observation.Observation.{Observation}
 use Rattle.gql_pairs.specs.Doubts.{in_doubt}
@@ -17,6 +18,6 @@ returns c = λ no.
     let name : c.as_str-name.result.now ≡ name_of g = search rules in
     let not_named : c.is_one.result ≡ false = search rules in
     let named : in_doubt d (key.FragmentOf (name_of g)) ≡ false = ap (λ (n : List ℕ). is_some (find (bytes_eq n) c.args.names.now)) (sym name) ∙ sym c.is_one.ensures ∙ not_named in
-    let own : Undoubted d r.own.record = search rules in
+    let own : Undoubted d (observed_in r.own.record) = search rules in
     let parts : Undoubted d (seen_in r.parts.items) = search rules in
-    subst (λ (os : List Observation). Undoubted d os) (sym c.reading-reading.ensures.observations) (undoubted_all d g r.own.record (seen_in r.parts.items) named own parts)
+    subst (λ (os : List Observation). Undoubted d os) (sym c.reading-reading.ensures.observations) (undoubted_all d g (observed_in r.own.record) (seen_in r.parts.items) named own parts)

@@ -1,7 +1,7 @@
 use Rattle.std.proofs.Common.{◌≡◌, ◌∙◌, List, rules, subst}
 use Rattle.gql_facts.specs.Worlds.{Facts}
-use Rattle.gql_reads.specs.Observations.{Hold, IsBroken}
-use Rattle.gql_reads.specs.declared.observation.Observation.{Observation}
+use Rattle.gql_reads.specs.Observations.{Hold, IsBroken, observed_in}
+use Rattle.gql_reads.specs.declared.observation.Answer.{Answer}
 use Rattle.gql_pairs.proofs.Holding.{part_broken, part_more, parts_all}
 use Rattle.gql_pairs.proofs.holds.parts_hold.Goals as goal
 
@@ -9,24 +9,24 @@ pub returns-then-not-hold-clause-answer : goal.returns-then-not-hold-clause-answ
 returns-then-not-hold-clause-answer g c =
     let F = g.W.World.facts c.args.world.now in
     let p = c.part-item.result in
-    let seen : c.observations.result.now ≡ p.seen = search rules in
-    let broken : IsBroken (g.W.World.facts c.loop-part.world) c.observations.result.now = search rules in
+    let seen : c.answers.result.now ≡ p.seen = search rules in
+    let broken : IsBroken (g.W.World.facts c.loop-part.world) (observed_in c.answers.result.now) = search rules in
     part_broken F c.args.parts.now c.loop-part.part-index p c.loop-part-test.true c.part-item.is
-    (subst (λ (G : Facts). IsBroken G p.seen) c.loop-part.invariant.same_facts (subst (λ (os : List Observation). IsBroken (g.W.World.facts c.loop-part.world) os) seen broken))
+    (subst (λ (G : Facts). IsBroken G (observed_in p.seen)) c.loop-part.invariant.same_facts (subst (λ (xs : List Answer). IsBroken (g.W.World.facts c.loop-part.world) (observed_in xs)) seen broken))
 
 pub loop-part-preserved : goal.loop-part-preserved
 loop-part-preserved g c =
     let F = g.W.World.facts c.args.world.now in
     let p = c.part-item.result in
     let same = c.loop-part.invariant.same_facts in
-    let seen : c.observations.result.now ≡ p.seen = search rules in
-    let hold : Hold (g.W.World.facts c.loop-part.world) c.observations.result.now = search rules in
+    let seen : c.answers.result.now ≡ p.seen = search rules in
+    let hold : Hold (g.W.World.facts c.loop-part.world) (observed_in c.answers.result.now) = search rules in
     record {
-      same_facts = c.observations_hold.ensures.facts ∙ same;
-      same_names = c.observations_hold.ensures.names ∙ c.loop-part.invariant.same_names;
-      same_lent = c.observations_hold.ensures.lent ∙ c.loop-part.invariant.same_lent;
+      same_facts = c.answers_hold.ensures.facts ∙ same;
+      same_names = c.answers_hold.ensures.names ∙ c.loop-part.invariant.same_names;
+      same_lent = c.answers_hold.ensures.lent ∙ c.loop-part.invariant.same_lent;
       so_far = part_more F c.args.parts.now c.loop-part.part-index p c.loop-part-test.true c.part-item.is c.loop-part.invariant.so_far
-          (subst (λ (G : Facts). Hold G p.seen) same (subst (λ (os : List Observation). Hold (g.W.World.facts c.loop-part.world) os) seen hold));
+          (subst (λ (G : Facts). Hold G (observed_in p.seen)) same (subst (λ (xs : List Answer). Hold (g.W.World.facts c.loop-part.world) (observed_in xs)) seen hold));
     }
 
 pub returns-clause-answer : goal.returns-clause-answer

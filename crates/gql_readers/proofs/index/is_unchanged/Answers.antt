@@ -13,5 +13,5 @@ returns c = λ t. record {
       let t : true ≡ false = sym (c.is_empty.ensures ∙ ap (λ n. nat_eq n 0) long) ∙ c.if-is_empty.false in
       cc t;
   same = sym (c.as_slice.ensures.value ∙ ap (λ (n : Noted). n.comes) c.noted.view_is) ∙ c.are_same.ensures c.if-not-are_same.false ∙ c.as_slice-2.ensures.value ∙ ap (λ (n : Noted). n.goes) c.noted.view_is;
-  fact = sym (c.fact.ensures ∙ ap (λ e. e.fact) c.get.ensures) ∙ c.same.ensures.0 t ∙ ap (λ (n : Noted). n.fact) c.noted.view_is;
+  answer = sym (c.get-2.ensures ∙ c.answer.ensures ∙ ap (λ e. e.answer) c.get.ensures) ∙ c.same.ensures.0 t ∙ c.get-3.ensures ∙ ap (λ (n : Noted). n.answer) c.noted.view_is;
 }

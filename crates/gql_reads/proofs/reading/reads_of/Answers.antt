@@ -4,9 +4,9 @@ use Rattle.gql_facts.specs.Worlds.{Facts}
 use Rattle.gql_reads.specs.Reaching.{AreMet, IsNamed}
 use Rattle.gql_reads.specs.Records.{IsTold}
 use Rattle.gql_reads.specs.Tables.{AllHold}
-use Rattle.gql_reads.specs.declared.observation.Observation.{Observation}
+use Rattle.gql_reads.specs.declared.observation.Answer.{Answer}
 use Rattle.gql_reads.proofs.Meeting.{keeps_then, meets_told, met_count}
-use Rattle.gql_reads.proofs.Reaching.{all_hold, all_keys, all_members, all_shared, fewer_left, reaching_first, reaching_more}
+use Rattle.gql_reads.proofs.Reaching.{all_hold, all_keys, all_led, all_members, all_shared, fewer_left, reaching_first, reaching_more}
 use Rattle.gql_reads.proofs.Recorded.{told_named}
 use Rattle.gql_reads.proofs.reading.reads_of.Goals as goal
 
@@ -15,7 +15,7 @@ meet_all-requires-clause-named g c f h =
     let F = g.W.World.facts c.args.world.now in
     let seen : c.get.result.now ≡ c.in_ok-own.own.record = c.get.ensures in
     let named = told_named F (g.W.World.names c.args.world.now) (g.met.W.World.is_world c.args.world.now) c.in_ok-own.own.record f c.in_ok-own.ensures.own.hold
-    (subst (λ (os : List Observation). IsTold os f) seen (c.spreads.ensures.sound f h)) in
+    (subst (λ (os : List Answer). IsTold os f) seen (c.spreads.ensures.sound f h)) in
     subst (λ (G : Facts). IsNamed G f) (sym c.own_of.ensures.facts) named
 
 pub returns-in_err-meet_all-clause-keeps : goal.returns-in_err-meet_all-clause-keeps
@@ -36,7 +36,7 @@ walk-init g c =
       walked = reaching_first F (g.W.World.names c.args.world.now) (g.met.W.World.is_world c.args.world.now) c.args.definition.now c.in_ok-own.own.record c.in_ok-own.ensures.own
           c.new-2.result.items c.meet_all.new.met.parts.items c.new-2.ensures.items
           (meets_told c.spreads.result.now c.in_ok-own.own.record c.new-2.result.items c.meet_all.new.met.parts.items
-          (subst (λ (os : List Observation). Lists c.spreads.result.now (IsTold os)) seen c.spreads.ensures) c.in_ok-meet_all.ensures.meets);
+          (subst (λ (os : List Answer). Lists c.spreads.result.now (IsTold os)) seen c.spreads.ensures) c.in_ok-meet_all.ensures.meets);
     }
 
 pub returns-in_err-visit-clause-keeps : goal.returns-in_err-visit-clause-keeps
@@ -102,4 +102,13 @@ returns-clause-shared g c =
     let ps = c.walk.met.parts.items in
     let end : length ps ≤ c.walk.at = let n = met_count F c.walk.table c.walk.met.names.keys ps met in omega (arith, n, c.walk-test.false, c.len.ensures.len) in
     all_shared F (g.W.World.names c.args.world.now) (g.met.W.World.is_world c.args.world.now) c.args.definition.now c.in_ok-own.own.record c.in_ok-own.ensures.own
+    c.walk.at c.walk.table c.walk.met.names.keys ps c.walk.invariant.walked met end
+
+pub returns-clause-led : goal.returns-clause-led
+returns-clause-led g c =
+    let F = g.W.World.facts c.args.world.now in
+    let met = c.walk.invariant.met in
+    let ps = c.walk.met.parts.items in
+    let end : length ps ≤ c.walk.at = let n = met_count F c.walk.table c.walk.met.names.keys ps met in omega (arith, n, c.walk-test.false, c.len.ensures.len) in
+    all_led F (g.W.World.names c.args.world.now) (g.met.W.World.is_world c.args.world.now) c.args.definition.now c.in_ok-own.own.record c.in_ok-own.ensures.own
     c.walk.at c.walk.table c.walk.met.names.keys ps c.walk.invariant.walked met end

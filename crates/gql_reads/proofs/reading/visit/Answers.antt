@@ -2,7 +2,7 @@ use Rattle.std.proofs.Common.{◌≡◌, ◌∙◌, List, Some, ap, rules, slice
 use Rattle.gql_facts.specs.ListMembers.{some_same}
 use Rattle.gql_facts.specs.Members.{Lists}
 use Rattle.gql_reads.specs.Records.{IsTold, Kept}
-use Rattle.gql_reads.specs.declared.observation.Observation.{Observation}
+use Rattle.gql_reads.specs.declared.observation.Answer.{Answer}
 use Rattle.gql_reads.proofs.Meeting.{here_at, meets_told}
 use Rattle.gql_reads.proofs.Recorded.{told_named}
 use Rattle.gql_reads.proofs.Takes.{at_there}
@@ -16,7 +16,7 @@ meet_all-requires-clause-named g c f h =
     let seen : c.get.result.now ≡ p.seen = search rules in
     told_named F (g.W.World.names c.args.world.now) (g.met.W.World.is_world c.args.world.now) p.seen f
     (c.requires.met.each p (at_there c.args.met.now.parts.items c.args.at p here)).seen.hold
-    (subst (λ (os : List Observation). IsTold os f) seen (c.spreads.ensures.sound f h))
+    (subst (λ (os : List Answer). IsTold os f) seen (c.spreads.ensures.sound f h))
 
 pub returns-clause-meets : goal.returns-clause-meets
 returns-clause-meets g c p at =
@@ -25,4 +25,4 @@ returns-clause-meets g c p at =
     let e : q ≡ p = some_same q p (sym here ∙ at) in
     let seen : c.get.result.now ≡ q.seen = search rules in
     meets_told c.spreads.result.now p.seen c.args.met.now.parts.items c.meet_all.new.met.parts.items
-    (subst (λ (os : List Observation). Lists c.spreads.result.now (IsTold os)) (seen ∙ ap (λ (x : Kept). x.seen) e) c.spreads.ensures) c.in_ok-meet_all.ensures.meets
+    (subst (λ (os : List Answer). Lists c.spreads.result.now (IsTold os)) (seen ∙ ap (λ (x : Kept). x.seen) e) c.spreads.ensures) c.in_ok-meet_all.ensures.meets

@@ -4,11 +4,11 @@ use Rattle.gql_facts.specs.Worlds.{Facts}
 use Rattle.gql_merge.specs.Clean.{AreClean}
 use Rattle.gql_pairs.specs.Tables as of_pairs
 use Rattle.gql_reads.specs.Tables.{AllHold}
-use Rattle.gql_reads.specs.Readings.{flat}
+use Rattle.gql_reads.specs.Readings.{answers_in, flat}
 use Rattle.gql_verdict.specs.Faults.{IsFaultIn}
 use Rattle.gql_verdict.specs.Verdicts.{IsCertificate, Judges}
 use Rattle.gql_verdict.specs.declared.verdict.Held.{Held}
-use Rattle.gql_verdict.proofs.Certified.{certificate, judged}
+use Rattle.gql_verdict.proofs.Certified.{certificate, flat_is, judged}
 use Rattle.gql_verdict.proofs.verdict.examine.Goals as goal
 
 pub invariant_of-result : goal.invariant_of-result
@@ -23,9 +23,10 @@ pub returns-clause-verdict : goal.returns-clause-verdict
 returns-clause-verdict g c =
     let F = g.W.World.facts c.args.world.now in
     let d = c.args.definition.now in
-    subst (λ (h : Held). Judges F d (record { def = h.def; faults = h.faults.items; observations = flat h.reading })) (sym c.in_ok-held.ensures)
-    (judged F d _ c.in_ok-reading.ensures.hold c.in_ok-reading.ensures.keys _ _ c.in_ok-def.ensures
-    (subst (λ f. Lists c.in_ok-found.found.faults.items (IsFaultIn f d)) c.reads_of.ensures.facts c.in_ok-found.ensures.faults))
+    subst (λ (h : Held). Judges F d (record { def = h.def; faults = h.faults.items; observations = flat h.reading; answers = answers_in h.reading })) (sym c.in_ok-held.ensures)
+    (judged F d _ c.in_ok-reading.ensures.hold c.in_ok-reading.ensures.keys _ _ _ c.in_ok-def.ensures
+    (subst (λ f. Lists c.in_ok-found.found.faults.items (IsFaultIn f d)) c.reads_of.ensures.facts c.in_ok-found.ensures.faults)
+    (flat_is c.in_ok-reading.reading) c.in_ok-reading.ensures.led)
 
 pub cover_definition-requires-clause-holds : goal.cover_definition-requires-clause-holds
 cover_definition-requires-clause-holds g c = subst (λ (G : Facts). of_pairs.AllHold G c.args.shared.now.pairs) (sym (c.faults_in.ensures.facts ∙ c.reads_of.ensures.facts)) c.requires.holds.pairs

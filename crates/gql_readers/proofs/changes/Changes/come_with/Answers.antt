@@ -1,24 +1,23 @@
-use Rattle.std.proofs.Common.{◌++◌, ◌∷◌, [], List, append-nil, subst, sym, take}
+use Rattle.std.proofs.Common.{◌++◌, List, append-nil, subst, sym, take}
 use Rattle.std.proofs.lemmas.List.{take_all}
-use Rattle.gql_reads.specs.declared.observation.Observation.{Observation}
+use Rattle.gql_reads.specs.declared.observation.Answer.{Answer}
 use Rattle.gql_readers.specs.Merged.{AreComing}
 use Rattle.gql_readers.proofs.Coming.{more_seen}
 use Rattle.gql_readers.proofs.changes.Changes.come_with.Goals as goal
 
-pub loop-observation-init : goal.loop-observation-init
-loop-observation-init c = λ coming going before new are.
-    subst (λ (os : List Observation). AreComing c.args.self.now c.args.seen.now.keys coming going c.args.id.now os) (sym (append-nil before)) are
+pub loop-answer-init : goal.loop-answer-init
+loop-answer-init c = λ coming going before new are.
+    subst (λ (os : List Answer). AreComing c.args.self.now c.args.seen.now.keys coming going c.args.id.now os) (sym (append-nil before)) are
 
-pub loop-observation-preserved : goal.loop-observation-preserved
-loop-observation-preserved c = λ coming going before new are.
-    let o = c.observation-item.result in
-    let i = c.loop-observation.observation-index in
-    let os = c.args.observations.now in
-    subst (λ (zs : List Observation). AreComing c.come_once.new.self c.come_once.new.seen.keys coming going c.args.id.now zs) (more_seen before os i o c.loop-observation-test.true c.observation-item.is)
-    (subst (λ (p : Observation). AreComing c.come_once.new.self c.come_once.new.seen.keys coming going c.args.id.now (before ++ take i os ++ p ∷ [])) c.get.ensures
-    (c.in_ok-come_once.ensures coming going (before ++ take i os) new (c.loop-observation.invariant coming going before new are)))
+pub loop-answer-preserved : goal.loop-answer-preserved
+loop-answer-preserved c = λ coming going before new are.
+    let o = c.answer-item.result in
+    let i = c.loop-answer.answer-index in
+    let os = c.args.answers.now in
+    subst (λ (zs : List Answer). AreComing c.come_once.new.self c.come_once.new.seen.keys coming going c.args.id.now zs) (more_seen before os i o c.loop-answer-test.true c.answer-item.is)
+    (c.in_ok-come_once.ensures coming going (before ++ take i os) new (c.loop-answer.invariant coming going before new are))
 
 pub returns : goal.returns
 returns c = λ coming going before new are.
-    subst (λ (zs : List Observation). AreComing c.loop-observation.self c.loop-observation.seen.keys coming going c.args.id.now (before ++ zs)) (take_all _ _ c.loop-observation-test.false)
-    (c.loop-observation.invariant coming going before new are)
+    subst (λ (zs : List Answer). AreComing c.loop-answer.self c.loop-answer.seen.keys coming going c.args.id.now (before ++ zs)) (take_all _ _ c.loop-answer-test.false)
+    (c.loop-answer.invariant coming going before new are)

@@ -1,11 +1,11 @@
 use Rattle.std.proofs.Common.{◌++◌, List, take}
-use Rattle.gql_reads.specs.declared.observation.Observation.{Observation}
+use Rattle.gql_reads.specs.declared.observation.Answer.{Answer}
 use Rattle.gql_readers.specs.Changes.{IsNew}
 use Rattle.gql_readers.specs.Merged.{AreGoing}
 use Rattle.gql_readers.specs.Readers.{Reader}
 use Rattle.gql_readers.proofs.changes.Changes.go_with.Given as goal
 
-abbrev pub invariant-loop-observation : goal.invariant-loop-observation
-invariant-loop-observation l = (coming going : List Reader) (before : List Observation) → IsNew l.id going
+abbrev pub invariant-loop-answer : goal.invariant-loop-answer
+invariant-loop-answer l = (coming going : List Reader) (before : List Answer) → IsNew l.id going
     → AreGoing l.fn.self l.fn.seen.keys coming going l.id before
-    → AreGoing l.self l.seen.keys coming going l.id (before ++ take l.observation-index l.observations)
+    → AreGoing l.self l.seen.keys coming going l.id (before ++ take l.answer-index l.answers)
