@@ -12,5 +12,6 @@ pub mod PairsKnown
 pub mod Picked
 pub mod Refreshed
 pub mod Seen
+pub mod SeenKeys
 pub mod SpreadForms
 pub mod Steps

@@ -65,11 +65,13 @@ fn add_reader(
     ensures { OnOk result (ids.new.items ≡ ids.old.items
         ++ readers_of key.now (verdicts (slot.now ∷ []))) }
 {
-    if let Slot::Here(verdict) = slot {
-        if verdict.observes(key) {
-            ids.push(Shared::new(alloc, verdict.def().id())?)?;
-        }
+    let Slot::Here(verdict) = slot else {
+        return Ok(());
+    };
+    if !verdict.observes(key) {
+        return Ok(());
     }
+    ids.push(Shared::new(alloc, verdict.def().id())?)?;
     Ok(())
 }
 

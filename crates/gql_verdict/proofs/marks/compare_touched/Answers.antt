@@ -8,6 +8,11 @@ use Rattle.gql_verdict.proofs.Marking.{keep_compared, touched_fragment, unmarked
 use Rattle.gql_verdict.proofs.Seen.{seen_more}
 use Rattle.gql_verdict.proofs.marks.compare_touched.Goals as goal
 
+pub compare_once-requires-clause-done : goal.compare_once-requires-clause-done
+compare_once-requires-clause-done g c =
+    subst (λ (G : Facts). AreDone G c.args.slots.now c.args.index.now c.loop-name.marks (λ n. is_some (hash.get_by (λ k. bytes_eq n k.now) c.loop-name.done)))
+    (sym c.loop-name.invariant.same_facts) c.loop-name.invariant.done
+
 pub loop-name-preserved : goal.loop-name-preserved
 loop-name-preserved g c =
     let F = g.W.World.facts c.args.world.now in
