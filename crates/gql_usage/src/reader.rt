@@ -25,9 +25,10 @@ pub struct Reader {
 fn add_name(part: &Part, key: &Key, names: &mut Vec<Text>) -> Result<(), AllocError>
     ensures { OnOk result (names.new.items ≡ names.old.items ++ spec.name_if key.now part.now) }
 {
-    if one_observes(part.seen().get().answers(), key) {
-        names.push(part.name().copy()?)?;
+    if !one_observes(part.seen().get().answers(), key) {
+        return Ok(());
     }
+    names.push(part.name().copy()?)?;
     Ok(())
 }
 
