@@ -1,6 +1,6 @@
 -- What the test of observations and the list of readers say of who observes a key.
-use Rattle.std.proofs.Common.{◌≡◌, ◌∙◌, ℕ, List, [], ◌∷◌, ◌==◌, Bool, true, false, filter, if◌then◌else◌, length, ap, not, refl, sym, subst, Contains}
-use Rattle.std.proofs.lemmas.Bool.{false_from_ne_true}
+use Rattle.std.proofs.Common.{◌≡◌, ◌∙◌, ℕ, List, [], ◌∷◌, ◌==◌, Bool, true, false, filter, if◌then◌else◌, length, ap, not, refl, sym, subst, Contains, arith}
+use Rattle.std.proofs.lemmas.Bool.{eqb-true, false_from_ne_true}
 use Rattle.gql_ast.specs.Trees.{id_of}
 use Rattle.gql_ast.specs.declared.definition.DefinitionId.{DefinitionId}
 use Rattle.gql_facts.specs.Keys.{is_key, is_key_decides}
@@ -62,6 +62,7 @@ from_list k vs id c =
 by_list : (k : Key) (vs : List Judgement) (b : Bool) → (b ≡ true → HasReader k vs) → (HasReader k vs → b ≡ true) → (ids : List DefinitionId) → readers_of k vs ≡ ids → not b ≡ (length ids == 0)
 by_list k vs b to from [] e = ap not (false_from_ne_true b (λ t. let r = to t in Contains-nil (id_of r.0.def) (subst (λ ids. Contains ids (id_of r.0.def)) e (listed k vs r))))
 by_list k vs b to from (id ∷ ids) e = ap not (from (from_list k vs id (subst (λ all. Contains all id) (sym e) (Contains-here id ids))))
+    ∙ sym (false_from_ne_true (length (id ∷ ids) == 0) (λ t. omega (arith, eqb-true (length (id ∷ ids)) 0 t)))
 
 pub is_unread_is : (k : Key) (vs : List Judgement) (b : Bool) → (b ≡ true → HasReader k vs) → (HasReader k vs → b ≡ true) → not b ≡ is_unread vs k
 is_unread_is k vs b to from = by_list k vs b to from (readers_of k vs) refl
