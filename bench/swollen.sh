@@ -58,5 +58,5 @@ filters 1000
 filters 3800
 inputs 500
 input_chain 500
-wide_inputs 500
+wide_inputs 160
 KINDS
