@@ -204,13 +204,7 @@ impl PairTable {
         let other = second.fragment.get().name.text.copy()?;
         let both = both_of(alloc, first, second)?;
         let mut reads = ReadTable::new(alloc);
-        self.cover(
-            alloc,
-            world,
-            &NoParts {},
-            &mut reads,
-            both.as_slice(),
-        )?;
+        self.cover(alloc, world, &NoParts {}, &mut reads, both.as_slice())?;
         let found = self.get(alloc, name.as_str(), other.as_str())?;
         Ok(found.unwrap())
     }

@@ -73,11 +73,7 @@ impl Noted {
     }
 
     /// Notes that a reader comes, which had this answer.
-    fn come(
-        &mut self,
-        answer: &Shared<Answer>,
-        id: &Shared<DefinitionId>,
-    ) -> Result<(), AllocError>
+    fn come(&mut self, answer: &Shared<Answer>, id: &Shared<DefinitionId>) -> Result<(), AllocError>
         ensures { OnOk result (self.new ≡ come_noted self.old answer.now id.now) }
     {
         if self.comes.is_empty() {
@@ -238,12 +234,7 @@ impl Changes {
             → AreNotes self.new (with_reader coming id.now (answers_in reading.now)) going) }
     {
         let mut seen = IndexSet::new(alloc);
-        self.come_with(
-            alloc,
-            id,
-            reading.own.record.get().answers(),
-            &mut seen,
-        )?;
+        self.come_with(alloc, id, reading.own.record.get().answers(), &mut seen)?;
         for part in reading.parts.as_slice() {
             self.come_with(alloc, id, part.seen().get().answers(), &mut seen)?;
         }
@@ -301,12 +292,7 @@ impl Changes {
             → AreNotes self.new coming (with_reader going id.now (answers_in reading.now))) }
     {
         let mut seen = IndexSet::new(alloc);
-        self.go_with(
-            alloc,
-            id,
-            reading.own.record.get().answers(),
-            &mut seen,
-        )?;
+        self.go_with(alloc, id, reading.own.record.get().answers(), &mut seen)?;
         for part in reading.parts.as_slice() {
             self.go_with(alloc, id, part.seen().get().answers(), &mut seen)?;
         }

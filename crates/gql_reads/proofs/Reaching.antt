@@ -133,9 +133,12 @@ module _ (F : Facts) (names : List (List ℕ)) (world : IsWorld F names) (d : De
     told_by (by_fragment {n} {f} {g} r c e) =
         let p = part_for f (member_reached r) in
         let seen : IsRecord F (tree_of f) p.0.seen = subst (λ h. IsRecord F (tree_of h) p.0.seen) p.2 (met.each p.0 p.1).seen in
-        let t = node_told F (tree_of f) p.0.seen n g seen c e in
-        (t.0.observation, Contains-append_right (observed_in own) (seen_in parts) t.0.observation
-        (Contains-flat_map (λ (q : Kept). observed_in q.seen) parts p.0 t.0.observation p.1 (told_observed p.0.seen g t)), t.2)
+        let t = node_told F (tree_of f) p.0.seen n g seen c e in (
+          t.0.observation,
+          Contains-append_right (observed_in own) (seen_in parts) t.0.observation
+              (Contains-flat_map (λ (q : Kept). observed_in q.seen) parts p.0 t.0.observation p.1 (told_observed p.0.seen g t)),
+          t.2,
+        )
 
     pub all_shared : (p : Kept) → Contains parts p → (entry_at es (name_of p.fragment) ≡ Some p) × Contains all (own_name p.fragment)
     all_shared p c =

@@ -44,7 +44,12 @@ fn type_holds<W: World>(
     if !kind {
         return Ok(false);
     }
-    let possible = is_answer(alloc, world, &Key::PossibleOf(name.copy()?), &of_type.possible)?;
+    let possible = is_answer(
+        alloc,
+        world,
+        &Key::PossibleOf(name.copy()?),
+        &of_type.possible,
+    )?;
     if !possible {
         return Ok(false);
     }

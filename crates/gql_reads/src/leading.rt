@@ -45,11 +45,7 @@ fn add_named(fact: &Fact, names: &mut IndexSet<Text>) -> Result<(), AllocError>
 }
 
 /// What a world answers about the type of a name.
-fn ask_type<W: World>(
-    alloc: Global,
-    world: &mut W,
-    name: &Text,
-) -> Result<TypeAnswers, AllocError>
+fn ask_type<W: World>(alloc: Global, world: &mut W, name: &Text) -> Result<TypeAnswers, AllocError>
     ensures facts { W.facts world.new ≡ W.facts world.old }
     ensures names { W.names world.new ≡ W.names world.old }
     ensures lent { W.lent world.new ≡ W.lent world.old }

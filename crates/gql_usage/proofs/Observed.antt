@@ -1,5 +1,5 @@
 -- What the test of observations and the list of readers say of who observes a key.
-use Rattle.std.proofs.Common.{◌≡◌, ◌∙◌, ℕ, List, [], ◌∷◌, ◌==◌, Bool, true, false, filter, if◌then◌else◌, length, ap, not, refl, sym, subst, Contains, arith}
+use Rattle.std.proofs.Common.{◌≡◌, ◌∙◌, List, [], ◌∷◌, ◌==◌, Bool, true, false, filter, if◌then◌else◌, length, ap, not, refl, sym, subst, Contains, arith}
 use Rattle.std.proofs.lemmas.Bool.{eqb-true, false_from_ne_true}
 use Rattle.gql_ast.specs.Trees.{id_of}
 use Rattle.gql_ast.specs.declared.definition.DefinitionId.{DefinitionId}

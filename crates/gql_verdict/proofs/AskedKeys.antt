@@ -1,5 +1,5 @@
 -- Which verdicts observe a key, by the index.
-use Rattle.std.proofs.Common.{◌≡◌, ◌≢◌, ◌⊎◌, inl, inr, ℕ, List, [], ◌∷◌, true, false, refl, ap, sym, subst, ◌∙◌, Contains}
+use Rattle.std.proofs.Common.{◌≡◌, ◌≢◌, ◌⊎◌, inl, inr, ℕ, List, [], ◌∷◌, true, refl, sym, subst, ◌∙◌, Contains}
 use Rattle.gql_ast.specs.Trees.{id_of}
 use Rattle.gql_ast.specs.declared.definition.DefinitionId.{DefinitionId}
 use Rattle.gql_facts.specs.ListMembers.{Contains-nil, Contains-here, Contains-cases, Contains-map, Contains-flat_map}
@@ -62,11 +62,15 @@ module _ (slots : List Slot) (es : List Reading) (shelved : IsShelved slots es) 
       let a = observed_answer v.answers k (subst (λ os. Contains (keys_of os) k) (shelved.order.reads v c).flat h) in
       let f = shelved.reads.answers (reader_of v) a.0 (Contains-map reader_of V v c) a.1 in
       let id : Contains f.0.readers (id_of v.def) = subst (λ ids. Contains ids (id_of v.def)) (sym (shelved.reads.exact f.0 f.1))
-          (reads_has f.0.key (readers V) (reader_of v) (Contains-map reader_of V v c) (observes_has f.0.key (reader_of v) a.0 a.1 (sym f.2))) in
-      (f.0, f.1, (
-        λ none. Contains-nil (id_of v.def) (subst (λ ids. Contains ids (id_of v.def)) none id),
-        key_there a.0 f.0.answer (alike_back f.0.answer a.0 f.3) k a.2,
-      ), elim (Contains-cases k a.0.observation.key (keys_of (about_all a.0.types)) a.2) [
-        | inl e ↦ inr (f.2 ∙ sym e)
-        | inr t ↦ let m = observed_type a.0.types k t in inl (about_type m.0.name k m.2)
-      ])
+      (reads_has f.0.key (readers V) (reader_of v) (Contains-map reader_of V v c) (observes_has f.0.key (reader_of v) a.0 a.1 (sym f.2))) in (
+        f.0,
+        f.1,
+        (
+          λ none. Contains-nil (id_of v.def) (subst (λ ids. Contains ids (id_of v.def)) none id),
+          key_there a.0 f.0.answer (alike_back f.0.answer a.0 f.3) k a.2,
+        ),
+        elim (Contains-cases k a.0.observation.key (keys_of (about_all a.0.types)) a.2) [
+          | inl e ↦ inr (f.2 ∙ sym e)
+          | inr t ↦ let m = observed_type a.0.types k t in inl (about_type m.0.name k m.2)
+        ],
+      )

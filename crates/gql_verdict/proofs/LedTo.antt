@@ -1,5 +1,5 @@
 -- The verdicts that steps lead to, as readers of keys: which come and which go.
-use Rattle.std.proofs.Common.{◌≡◌, ◌⊎◌, ◌<◌, inl, inr, ℕ, zero, suc, List, [], ◌∷◌, ◌++◌, Bool, true, false, length, map, take, drop, filter, cond, ◌+◌, get_or, refl, ap, sym, subst, ◌∙◌, Contains, arith}
+use Rattle.std.proofs.Common.{◌≡◌, ◌⊎◌, ◌<◌, inl, inr, ℕ, zero, suc, List, [], ◌∷◌, ◌++◌, Bool, true, false, length, map, take, drop, ◌+◌, get_or, refl, ap, sym, subst, ◌∙◌, Contains, arith}
 use Rattle.std.specs.List.{AllPairs, AllZip}
 use Rattle.std.specs.declared.cmp.Ordering.TheVariants.{Less}
 use Rattle.std.proofs.lemmas.List.{drop_more, get_or_default, length-take-le, map-append, take-append-drop}

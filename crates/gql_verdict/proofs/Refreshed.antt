@@ -7,7 +7,7 @@ use Rattle.gql_facts.specs.Worlds.{Facts}
 use Rattle.gql_facts.specs.ListMembers.{Contains-nil, Contains-cases}
 use Rattle.gql_reads.specs.Observations.{Hold}
 use Rattle.gql_verdict.specs.Verdicts.{IsRead, Judgement}
-use Rattle.gql_verdict.specs.Shelves.{IsCurrent, Serves, defs}
+use Rattle.gql_verdict.specs.Shelves.{IsCurrent, defs}
 use Rattle.gql_verdict.specs.FileOrder.{InFileOrder}
 use Rattle.gql_verdict.specs.Plans.{IsUsable, IsPlanned, IsStep, Preparation}
 use Rattle.gql_verdict.specs.Slots.{verdicts, resolve, IsInOrder, IsApart}

@@ -344,11 +344,7 @@ impl Shelf {
     }
 
     /// The definitions whose verdicts observe a key, by file and offset.
-    pub fn readers(
-        &self,
-        alloc: Global,
-        key: &Key,
-    ) -> Result<Vec<Shared<DefinitionId>>, AllocError>
+    pub fn readers(&self, alloc: Global, key: &Key) -> Result<Vec<Shared<DefinitionId>>, AllocError>
         ensures { IfOk result (λ ids. ids.items ≡ readers_of key.now self.now.verdicts) }
     {
         let mut ids = Vec::new(alloc);

@@ -13,8 +13,7 @@ returns-then-same c =
 pub returns : goal.returns
 returns c =
     let a = c.args.answer.now in
-    let k = c.args.key.now in
-    (
+    let k = c.args.key.now in (
       λ t. answer_type a k (subst (λ (ts : List TypeAnswers). Contains (keys_of (about_all ts)) k) c.as_slice.ensures (c.is_about_one.ensures.0 t)),
       λ h. elim (Contains-cases k a.observation.key (keys_of (about_all a.types)) h) [
         | inl e ↦ let z : true ≡ false = sym (c.same.ensures.1 (sym e)) ∙ c.if-same.false in cc z

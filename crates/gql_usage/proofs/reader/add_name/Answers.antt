@@ -9,8 +9,8 @@ pub returns-then-not-one_observes : goal.returns-then-not-one_observes
 returns-then-not-one_observes c =
     let k = c.args.key.now in
     let none = no_name k c.args.part.now (λ h.
-        let seen = subst (λ (xs : List Answer). Contains (keys_of (observed_in xs)) k) (sym (c.answers.ensures ∙ c.get.ensures ∙ c.seen.ensures.value)) h in
-        let z : true ≡ false = sym (c.one_observes.ensures.1 seen) ∙ c.if-not-one_observes.true in cc z) in
+    let seen = subst (λ (xs : List Answer). Contains (keys_of (observed_in xs)) k) (sym (c.answers.ensures ∙ c.get.ensures ∙ c.seen.ensures.value)) h in
+    let z : true ≡ false = sym (c.one_observes.ensures.1 seen) ∙ c.if-not-one_observes.true in cc z) in
     sym (ap (λ names. c.args.names.now.items ++ names) none ∙ append-nil c.args.names.now.items)
 
 pub returns : goal.returns

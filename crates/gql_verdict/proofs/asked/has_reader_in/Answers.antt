@@ -1,6 +1,5 @@
 use Rattle.std.proofs.Common.{◌≡◌, ◌∙◌, Contains, List, false, inl, inr, refl, subst, sym, true}
 use Rattle.gql_readers.specs.Indexes.{Reading}
-use Rattle.gql_verdict.specs.Marks.{IsSomeAsked}
 use Rattle.gql_verdict.proofs.AskedKeys.{asked_read, read_asked}
 use Rattle.gql_verdict.proofs.asked.has_reader_in.Goals as goal
 

@@ -1,4 +1,4 @@
-use Rattle.std.proofs.Common.{◌≡◌, ◌∙◌, Contains, List, ap, false, length, refl, subst, sym, true}
+use Rattle.std.proofs.Common.{◌≡◌, ◌∙◌, Contains, ap, false, length, subst, sym, true}
 use Rattle.std.proofs.lemmas.Bool.{eqb-false, eqb-true}
 use Rattle.std.proofs.lemmas.List.{nil_from_length}
 use Rattle.gql_reads.specs.Observations.{keys_of, observed}
@@ -14,8 +14,7 @@ returns-then-is_empty c = (
 pub returns : goal.returns
 returns c =
     let same : c.get.result.now ≡ c.args.entry.now.answer = c.get.ensures ∙ c.answer.ensures in
-    let k = c.args.key.now in
-    (
+    let k = c.args.key.now in (
       λ t. (
         λ none. eqb-false _ _ (sym c.is_empty.ensures ∙ c.if-is_empty.false) (ap length (c.readers.ensures ∙ none)),
         subst (λ (a : Answer). Contains (keys_of (observed a)) k) same (c.observes.ensures.0 t),

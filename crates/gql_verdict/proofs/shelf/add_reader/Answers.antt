@@ -6,7 +6,7 @@ use Rattle.gql_verdict.proofs.shelf.add_reader.Goals as goal
 pub returns-then-not-observes : goal.returns-then-not-observes
 returns-then-not-observes c =
     let none = slot_no_reader c.args.key.now c.args.slot.now c.in-Here.verdict c.in-Here.is
-        (λ h. let z : true ≡ false = sym (c.observes.ensures.1 h) ∙ c.if-not-observes.true in cc z) in
+    (λ h. let z : true ≡ false = sym (c.observes.ensures.1 h) ∙ c.if-not-observes.true in cc z) in
     sym (ap (λ ids. c.args.ids.now.items ++ ids) none ∙ append-nil c.args.ids.now.items)
 
 pub returns : goal.returns

@@ -1,4 +1,4 @@
-use Rattle.std.proofs.Common.{◌≡◌, ◌∙◌, ◌++◌, ◌∷◌, [], List, ap, sym, take}
+use Rattle.std.proofs.Common.{◌∙◌, ◌++◌, ◌∷◌, [], List, ap, sym, take}
 use Rattle.std.proofs.lemmas.List.{take_all}
 use Rattle.gql_verdict.specs.Shelves.{readers_of, Shelved}
 use Rattle.gql_verdict.specs.Slots.{verdicts}
@@ -14,12 +14,12 @@ loop-slot-preserved c =
     let x = c.slot-item.result in
     let k = c.args.key.now in
     c.in_ok-add_reader.ensures
-        ∙ ap (λ ids. ids ++ readers_of k (verdicts (x ∷ []))) c.loop-slot.invariant
-        ∙ sym (slots_append k (take i S) (x ∷ []))
-        ∙ ap (λ (ss : List Slot). readers_of k (verdicts ss)) (sym (take_next S i x c.loop-slot-test.true c.slot-item.is))
+    ∙ ap (λ ids. ids ++ readers_of k (verdicts (x ∷ []))) c.loop-slot.invariant
+    ∙ sym (slots_append k (take i S) (x ∷ []))
+    ∙ ap (λ (ss : List Slot). readers_of k (verdicts ss)) (sym (take_next S i x c.loop-slot-test.true c.slot-item.is))
 
 pub returns : goal.returns
 returns c =
     c.loop-slot.invariant
-        ∙ ap (λ (ss : List Slot). readers_of c.args.key.now (verdicts ss)) (take_all _ _ c.loop-slot-test.false ∙ c.as_slice-slot-items.ensures.value)
-        ∙ ap (λ (s : Shelved). readers_of c.args.key.now s.verdicts) c.self.view_is
+    ∙ ap (λ (ss : List Slot). readers_of c.args.key.now (verdicts ss)) (take_all _ _ c.loop-slot-test.false ∙ c.as_slice-slot-items.ensures.value)
+    ∙ ap (λ (s : Shelved). readers_of c.args.key.now s.verdicts) c.self.view_is

@@ -17,8 +17,7 @@ returns-then-one_observes c =
 pub returns : goal.returns
 returns c =
     let r = c.reading-reading.result.now in
-    let k = c.args.key.now in
-    (
+    let k = c.args.key.now in (
       λ t. subst (λ (os : List Observation). Contains (keys_of os) k) c.reading-reading.ensures.flat
           (key_right (observed_in r.own.record) (seen_in r.parts.items) k (subst (λ (ps : List Kept). Contains (keys_of (seen_in ps)) k) c.as_slice.ensures.value (c.one_part_observes.ensures.0 t))),
       λ h. elim (key_either (observed_in r.own.record) (seen_in r.parts.items) k (subst (λ (os : List Observation). Contains (keys_of os) k) (sym c.reading-reading.ensures.flat) h)) [
