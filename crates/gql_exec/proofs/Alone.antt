@@ -23,7 +23,7 @@ use Rattle.serde_json.specs.Data as json
 use Rattle.serde_json.specs.Data.{Data}
 use Rattle.serde_json.specs.Find.{get}
 use Rattle.serde_json.specs.View.{items_of}
-use Rattle.gql_steps.specs.Execution.{Appending, each_root, effect_of, effects_of, execute_root, mutation_answer, root_value, under_name, Arguments, given, refused, Object, stored, described, answering, by_source, list_reply, on_answer, on_node, Below, Fields, no_fields, field, Plan, plan, PlannedField, Site, Types, among, answer, answered, complete, each, execute, executed, fault, items_from, is_null, leaf, members_of, of_kind, on_abstract, on_list, on_object, placed, value_of}
+use Rattle.gql_steps.specs.Execution.{Appending, each_root, effect_of, effects_of, execute_root, mutation_answer, root_value, under_name, Arguments, given, refused, Object, stored, described, answering, by_source, list_reply, on_answer, on_node, Below, Fields, no_fields, field, Plan, plan, PlannedField, Site, Types, among, answered, complete, each, execute, executed, fault, items_from, is_null, leaf, members_of, of_kind, on_abstract, on_list, on_object, placed, value_of}
 use Rattle.gql_stored.specs.Effects.{list_named}
 use Rattle.gql_steps.specs.declared.planning.Source.{Source}
 use Rattle.gql_steps.specs.declared.planning.Source.TheVariants as source

@@ -1,24 +1,23 @@
 -- What is written for the root fields of a mutation, and what they add to the data.
-use Rattle.std.proofs.Common.{◌≡◌, ◌<◌, ℕ, zero, suc, ◌+◌, inl, inr, Bool, true, false, List, [], ◌∷◌, ◌++◌, map, flat_map, length, take, get_or, codes, is_some, Option, Some, None, Ok, Err, refl, sym, ap, subst, ◌∙◌, arith, append_assoc, append-nil, add-one, if◌then◌else◌}
+use Rattle.std.proofs.Common.{◌≡◌, ◌<◌, ℕ, zero, suc, ◌+◌, inl, inr, true, false, List, [], ◌∷◌, ◌++◌, map, length, take, get_or, codes, is_some, Option, Some, None, Ok, Err, refl, sym, ap, subst, ◌∙◌, arith, append_assoc, append-nil, add-one, if◌then◌else◌}
 use Rattle.std.proofs.Common.{◌⊎◌}
 use Rattle.gql_collect.specs.Nodes.{FileSelection}
 use Rattle.gql_types.specs.Schemas.{append_of}
-use Rattle.gql_types.specs.Written.{Written, written}
 use Rattle.json.specs.Print.{quoted}
 use Rattle.serde_json.specs.Data as json
 use Rattle.serde_json.specs.Data.{Data}
 use Rattle.serde_json.specs.View.{view}
 use Rattle.gql_stored.specs.Effects.{Effect, list_named}
-use Rattle.gql_steps.specs.Execution.{Appending, Arguments, given, refused, Fields, no_fields, field, Object, Plan, plan, PlannedField, Site, Types, added, added_by, complete, each_root, effect_of, effects_of, execute_root, members_of, mutation_answer, placed, root_value, value_of}
+use Rattle.gql_steps.specs.Execution.{given, refused, Fields, no_fields, field, Object, Plan, plan, PlannedField, Site, Types, added, added_by, complete, each_root, effect_of, effects_of, execute_root, members_of, placed, root_value, value_of}
 use Rattle.gql_steps.specs.Outcomes.{segment_of}
-use Rattle.gql_steps.specs.Parts.{Part, after_comma, all, counted, followed_by, numbered, plain, raise, settled, within}
+use Rattle.gql_steps.specs.Parts.{Part, after_comma, all, counted, followed_by, plain, raise, settled, within}
 use Rattle.gql_steps.specs.Plans.{Basis, IsPlan, is_met, types_of}
 use Rattle.gql_steps.specs.Replies.{Path, key, Reply}
 use Rattle.gql_steps.specs.Replies as reply
 use Rattle.gql_steps.specs.Requests.{most_values}
-use Rattle.gql_exec.specs.RootParts.{IsAddition, Root, added_content, added_field, effect_in, effects_in, root_called, root_field, root_part}
+use Rattle.gql_exec.specs.RootParts.{IsAddition, Root, added_field, effect_in, effects_in, root_called, root_field, root_part}
 use Rattle.gql_steps.specs.States.{Done, Executes, path_of}
-use Rattle.gql_steps.specs.Tables.{Has, Pair, StandFor, StandsFor, called_of, fields_at, pairs_of, planned_of}
+use Rattle.gql_steps.specs.Tables.{Has, Pair, StandFor, called_of, fields_at, pairs_of, planned_of}
 use Rattle.gql_steps.specs.Texts.{member_text, texted, value_part}
 use Rattle.gql_steps.specs.ValueParts.{field_part, placed_part, site_of}
 use Rattle.gql_steps.specs.declared.ended.Ended.{Ended}

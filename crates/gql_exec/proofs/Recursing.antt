@@ -1,41 +1,22 @@
 -- What completing is at each form of a type and of a value, where the execution recurses.
-use Rattle.std.proofs.Common.{◌≡◌, ◌||◌, ℕ, zero, suc, ◌<◌, ◌≤◌, inl, inr, List, [], ◌∷◌, Bool, true, false, length, get_or, String, Global, string_bytes, Option, Some, None, Result, Ok, Err, bytes_eq, is_some, refl, sym, ap, subst, ◌∙◌, arith, if◌then◌else◌}
-use Rattle.std.specs.List.{list_any}
-use Rattle.std.specs.Result.{OnOk}
-use Rattle.std.proofs.lemmas.Slice.Eq.{bytes_eq-Decides}
-use Rattle.gql_inputs.specs.InputTypes.{is_non_null, item_of, name_in}
-use Rattle.gql_intro.specs.Nodes.{Node, query_root}
-use Rattle.json.specs.Print.{quoted}
+use Rattle.std.proofs.Common.{◌≡◌, ℕ, List, false, Some, Result, sym, ap, subst, ◌∙◌}
+use Rattle.gql_inputs.specs.InputTypes.{item_of, name_in}
 use Rattle.gql_collect.specs.Nodes.{FileSelection}
 use Rattle.gql_types.specs.Schemas.{kind_named}
-use Rattle.gql_types.specs.Written.{Written, named, listed, required, written}
-use Rattle.gql_types.specs.declared.kind.TypeKind.{TypeKind}
+use Rattle.gql_types.specs.Written.{Written, named, listed}
 use Rattle.serde_json.specs.Data as json
 use Rattle.serde_json.specs.Data.{Data}
-use Rattle.serde_json.specs.Find.{as_null}
-use Rattle.serde_json.specs.View.{items_of, view}
-use Rattle.serde_json.specs.declared.value.Value.{Value}
-use Rattle.gql_steps.specs.Execution.{Fields, Object, Plan, plan, PlannedField, Site, Types, among, answering, by_source, complete, described, execute, is_null, of_kind, on_answer, on_list, stored, value_of}
-use Rattle.gql_steps.specs.Execution as execution
-use Rattle.gql_steps.specs.Parts.{Part, caught, plain, raise}
-use Rattle.gql_steps.specs.Plans.{Basis, IsPlan, defined, is_met, is_met_by, is_possible_by, possible_in, types_of}
-use Rattle.gql_steps.specs.Replies.{Path}
-use Rattle.gql_steps.specs.Resolution.{resolved}
-use Rattle.gql_steps.specs.States.{Executes, Follows, path_of}
-use Rattle.gql_steps.specs.Tables.{Has, IsRight, StandFor, StandsFor, called_of, fields_at, pairs_of, planned_of}
+use Rattle.serde_json.specs.View.{items_of}
+use Rattle.gql_steps.specs.Execution.{complete, is_null, of_kind, on_list}
+use Rattle.gql_steps.specs.Plans.{Basis, types_of}
+use Rattle.gql_steps.specs.States.{path_of}
 use Rattle.gql_steps.specs.Texts.{value_part}
-use Rattle.gql_steps.specs.ValueParts.{Does, IsAbstract, IsAsked, Keeps, answer_part, called_part, source_part, item_at, list_part, object_part, placed_part, site_of}
+use Rattle.gql_steps.specs.ValueParts.{Does, IsAsked, item_at, list_part, site_of}
 use Rattle.gql_steps.specs.declared.ended.Ended.{Ended}
-use Rattle.gql_steps.specs.declared.planning.Called.TheVariants as called
-use Rattle.gql_steps.specs.declared.planning.FieldPlan.{FieldPlan}
-use Rattle.gql_steps.specs.declared.planning.Source.TheVariants as source
 use Rattle.gql_steps.specs.declared.refusal.ExecRefusal.{ExecRefusal}
 use Rattle.gql_steps.specs.declared.run.Run.{Run}
 use Rattle.gql_steps.specs.declared.site.Site.{Site as FieldSite}
-use Rattle.gql_steps.specs.declared.table.Table.{Table}
-use Rattle.gql_steps.proofs.Completing.{items_at, list_is, object_is, present_list, present_named}
-use Rattle.gql_steps.proofs.Entries.{grows_same, grows_twice}
-use Rattle.gql_steps.proofs.Grouped.{paired}
+use Rattle.gql_steps.proofs.Completing.{items_at, list_is, present_list, present_named}
 use Rattle.gql_steps.proofs.Executing.{as_part}
 
 module _ (g : Basis) (here : FieldSite) (xs : List FileSelection) (result : Result Ended ExecRefusal) (s u : Run) where

@@ -1,6 +1,5 @@
 -- What completing is at each form of a type and of a value, and what is written for it.
-use Rattle.std.proofs.Common.{◌≡◌, ℕ, ◌+◌, inl, inr, Bool, true, false, List, [], ◌∷◌, ◌++◌, map, codes, is_some, Option, Some, None, refl, ap, ◌∙◌, if◌then◌else◌}
-use Rattle.json.specs.Print.{quoted}
+use Rattle.std.proofs.Common.{◌≡◌, ℕ, ◌+◌, inl, inr, true, false, List, [], ◌∷◌, ◌++◌, map, codes, is_some, Option, Some, None, refl, ap, ◌∙◌, if◌then◌else◌}
 use Rattle.gql_inputs.specs.InputTypes.{is_list, is_non_null, item_of, name_in, scalar_named}
 use Rattle.gql_inputs.specs.declared.scalar.Scalar.{Scalar}
 use Rattle.gql_intro.specs.Nodes as intro

@@ -1,15 +1,14 @@
 -- Worked examples of mutations.
-use Rattle.std.specs.Prelude.{◌≡◌, ℕ, ◌-◌, List, [], ◌∷◌, ◌++◌, codes, refl, Option, Some, None, bytes_eq, if◌then◌else◌}
+use Rattle.std.specs.Prelude.{◌≡◌, ℕ, ◌-◌, List, [], ◌∷◌, codes, refl, Some, None, bytes_eq, if◌then◌else◌}
 use Rattle.gql_intro.specs.Nodes.{null}
 use Rattle.gql_text.specs.declared.place.Place.{Place}
 use Rattle.gql_types.specs.Written.{Written, named, required}
-use Rattle.gql_types.specs.declared.kind.TypeKind.{TypeKind}
 use Rattle.gql_types.specs.declared.kind.TypeKind.TheVariants as kind
 use Rattle.gql_stored.specs.Effects.{after}
 use Rattle.serde_json.specs.Data as json
 use Rattle.serde_json.specs.Data.{Data, item, no_items, member, no_members}
-use Rattle.gql_steps.specs.Execution.{Appending, Answer, Arguments, given, refused, PlannedField, Plan, plan, Fields, no_fields, field, Types, mutation_answer}
-use Rattle.gql_steps.specs.Replies.{Error, key}
+use Rattle.gql_steps.specs.Execution.{Appending, Arguments, given, refused, PlannedField, Plan, plan, no_fields, field, Types, mutation_answer}
+use Rattle.gql_steps.specs.Replies.{key}
 use Rattle.gql_steps.specs.declared.planning.Source.TheVariants as source
 
 -- ---- terms for the examples: `type Mutation { add(id: Int): Note! @append(to: "notes") }`

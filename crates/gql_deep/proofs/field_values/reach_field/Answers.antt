@@ -1,7 +1,6 @@
 use Rattle.std.proofs.Common.{sym, ap, ◌∙◌}
 use Rattle.serde_json.specs.View.{view}
 use Rattle.gql_intro.specs.Borrowed.{node_of}
-use Rattle.gql_steps.specs.Execution.{answering}
 use Rattle.gql_deep.specs.Frames.{object_in}
 use Rattle.gql_steps.specs.Objects.{basis}
 use Rattle.gql_steps.specs.Plans.{types_of}

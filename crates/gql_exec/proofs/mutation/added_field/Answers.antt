@@ -1,4 +1,4 @@
-use Rattle.std.proofs.Common.{◌≡◌, ◌++◌, codes, subst, ◌∙◌}
+use Rattle.std.proofs.Common.{◌++◌, codes, subst, ◌∙◌}
 use Rattle.json.specs.Print.{quoted}
 use Rattle.serde_json.specs.View.{view}
 use Rattle.gql_steps.specs.Objects.{basis}

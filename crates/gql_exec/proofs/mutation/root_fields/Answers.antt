@@ -1,4 +1,4 @@
-use Rattle.std.proofs.Common.{◌≡◌, ◌<◌, ◌++◌, [], List, Vec, Global, length, get_or, take, sym, ap, subst, ◌∙◌, arith, append_assoc, append-nil, rules}
+use Rattle.std.proofs.Common.{◌≡◌, ◌<◌, ◌++◌, List, Vec, Global, length, get_or, take, sym, ap, subst, ◌∙◌, arith, append_assoc}
 use Rattle.std.proofs.lemmas.List.{take_all}
 use Rattle.gql_steps.specs.Objects.{basis}
 use Rattle.gql_steps.specs.Parts.{all, numbered}
@@ -9,7 +9,7 @@ use Rattle.gql_steps.specs.Tables.{InTable, Pair, StandFor, fields_at}
 use Rattle.gql_steps.specs.declared.planning.FieldPlan.{FieldPlan}
 use Rattle.gql_steps.specs.declared.table.Slot.{Slot}
 use Rattle.gql_steps.proofs.Doing.{loop-more, loop-stops, stopped}
-use Rattle.gql_steps.proofs.Entries.{at_slot, fields_still, grows_same, no_shorter}
+use Rattle.gql_steps.proofs.Entries.{at_slot, fields_still, no_shorter}
 use Rattle.gql_steps.proofs.Executing.{as_many, keeps_twice, stand_at}
 use Rattle.gql_exec.proofs.Mutating.{effects_more}
 use Rattle.gql_exec.proofs.mutation.root_fields.Goals as goal

@@ -1,4 +1,4 @@
-use Rattle.std.proofs.Common.{◌≡◌, ◌<◌, ◌++◌, [], ◌∙◌, false, true, refl, sym, ap, subst}
+use Rattle.std.proofs.Common.{◌≡◌, ◌<◌, ◌++◌, [], ◌∙◌, false, true, refl, ap, subst}
 use Rattle.gql_collect.specs.Borrowed.{all_selections}
 use Rattle.gql_steps.specs.Execution.{Plan, answered, execute_root, mutation_answer}
 use Rattle.gql_steps.specs.Objects.{basis}
