@@ -67,8 +67,8 @@ answer_after (e ∷ es) noted = answer_by noted.comes noted.answer e.answer
 
 -- an entry, if it has readers
 abbrev pub entry_if : Key → Answer → List DefinitionId → List Reading
-entry_if k f [] = []
-entry_if k f (id ∷ ids) = record { key = k; answer = f; readers = id ∷ ids } ∷ []
+entry_if k a [] = []
+entry_if k a (id ∷ ids) = record { key = k; answer = a; readers = id ∷ ids } ∷ []
 
 -- what stands for a key after the change, where this was found for it
 abbrev pub made : List Reading → Key × Noted → List Reading
@@ -106,19 +106,19 @@ with_last ids id = cond (is_last id ids) ids (ids ++ id ∷ [])
 
 -- what is noted once a reader comes that had this answer, and once one goes
 abbrev pub come_noted : Noted → Answer → DefinitionId → Noted
-come_noted n f id = record { answer = answer_by n.comes n.answer f; comes = with_last n.comes id; goes = n.goes }
+come_noted n a id = record { answer = answer_by n.comes n.answer a; comes = with_last n.comes id; goes = n.goes }
 
 abbrev pub go_noted : Noted → DefinitionId → Noted
 go_noted n id = record { answer = n.answer; comes = n.comes; goes = with_last n.goes id }
 
 -- nobody comes or goes
 abbrev pub nothing_noted : Answer → Noted
-nothing_noted f = record { answer = f; comes = []; goes = [] }
+nothing_noted a = record { answer = a; comes = []; goes = [] }
 
 -- what is noted of a key, or that nobody comes or goes
 abbrev pub noted_or : Answer → Option Noted → Noted
-noted_or f None = nothing_noted f
-noted_or f (Some n) = n
+noted_or a None = nothing_noted a
+noted_or a (Some n) = n
 
 -- one key has this note, and all others have theirs
 abbrev pub NotesAt : Notes → Notes → Key → Noted → Type 0

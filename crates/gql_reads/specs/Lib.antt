@@ -6,3 +6,4 @@ pub mod Tables
 pub mod Readings
 pub mod Closings
 pub mod Reaching
+pub mod Examples
