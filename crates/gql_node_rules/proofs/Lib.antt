@@ -6,6 +6,7 @@ mod Found
 mod Kept
 mod Listed
 mod Looked
+pub mod OtherTrees
 mod Same
 mod SameInputs
 mod Sets

@@ -5,6 +5,7 @@ use Rattle.gql_ast.specs.declared.definition.Document.{Document}
 use Rattle.gql_ast.specs.declared.fault.Fault.{Fault}
 use Rattle.gql_types.specs.Definitions.{in_order_of}
 use Rattle.gql_types.specs.declared.schema.Schema.{Schema}
+use Rattle.gql_types.specs.declared.schema_type.SchemaType.{SchemaType}
 use Rattle.gql_node_rules.specs.Applied.{annotated}
 use Rattle.gql_node_rules.specs.NodeFaults.{name_faults, role_faults, reference_faults, built_in_directive_faults}
 use Rattle.gql_node_rules.specs.Nodes.{AllNodes, nodes_of}
@@ -33,6 +34,21 @@ definitions_alone n = record {
   arguments = [];
 }
 
+-- the extensions, and the definitions of directives and of the schema, without their parts
+abbrev pub without_types : AllNodes → AllNodes
+without_types n = record {
+  types = [];
+  type_extensions = n.type_extensions;
+  directives = n.directives;
+  schemas = n.schemas;
+  schema_extensions = n.schema_extensions;
+  parts = [];
+  fields = [];
+  values = [];
+  input_fields = [];
+  arguments = [];
+}
+
 -- the faults by S31 on one node
 abbrev pub repeated_alone : AllNodes → Schema → List Fault
 repeated_alone n s = flat_map (s31.faults_alone s) (annotated n)
@@ -47,9 +63,17 @@ abbrev pub file_faults : AllNodes → Schema → List Fault
 file_faults n s = name_faults n ++ (role_faults n s
     ++ (reference_faults n s ++ (directive_faults n s ++ built_in_directive_faults n s)))
 
--- the faults of types with their extensions, and of the schema with its own: those by S31
+-- the faults of these types with their extensions: those by S31
+abbrev pub joint_on_types : Schema → List SchemaType → List Fault
+joint_on_types s types = flat_map (s31.faults_of_type s) types
+
+-- the faults of the schema with its extensions: those by S31
+abbrev pub joint_on_schema : AllNodes → Schema → List Fault
+joint_on_schema n s = s31.faults_of_schema n s
+
+-- the faults of types with their extensions, and of the schema with its own
 abbrev pub joint_faults : AllNodes → Schema → List Fault
-joint_faults n s = flat_map (s31.faults_of_type s) s.types ++ s31.faults_of_schema n s
+joint_faults n s = joint_on_types s s.types ++ joint_on_schema n s
 
 -- one of these files has the fault by itself
 abbrev pub IsFileFault : List (List ℕ × Document) → Schema → Fault → Type 0

@@ -6,6 +6,7 @@ pub mod FileChecks
 pub mod FileFaults
 pub mod NodeFaults
 pub mod Nodes
+pub mod OtherTrees
 pub mod P01FloatReferences
 pub mod References
 pub mod Resolved

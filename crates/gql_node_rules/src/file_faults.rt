@@ -19,8 +19,8 @@ use crate::{
     s29_unknown_directives, s30_bad_locations, s31_repeated_directives, s32_bad_arguments,
     s33_bad_argument_values,
 };
-use gql_ast::{Fault, Text};
-use gql_types::Schema;
+use gql_ast::{Fault, Shared, Text};
+use gql_types::{Schema, SchemaType};
 use std::alloc::{AllocError, Global};
 use std::collections::HashSet;
 
@@ -117,17 +117,30 @@ pub fn check_directives(
     Ok(directives)
 }
 
-/// The faults by S31 of types with their extensions, and of the schema with its own. A type without
-/// extensions has one if it has two directives at least.
-pub fn joint_faults(
+/// The faults by S31 of these types with their extensions. A type without extensions has one if it
+/// has two directives at least.
+pub fn joint_type_faults(
     alloc: Global,
-    nodes: &Nodes<'_>,
     schema: &Schema,
+    types: &[Shared<SchemaType>],
 ) -> Result<Vec<Fault>, AllocError>
-    ensures { IfOk result (λ found. found.items ≡ spec.joint_faults (lists nodes.now) schema.now) }
+    ensures { IfOk result (λ found. found.items ≡ spec.joint_on_types schema.now types.now) }
 {
     let mut faults = Vec::new(alloc);
-    s31_repeated_directives::check_types(alloc, schema, &mut faults)?;
+    s31_repeated_directives::check_types(alloc, schema, types, &mut faults)?;
+    Ok(faults)
+}
+
+/// The faults by S31 of the schema with its extensions.
+pub fn joint_schema_faults(
+    alloc: Global,
+    schema: &Schema,
+    nodes: &Nodes<'_>,
+) -> Result<Vec<Fault>, AllocError>
+    ensures { IfOk result (λ found.
+        found.items ≡ spec.joint_on_schema (lists nodes.now) schema.now) }
+{
+    let mut faults = Vec::new(alloc);
     s31_repeated_directives::check_schema(alloc, schema, nodes, &mut faults)?;
     Ok(faults)
 }

@@ -4,10 +4,11 @@ ghost use Rattle.gql_types.specs.Definitions.{of_files};
 ghost use Rattle.gql_types.specs.Parts as parts_spec;
 ghost use Rattle.gql_types.specs.Parts.{sited};
 ghost use Rattle.gql_node_rules.specs.Borrowed.{one, lists};
-ghost use Rattle.gql_node_rules.specs.FileFaults.{definitions_alone, nodes_of_file};
+ghost use Rattle.gql_node_rules.specs.FileFaults.{definitions_alone, nodes_of_file, without_types};
 ghost use Rattle.gql_node_rules.specs.Nodes as spec;
 
 use crate::node::{Holds, Node, add_all};
+use crate::other_trees::other_trees;
 use crate::trees::{trees, trees_of};
 use gql_ast::{
     DirectiveDefinition, Document, EnumValueDefinition, FieldDefinition, FileName, Files,
@@ -239,6 +240,28 @@ pub fn definition_nodes(alloc: Global, files: &Files) -> Result<Nodes<'_>, Alloc
     let trees = trees.as_slice();
     Ok(Nodes {
         types: all_in(alloc, trees)?,
+        type_extensions: all_in(alloc, trees)?,
+        directives: all_in(alloc, trees)?,
+        schemas: all_in(alloc, trees)?,
+        schema_extensions: all_in(alloc, trees)?,
+        parts: Vec::new(alloc),
+        fields: Vec::new(alloc),
+        values: Vec::new(alloc),
+        input_fields: Vec::new(alloc),
+        arguments: Vec::new(alloc),
+    })
+}
+
+/// The extensions of all schema files, and the definitions of directives and of the schema, without
+/// their parts. No type is visited.
+pub fn other_nodes(alloc: Global, files: &Files) -> Result<Nodes<'_>, AllocError>
+    ensures { IfOk result (λ nodes. lists nodes
+        ≡ without_types (spec.nodes_of (of_files files.now.schema))) }
+{
+    let trees = other_trees(alloc, files)?;
+    let trees = trees.as_slice();
+    Ok(Nodes {
+        types: Vec::new(alloc),
         type_extensions: all_in(alloc, trees)?,
         directives: all_in(alloc, trees)?,
         schemas: all_in(alloc, trees)?,

@@ -13,7 +13,7 @@ ghost use Rattle.gql_node_rules.specs.S31RepeatedDirectives as spec;
 
 use crate::applied::{Annotated, Applied, all_applied, schema_and_extensions, type_and_extensions};
 use crate::nodes::Nodes;
-use gql_ast::{Fault, Rule};
+use gql_ast::{Fault, Rule, Shared};
 use gql_faults::{NamePlace, add_fault, counts};
 use gql_types::{Schema, SchemaType};
 use std::alloc::{AllocError, Global};
@@ -169,16 +169,17 @@ fn check_type(
     Ok(())
 }
 
-/// Adds the faults of types, each with its extensions.
+/// Adds the faults of these types, each with its extensions.
 pub fn check_types(
     alloc: Global,
     schema: &Schema,
+    types: &[Shared<SchemaType>],
     faults: &mut Vec<Fault>,
 ) -> Result<(), AllocError>
     ensures { OnOk result (faults.new.items
-        ≡ faults.old.items ++ flat_map (spec.faults_of_type schema.now) schema.now.types) }
+        ≡ faults.old.items ++ flat_map (spec.faults_of_type schema.now) types.now) }
 {
-    for of_type in schema.types() {
+    for of_type in types {
         check_type(alloc, schema, of_type.get(), faults)?;
     }
     Ok(())

@@ -1,5 +1,5 @@
 -- Where a schema has as many types as its files define, and as are built in, no two definitions have one name.
-use Rattle.std.proofs.Common.{◌≡◌, ◌∙◌, ◌++◌, ◌+◌, ◌≤◌, ℕ, suc, List, [], ◌∷◌, Bool, true, false, not, Option, filter, flat_map, map, length, bytes_eq, refl, sym, ap, ap₂, subst, arith}
+use Rattle.std.proofs.Common.{◌≡◌, ◌∙◌, ◌++◌, ◌+◌, ◌≤◌, ◌||◌, ℕ, suc, List, [], ◌∷◌, Bool, true, false, not, codes, Option, filter, flat_map, map, length, bytes_eq, refl, sym, ap, ap₂, subst, arith}
 use Rattle.std.proofs.lemmas.List.{length-append, length-map}
 use Rattle.std.proofs.lemmas.List.Concat.{flat_map-append}
 use Rattle.std.proofs.lemmas.List.Elements.{filter-append}
@@ -19,6 +19,7 @@ use Rattle.gql_types.specs.Parts.{sited}
 use Rattle.gql_types.specs.Schemas.{types_in}
 use Rattle.gql_types.specs.Types.{assembled, extensions_of, first_definitions}
 use Rattle.gql_node_rules.specs.Nodes.{each, type_of, types}
+use Rattle.gql_schema_rules.specs.S04BuiltInNames.{fault_of_type, is_scalar_name}
 
 -- ---- lists
 
@@ -120,6 +121,76 @@ named_times : (q : List ℕ) (ds : List (Sited TypeDefinition)) → length (filt
 named_times q [] = refl
 named_times q (d ∷ ds) = named_step q d ds (bytes_eq q d.node.name.text) refl (named_times q ds)
 
+-- ---- names of built-in scalars
+
+count_int : length (filter (is_named (codes "Int")) (type_definitions built_in)) ≡ 1
+unfolding built_in scalars introspection type_kinds directive_locations directives skip include deprecated specified_by append type_in_words directive of_no_file word
+count_int = refl
+
+count_string : length (filter (is_named (codes "String")) (type_definitions built_in)) ≡ 1
+unfolding built_in scalars introspection type_kinds directive_locations directives skip include deprecated specified_by append type_in_words directive of_no_file word
+count_string = refl
+
+count_boolean : length (filter (is_named (codes "Boolean")) (type_definitions built_in)) ≡ 1
+unfolding built_in scalars introspection type_kinds directive_locations directives skip include deprecated specified_by append type_in_words directive of_no_file word
+count_boolean = refl
+
+count_id : length (filter (is_named (codes "ID")) (type_definitions built_in)) ≡ 1
+unfolding built_in scalars introspection type_kinds directive_locations directives skip include deprecated specified_by append type_in_words directive of_no_file word
+count_id = refl
+
+-- whether a name is that of a built-in scalar, one after the other
+abbrev is_any : List ℕ → Bool
+is_any q = (bytes_eq q (codes "Int") || (bytes_eq q (codes "String") || (bytes_eq q (codes "Boolean") || (bytes_eq q (codes "ID") || false))))
+    || bytes_eq q (codes "Float")
+
+scalar_names : (q : List ℕ) → is_scalar_name q ≡ is_any q
+unfolding scalars type_in_words word
+scalar_names q = refl
+
+-- a definition that a test leaves out
+left_out : (q : List ℕ) (d : Sited TypeDefinition) (ds : List (Sited TypeDefinition)) → length (filter (is_named q) (d ∷ ds)) ≡ 0
+    → (bytes_eq q d.node.name.text ≡ false) × (length (filter (is_named q) ds) ≡ 0)
+left_out q d ds e = by (bytes_eq q d.node.name.text) refl
+  where
+    by : (b : Bool) → bytes_eq q d.node.name.text ≡ b → (bytes_eq q d.node.name.text ≡ false) × (length (filter (is_named q) ds) ≡ 0)
+    by true is = let e' : length (d ∷ filter (is_named q) ds) ≡ 0 = rw is at e in absurd (omega (arith, e'))
+    by false is = (is, rw is at e)
+
+turned : (a b : List ℕ) → bytes_eq a b ≡ false → bytes_eq b a ≡ false
+turned a b e = by (bytes_eq b a) refl
+  where
+    by : (x : Bool) → bytes_eq b a ≡ x → bytes_eq b a ≡ false
+    by true is = absurd (cc (sym (subst (λ z. bytes_eq a z ≡ true) (sym ((bytes_eq-Decides b a).0 is)) ((bytes_eq-Decides a a).1 refl)) ∙ e))
+    by false is = is
+
+-- a definition that passes is kept first
+kept_first : (d : Sited TypeDefinition) (ds : List (Sited TypeDefinition)) → filter names_one (d ∷ ds) ≡ d ∷ ds
+    → (bytes_eq d.node.name.text (codes "Float") ≡ false) × (filter names_one ds ≡ ds)
+kept_first d ds e = by (bytes_eq d.node.name.text (codes "Float")) refl
+  where
+    by : (b : Bool) → bytes_eq d.node.name.text (codes "Float") ≡ b → (bytes_eq d.node.name.text (codes "Float") ≡ false) × (filter names_one ds ≡ ds)
+    by true is =
+        let e' : filter names_one ds ≡ d ∷ ds = rw is at e in
+        absurd (omega (arith, ap length e', filter_short names_one ds))
+    by false is = let e' : d ∷ filter names_one ds ≡ d ∷ ds = rw is at e in (is, cc e')
+
+none_at_fault : (ds : List (Sited TypeDefinition))
+    → length (filter (is_named (codes "Int")) ds) ≡ 0 → length (filter (is_named (codes "String")) ds) ≡ 0
+    → length (filter (is_named (codes "Boolean")) ds) ≡ 0 → length (filter (is_named (codes "ID")) ds) ≡ 0
+    → filter names_one ds ≡ ds → flat_map fault_of_type (each (λ (d : TypeDefinition). d.name) ds) ≡ []
+none_at_fault [] ints strings booleans ids floats = refl
+none_at_fault (d ∷ ds) ints strings booleans ids floats =
+    let q = d.node.name.text in
+    let i = left_out (codes "Int") d ds ints in
+    let s = left_out (codes "String") d ds strings in
+    let b = left_out (codes "Boolean") d ds booleans in
+    let n = left_out (codes "ID") d ds ids in
+    let f = kept_first d ds floats in
+    let none : is_scalar_name q ≡ false = scalar_names q
+    ∙ rw (turned (codes "Int") q i.0, turned (codes "String") q s.0, turned (codes "Boolean") q b.0, turned (codes "ID") q n.0, f.0) refl in
+    rw none (none_at_fault ds i.1 s.1 b.1 n.1 f.1)
+
 module _ (ds : List (Sited Tree)) (is : length (types ds) + 12 ≡ length (types_in (built_in ++ ds))) where
   abbrev built : List (Sited TypeDefinition)
   built = type_definitions built_in
@@ -157,3 +228,17 @@ module _ (ds : List (Sited Tree)) (is : length (types ds) + 12 ≡ length (types
       let counted : length (filter (λ (n : Sited Name). bytes_eq q n.node.text) (each (λ (x : TypeDefinition). x.name) (types ds))) ≡ count_of q (each (λ (x : TypeDefinition). x.name) (types ds)) =
       length-filter (λ (n : Sited Name). bytes_eq q n.node.text) (each (λ (x : TypeDefinition). x.name) (types ds)) in
       omega (arith, all, parts, same, counted, named_times q (types ds))
+
+  -- of a name of a built-in type there is none
+  none_of : (q : List ℕ) → length (filter (is_named q) built) ≡ 1 → length (filter (is_named q) (types ds)) ≡ 0
+  none_of q one =
+      let all : length (filter (is_named q) (built ++ type_definitions ds)) ≤ 1 = subst (λ xs. length (filter (is_named q) xs) ≤ 1) joined (once q (type_definitions (built_in ++ ds)) all_types) in
+      let parts : length (filter (is_named q) (built ++ type_definitions ds)) ≡ length (filter (is_named q) built) + length (filter (is_named q) (type_definitions ds)) =
+      ap length (filter-append (is_named q) built (type_definitions ds)) ∙ length-append (filter (is_named q) built) (filter (is_named q) (type_definitions ds)) in
+      let same : length (filter (is_named q) (type_definitions ds)) ≡ length (filter (is_named q) (types ds)) = ap (λ xs. length (filter (is_named q) xs)) these in
+      omega (arith, one, all, parts, same)
+
+  -- no type has the name of a built-in scalar, or of Float
+  pub no_scalar : flat_map fault_of_type (each (λ (d : TypeDefinition). d.name) (types ds)) ≡ []
+  no_scalar = none_at_fault (types ds) (none_of (codes "Int") count_int) (none_of (codes "String") count_string)
+      (none_of (codes "Boolean") count_boolean) (none_of (codes "ID") count_id) (filter_whole names_one (types ds) no_float)

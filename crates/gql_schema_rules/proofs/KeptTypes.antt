@@ -18,6 +18,8 @@ use Rattle.gql_types.specs.Possible.{name_of}
 use Rattle.gql_types.specs.Written.{written}
 use Rattle.gql_types.specs.declared.schema.Schema.{Schema}
 use Rattle.gql_types.specs.declared.schema_type.SchemaType.{SchemaType}
+use Rattle.gql_node_rules.specs.FileFaults.{joint_on_types}
+use Rattle.gql_node_rules.specs.S31RepeatedDirectives as s31
 use Rattle.gql_node_rules.specs.SchemaChanges.{IsChange, is_among}
 use Rattle.gql_node_rules.specs.ValueFaults.{start_of}
 use Rattle.gql_node_rules.specs.declared.schema_change.SchemaChange.{SchemaChange}
@@ -102,12 +104,30 @@ is_not false is = refl
 
 -- ---- the types
 
+-- a type that is not edited was there before
+was_there : (names : List (List ℕ)) (old s : Schema) → KeepsOthers names old s → (t : SchemaType) → Contains s.types t → is_among names (name_of t) ≡ false → Contains old.types t
+was_there names old s keeps t h other = found (λ (x : SchemaType). bytes_eq (name_of t) (name_of x)) old.types t (keeps t h other)
+
+-- the same directives leave the same faults by S31
+same_joint : (old s : Schema) (t : SchemaType) → old.directives ≡ s.directives → s31.faults_of_type old t ≡ s31.faults_of_type s t
+same_joint old s t same = λ k. s31.faults_of_type (record { types = s.types; directives = same k; roots = s.roots; possible = s.possible }) t
+
+-- S31 needs the edited types alone, if it found nothing before and the directives are the same
+pub kept_joint : (names : List (List ℕ)) (old s : Schema) (c : SchemaChange) (keeps : Bool) → KeepsOthers names old s → IsChange c old s
+    → (keeps ≡ true → joint_on_types old old.types ≡ []) → (keeps ≡ true → c.directives ≡ false)
+    → joint_on_types s (if keeps then filter (λ (t : SchemaType). is_among names (name_of t)) s.types else s.types) ≡ joint_on_types s s.types
+kept_joint names old s c false others change none same = refl
+kept_joint names old s c true others change none same =
+    without (s31.faults_of_type s) (λ (t : SchemaType). is_among names (name_of t)) s.types
+    (λ t h other. sym (same_joint old s t (change.directives (same refl)))
+    ∙ silent (s31.faults_of_type old) old.types (none refl) t (was_there names old s others t h other))
+
 module _ (names : List (List ℕ)) (old s : Schema) (keeps : KeepsOthers names old s) (none : type_faults old ≡ []) where
   abbrev is_edited : SchemaType → Bool
   is_edited t = is_among names (name_of t)
 
   before : (t : SchemaType) → Contains s.types t → is_edited t ≡ false → Contains old.types t
-  before t h other = found (λ (x : SchemaType). bytes_eq (name_of t) (name_of x)) old.types t (keeps t h other)
+  before = was_there names old s keeps
 
   kept : (f : SchemaType → List Fault) → flat_map f old.types ≡ [] → flat_map f (filter is_edited s.types) ≡ flat_map f s.types
   kept f nothing = without f is_edited s.types (λ t h other. silent f old.types nothing t (before t h other))

@@ -2,6 +2,7 @@ pub mod ByFiles
 pub mod DefinedOnce
 pub mod Distinct
 pub mod Earlier
+pub mod EnoughNodes
 pub mod FirstChecks
 pub mod Grouping
 pub mod KeptChecks

@@ -3,6 +3,7 @@ pub mod EarlierRoots
 pub mod KeptChecks
 pub mod KeptFaults
 pub mod KindsSeen
+pub mod NodesToCheck
 pub mod OperationKinds
 pub mod OtherFaults
 pub mod P02SubscriptionRoots
@@ -23,3 +24,4 @@ pub mod S27ExtensionsOfUnknownTypes
 pub mod S28ExtensionsOfAnotherKind
 pub mod S34DuplicateSchemas
 pub mod SchemaFaults
+pub mod TypesToCheck

@@ -1,9 +1,9 @@
 //! All faults of a schema, with what an edit of a schema file can keep of them: the check of each
 //! schema file.
-ghost use Rattle.std.specs.Prelude.{◌≡◌, ◌↔◌, ◌++◌, IfOk, OnOk, Contains};
+ghost use Rattle.std.specs.Prelude.{◌≡◌, ◌↔◌, ◌++◌, ℕ, List, IfOk, OnOk, Contains};
 ghost use Rattle.gql_ast.specs.declared.fault.Fault.{Fault as TheFault};
 ghost use Rattle.gql_ast.specs.declared.files.Files.{Files as TheFiles};
-ghost use Rattle.gql_iface_rules.specs.Quiet.{IsFound};
+ghost use Rattle.gql_iface_rules.specs.Quiet.{IsFound, types_named};
 ghost use Rattle.gql_node_rules.specs.SchemaChanges.{IsChange};
 ghost use Rattle.gql_types.specs.Edits.{KeepsOthers};
 ghost use Rattle.gql_types.specs.Schemas.{schema_of};
@@ -11,11 +11,13 @@ ghost use Rattle.gql_types.specs.declared.schema.Schema.{Schema as TheSchema};
 ghost use Rattle.gql_schema_rules.specs.ChecksOfFiles.{AreChecksOf, DiffersAt};
 ghost use Rattle.gql_schema_rules.specs.KeptFaults.{AreFaultsOf};
 ghost use Rattle.gql_schema_rules.specs.OtherFaults.{AreOthers, faults_in};
-ghost use Rattle.gql_schema_rules.specs.RuleGroups.{type_faults, type_faults_on};
 ghost use Rattle.gql_schema_rules.specs.SchemaFaults.{FaultsBy, IsSchemaFault, nodes_in};
+ghost use Rattle.gql_schema_rules.specs.TypesToCheck.{AreEnough};
 
 use crate::file_checks::{checks_after_edit, checks_of};
-use crate::other_faults::{OtherFaults, keeps_defaults, other_faults, types_to_check};
+use crate::other_faults::{
+    OtherFaults, TypesToCheck, keeps_defaults, keeps_joint, other_faults, types_to_check,
+};
 use crate::types_among::types_among;
 use gql_ast::{Fault, FileMap, FileName, Files, Shared, Text};
 use gql_iface_rules::{Found, Quiet, iface_faults_after_edit, iface_faults_of};
@@ -29,6 +31,8 @@ pub struct SchemaFaults {
     checks: FileMap<Shared<FileCheck>>,
     /// The faults. One may occur more than once.
     all: Vec<Shared<Fault>>,
+    /// Whether none of them is by S31 on a type with its extensions.
+    are_joint_sound: bool,
     /// Whether none of them is by S05 to S08 or S18.
     are_types_sound: bool,
     /// Which rules on interfaces and cycles find nothing.
@@ -40,6 +44,7 @@ impl Drop for SchemaFaults {
         let SchemaFaults {
             checks: _,
             all: _,
+            are_joint_sound: _,
             are_types_sound: _,
             quiet: _,
         } = self;
@@ -100,38 +105,63 @@ fn all_faults(
     Ok(all)
 }
 
+/// The types that may be at fault after an edit that changed these types alone. If no type was at
+/// fault by a rule, the edited ones are enough for it; for S31 only if the directives are the same, and
+/// for S18 only if the input types are.
+fn types_after_edit<'t>(
+    schema: &'t Schema,
+    edited: &'t [Shared<SchemaType>],
+    change: &SchemaChange,
+    before: &SchemaFaults,
+) -> TypesToCheck<'t>
+    ensures { (names : List (List ℕ)) → (old : TheFiles)
+        → edited.entry.now ≡ types_named names schema.entry.now
+        → AreFaultsOf old before.now → KeepsOthers names (schema_of old) schema.entry.now
+        → IsChange change.now (schema_of old) schema.entry.now
+        → AreEnough schema.entry.now result }
+{
+    let all = schema.types();
+    let keeps_joint = keeps_joint(before.are_joint_sound, change);
+    let were_sound = before.are_types_sound;
+    let keeps_defaults = keeps_defaults(were_sound, change);
+    TypesToCheck {
+        joint: types_to_check(keeps_joint, edited, all),
+        own: types_to_check(were_sound, edited, all),
+        defaulted: types_to_check(keeps_defaults, edited, all),
+    }
+}
+
 impl SchemaFaults {
     /// All faults of the schema of these files, by the checks of the files, by those of the rules on
-    /// interfaces and cycles, and by S05 to S08 on some types and S18 on others: those that may be at
-    /// fault.
+    /// interfaces and cycles, and by the rules on types on these types: those that may be at fault.
     fn with_checks(
         alloc: Global,
         files: &Files,
         schema: &Schema,
         checks: FileMap<Shared<FileCheck>>,
         found: Found,
-        types: &[Shared<SchemaType>],
-        defaulted: &[Shared<SchemaType>],
+        types: &TypesToCheck<'_>,
     ) -> Result<SchemaFaults, AllocError>
         requires { schema.now ≡ schema_of files.now }
         ensures { IfOk result (λ k. AreChecksOf schema.now files.now.schema checks
-            → IsFound schema.now found
-            → type_faults_on schema.now types.now defaulted.now ≡ type_faults schema.now
+            → IsFound schema.now found → AreEnough schema.now types.now
             → AreFaultsOf files.now k) }
     {
         let Found {
             faults: interfaces,
             quiet,
         } = found;
-        let others = other_faults(alloc, files, schema, interfaces, types, defaulted)?;
+        let others = other_faults(alloc, files, schema, interfaces, types)?;
         let OtherFaults {
             faults,
+            are_joint_sound,
             are_types_sound,
         } = others;
         let all = all_faults(alloc, &checks, faults)?;
         Ok(SchemaFaults {
             checks,
             all,
+            are_joint_sound,
             are_types_sound,
             quiet,
         })
@@ -145,16 +175,20 @@ impl SchemaFaults {
         let checks = checks_of(alloc, files, schema)?;
         let found = iface_faults_of(alloc, schema)?;
         let all = schema.types();
-        let faults = SchemaFaults::with_checks(alloc, files, schema, checks, found, all, all)?;
+        let types = TypesToCheck {
+            joint: all,
+            own: all,
+            defaulted: all,
+        };
+        let faults = SchemaFaults::with_checks(alloc, files, schema, checks, found, &types)?;
         Ok(faults)
     }
 
     /// All faults after an edit of the schema file of this name, which changed types of these names
     /// alone, by the faults before it. The files and their schema are those after the edit. A file
-    /// is checked again only if it is edited, or if the change of the schema matters to it. If no
-    /// type was at fault by S05 to S08 and S18, the edited types alone are checked by these rules;
-    /// by S18 all, if the edit changed an input type. So are the rules on interfaces and cycles
-    /// (`iface_faults_after_edit`); `schema_before` is the schema before the edit.
+    /// is checked again only if it is edited, or if the change of the schema matters to it. The rules on types check the types that may be at fault
+    /// (`types_after_edit`), and so do the rules on interfaces and cycles (`iface_faults_after_edit`);
+    /// `schema_before` is the schema before the edit.
     pub fn after_edit(
         alloc: Global,
         files: &Files,
@@ -187,13 +221,8 @@ impl SchemaFaults {
             same,
             were,
         )?;
-        let were_sound = before.are_types_sound;
-        let types = types_to_check(were_sound, among, schema.types());
-        let keeps = keeps_defaults(were_sound, change);
-        let defaulted = types_to_check(keeps, among, schema.types());
-        let faults = SchemaFaults::with_checks(
-            alloc, files, schema, checks, found, types, defaulted,
-        )?;
+        let types = types_after_edit(schema, among, change, before);
+        let faults = SchemaFaults::with_checks(alloc, files, schema, checks, found, &types)?;
         Ok(faults)
     }
 
@@ -211,6 +240,7 @@ impl SchemaFaults {
         let SchemaFaults {
             checks: _,
             all,
+            are_joint_sound: _,
             are_types_sound: _,
             quiet: _,
         } = self;

@@ -7,6 +7,7 @@
 mod distinct_names;
 mod file_checks;
 mod kept_faults;
+mod nodes_to_check;
 mod operation_kinds;
 mod other_faults;
 mod p02_subscription_roots;

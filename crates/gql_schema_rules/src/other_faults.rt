@@ -1,23 +1,47 @@
 //! The faults by the rules that are checked for all files together.
-ghost use Rattle.std.specs.Prelude.{◌≡◌, ◌↔◌, [], IfOk, IsTrue, if◌then◌else◌};
+ghost use Rattle.std.specs.Prelude.{◌≡◌, ◌↔◌, [], IfOk, IsTrue, false, if◌then◌else◌};
+ghost use Rattle.gql_node_rules.specs.FileFaults.{joint_on_types};
 ghost use Rattle.gql_schema_rules.specs.OtherFaults.{AreOthers, ListsInterfaces};
 ghost use Rattle.gql_schema_rules.specs.RuleGroups as groups;
 ghost use Rattle.gql_schema_rules.specs.SchemaFaults.{nodes_in};
+ghost use Rattle.gql_schema_rules.specs.TypesToCheck.{AreEnough};
 ghost use Rattle.gql_types.specs.Schemas.{schema_of};
 
+use crate::nodes_to_check::nodes_to_check;
 use crate::rules::{add_all, add_definition_faults, add_root_faults, type_faults};
-use crate::s01_duplicate_types;
 use gql_ast::{Fault, Files, Shared};
-use gql_node_rules::{SchemaChange, definition_nodes, joint_faults};
+use gql_node_rules::{SchemaChange, joint_schema_faults, joint_type_faults};
 use gql_types::{Schema, SchemaType};
 use std::alloc::{AllocError, Global};
+
+/// The types that rules on types check: those that may be at fault.
+#[derive(Clone, Copy)]
+pub struct TypesToCheck<'t> {
+    /// By S31, each with its extensions.
+    pub joint: &'t [Shared<SchemaType>],
+    /// By S05 to S08.
+    pub own: &'t [Shared<SchemaType>],
+    /// By S18.
+    pub defaulted: &'t [Shared<SchemaType>],
+}
 
 /// The faults by the rules that are checked for all files together.
 #[derive(Drop)]
 pub struct OtherFaults {
     pub faults: Vec<Fault>,
+    /// Whether S31 found none of them on a type with its extensions.
+    pub are_joint_sound: bool,
     /// Whether the rules on types and directives, S05 to S08 and S18, found none of them.
     pub are_types_sound: bool,
+}
+
+/// Whether S31 needs to be checked on edited types alone: no type was at fault by it, and the
+/// directives are the same.
+pub fn keeps_joint(were_sound: bool, change: &SchemaChange) -> bool
+    ensures sound { IsTrue result → IsTrue were_sound }
+    ensures directives { IsTrue result → change.now.directives ≡ false }
+{
+    were_sound && !change.directives
 }
 
 /// Whether S18 needs to be checked on edited types alone: no type was at fault, and the change leaves
@@ -49,35 +73,37 @@ fn are_none(faults: &[Fault]) -> bool
 
 /// The faults by the rules that are checked for all files together. They visit definitions and
 /// extensions, directives, roots and types, but no other nodes of the files. Those by the rules on
-/// interfaces and on cycles are given. S05 to S08 are checked on some types and S18 on others: those
-/// that may be at fault.
+/// interfaces and on cycles are given, and the types that the rules on types check.
 pub fn other_faults(
     alloc: Global,
     files: &Files,
     schema: &Schema,
     interfaces: Vec<Fault>,
-    types: &[Shared<SchemaType>],
-    defaulted: &[Shared<SchemaType>],
+    types: &TypesToCheck<'_>,
 ) -> Result<OtherFaults, AllocError>
     ensures all { IfOk result (λ others. schema.now ≡ schema_of files.now
-        → ListsInterfaces schema.now interfaces.items
-        → groups.type_faults_on schema.now types.now defaulted.now ≡ groups.type_faults schema.now
+        → ListsInterfaces schema.now interfaces.items → AreEnough schema.now types.now
         → AreOthers (nodes_in files.now) schema.now others.faults.items) }
-    ensures sound { IfOk result (λ others. IsTrue others.are_types_sound
-        ↔ (groups.type_faults_on schema.now types.now defaulted.now ≡ [])) }
+    ensures joint { IfOk result (λ others. IsTrue others.are_joint_sound
+        ↔ (joint_on_types schema.now types.now.joint.now ≡ [])) }
+    ensures sound { IfOk result (λ others. IsTrue others.are_types_sound ↔
+        (groups.type_faults_on schema.now types.now.own.now types.now.defaulted.now ≡ [])) }
 {
-    let nodes = definition_nodes(alloc, files)?;
+    let nodes = nodes_to_check(alloc, files, schema)?;
     let mut faults = interfaces;
-    let joint = joint_faults(alloc, &nodes, schema)?;
-    add_all(&mut faults, joint)?;
-    let are_once = s01_duplicate_types::are_once(schema, &nodes);
-    add_definition_faults(alloc, schema, are_once, &nodes, &mut faults)?;
-    let of_types = type_faults(alloc, schema, types, defaulted)?;
+    let of_joint = joint_type_faults(alloc, schema, types.joint)?;
+    let are_joint_sound = are_none(of_joint.as_slice());
+    add_all(&mut faults, of_joint)?;
+    let of_schema = joint_schema_faults(alloc, schema, &nodes)?;
+    add_all(&mut faults, of_schema)?;
+    add_definition_faults(alloc, schema, &nodes, &mut faults)?;
+    let of_types = type_faults(alloc, schema, types.own, types.defaulted)?;
     let are_types_sound = are_none(of_types.as_slice());
     add_all(&mut faults, of_types)?;
     add_root_faults(alloc, schema, &nodes, &mut faults)?;
     Ok(OtherFaults {
         faults,
+        are_joint_sound,
         are_types_sound,
     })
 }

@@ -1,8 +1,7 @@
 //! The rules that are checked for all files together, in groups by what each group visits.
-ghost use Rattle.std.specs.Prelude.{◌≡◌, ◌++◌, [], IfOk, IsTrue, OnOk};
+ghost use Rattle.std.specs.Prelude.{◌≡◌, ◌++◌, IfOk, OnOk};
 ghost use Rattle.gql_node_rules.specs.Borrowed.{lists};
 ghost use Rattle.gql_schema_rules.specs.RuleGroups as spec;
-ghost use Rattle.gql_schema_rules.specs.S01DuplicateTypes as s01;
 
 use crate::{
     p02_subscription_roots, s01_duplicate_types, s02_duplicate_directives, s04_built_in_names,
@@ -15,19 +14,17 @@ use gql_node_rules::Nodes;
 use gql_types::{Schema, SchemaType};
 use std::alloc::{AllocError, Global};
 
-/// S01, unless it is known to find nothing, and S02, S04, S27 and S28.
+/// S01, S02, S04, S27 and S28.
 pub fn add_definition_faults(
     alloc: Global,
     schema: &Schema,
-    are_once: bool,
     nodes: &Nodes<'_>,
     faults: &mut Vec<Fault>,
 ) -> Result<(), AllocError>
-    ensures { OnOk result ((IsTrue are_once → s01.faults (lists nodes.now) ≡ [])
-        → faults.new.items ≡ faults.old.items
+    ensures { OnOk result (faults.new.items ≡ faults.old.items
         ++ spec.definition_faults (lists nodes.now) schema.now) }
 {
-    s01_duplicate_types::check(alloc, are_once, nodes, faults)?;
+    s01_duplicate_types::check(alloc, nodes, faults)?;
     s02_duplicate_directives::check(alloc, nodes, faults)?;
     s04_built_in_names::check(alloc, nodes, faults)?;
     s27_extensions_of_unknown_types::check(alloc, schema, nodes, faults)?;

@@ -4,4 +4,4 @@ use Rattle.gql_node_rules.proofs.s31_repeated_directives.check_types.Given as go
 
 abbrev pub invariant-loop-of_type : goal.invariant-loop-of_type
 invariant-loop-of_type l = l.faults.items
-    ≡ l.initial.faults.items ++ flat_map (faults_of_type l.schema) (take l.of_type-index l.schema.types)
+    ≡ l.initial.faults.items ++ flat_map (faults_of_type l.schema) (take l.of_type-index l.types)

@@ -1,26 +1,28 @@
-use Rattle.std.proofs.Common.{◌≡◌, ◌++◌, ap, rules, subst}
+use Rattle.std.proofs.Common.{◌≡◌, ◌∙◌, ◌++◌, List, ap, append_assoc, rules}
+use Rattle.gql_ast.specs.declared.fault.Fault.{Fault}
 use Rattle.gql_node_rules.specs.Borrowed.{lists}
-use Rattle.gql_node_rules.specs.FileFaults.{joint_faults}
-use Rattle.gql_node_rules.specs.Nodes.{AllNodes}
-use Rattle.gql_schema_rules.specs.RuleGroups.{definition_faults, type_faults, type_faults_on, root_faults}
+use Rattle.gql_node_rules.specs.FileFaults.{joint_on_schema, joint_on_types}
+use Rattle.gql_schema_rules.specs.RuleGroups.{definition_faults, root_faults, type_faults, type_faults_on}
+use Rattle.gql_schema_rules.specs.SchemaFaults.{nodes_in}
 use Rattle.gql_schema_rules.proofs.other_faults.other_faults.Goals as goal
 
 pub returns-clause-all : goal.returns-clause-all
-returns-clause-all c = λ is all_interfaces whole.
+returns-clause-all c = λ is all_interfaces enough.
     let s = c.args.schema.now in
     let n = lists c.in_ok-nodes.nodes in
+    let all = nodes_in c.args.files.now in
     let types = c.args.types.now in
-    let defaulted = c.args.defaulted.now in
     let found = c.args.interfaces.items in
-    let defined : c.add_definition_faults.new.faults.items ≡ c.add_all.new.faults.items ++ definition_faults n s
-    = c.in_ok-add_definition_faults.ensures (λ yes. c.are_once-are_once.ensures yes c.args.files.now is (ap (λ (m : AllNodes). m.types) c.in_ok-nodes.ensures)) in
-    let joined : c.add_root_faults.new.faults.items ≡ (((found ++ joint_faults n s) ++ definition_faults n s) ++ type_faults_on s types defaulted) ++ root_faults n s = search rules in
-    let all : c.add_root_faults.new.faults.items ≡ (((found ++ joint_faults n s) ++ definition_faults n s) ++ type_faults s) ++ root_faults n s
-    = subst (λ fs. c.add_root_faults.new.faults.items ≡ (((found ++ joint_faults n s) ++ definition_faults n s) ++ fs) ++ root_faults n s) whole joined in
+    let same = c.in_ok-nodes.ensures is in
+    let added : c.add_root_faults.new.faults.items ≡ ((((found ++ joint_on_types s types.joint.now) ++ joint_on_schema n s) ++ definition_faults n s) ++ type_faults_on s types.own.now types.defaulted.now) ++ root_faults n s = search rules in
     record {
       interfaces = found;
       sound = λ f. (all_interfaces f).0;
       complete = λ f. (all_interfaces f).1;
-      joined = subst (λ m. c.add_root_faults.new.faults.items ≡ (((found ++ joint_faults m s) ++ definition_faults m s) ++ type_faults s) ++ root_faults m s)
-          c.in_ok-nodes.ensures all;
+      joined = added
+          ∙ ap (λ (fs : List Fault). ((((found ++ fs) ++ joint_on_schema n s) ++ definition_faults n s) ++ type_faults_on s types.own.now types.defaulted.now) ++ root_faults n s) enough.joint
+          ∙ ap (λ (fs : List Fault). ((((found ++ joint_on_types s s.types) ++ fs) ++ definition_faults n s) ++ type_faults_on s types.own.now types.defaulted.now) ++ root_faults n s) same.joint
+          ∙ ap (λ (fs : List Fault). ((((found ++ joint_on_types s s.types) ++ joint_on_schema all s) ++ fs) ++ type_faults_on s types.own.now types.defaulted.now) ++ root_faults n s) same.definitions
+          ∙ ap (λ (fs : List Fault). ((((found ++ joint_on_types s s.types) ++ joint_on_schema all s) ++ definition_faults all s) ++ fs) ++ root_faults n s) enough.own
+          ∙ (λ k. ((append_assoc found (joint_on_types s s.types) (joint_on_schema all s) k ++ definition_faults all s) ++ type_faults s) ++ same.roots k);
     }
