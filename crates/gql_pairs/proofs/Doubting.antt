@@ -1,8 +1,8 @@
--- Which members an answer in doubt may have broken.
+-- What answers in doubt may have broken.
 use Rattle.std.specs.Prelude.{◌≡◌, ◌<◌, ◌+◌, ℕ, List, [], ◌∷◌, ◌++◌, length, false, refl, Contains}
 use Rattle.std.proofs.Common.{sym, ◌∙◌, subst, inl, inr, get_or, take}
-use Rattle.std.proofs.lemmas.List.Elements.{Contains-append_cases, Contains-append_left}
-use Rattle.gql_facts.specs.ListMembers.{Contains-cases, Contains-flat_map, Contains-flat_map_from}
+use Rattle.std.proofs.lemmas.List.Elements.{Contains-append_left, Contains-append_right}
+use Rattle.gql_facts.specs.ListMembers.{Contains-cases, Contains-flat_map, Contains-flat_map_from, Contains-here, Contains-nil, Contains-there}
 use Rattle.gql_facts.specs.Worlds.{Facts}
 use Rattle.gql_facts.specs.declared.fact.FragmentFact.{FragmentFact}
 use Rattle.gql_facts.specs.declared.key.Key.{Key}
@@ -17,7 +17,7 @@ use Rattle.gql_reads.specs.Records.{Kept}
 use Rattle.gql_reads.specs.declared.observation.Answer.{Answer}
 use Rattle.gql_reads.specs.declared.observation.Observation.{Observation}
 use Rattle.gql_reads.specs.declared.observation.TypeAnswers.{TypeAnswers}
-use Rattle.gql_pairs.specs.Doubts.{AllHoldUndoubted, HoldUndoubted, in_doubt}
+use Rattle.gql_pairs.specs.Doubts.{AllHoldUndoubted, HoldUndoubted, in_doubt, is_one}
 use Rattle.gql_pairs.specs.Groups.{KeptGroup, pair_of}
 use Rattle.gql_pairs.specs.Tables.{AllHold}
 use Rattle.gql_pairs.specs.declared.doubt.Doubt.{Doubt}
@@ -39,38 +39,56 @@ nothing_doubted (key.FragmentOf n) = refl
 abbrev pub Undoubted : Doubt → List Observation → Type 0
 Undoubted d os = (o : Observation) → Contains os o → in_doubt d o.key ≡ false
 
--- what was observed of a type is of no fragment
-type_undoubted : (names : List (List ℕ)) (t : TypeAnswers) (o : Observation) → Contains (about t) o → in_doubt (doubt.Fragments names) o.key ≡ false
-type_undoubted names t o c = about_each t.name (λ k. in_doubt (doubt.Fragments names) k ≡ false) refl refl refl refl o.key (about_key t o c)
-
-module _ (names : List (List ℕ)) (xs : List Answer) (i : ℕ) (x : Answer) (lt : i < length xs) (is : x ≡ get_or xs i x) where
-  pub undoubted_more : Undoubted (doubt.Fragments names) (observed_in (take i xs)) → in_doubt (doubt.Fragments names) x.observation.key ≡ false
-      → Undoubted (doubt.Fragments names) (observed_in (take (i + 1) xs))
-  undoubted_more before here o c =
-      let r = Contains-flat_map_from observed (take (i + 1) xs) o c in
-      elim (seen_more xs i x lt is r.0 r.1) [
-        | inl s ↦ before o (Contains-flat_map observed (take i xs) r.0 o s r.2)
-        | inr e ↦ elim (Contains-cases o x.observation (about_all x.types) (subst (λ (a : Answer). Contains (observed a) o) (sym e) r.2)) [
-          | inl q ↦ subst (λ (p : Observation). in_doubt (doubt.Fragments names) p.key ≡ false) (sym q) here
-          | inr t ↦ let m = Contains-flat_map_from about x.types o t in type_undoubted names m.0 o m.2
-        ]
-      ]
-
-module _ (d : Doubt) (parts : List Kept) (i : ℕ) (p : Kept) (lt : i < length parts) (is : p ≡ get_or parts i p) where
-  pub undoubted_part : Undoubted d (seen_in (take i parts)) → Undoubted d (observed_in p.seen) → Undoubted d (seen_in (take (i + 1) parts))
-  undoubted_part before here o c =
-      let r = Contains-flat_map_from (λ (q : Kept). observed_in q.seen) (take (i + 1) parts) o c in
-      elim (seen_more parts i p lt is r.0 r.1) [
-        | inl s ↦ before o (Contains-flat_map (λ (q : Kept). observed_in q.seen) (take i parts) r.0 o s r.2)
-        | inr e ↦ here o (subst (λ (q : Kept). Contains (observed_in q.seen) o) (sym e) r.2)
-      ]
-
--- the name, the own reads and the parts
-pub undoubted_all : (d : Doubt) (g : FragmentFact) (own parts : List Observation) → in_doubt d (key.FragmentOf (name_of g)) ≡ false → Undoubted d own → Undoubted d parts → Undoubted d (own_name g ∷ (own ++ parts))
-undoubted_all d g own parts named a b o c = elim (Contains-cases o (own_name g) (own ++ parts) c) [
-  | inl e ↦ subst (λ (p : Observation). in_doubt d p.key ≡ false) (sym e) named
-  | inr t ↦ elim (Contains-append_cases own parts o t) [ inl i ↦ a o i | inr i ↦ b o i ]
+-- an answer, and those about the types that it leads to
+pub answer_undoubted : (d : Doubt) (a : Answer) → in_doubt d a.observation.key ≡ false → Undoubted d (about_all a.types) → Undoubted d (observed a)
+answer_undoubted d a here types o c = elim (Contains-cases o a.observation (about_all a.types) c) [
+  | inl e ↦ subst (λ (p : Observation). in_doubt d p.key ≡ false) (sym e) here
+  | inr t ↦ types o t
 ]
+
+-- what was observed of types is of no fragment
+pub no_fragments : (names : List (List ℕ)) (types : List TypeAnswers) → Undoubted (doubt.Fragments names) (about_all types)
+no_fragments names types o c =
+    let m = Contains-flat_map_from about types o c in
+    about_each m.0.name (λ k. in_doubt (doubt.Fragments names) k ≡ false) refl refl refl refl o.key (about_key m.0 o m.2)
+
+-- what was observed of a type of another name
+type_undoubted : (names : List (List ℕ)) (t : TypeAnswers) → is_one names t.name ≡ false → Undoubted (doubt.Types names) (about t)
+type_undoubted names t other o c = about_each t.name (λ k. in_doubt (doubt.Types names) k ≡ false) other other other other o.key (about_key t o c)
+
+module _ (names : List (List ℕ)) (xs : List TypeAnswers) (i : ℕ) (x : TypeAnswers) (lt : i < length xs) (is : x ≡ get_or xs i x) where
+  pub types_more : Undoubted (doubt.Types names) (about_all (take i xs)) → is_one names x.name ≡ false → Undoubted (doubt.Types names) (about_all (take (i + 1) xs))
+  types_more before other o c =
+      let r = Contains-flat_map_from about (take (i + 1) xs) o c in
+      elim (seen_more xs i x lt is r.0 r.1) [
+        | inl s ↦ before o (Contains-flat_map about (take i xs) r.0 o s r.2)
+        | inr e ↦ type_undoubted names x other o (subst (λ (t : TypeAnswers). Contains (about t) o) (sym e) r.2)
+      ]
+
+-- ---- a part of what was observed
+
+module _ (F : Facts) (d : Doubt) where
+  -- an answer among others
+  pub held_answer : (xs : List Answer) (x : Answer) → Contains xs x → HoldUndoubted F d (observed_in xs) → HoldUndoubted F d (observed x)
+  held_answer xs x at held o c = held o (Contains-flat_map observed xs x o at c)
+
+  -- a part among others
+  pub held_part : (parts : List Kept) (p : Kept) → Contains parts p → HoldUndoubted F d (seen_in parts) → HoldUndoubted F d (observed_in p.seen)
+  held_part parts p at held o c = held o (Contains-flat_map (λ (q : Kept). observed_in q.seen) parts p o at c)
+
+  -- the name, the own reads and the parts of a member
+  module _ (g : FragmentFact) (own parts : List Observation) (held : HoldUndoubted F d (own_name g ∷ (own ++ parts))) where
+    pub held_name : HoldUndoubted F d (own_name g ∷ [])
+    held_name o c = elim (Contains-cases o (own_name g) [] c) [
+      | inl e ↦ held o (subst (λ (p : Observation). Contains (own_name g ∷ (own ++ parts)) p) (sym e) (Contains-here (own_name g) (own ++ parts)))
+      | inr t ↦ absurd (Contains-nil o t)
+    ]
+
+    pub held_own : HoldUndoubted F d own
+    held_own o c = held o (Contains-there o (own_name g) (own ++ parts) (Contains-append_left own parts o c))
+
+    pub held_parts : HoldUndoubted F d parts
+    held_parts o c = held o (Contains-there o (own_name g) (own ++ parts) (Contains-append_right own parts o c))
 
 pub undoubted_holds : (F : Facts) (d : Doubt) (os : List Observation) → HoldUndoubted F d os → Undoubted d os → Hold F os
 undoubted_holds F d os held none o c = held o c (none o c)

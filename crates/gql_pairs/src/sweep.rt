@@ -1,13 +1,12 @@
 //! The entries of a table that still hold.
-ghost use Rattle.std.specs.Prelude.{◌≡◌, ℕ, List, IfOk, IsTrue, MatchBool, OnOk};
+ghost use Rattle.std.specs.Prelude.{◌≡◌, ℕ, List, IfOk, IsTrue, OnOk};
 ghost use Rattle.gql_facts.specs.Members.{Lists};
 ghost use Rattle.gql_pairs.specs.Doubts.{AllHoldUndoubted, HoldUndoubted, MembersHoldUndoubted};
 ghost use Rattle.gql_pairs.specs.Groups.{KeptPair, MembersHold};
 ghost use Rattle.gql_pairs.specs.Sweeps as spec;
 ghost use Rattle.gql_pairs.specs.Tables.{AllHold, IsEntry, KeepsHolding};
-ghost use Rattle.gql_reads.specs.Observations.{Hold, IsBroken};
 
-use crate::doubt::{Doubt, is_doubted};
+use crate::doubt::Doubt;
 use crate::group::Group;
 use crate::holds::member_holds;
 use crate::member::Member;
@@ -15,28 +14,6 @@ use crate::table::PairTable;
 use gql_ast::Shared;
 use gql_facts::World;
 use std::alloc::{AllocError, Global};
-
-/// Whether what was observed of a member still holds. The world is asked only if an answer may have
-/// changed.
-fn still_holds<W: World>(
-    alloc: Global,
-    world: &mut W,
-    member: &Member,
-    doubt: &Doubt,
-) -> Result<bool, AllocError>
-    requires { HoldUndoubted (W.facts world.old) doubt.now member.now.observations }
-    ensures facts { W.facts world.new ≡ W.facts world.old }
-    ensures names { W.names world.new ≡ W.names world.old }
-    ensures lent { W.lent world.new ≡ W.lent world.old }
-    ensures answer { IfOk result (λ hold. MatchBool hold
-        (Hold (W.facts world.old) member.now.observations)
-        (IsBroken (W.facts world.old) member.now.observations)) }
-{
-    if !is_doubted(member, doubt) {
-        return Ok(true);
-    }
-    member_holds(alloc, world, member)
-}
 
 /// Adds a member, if it still holds.
 fn keep_member<W: World>(
@@ -53,7 +30,7 @@ fn keep_member<W: World>(
     ensures kept { OnOk result (spec.KeepsMember (W.facts world.old) member.now
         kept.old.items kept.new.items) }
 {
-    let holds = still_holds(alloc, world, member, doubt)?;
+    let holds = member_holds(alloc, world, member, doubt)?;
     if holds {
         kept.push(member.copy()?)?;
     }
@@ -96,7 +73,7 @@ fn all_hold<W: World>(
         → MembersHold (W.facts world.old) members.now) }
 {
     for member in members {
-        if !still_holds(alloc, world, member, doubt)? {
+        if !member_holds(alloc, world, member, doubt)? {
             return Ok(false);
         }
     }
@@ -182,8 +159,8 @@ impl PairTable {
     }
 
     /// The table without the entries that no longer hold, if only answers in doubt have changed. It
-    /// shares what still holds. This one stays as it is. The world is asked only for what was
-    /// observed of fragments that a doubted answer is of; if none is in doubt, it is not asked.
+    /// shares what still holds. This one stays as it is. The world is asked only for the answers
+    /// in doubt that were observed, with those about the types that they lead to.
     pub fn holding<W: World>(
         &self,
         alloc: Global,

@@ -13,13 +13,18 @@ use Rattle.gql_verdict.specs.FileOrder.{AreFilesPlaced}
 use Rattle.gql_verdict.specs.Shelves.{Shelved, nothing_shelved}
 use Rattle.gql_verdict.specs.Verdicts.{Judgement}
 use Rattle.gql_verdict.specs.declared.touched.Touched.{Touched}
-use Rattle.gql_verdict.specs.declared.touched.Touched.TheVariants.{All, File}
+use Rattle.gql_verdict.specs.declared.touched.Touched.TheVariants.{All, File, Schema}
 
--- the verdicts held in the files before the edit, which changes no other answers, and no definitions
--- of other files
+-- the verdicts held in the files before the edit, which changes no other answers and no other
+-- definitions
 pub known : (before after : Files) (shelf : List Judgement) (t : Touched) → AreFilesPlaced after.documents → IsShelfOf before shelf → ChangesOnly t before after → IsKnownBefore after shelf t
 known before after shelf All placed current only = tt
 known before after shelf (File edit) placed current only = (
+  λ d c other. subst (λ (ds : List Definition). Contains ds d) (sym current.each) (only.definitions placed d c other),
+  fact_of before,
+  record { held = current.holds; unchanged = only.answers },
+)
+known before after shelf (Schema edit) placed current only = (
   λ d c other. subst (λ (ds : List Definition). Contains ds d) (sym current.each) (only.definitions placed d c other),
   fact_of before,
   record { held = current.holds; unchanged = only.answers },
@@ -29,6 +34,7 @@ known before after shelf (File edit) placed current only = (
 pub pairs_known : (before after : Files) (pairs : List KeptGroup) (t : Touched) → ArePairsOf before pairs → ChangesOnly t before after → ArePairsBefore after pairs t
 pairs_known before after pairs All hold only = tt
 pairs_known before after pairs (File edit) hold only = (fact_of before, hold, only.answers)
+pairs_known before after pairs (Schema edit) hold only = (fact_of before, hold, only.answers)
 
 -- without entries all hold
 pub no_pairs : (facts : Facts) → AllHold facts []

@@ -14,5 +14,6 @@ pub mod PlannedFiles
 pub mod Reports
 pub mod Working
 pub mod SameSchema
+pub mod SchemaTouched
 pub mod Restored
 pub mod UndoneEdits

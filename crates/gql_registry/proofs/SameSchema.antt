@@ -111,6 +111,7 @@ same_side files documents side is = record {
   kept = record {
     checks = is.kept.checks;
     all = λ f. (λ h. fault_after files documents _ f ((is.kept.all f).0 h), λ h. (is.kept.all f).1 (fault_before files documents _ f h));
+    joint = is.kept.joint;
     sound = is.kept.sound;
     quiet = is.kept.quiet;
   };

@@ -1,5 +1,5 @@
 -- Helper definitions for private contracts: what an edit makes of the files, before it is committed.
-use Rattle.std.specs.Prelude.{◌≡◌, ℕ, List, Option, Err, length, IfSome}
+use Rattle.std.specs.Prelude.{◌≡◌, ◌⊎◌, ℕ, List, Option, Some, None, Err, length, IfSome}
 use Rattle.gql_ast.specs.declared.fault.Fault.{Fault}
 use Rattle.gql_ast.specs.declared.files.Files.{Files}
 use Rattle.gql_registry.specs.Checks.{IsInTime}
@@ -16,6 +16,9 @@ use Rattle.gql_types.specs.Edits.{KeepsOthers}
 use Rattle.gql_types.specs.Schemas.{schema_of}
 use Rattle.gql_verdict.specs.DocumentEdits.{ChangesOnly}
 use Rattle.gql_verdict.specs.FileOrder.{AreFilesPlaced}
+use Rattle.gql_verdict.specs.SchemaEdits.{IsTouchedBySchema}
+use Rattle.gql_verdict.specs.declared.touched.Touched.{Touched}
+use Rattle.gql_verdict.specs.declared.touched.Touched.TheVariants.{All}
 
 -- an edit of a schema file changes types of these names alone
 pub record IsSchemaEdit (names : List (List ℕ)) (before after : Files) : Type 0 where
@@ -33,6 +36,14 @@ pub record IsSideBefore (names : List (List ℕ)) (name : List ℕ) (after : Fil
   pub edit : IsSchemaEdit names before after
   -- the other schema files are the same
   pub elsewhere : DiffersAt name before after
+
+-- what an edit that changes types of these names touches: by the schema before it and after it, if
+-- both are known, or all
+abbrev pub IsSchemaTouched : Option Known → Option SchemaSide → List (List ℕ) → Touched → Type 0
+IsSchemaTouched (Some known) (Some side) edited t =
+    IsTouchedBySchema known.schema.facts side.facts edited t ⊎ (t ≡ All)
+IsSchemaTouched (Some known) None edited t = t ≡ All
+IsSchemaTouched None side edited t = t ≡ All
 
 -- what is known has the schema of files before such an edit
 abbrev pub IsSideBeforeEdit : List (List ℕ) → List ℕ → Files → Known → Type 0

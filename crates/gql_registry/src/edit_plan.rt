@@ -2,7 +2,7 @@
 ghost use Rattle.std.specs.Prelude.{◌≡◌, IfOk, IfSome, OnOk};
 ghost use Rattle.std.specs.Option.{option_copied};
 ghost use Rattle.gql_ast.specs.declared.fault.FileSide.TheVariants as on;
-ghost use Rattle.gql_registry.specs.EditPlans.{IsEditPlanTo, IsSchemaEdit, IsSideAfterDocuments, IsSideBeforeEdit};
+ghost use Rattle.gql_registry.specs.EditPlans.{IsEditPlanTo, IsSchemaEdit, IsSchemaTouched, IsSideAfterDocuments, IsSideBeforeEdit};
 ghost use Rattle.gql_registry.specs.Keeping.{IsKnownOf, IsSideOf};
 ghost use Rattle.gql_registry.specs.Sides as spec;
 ghost use Rattle.gql_types.specs.Edits.{KeepsOthers};
@@ -116,7 +116,34 @@ fn kept_schema(known: &Option<Known>) -> Result<Option<Shared<SchemaSide>>, Allo
     Ok(Some(schema))
 }
 
-/// The plan of an edit of a schema file. All verdicts may depend on it.
+/// What an edit of a schema file touches that changes types of these names alone, by what was known
+/// before it and the schema after it. All, if one of them is not known, or if there are no document
+/// files, so that nothing depends on it.
+#[tactic(auto, using(crate::proofs::SchemaTouched::all_told, crate::proofs::SchemaTouched::schema_told))]
+fn schema_touched(
+    alloc: Global,
+    files: &Files,
+    known: &Option<Known>,
+    schema: &Option<Shared<SchemaSide>>,
+    edited: &Named<Text>,
+) -> Result<Touched, AllocError>
+    ensures { IfOk result (IsSchemaTouched known.now schema.now edited.now) }
+{
+    let Some(known) = known else {
+        return Ok(Touched::All);
+    };
+    let Some(schema) = schema else {
+        return Ok(Touched::All);
+    };
+    if files.documents.len() == 0 {
+        return Ok(Touched::All);
+    }
+    let (before, after) = (&known.schema.get().facts, &schema.get().facts);
+    let touched = Touched::by_schema_edit(alloc, before, after, edited)?;
+    Ok(touched)
+}
+
+/// The plan of an edit of a schema file.
 fn schema_plan(
     alloc: Global,
     files: &Files,
@@ -128,13 +155,16 @@ fn schema_plan(
     ensures { IfOk result (IsEditPlanTo files.now
         (spec.with_file on.Schema files.now name document)) }
 {
+    // The law that such an edit changes only the answers that are told as touched.
+    laws::edit_schema();
     let edited = edited_types(alloc, files, &name, document.as_ref())?;
     let mut changed = files.copy()?;
     edit_file(alloc, &mut changed.schema, &name, document)?;
     let schema = edited_schema(alloc, &changed, known, &name, &edited)?;
+    let touched = schema_touched(alloc, files, known, &schema, &edited)?;
     Ok(EditPlan {
         files: changed,
-        touched: Touched::All,
+        touched,
         schema,
     })
 }

@@ -3,10 +3,12 @@ pub mod Adding
 pub mod Answered
 pub mod Certified
 pub mod Edited
+pub mod EditedSchema
 pub mod FileLists
 pub mod Filled
 pub mod LedTo
 pub mod Marking
+pub mod MovedTypes
 pub mod Ordered
 pub mod PairsKnown
 pub mod Picked

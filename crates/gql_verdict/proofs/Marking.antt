@@ -9,6 +9,8 @@ use Rattle.gql_facts.specs.ListMembers.{Contains-nil, Contains-here, Contains-ca
 use Rattle.gql_facts.specs.Worlds.{Facts}
 use Rattle.gql_facts.specs.declared.key.Key.{Key}
 use Rattle.gql_facts.specs.declared.key.Key.TheVariants as key
+use Rattle.gql_pairs.specs.Doubts.{in_doubt}
+use Rattle.gql_pairs.specs.declared.doubt.Doubt.{Doubt}
 use Rattle.gql_readers.specs.Indexes.{AreAlike, Reading}
 use Rattle.gql_readers.specs.Readers.{Reader, observes}
 use Rattle.gql_readers.proofs.Alike.{alike_back, alike_there}
@@ -21,7 +23,7 @@ use Rattle.gql_reads.specs.Observations.{IsBroken, about, about_all, observed, o
 use Rattle.gql_reads.specs.declared.observation.Answer.{Answer}
 use Rattle.gql_reads.specs.declared.observation.Observation.{Observation}
 use Rattle.gql_reads.specs.declared.observation.TypeAnswers.{TypeAnswers}
-use Rattle.gql_verdict.specs.Marks.{AreBroken, AreMarked, IsCompared, IsMarked, IsShelved, KeepMarks, OnlyMarks}
+use Rattle.gql_verdict.specs.Marks.{AreBroken, AreMarked, IsCompared, IsDoubtCompared, IsMarked, IsShelved, KeepMarks, OnlyMarks}
 use Rattle.gql_verdict.specs.Readings.{reader_of, readers}
 use Rattle.gql_verdict.specs.Slots.{IsAt, IsInOrder, verdicts}
 use Rattle.gql_verdict.specs.TouchedFacts.{HoldWhere, touches}
@@ -30,7 +32,7 @@ use Rattle.gql_verdict.specs.declared.slot.Slot.{Slot}
 use Rattle.gql_verdict.specs.declared.slot.Slot.TheVariants.{At, Here}
 use Rattle.gql_verdict.specs.declared.touched.FileEdit.{FileEdit}
 use Rattle.gql_verdict.specs.declared.touched.Touched.{Touched}
-use Rattle.gql_verdict.specs.declared.touched.Touched.TheVariants.{All, File}
+use Rattle.gql_verdict.specs.declared.touched.Touched.TheVariants.{File}
 use Rattle.gql_verdict.proofs.Ordered.{kept_at, same_definition, same_verdict, def_at}
 
 -- ---- indices
@@ -100,10 +102,9 @@ marked_none slots o marks id lacks k w b c = absurd (lacks w (kept_at slots o k 
 type_touched : (edit : FileEdit) (t : TypeAnswers) (o : Observation) → Contains (about t) o → touches (File edit) o.key ≡ false
 type_touched edit t o c = about_each t.name (λ k. touches (File edit) k ≡ false) refl refl refl refl o.key (about_key t o c)
 
--- what is touched of an answer is the answer itself, or all of it
-touched_answer : (t : Touched) (a : Answer) (o : Observation) → Contains (observed a) o → touches t o.key ≡ true → touches t a.observation.key ≡ true
-touched_answer All a o c y = refl
-touched_answer (File edit) a o c y = elim (Contains-cases o a.observation (about_all a.types) c) [
+-- of an answer, the edit of a document file touches only the answer itself
+touched_answer : (edit : FileEdit) (a : Answer) (o : Observation) → Contains (observed a) o → touches (File edit) o.key ≡ true → touches (File edit) a.observation.key ≡ true
+touched_answer edit a o c y = elim (Contains-cases o a.observation (about_all a.types) c) [
   | inl e ↦ subst (λ (p : Observation). touches (File edit) p.key ≡ true) e y
   | inr r ↦ absurd (let m = Contains-flat_map_from about a.types o r in let z : true ≡ false = sym y ∙ type_touched edit m.0 o m.2 in cc z)
 ]
@@ -127,20 +128,34 @@ module _ (F : Facts) (slots : List Slot) (es : List Reading) (shelved : IsShelve
       let seen : Contains (observed_in v.answers) bad.0 = Contains-flat_map observed v.answers o.0 bad.0 o.1 (alike_there e.answer o.0 alike bad.0 bad.1) in
       (bad.0, subst (λ os. Contains os bad.0) (sym (shelved.order.reads v there).flat) seen, bad.2)
 
-  -- where each touched key was compared, what is not marked holds in what is touched
-  pub unmarked_hold : (t : Touched) (marks : List Bool) → ((e : Reading) → Contains es e → touches t e.key ≡ true → IsCompared F slots marks e)
+  -- where each answer of which something is touched was compared, what is not marked holds in what is
+  -- touched
+  unmarked_by : (t : Touched) (marks : List Bool)
+      → ((e : Reading) (a : Answer) → Contains es e → e.key ≡ a.observation.key → (o : Observation) → Contains (observed a) o → Contains (observed e.answer) o → touches t o.key ≡ true → IsCompared F slots marks e)
       → (j : ℕ) (v : Judgement) → IsAt slots j v → (IsMarked marks j → ⊥) → HoldWhere F t v.observations
-  unmarked_hold t marks compared j v a n o m y =
+  unmarked_by t marks compared j v a n o m y =
       let V = verdicts slots in
       let there = kept_at slots shelved.order j v a in
       let c = Contains-map reader_of V v there in
       let r = Contains-flat_map_from observed v.answers o (subst (λ os. Contains os o) (shelved.order.reads v there).flat m) in
       let f = shelved.reads.answers (reader_of v) r.0 c r.1 in
-      elim (compared f.0 f.1 (subst (λ k. touches t k ≡ true) (sym f.2) (touched_answer t r.0 o r.2 y))) [
-        | inl h ↦ h o (alike_there r.0 f.0.answer (alike_back f.0.answer r.0 f.3) o r.2)
+      let seen = alike_there r.0 f.0.answer (alike_back f.0.answer r.0 f.3) o r.2 in
+      elim (compared f.0 r.0 f.1 f.2 o r.2 seen y) [
+        | inl h ↦ h o seen
         | inr marked ↦ absurd (n (marked j v a (subst (λ ids. Contains ids (id_of v.def)) (sym (shelved.reads.exact f.0 f.1))
             (reads_has f.0.key (readers V) (reader_of v) c (observes_has f.0.key (reader_of v) r.0 r.1 (sym f.2))))))
       ]
+
+  -- where each key was compared that the edit of a document file touches
+  pub unmarked_hold : (edit : FileEdit) (marks : List Bool) → ((e : Reading) → Contains es e → touches (File edit) e.key ≡ true → IsCompared F slots marks e)
+      → (j : ℕ) (v : Judgement) → IsAt slots j v → (IsMarked marks j → ⊥) → HoldWhere F (File edit) v.observations
+  unmarked_hold edit marks compared = unmarked_by (File edit) marks
+      (λ e a c q o m seen y. compared e c (subst (λ k. touches (File edit) k ≡ true) (sym q) (touched_answer edit a o m y)))
+
+  -- where each answer in doubt was compared
+  pub unmarked_doubted : (t : Touched) (d : Doubt) → ((k : Key) → in_doubt d k ≡ touches t k) → (marks : List Bool) → ((e : Reading) → Contains es e → IsDoubtCompared F d slots marks e)
+      → (j : ℕ) (v : Judgement) → IsAt slots j v → (IsMarked marks j → ⊥) → HoldWhere F t v.observations
+  unmarked_doubted t d same marks compared = unmarked_by t marks (λ e a c q o m seen y. compared e c o seen (same o.key ∙ y))
 
   pub broken_more : (old new : List Bool) (e : Reading) → Contains es e → IsBroken F (observed e.answer) → AreBroken F slots old → length new ≡ length slots → OnlyMarks slots old new e.readers → AreBroken F slots new
   broken_more old new e c bad b long only = record {
@@ -157,6 +172,9 @@ module _ (F : Facts) (slots : List Slot) (es : List Reading) (shelved : IsShelve
 pub keep_compared : (F : Facts) (slots : List Slot) (old new : List Bool) (e : Reading) → KeepMarks old new → IsCompared F slots old e → IsCompared F slots new e
 keep_compared F slots old new e kept (inl h) = inl h
 keep_compared F slots old new e kept (inr m) = inr (λ j v a c. kept j (m j v a c))
+
+pub keep_doubted : (F : Facts) (d : Doubt) (slots : List Slot) (old new : List Bool) (e : Reading) → KeepMarks old new → IsDoubtCompared F d slots old e → IsDoubtCompared F d slots new e
+keep_doubted F d slots old new e kept h o c y = keep_compared F slots old new e kept (h o c y)
 
 -- ---- what the edit of a file touches
 

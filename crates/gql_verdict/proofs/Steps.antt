@@ -13,7 +13,7 @@ use Rattle.gql_verdict.specs.Verdicts.{Judgement}
 use Rattle.gql_verdict.specs.Shelves.{IsDue, Picks, pick_none, skip, pick, IsDueWork, IsStepWork}
 use Rattle.gql_verdict.specs.TouchedFacts.{touches, touches_definition, HoldWhere, IsKnown, IsOtherKept}
 use Rattle.gql_verdict.specs.declared.touched.Touched.{Touched}
-use Rattle.gql_verdict.specs.declared.touched.Touched.TheVariants.{All, File}
+use Rattle.gql_verdict.specs.declared.touched.Touched.TheVariants.{All, File, Schema}
 use Rattle.gql_verdict.specs.Plans.{IsStep}
 use Rattle.gql_verdict.specs.Slots.{IsAt, verdicts, IsInOrder, IsFound}
 use Rattle.gql_verdict.specs.declared.slot.Slot.{Slot}
@@ -64,11 +64,20 @@ holds_all F ds kept (File edit) known v c h = λ o m. elim (either (touches (Fil
   | inl y ↦ h o m y
   | inr n ↦ known.2.unchanged o.key n ∙ known.2.held v c o m
 ]
+holds_all F ds kept (Schema edit) known v c h = λ o m. elim (either (touches (Schema edit) o.key)) [
+  | inl y ↦ h o m y
+  | inr n ↦ known.2.unchanged o.key n ∙ known.2.held v c o m
+]
 
 -- what is known of an edit is known of each definition
 pub known_of_one : (F : Facts) (ds : List Definition) (d : Definition) (kept : List Judgement) (t : Touched) → Contains ds d → IsKnown F ds kept t → IsKnown F (d ∷ []) kept t
 known_of_one F ds d kept All c known = tt
 known_of_one F ds d kept (File edit) c known = (
+  λ e h. known.0 e (elim (Contains-cases e d [] h) [ inl q ↦ subst (λ x. Contains ds x) (sym q) c | inr t ↦ absurd (Contains-nil e t) ]),
+  known.1,
+  known.2,
+)
+known_of_one F ds d kept (Schema edit) c known = (
   λ e h. known.0 e (elim (Contains-cases e d [] h) [ inl q ↦ subst (λ x. Contains ds x) (sym q) c | inr t ↦ absurd (Contains-nil e t) ]),
   known.1,
   known.2,
@@ -86,6 +95,7 @@ same_if_untouched slots o t d others j v w at e p u =
 pub other_kept : (F : Facts) (d : Definition) (kept : List Judgement) (t : Touched) → IsKnown F (d ∷ []) kept t → IsOtherKept d kept t
 other_kept F d kept All known u = absurd (differs true refl u)
 other_kept F d kept (File edit) known u = known.0 d (Contains-here d []) u
+other_kept F d kept (Schema edit) known u = known.0 d (Contains-here d []) u
 
 -- nothing was found for d
 pub none_kept : (F : Facts) (slots : List Slot) (d : Definition) → IsFound slots (id_of d) None → IsDue F (verdicts slots) d

@@ -8,6 +8,7 @@ pub mod Naming
 pub mod Marks
 pub mod Plans
 pub mod Readings
+pub mod SchemaEdits
 pub mod Shelves
 pub mod Slots
 pub mod Spreads

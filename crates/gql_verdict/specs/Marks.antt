@@ -7,10 +7,13 @@ use Rattle.gql_ast.specs.declared.definition.DefinitionId.{DefinitionId}
 use Rattle.gql_facts.specs.Worlds.{Facts}
 use Rattle.gql_facts.specs.declared.key.Key.{Key}
 use Rattle.gql_facts.specs.declared.key.Key.TheVariants as key
+use Rattle.gql_pairs.specs.Doubts.{in_doubt}
+use Rattle.gql_pairs.specs.declared.doubt.Doubt.{Doubt}
 use Rattle.gql_readers.specs.Changes.{IsNew}
 use Rattle.gql_readers.specs.Indexes.{IsIndexOf, Reading}
 use Rattle.gql_readers.specs.Readers.{Reader}
 use Rattle.gql_reads.specs.Observations.{Hold, IsBroken, keys_of, observed}
+use Rattle.gql_reads.specs.declared.observation.Observation.{Observation}
 use Rattle.gql_verdict.specs.FileOrder.{InFileOrder}
 use Rattle.gql_verdict.specs.Plans.{IsStep}
 use Rattle.gql_verdict.specs.Readings.{readers}
@@ -49,6 +52,11 @@ OnlyMarks slots old new ids = (j : ℕ) (v : Judgement) → IsAt slots j v → I
 abbrev pub IsCompared : Facts → List Slot → List Bool → Reading → Type 0
 IsCompared facts slots marks e =
     Hold facts (observed e.answer) ⊎ AreMarked slots marks e.readers
+
+-- the answer was compared if it is in doubt, or one about a type that it leads to is
+abbrev pub IsDoubtCompared : Facts → Doubt → List Slot → List Bool → Reading → Type 0
+IsDoubtCompared facts d slots marks e = (o : Observation) → Contains (observed e.answer) o
+    → in_doubt d o.key ≡ true → IsCompared facts slots marks e
 
 -- there is a mark for each slot, and a verdict is marked only if an observation of it does not hold
 pub record AreBroken (facts : Facts) (slots : List Slot) (marks : List Bool) : Type 0 where

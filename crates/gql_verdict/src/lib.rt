@@ -13,6 +13,7 @@ mod meter;
 mod names;
 mod naming;
 mod plan;
+mod schema_edit;
 mod shared_work;
 mod sharing;
 mod shelf;

@@ -1,15 +1,20 @@
 //! Which kept verdicts an edit has broken: the readers of each key whose answer has changed.
 ghost use Rattle.std.specs.Prelude.{◌≡◌, ◌∷◌, [], ℕ, IfOk, OnOk, Contains, bytes_eq, is_some, length};
 ghost use Rattle.std.specs.HashMap as hash;
-ghost use Rattle.gql_verdict.specs.Marks.{AreBroken, AreDone, AreMarked, AreMarks, IsCompared, IsFragmentCompared, IsMarked, IsShelved, KeepMarks, OnlyMarks};
+ghost use Rattle.gql_facts.specs.declared.key.Key.{Key as AKey};
+ghost use Rattle.gql_pairs.specs.Doubts.{in_doubt};
+ghost use Rattle.gql_verdict.specs.Marks.{AreBroken, AreDone, AreMarked, AreMarks, IsCompared, IsDoubtCompared, IsFragmentCompared, IsMarked, IsShelved, KeepMarks, OnlyMarks};
 ghost use Rattle.gql_verdict.specs.Slots.{IsInOrder};
-ghost use Rattle.gql_verdict.specs.declared.touched.Touched.TheVariants.{All, File};
+ghost use Rattle.gql_verdict.specs.TouchedFacts.{touches};
+ghost use Rattle.gql_verdict.specs.declared.touched.Touched.{Touched as ATouched};
+ghost use Rattle.gql_verdict.specs.declared.touched.Touched.TheVariants.{File};
 
 use crate::slot::{Slot, find};
 use crate::spreads::add_name;
 use crate::touched::{FileEdit, Touched};
 use gql_ast::{DefinitionId, Shared, Text};
 use gql_facts::{Key, World};
+use gql_pairs::Doubt;
 use gql_readers::{Entry, Index};
 use gql_reads::answer_holds;
 use std::alloc::{AllocError, Global};
@@ -80,12 +85,42 @@ fn compare<W: World>(
     Ok(())
 }
 
-/// Compares the answers to all keys that are read.
+/// Compares the answer to a key as `compare` does, if it is in doubt or one about a type that it leads
+/// to is.
+fn compare_doubted<W: World>(
+    alloc: Global,
+    world: &mut W,
+    slots: &[Slot],
+    index: &Index,
+    entry: &Entry,
+    doubt: &Doubt,
+    marks: &mut [bool],
+) -> Result<(), AllocError>
+    requires shelved { IsShelved slots.now index.now }
+    requires entry { Contains index.now entry.now }
+    requires broken { AreBroken (W.facts world.old) slots.now marks.old }
+    ensures facts { W.facts world.new ≡ W.facts world.old }
+    ensures names { W.names world.new ≡ W.names world.old }
+    ensures lent { W.lent world.new ≡ W.lent world.old }
+    ensures broken { AreBroken (W.facts world.old) slots.now marks.new }
+    ensures kept { KeepMarks marks.old marks.new }
+    ensures compared { OnOk result (IsDoubtCompared (W.facts world.old) doubt.now slots.now
+        marks.new entry.now) }
+{
+    if !doubt.is_of_answer(entry.answer().get()) {
+        return Ok(());
+    }
+    compare(alloc, world, slots, index, entry, marks)
+}
+
+/// Compares the answers to all keys that are read, of those that are in doubt or lead to a type about
+/// which an answer is.
 fn compare_all<W: World>(
     alloc: Global,
     world: &mut W,
     slots: &[Slot],
     index: &Index,
+    doubt: &Doubt,
     marks: &mut [bool],
 ) -> Result<(), AllocError>
     requires shelved { IsShelved slots.now index.now }
@@ -93,10 +128,12 @@ fn compare_all<W: World>(
     ensures facts { W.facts world.new ≡ W.facts world.old }
     ensures names { W.names world.new ≡ W.names world.old }
     ensures lent { W.lent world.new ≡ W.lent world.old }
-    ensures marks { OnOk result (AreMarks (W.facts world.old) All slots.now marks.new) }
+    ensures marks { OnOk result ((touched : ATouched)
+        → ((k : AKey) → in_doubt doubt.now k ≡ touches touched k)
+        → AreMarks (W.facts world.old) touched slots.now marks.new) }
 {
     for entry in index.entries() {
-        compare(alloc, world, slots, index, entry.get(), marks)?;
+        compare_doubted(alloc, world, slots, index, entry.get(), doubt, marks)?;
     }
     Ok(())
 }
@@ -200,10 +237,11 @@ fn mark_broken<W: World>(
     ensures marks { OnOk result
         (AreMarks (W.facts world.old) touched.now slots.now marks.new) }
 {
-    match touched {
-        Touched::All => compare_all(alloc, world, slots, index, marks),
-        Touched::File(edit) => compare_touched(alloc, world, slots, index, edit, marks),
+    if let Touched::File(edit) = touched {
+        return compare_touched(alloc, world, slots, index, edit, marks);
     }
+    let doubt = touched.doubt()?;
+    compare_all(alloc, world, slots, index, &doubt, marks)
 }
 
 /// Marks of the kept verdicts of which some observation that an edit touches does not hold. The

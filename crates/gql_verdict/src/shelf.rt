@@ -1,6 +1,4 @@
 //! The verdicts that are kept, one for each definition that is present.
-ghost use Rattle.gql_facts.specs.declared.key.Key.{Key as AKey};
-ghost use Rattle.gql_pairs.specs.Doubts.{in_doubt};
 ghost use Rattle.std.specs.Prelude.{◌≡◌, ◌↔◌, ◌++◌, ◌∷◌, [], Contains, List, IfOk, IsTrue, OnOk, OnErr, flat_map};
 ghost use Rattle.std.specs.Option.{option_copied};
 ghost use Rattle.gql_ast.specs.declared.definition.Definition.{Definition};
@@ -15,7 +13,7 @@ ghost use Rattle.gql_verdict.specs.Plans.{IsPlanned, IsPrepared};
 ghost use Rattle.gql_reads.specs.Observations.{keys_of};
 ghost use Rattle.gql_verdict.specs.Slots.{IsSlotCertified, slot_faults, verdicts};
 ghost use Rattle.gql_verdict.specs.Verdicts.{Judgement};
-ghost use Rattle.gql_verdict.specs.TouchedFacts.{ArePairsKnown, IsKnown, touches};
+ghost use Rattle.gql_verdict.specs.TouchedFacts.{ArePairsKnown, IsKnown};
 
 use crate::asked::has_reader_in;
 use crate::indexing::index_after;
@@ -28,7 +26,7 @@ use crate::touched::Touched;
 use crate::verdict::Verdict;
 use gql_ast::{DefinitionId, Fault, Files, Shared};
 use gql_facts::{FragmentFact, Key, World};
-use gql_pairs::{Doubt, PairTable};
+use gql_pairs::PairTable;
 use gql_readers::Index;
 use gql_reads::{KeptParts, Part};
 use std::alloc::{AllocError, Global};
@@ -173,16 +171,6 @@ impl Model for Prepared {
     } };
 }
 
-/// Which answers an edit may have changed.
-fn doubt_of(touched: &Touched) -> Result<Doubt, AllocError>
-    ensures { IfOk result (λ d. (k : AKey) → in_doubt d k ≡ touches touched.now k) }
-{
-    match touched {
-        Touched::All => Ok(Doubt::All),
-        Touched::File(edit) => Ok(Doubt::Fragments(edit.fragments.copy()?)),
-    }
-}
-
 /// What clashes between fragments, without the entries that no longer hold after an edit.
 fn held_pairs<W: World>(
     alloc: Global,
@@ -197,7 +185,7 @@ fn held_pairs<W: World>(
     ensures holds { IfOk result (λ held. AllHold (W.facts world.old) held) }
     ensures kept { IfOk result (λ held. KeepsHolding (W.facts world.old) pairs.now held) }
 {
-    let doubt = doubt_of(touched)?;
+    let doubt = touched.doubt()?;
     pairs.holding(alloc, world, &doubt)
 }
 
@@ -214,10 +202,10 @@ impl Shelf {
     }
 
     /// Prepares to make the shelf current after an edit: examines each definition that has no
-    /// verdict, or whose verdict no longer holds. The answer to each key that is read and that the
-    /// edit touches is asked once for all its readers, and each fragment is walked at most once. Of
-    /// what is kept of pairs of fragments, only what no longer holds is left out. The shelf stays as
-    /// it is.
+    /// verdict, or whose verdict no longer holds. Of the keys that are read, the world is asked only
+    /// for those that the edit touches, or that lead to a type that it touches, and once for all
+    /// readers of a key. Each fragment is walked at most once. Of what is kept of pairs of
+    /// fragments, only what no longer holds is left out. The shelf stays as it is.
     pub fn prepare<W: World>(
         &self,
         alloc: Global,

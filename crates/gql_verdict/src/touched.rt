@@ -1,10 +1,13 @@
 //! What an edit may have changed.
 ghost use Rattle.std.specs.Prelude.{◌≡◌, ◌++◌, IfOk, OnOk, flat_map};
 ghost use Rattle.std.specs.Option.{option_copied};
+ghost use Rattle.gql_facts.specs.declared.key.Key.{Key as AKey};
+ghost use Rattle.gql_pairs.specs.Doubts.{in_doubt};
 ghost use Rattle.gql_verdict.specs.DocumentEdits as edits;
 ghost use Rattle.gql_verdict.specs.TouchedFacts as spec;
 
 use gql_ast::{Definition, Document, FileName, Text, Tree};
+use gql_pairs::Doubt;
 use gql_types::Named;
 use std::alloc::{AllocError, Global};
 
@@ -23,11 +26,25 @@ impl Drop for FileEdit {
     }
 }
 
-/// What an edit may have changed: everything, or only what the edit of one document file changes.
-/// That is the definitions of the file, and the fragments that it has or had.
+/// The edit of a schema file: the names of the types that it may have changed, and of those whose
+/// possible types it has changed.
+pub struct SchemaEdit {
+    pub types: Named<Text>,
+}
+
+impl Drop for SchemaEdit {
+    fn drop(self) {
+        let SchemaEdit { types: _ } = self;
+    }
+}
+
+/// What an edit may have changed: everything, or only what the edit of one file changes. Of a
+/// document file, that is the definitions of the file, and the fragments that it has or had. Of a
+/// schema file, that is what is known of some types, of directives and of root operation types.
 pub enum Touched {
     All,
     File(FileEdit),
+    Schema(SchemaEdit),
 }
 
 impl Drop for Touched {
@@ -35,6 +52,7 @@ impl Drop for Touched {
         match self {
             Touched::All => {}
             Touched::File(_) => {}
+            Touched::Schema(_) => {}
         }
     }
 }
@@ -92,13 +110,26 @@ impl Touched {
         }))
     }
 
-    /// Whether a definition may have changed. One of another file than the edited one has not.
+    /// Which answers may have changed.
+    pub fn doubt(&self) -> Result<Doubt, AllocError>
+        ensures { IfOk result (λ d. (k : AKey) → in_doubt d k ≡ spec.touches self.now k) }
+    {
+        match self {
+            Touched::All => Ok(Doubt::All),
+            Touched::File(edit) => Ok(Doubt::Fragments(edit.fragments.copy()?)),
+            Touched::Schema(edit) => Ok(Doubt::Types(edit.types.copy()?)),
+        }
+    }
+
+    /// Whether a definition may have changed. One of another file than the edited one has not, and
+    /// an edit of a schema file changes none.
     pub fn touches_definition(&self, definition: &Definition) -> bool
         ensures { result ≡ spec.touches_definition self.now definition.now }
     {
-        let Touched::File(edit) = self else {
-            return true;
-        };
-        definition.file == edit.file
+        match self {
+            Touched::All => true,
+            Touched::File(edit) => definition.file == edit.file,
+            Touched::Schema(_) => false,
+        }
     }
 }

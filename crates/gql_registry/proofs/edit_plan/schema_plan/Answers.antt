@@ -1,9 +1,13 @@
-use Rattle.std.proofs.Common.{◌∙◌, ap, subst}
+use Rattle.std.proofs.Common.{◌∙◌, ap, subst, sym}
+use Rattle.std.specs.Prelude.{IfSome}
 use Rattle.gql_ast.specs.declared.fault.FileSide.TheVariants.{Schema}
 use Rattle.gql_ast.specs.declared.files.Files.{Files}
 use Rattle.gql_registry.specs.EditPlans.{IsSchemaEdit}
+use Rattle.gql_registry.specs.Keeping.{IsSideOf}
 use Rattle.gql_registry.specs.Sides.{with_file}
 use Rattle.gql_registry.proofs.PlannedFiles.{schema_edited}
+use Rattle.gql_registry.proofs.SchemaTouched.{schema_touches}
+use Rattle.gql_verdict.specs.DocumentEdits.{ChangesOnly}
 use Rattle.gql_registry.proofs.SameSchema.{known_before}
 use Rattle.gql_registry.proofs.UndoneEdits.{differs_at}
 use Rattle.gql_registry.proofs.edit_plan.schema_plan.Goals as goal
@@ -18,3 +22,17 @@ edited_schema-requires c =
     (ap (with_file Schema c.args.files.now c.args.name) c.as_ref.ensures.value ∙ is)
     c.in_ok-edited.ensures)
     (subst (λ (f : Files). DiffersAt c.args.name c.args.files.now f) is (differs_at c.args.files.now c.args.name c.args.document))
+
+pub returns : goal.returns
+returns c =
+    let before = c.args.files.now in
+    let made : Files = record { schema = c.edit_file.new.files; documents = c.in_ok-changed.changed.documents } in
+    let is = schema_edited before c.in_ok-changed.changed c.args.name c.args.document _ c.in_ok-changed.ensures c.in_ok-edit_file.ensures in
+    let edit : IsSchemaEdit c.in_ok-edited.edited before made = subst (λ (f : Files). IsSchemaEdit c.in_ok-edited.edited before f) (ap (with_file Schema before c.args.name) c.as_ref.ensures.value ∙ is) c.in_ok-edited.ensures in
+    record {
+      files = sym is;
+      touched = subst (λ (f : Files). ChangesOnly c.in_ok-touched.touched before f) (sym is)
+          (schema_touches c.edit_schema.ensures before made c.args.known.now c.in_ok-schema.schema c.in_ok-edited.edited c.in_ok-touched.touched c.requires c.in_ok-schema.ensures edit
+          (sym (ap (λ (f : Files). f.documents) c.in_ok-changed.ensures)) c.in_ok-touched.ensures);
+      schema = subst (λ (f : Files). IfSome c.in_ok-schema.schema (IsSideOf f)) (sym is) c.in_ok-schema.ensures;
+    }

@@ -3,7 +3,6 @@ use Rattle.std.proofs.lemmas.List.{take_all}
 use Rattle.std.specs.HashMap as hash
 use Rattle.gql_facts.specs.Worlds.{Facts}
 use Rattle.gql_verdict.specs.Marks.{AreBroken, AreDone, IsFragmentCompared}
-use Rattle.gql_verdict.specs.declared.touched.Touched.TheVariants.{File}
 use Rattle.gql_verdict.proofs.Marking.{keep_compared, touched_fragment, unmarked_hold}
 use Rattle.gql_verdict.proofs.Seen.{seen_more}
 use Rattle.gql_verdict.proofs.marks.compare_touched.Goals as goal
@@ -37,6 +36,6 @@ returns-clause-marks g c =
     let all = take_all _ _ c.loop-name-test.false ∙ c.as_slice-name-items.ensures in
     record {
       broken = c.loop-name.invariant.broken;
-      hold = unmarked_hold (g.W.World.facts c.args.world.now) c.args.slots.now c.args.index.now c.requires.shelved (File c.args.edit.now) c.loop-name.marks
+      hold = unmarked_hold (g.W.World.facts c.args.world.now) c.args.slots.now c.args.index.now c.requires.shelved c.args.edit.now c.loop-name.marks
           (λ e m y. let t = touched_fragment c.args.edit.now e.key y in c.loop-name.invariant.compared t.0 (subst (λ (ns : List (List ℕ)). Contains ns t.0) (sym all) t.2) e m t.1);
     }
