@@ -138,6 +138,20 @@ def edits_of_fragments(program):
           f"{each(program, before, edits) / 1000:.1f} ms", flush=True)
 
 
+def edits_of_the_schema(program):
+    before = files(OPERATIONS)
+    edits = [request("PUT /schema/other", f"type Other{n} {{ a: Int }}") for n in range(100)]
+    print(f"edit a schema file that none of {OPERATIONS} operations reads: "
+          f"{each(program, before, edits) / 1000:.1f} ms", flush=True)
+    state = "enum State3 { OPEN PAID SENT CLOSED }"
+    file = schema_file(0)
+    assert state in file
+    edits = [request("PUT /schema/s0", file.replace(state, f"enum State3 {{ OPEN PAID SENT CLOSED X{n} }}"))
+             for n in range(100)]
+    print(f"edit a schema file with types that operations read: "
+          f"{each(program, before, edits) / 1000:.1f} ms", flush=True)
+
+
 def loads(program):
     for count in (64, 128, OPERATIONS):
         seconds, memory = least(program, files(count))
@@ -155,7 +169,8 @@ def runs(program):
     print(f"run that finds one of 300 objects by its id: {each(program, before, calls):.1f} us", flush=True)
 
 
-PARTS = {"operation": edits_of_one_operation, "fragments": edits_of_fragments, "loads": loads, "runs": runs}
+PARTS = {"operation": edits_of_one_operation, "fragments": edits_of_fragments, "schema": edits_of_the_schema,
+         "loads": loads, "runs": runs}
 
 
 def main(words):
