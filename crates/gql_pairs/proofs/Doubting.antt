@@ -52,6 +52,17 @@ no_fragments names types o c =
     let m = Contains-flat_map_from about types o c in
     about_each m.0.name (λ k. in_doubt (doubt.Fragments names) k ≡ false) refl refl refl refl o.key (about_key m.0 o m.2)
 
+module _ (names : List (List ℕ)) (xs : List Answer) (i : ℕ) (x : Answer) (lt : i < length xs) (is : x ≡ get_or xs i x) where
+  -- one answer more that is of no such fragment
+  pub undoubted_more : Undoubted (doubt.Fragments names) (observed_in (take i xs)) → in_doubt (doubt.Fragments names) x.observation.key ≡ false
+      → Undoubted (doubt.Fragments names) (observed_in (take (i + 1) xs))
+  undoubted_more before here o c =
+      let r = Contains-flat_map_from observed (take (i + 1) xs) o c in
+      elim (seen_more xs i x lt is r.0 r.1) [
+        | inl s ↦ before o (Contains-flat_map observed (take i xs) r.0 o s r.2)
+        | inr e ↦ answer_undoubted (doubt.Fragments names) x here (no_fragments names x.types) o (subst (λ (a : Answer). Contains (observed a) o) (sym e) r.2)
+      ]
+
 -- what was observed of a type of another name
 type_undoubted : (names : List (List ℕ)) (t : TypeAnswers) → is_one names t.name ≡ false → Undoubted (doubt.Types names) (about t)
 type_undoubted names t other o c = about_each t.name (λ k. in_doubt (doubt.Types names) k ≡ false) other other other other o.key (about_key t o c)

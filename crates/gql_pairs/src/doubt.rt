@@ -4,7 +4,7 @@ ghost use Rattle.gql_facts.specs.declared.key.Key.{Key as AKey};
 ghost use Rattle.gql_facts.specs.declared.key.Key.TheVariants as key;
 ghost use Rattle.gql_pairs.specs.Doubts as spec;
 ghost use Rattle.gql_pairs.specs.declared.doubt.Doubt.TheVariants as doubted;
-ghost use Rattle.gql_reads.specs.Observations.{about_all, observed};
+ghost use Rattle.gql_reads.specs.Observations.{about_all, observed, observed_in};
 ghost use Rattle.gql_reads.specs.declared.observation.Observation.{Observation as AnObservation};
 
 use gql_ast::{Shared, Text};
@@ -65,6 +65,19 @@ impl Doubt {
         }
     }
 
+    /// Whether it is seen at once that none of these answers may have changed: only fragments are in
+    /// doubt, and none of the answers is of one of these.
+    pub fn is_of_none(&self, answers: &[Shared<Answer>]) -> bool
+        ensures { result ≡ true → (o : AnObservation) → Contains (observed_in answers.now) o
+            → spec.in_doubt self.now o.key ≡ false }
+    {
+        match self {
+            Doubt::All => false,
+            Doubt::Fragments(names) => !has_one(answers, names),
+            Doubt::Types(_) => false,
+        }
+    }
+
     /// Whether an answer may have changed, or one about the types that it leads to.
     pub fn is_of_answer(&self, answer: &Answer) -> bool
         ensures { result ≡ false → (o : AnObservation) → Contains (observed answer.now) o
@@ -100,6 +113,20 @@ fn is_of_one(key: &Key, names: &Named<Text>) -> bool
         Key::FragmentOf(name) => is_one(name.as_str(), names),
         _ => false,
     }
+}
+
+/// Whether one of these answers is of a fragment of one of these names. What they observed of types is
+/// of none.
+fn has_one(answers: &[Shared<Answer>], names: &Named<Text>) -> bool
+    ensures { result ≡ false → (o : AnObservation) → Contains (observed_in answers.now) o
+        → spec.in_doubt (doubted.Fragments names.now) o.key ≡ false }
+{
+    for answer in answers {
+        if is_of_one(&answer.get().observation.key, names) {
+            return true;
+        }
+    }
+    false
 }
 
 /// Whether a field of this name may be one that only the query root has.

@@ -98,6 +98,9 @@ fn answers_still_hold<W: World>(
         (Hold (W.facts world.old) (observed_in answers.now))
         (IsBroken (W.facts world.old) (observed_in answers.now))) }
 {
+    if doubt.is_of_none(answers) {
+        return Ok(true);
+    }
     for answer in answers {
         let hold = answer_still_holds(alloc, world, answer.get(), doubt)?;
         if !hold {

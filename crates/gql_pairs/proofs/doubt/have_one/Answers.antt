@@ -1,4 +1,4 @@
-use Rattle.std.proofs.Common.{◌≡◌, List, ap, false, rules, subst}
+use Rattle.std.proofs.Common.{◌≡◌, List, false, rules, subst}
 use Rattle.std.proofs.lemmas.List.{take_all}
 use Rattle.gql_reads.specs.Observations.{about_all}
 use Rattle.gql_reads.specs.declared.observation.TypeAnswers.{TypeAnswers}

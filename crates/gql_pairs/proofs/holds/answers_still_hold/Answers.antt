@@ -1,12 +1,12 @@
 use Rattle.std.specs.Prelude.{MatchBool}
-use Rattle.std.proofs.Common.{◌∙◌, Bool, List, subst, sym}
+use Rattle.std.proofs.Common.{◌≡◌, ◌∙◌, Bool, List, rules, subst, sym, true}
 use Rattle.std.proofs.lemmas.List.{take_all}
 use Rattle.gql_facts.specs.Worlds.{Facts}
 use Rattle.gql_reads.specs.Observations.{Hold, IsBroken, observed, observed_in}
 use Rattle.gql_reads.specs.declared.observation.Answer.{Answer}
 use Rattle.gql_reads.proofs.Held.{broken_one, held_more}
 use Rattle.gql_pairs.specs.Doubts.{HoldUndoubted}
-use Rattle.gql_pairs.proofs.Doubting.{held_answer}
+use Rattle.gql_pairs.proofs.Doubting.{held_answer, undoubted_holds}
 use Rattle.gql_pairs.proofs.holds.answers_still_hold.Goals as goal
 
 pub answer_still_holds-requires : goal.answer_still_holds-requires
@@ -43,3 +43,8 @@ loop-answer-preserved g c =
 
 pub returns-clause-answer : goal.returns-clause-answer
 returns-clause-answer g c = subst (λ (xs : List Answer). Hold (g.W.World.facts c.args.world.now) (observed_in xs)) (take_all _ _ c.loop-answer-test.false) c.loop-answer.invariant.so_far
+
+pub returns-then-is_of_none-clause-answer : goal.returns-then-is_of_none-clause-answer
+returns-then-is_of_none-clause-answer g c =
+    let none : c.is_of_none.result ≡ true = search rules in
+    undoubted_holds (g.W.World.facts c.args.world.now) c.args.doubt.now (observed_in c.args.answers.now) c.requires (c.is_of_none.ensures none)

@@ -1,5 +1,5 @@
 use Rattle.std.proofs.Common.{◌≡◌, List, false, rules, subst, sym}
-use Rattle.gql_reads.specs.Observations.{about_all, observed}
+use Rattle.gql_reads.specs.Observations.{about_all}
 use Rattle.gql_reads.specs.declared.observation.TypeAnswers.{TypeAnswers}
 use Rattle.gql_pairs.specs.Doubts.{in_doubt}
 use Rattle.gql_pairs.specs.declared.doubt.Doubt.{Doubt}
