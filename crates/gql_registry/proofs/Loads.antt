@@ -1,5 +1,5 @@
 -- Edits that are made in turn.
-use Rattle.std.proofs.Common.{◌≡◌, ◌<◌, ◌+◌, ◌∙◌, ℕ, List, [], ◌∷◌, ◌++◌, length, take, get_or, Some, None, Result, Ok, Err, inl, inr, refl, sym, ap, ap₂, subst}
+use Rattle.std.proofs.Common.{false, ◌≡◌, ◌<◌, ◌+◌, ◌∙◌, ℕ, List, [], ◌∷◌, ◌++◌, length, take, get_or, Some, None, Result, Ok, Err, inl, inr, refl, sym, ap, ap₂, subst}
 use Rattle.std.proofs.lemmas.List.{map-append, take-map, take_more}
 use Rattle.std.proofs.lemmas.Option.{slice_get-map, slice_get_read}
 use Rattle.std.specs.Prelude.{option_map, slice_get, IsUtf8}
@@ -108,7 +108,7 @@ one_load one s t u (e ∷ edits) (step {t = a} accepted leaves more) (step {t = 
 -- ---- the change
 
 -- a change that may have changed everything, and leaves files whose definitions are in order
-pub whole_plan : (before after : Files) → AreFilesPlaced after.documents → IsEditPlanOf before (record { files = after; touched = All; schema = None })
+pub whole_plan : (before after : Files) → AreFilesPlaced after.documents → IsEditPlanOf before (record { files = after; touched = All; schema = None; keeps_names = false })
 whole_plan before after placed = record {
   placed = placed;
   touched = record {
@@ -116,6 +116,7 @@ whole_plan before after placed = record {
     definitions = λ all d there untouched. absurd (cc untouched);
   };
   schema = tt;
+  names = λ keeps. absurd (cc keeps);
 }
 
 -- ---- what all of them answer

@@ -13,6 +13,7 @@ use Rattle.gql_ast.specs.declared.files.Files.{Files}
 use Rattle.gql_facts.specs.ListMembers.{Contains-here, Contains-there, Contains-cases}
 use Rattle.gql_parse_sdl.specs.Placed as parsed
 use Rattle.gql_registry.specs.EditPlans.{IsEditPlanOf, IsEditPlanTo}
+use Rattle.gql_verdict.specs.NameViews.{KeepsNamesSound}
 use Rattle.gql_registry.specs.Checks.{IsPlacedOn}
 use Rattle.gql_registry.specs.Keeping.{IsSideOf}
 use Rattle.gql_registry.specs.Sides.{with_put, with_removed}
@@ -72,6 +73,7 @@ plan_of before after c placed to = record {
   placed = subst (λ (f : Files). AreFilesPlaced f.documents) (sym to.files) placed;
   touched = subst (λ (f : Files). ChangesOnly c.touched before f) (sym to.files) to.touched;
   schema = subst (λ (f : Files). IfSome c.schema (IsSideOf f)) (sym to.files) to.schema;
+  names = λ keeps. subst (λ (f : Files). KeepsNamesSound before f) (sym to.files) (to.names keeps);
 }
 
 pub put_plan_of : (side : FileSide) (files : Files) (name : List ℕ) (d : Document) (c : EditPlan) → AreFilesPlaced files.documents → IsPlacedOn side name d → IsEditPlanTo files (with_put side files name d) c → IsEditPlanOf files c

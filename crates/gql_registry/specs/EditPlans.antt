@@ -1,5 +1,5 @@
 -- Helper definitions for private contracts: what an edit makes of the files, before it is committed.
-use Rattle.std.specs.Prelude.{◌≡◌, ◌⊎◌, ℕ, List, Option, Some, None, Err, length, IfSome}
+use Rattle.std.specs.Prelude.{◌≡◌, ◌⊎◌, ℕ, List, Option, Some, None, Err, length, IfSome, IsTrue}
 use Rattle.gql_ast.specs.declared.fault.Fault.{Fault}
 use Rattle.gql_ast.specs.declared.files.Files.{Files}
 use Rattle.gql_registry.specs.Checks.{IsInTime}
@@ -16,6 +16,7 @@ use Rattle.gql_types.specs.Edits.{KeepsOthers}
 use Rattle.gql_types.specs.Schemas.{schema_of}
 use Rattle.gql_verdict.specs.DocumentEdits.{ChangesOnly}
 use Rattle.gql_verdict.specs.FileOrder.{AreFilesPlaced}
+use Rattle.gql_verdict.specs.NameViews.{KeepsNamesSound}
 use Rattle.gql_verdict.specs.SchemaEdits.{IsTouchedBySchema}
 use Rattle.gql_verdict.specs.declared.touched.Touched.{Touched}
 use Rattle.gql_verdict.specs.declared.touched.Touched.TheVariants.{All}
@@ -59,12 +60,14 @@ pub record IsEditPlanTo (before after : Files) (p : EditPlan) : Type 0 where
   pub files : p.files ≡ after
   pub touched : ChangesOnly p.touched before after
   pub schema : IfSome p.schema (IsSideOf after)
+  pub names : IsTrue p.keeps_names → KeepsNamesSound before after
 
 -- the plan of an edit of these files
 pub record IsEditPlanOf (before : Files) (p : EditPlan) : Type 0 where
   pub placed : AreFilesPlaced p.files.documents
   pub touched : ChangesOnly p.touched before p.files
   pub schema : IfSome p.schema (IsSideOf p.files)
+  pub names : IsTrue p.keeps_names → KeepsNamesSound before p.files
 
 -- the edit passes all checks after the first two, and this is its plan
 pub record IsEditPlanBy (s : State) (e : Edit) (p : EditPlan) : Type 0 where

@@ -1,5 +1,5 @@
 -- What is kept with the files: a verdict on each definition of the document files.
-use Rattle.std.specs.Prelude.{◌≡◌, List, [], Option, IfSome}
+use Rattle.std.specs.Prelude.{◌≡◌, List, [], Option, IfSome, IsTrue}
 use Rattle.gql_ast.specs.declared.fault.Fault.{Fault}
 use Rattle.gql_ast.specs.declared.files.Files.{Files}
 use Rattle.gql_facts.specs.Facts.{fact_of, fragments}
@@ -16,11 +16,13 @@ use Rattle.gql_schema_rules.specs.SchemaFaults.{IsSchemaFault}
 use Rattle.gql_registry.specs.Report.{IsReport}
 use Rattle.gql_registry.specs.declared.index.DocumentIndex.{DocumentIndex}
 use Rattle.gql_registry.specs.declared.report.Known.{Known}
+use Rattle.gql_registry.specs.declared.report.Reported.{Reported}
 use Rattle.gql_registry.specs.declared.report.SchemaSide.{SchemaSide}
 use Rattle.gql_serving.specs.Owners.{AreOwnersOf}
 use Rattle.gql_types.specs.Schemas.{schema_of}
 use Rattle.gql_verdict.specs.Definitions.{all_definitions}
 use Rattle.gql_verdict.specs.FileOrder.{AreFilesPlaced}
+use Rattle.gql_verdict.specs.NameViews.{AreNamesSound}
 use Rattle.gql_verdict.specs.Plans.{IsPlanned, Preparation}
 use Rattle.gql_verdict.specs.Shelves.{IsCurrent, IsWork, IsFaultOfAny, Shelved}
 use Rattle.gql_verdict.specs.TouchedFacts.{ArePairsKnown, IsKnown}
@@ -92,10 +94,16 @@ pub record IsIndexOf (files : Files) (index : DocumentIndex) : Type 0 where
   pub fragments : index.fragments.all ≡ fragments files.documents
   pub operations : IsOperationIndex files.documents index.operations
 
+-- the report of the files, and what is said of the rules on names holds
+pub record IsReportOf (files : Files) (r : Reported) : Type 0 where
+  pub report : IsReport files r.faults.items
+  pub names : IsTrue r.has_sound_names → AreNamesSound files
+
 -- what is known of the files
 pub record IsKnownOf (files : Files) (known : Known) : Type 0 where
   pub schema : IsSideOf files known.schema
   pub index : IsIndexOf files known.index
+  pub names : IsTrue known.has_sound_names → AreNamesSound files
   pub report : IsReport files known.report.items
   pub owners : AreOwnersOf known.report.items known.owners
 

@@ -1,5 +1,5 @@
 //! What an edit of one file makes, before it is committed.
-ghost use Rattle.std.specs.Prelude.{◌≡◌, IfOk, IfSome, OnOk};
+ghost use Rattle.std.specs.Prelude.{◌≡◌, IfOk, IfSome, IsTrue, OnOk};
 ghost use Rattle.std.specs.Option.{option_copied};
 ghost use Rattle.gql_ast.specs.declared.fault.FileSide.TheVariants as on;
 ghost use Rattle.gql_registry.specs.EditPlans.{IsEditPlanTo, IsSchemaEdit, IsSchemaTouched, IsSideAfterDocuments, IsSideBeforeEdit};
@@ -8,11 +8,12 @@ ghost use Rattle.gql_registry.specs.Sides as spec;
 ghost use Rattle.gql_types.specs.Edits.{KeepsOthers};
 ghost use Rattle.gql_types.specs.Schemas.{schema_of};
 ghost use Rattle.gql_verdict.specs.DocumentEdits.{ChangesOnly};
+ghost use Rattle.gql_verdict.specs.NameViews.{KeepsNamesSound};
 
 use crate::report::{Known, SchemaSide, side_after_edit};
 use gql_ast::{Document, FileMap, FileName, FileSide, Files, Shared, Text};
 use gql_types::{Named, edited_names, laws as type_laws};
-use gql_verdict::{Touched, laws};
+use gql_verdict::{Touched, keeps_names, laws};
 use std::alloc::{AllocError, Global};
 
 /// The files that an edit leaves, what it touches, and the schema of the files if it is known.
@@ -21,6 +22,8 @@ pub struct EditPlan {
     pub files: Files,
     pub touched: Touched,
     pub schema: Option<Shared<SchemaSide>>,
+    /// Whether no rule on names finds a fault after the edit if none finds one before it.
+    pub keeps_names: bool,
 }
 
 /// The names of the types that an edit of a schema file may change. `after` is the file that is put,
@@ -143,7 +146,25 @@ fn schema_touched(
     Ok(touched)
 }
 
-/// The plan of an edit of a schema file.
+/// Whether no rule on names finds a fault after an edit of a document file if none finds one before it.
+/// `after` is the file that is put, or none if the file is removed.
+fn edit_keeps_names(
+    alloc: Global,
+    files: &Files,
+    name: &FileName,
+    after: Option<&Document>,
+) -> Result<bool, AllocError>
+    ensures { IfOk result (λ keeps. IsTrue keeps → KeepsNamesSound files.now
+        (spec.with_file on.Documents files.now name.now (option_copied after.entry))) }
+{
+    let Some(document) = after else {
+        return Ok(false);
+    };
+    let keeps = keeps_names(alloc, files, name, document)?;
+    Ok(keeps)
+}
+
+/// The plan of an edit of a schema file. It changes no name in a document file.
 fn schema_plan(
     alloc: Global,
     files: &Files,
@@ -166,6 +187,7 @@ fn schema_plan(
         files: changed,
         touched,
         schema,
+        keeps_names: true,
     })
 }
 
@@ -182,6 +204,7 @@ fn document_plan(
         (spec.with_file on.Documents files.now name document)) }
 {
     let touched = touched_by(alloc, files, &name, document.as_ref())?;
+    let keeps_names = edit_keeps_names(alloc, files, &name, document.as_ref())?;
     let mut changed = files.copy()?;
     edit_file(alloc, &mut changed.documents, &name, document)?;
     let schema = kept_schema(known)?;
@@ -189,6 +212,7 @@ fn document_plan(
         files: changed,
         touched,
         schema,
+        keeps_names,
     })
 }
 

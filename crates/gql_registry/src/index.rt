@@ -14,12 +14,17 @@ pub struct DocumentIndex {
     pub operations: Operations,
 }
 
-/// Finds the fragments and the operations of the document files.
-pub fn document_index(alloc: Global, files: &Files) -> Result<DocumentIndex, AllocError>
+/// Finds the fragments and the operations of the document files. What is looked up in the operations
+/// before is shared, if these have the same names.
+pub fn document_index(
+    alloc: Global,
+    files: &Files,
+    before: Option<&Operations>,
+) -> Result<DocumentIndex, AllocError>
     ensures { IfOk result (IsIndexOf files.now) }
 {
     let fragments = Fragments::new(alloc, &files.documents)?;
-    let operations = Operations::new(alloc, &files.documents)?;
+    let operations = Operations::new(alloc, &files.documents, before)?;
     Ok(DocumentIndex {
         fragments,
         operations,

@@ -1,5 +1,5 @@
 //! Files, with a verdict on each definition of the document files.
-ghost use Rattle.std.specs.Prelude.{◌≡◌, ◌↔◌, IfOk, IfSome, IsTrue, OnOk, OnErr};
+ghost use Rattle.std.specs.Prelude.{◌≡◌, ◌↔◌, IfOk, IfSome, IsTrue, OnOk, OnErr, option_map};
 ghost use Rattle.std.specs.Option.{option_copied};
 ghost use Rattle.serde_json.specs.View.{view};
 ghost use Rattle.gql_registry.specs.Calls.{Answers};
@@ -15,10 +15,12 @@ ghost use Rattle.gql_registry.specs.Report.{IsReport, IsSound};
 ghost use Rattle.gql_facts.specs.Members.{Lists};
 ghost use Rattle.gql_registry.specs.Sides as spec;
 ghost use Rattle.gql_verdict.specs.FileOrder.{AreFilesPlaced};
+ghost use Rattle.gql_verdict.specs.NameViews.{AreNamesSound};
 
 use crate::calling::{Ran, answer_call};
 use crate::edit_plan::{EditPlan, edit_plan};
 use crate::index::{DocumentIndex, document_index};
+use crate::operations::Operations;
 use crate::refusal::Refusal;
 use crate::report::{Known, SchemaSide, known_with, schema_side, sharing};
 use gql_ast::{Document, Fault, FileName, FileSide, Files, Shared};
@@ -166,33 +168,60 @@ fn known_of(alloc: Global, shelf: &Shelf, files: &Files) -> Result<Known, AllocE
     ensures { IfOk result (IsKnownOf files.now) }
 {
     let schema = known_side(alloc, &None, files)?;
-    let index = document_index(alloc, files)?;
+    let index = document_index(alloc, files, None)?;
     let faults = present_faults(alloc, shelf, schema.get())?;
-    known_with(alloc, files, schema, index, faults)
+    known_with(alloc, files, schema, index, faults, false)
+}
+
+/// The operations of the files, if they are known.
+fn known_operations(known: &Option<Known>) -> Option<&Operations>
+    ensures { option_copied result ≡ option_map (λ k. k.index.operations) known.now }
+{
+    match known {
+        Some(known) => Some(&known.index.operations),
+        None => None,
+    }
+}
+
+/// Whether it is known that no rule on names finds a fault after an edit: none found one before it, and
+/// the edit keeps that.
+fn keeps_sound_names(known: &Option<Known>, plan: &EditPlan) -> bool
+    ensures { IsTrue result → (before : TheFiles) → IfSome known.now (IsKnownOf before)
+        → IsEditPlanOf before plan.now → AreNamesSound plan.now.files }
+{
+    match known {
+        Some(known) => known.has_sound_names && plan.keeps_names,
+        None => false,
+    }
 }
 
 /// Examines the definitions whose verdicts do not hold for the files of a plan, and makes the report
-/// of these files.
+/// of these files. `before` is what is known of the files before them, of which some is shared, and
+/// `sound_names` says whether it is known that no rule on names finds a fault.
 fn examine(
     alloc: Global,
     shelf: &Shelf,
+    before: &Option<Known>,
     plan: &EditPlan,
+    sound_names: bool,
     meter: &mut Meter,
 ) -> Result<Examined, AllocError>
     requires schema { IfSome plan.now.schema (IsSideOf plan.now.files) }
     requires placed { AreFilesPlaced plan.now.files.documents }
     requires known { IsKnownBefore plan.now.files shelf.now.verdicts plan.now.touched }
     requires pairs { ArePairsBefore plan.now.files shelf.now.pairs plan.now.touched }
+    requires names { IsTrue sound_names → AreNamesSound plan.now.files }
     ensures examined { IfOk result (IsExaminedFor plan.now.files shelf.now.verdicts) }
     ensures pairs { IfOk result (λ e.
         KeepsPairs plan.now.files shelf.now.pairs e.verdicts.pairs) }
     ensures work { IsWorkOn plan.now.files shelf.now.verdicts meter.old meter.new }
 {
     let schema = known_side(alloc, &plan.schema, &plan.files)?;
-    let index = document_index(alloc, &plan.files)?;
+    let index = document_index(alloc, &plan.files, known_operations(before))?;
     let verdicts = verdicts_for(alloc, shelf, schema.get(), &index, plan, meter)?;
     let faults = prepared_faults(alloc, shelf, &verdicts, schema.get())?;
-    let known = known_with(alloc, &plan.files, schema, index, faults)?;
+    let files = &plan.files;
+    let known = known_with(alloc, files, schema, index, faults, sound_names)?;
     Ok(Examined { known, verdicts })
 }
 
@@ -312,7 +341,8 @@ impl Kept {
         ensures err { OnErr result (self.new ≡ self.old) }
         ensures work { IsWorkOn plan.files self.old.shelf meter.old meter.new }
     {
-        let found = examine(alloc, &self.shelf, &plan, meter)?;
+        let sound_names = keeps_sound_names(&self.known, &plan);
+        let found = examine(alloc, &self.shelf, &self.known, &plan, sound_names, meter)?;
         let count = found.known.report.len() as u64;
         self.shelf.commit(found.verdicts);
         self.known = Some(found.known);

@@ -85,11 +85,28 @@ fn add_operations(
     Ok(())
 }
 
+/// These operations, in their order. They share the look-up of those before, if these have the same
+/// names.
+fn named_like(
+    alloc: Global,
+    named: Vec<NamedOperation>,
+    before: Option<&Operations>,
+) -> Result<Named<NamedOperation>, AllocError>
+    ensures { IfOk result (λ all. all ≡ named.items) }
+{
+    match before {
+        Some(before) => Named::like(alloc, named, &before.named),
+        None => Named::new(alloc, named),
+    }
+}
+
 impl Operations {
-    /// The operations of these files. They share the trees.
+    /// The operations of these files. They share the trees, and the look-up of the operations before
+    /// if these have the same names.
     pub fn new(
         alloc: Global,
         documents: &FileMap<Shared<Document>>,
+        before: Option<&Operations>,
     ) -> Result<Operations, AllocError>
         ensures { IfOk result (IsIndexOf documents.now) }
     {
@@ -100,7 +117,7 @@ impl Operations {
             add_operations(definitions, &mut named, &mut all)?;
         }
         Ok(Operations {
-            named: Named::new(alloc, named)?,
+            named: named_like(alloc, named, before)?,
             all,
         })
     }

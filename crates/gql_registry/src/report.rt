@@ -1,14 +1,16 @@
 //! The report of files, from the faults of their parts.
-ghost use Rattle.std.specs.Prelude.{◌≡◌, ◌≢◌, ◌++◌, [], IfOk, OnOk};
+ghost use Rattle.std.specs.Prelude.{◌≡◌, ◌≢◌, ◌++◌, [], IfOk, IsTrue, OnOk};
 ghost use Rattle.gql_ast.specs.declared.files.Files.{Files as TheFiles};
 ghost use Rattle.gql_facts.specs.Members.{Lists};
 ghost use Rattle.gql_registry.specs.EditPlans.{IsSideBefore};
 ghost use Rattle.gql_intro.specs.Made.{made_of};
 ghost use Rattle.gql_types.specs.Schemas.{schema_of};
 ghost use Rattle.gql_registry.specs.Keeping.{AreFactsOf, AreSchemaFaults, IsDefinitionFault};
-ghost use Rattle.gql_registry.specs.Keeping.{IsIndexOf, IsKnownOf, IsSideOf};
+ghost use Rattle.gql_registry.specs.Keeping.{IsIndexOf, IsKnownOf, IsReportOf, IsSideOf};
 ghost use Rattle.gql_registry.specs.Report.{IsReport, IsSound};
 ghost use Rattle.gql_schema_rules.specs.KeptFaults.{AreFaultsOf};
+ghost use Rattle.gql_verdict.specs.NameFaults.{name_faults as faults_of_names};
+ghost use Rattle.gql_verdict.specs.NameViews.{AreNamesSound};
 
 use crate::index::DocumentIndex;
 use gql_ast::{Fault, FileName, Files, Shared, Text};
@@ -39,8 +41,17 @@ pub struct SchemaSide {
 pub struct Known {
     pub schema: Shared<SchemaSide>,
     pub index: DocumentIndex,
+    /// Whether it is known that no rule on names finds a fault.
+    pub has_sound_names: bool,
     pub report: Vec<Shared<Fault>>,
     pub owners: Owners,
+}
+
+/// The report of files, and whether it is known that no rule on names finds a fault in them.
+#[derive(Drop)]
+pub struct Reported {
+    pub faults: Vec<Shared<Fault>>,
+    pub has_sound_names: bool,
 }
 
 /// This schema, with these facts, what introspection makes of it, and these faults.
@@ -161,61 +172,99 @@ fn schema_report(alloc: Global, faults: &[Shared<Fault>]) -> Result<Vec<Shared<F
     Ok(report)
 }
 
+/// Whether there are no faults.
+fn are_none(faults: &[Fault]) -> bool
+    ensures { IsTrue result → faults.now ≡ [] }
+{
+    faults.is_empty()
+}
+
+/// The faults of names over all document files. They are looked for only if it is not known that there
+/// are none.
+fn faults_by_names(alloc: Global, files: &Files, are_sound: bool) -> Result<Vec<Fault>, AllocError>
+    requires { IsTrue are_sound → AreNamesSound files.now }
+    ensures { IfOk result (λ found. found.items ≡ faults_of_names files.now) }
+{
+    if are_sound {
+        return Ok(Vec::new(alloc));
+    }
+    name_faults(alloc, files)
+}
+
 /// The report if the schema has no faults, and the definitions of the document files have these.
 fn documents_report(
     alloc: Global,
     files: &Files,
     of_definitions: Vec<Shared<Fault>>,
-) -> Result<Vec<Shared<Fault>>, AllocError>
+    sound_names: bool,
+) -> Result<Reported, AllocError>
     requires sound { IsSound files.now }
     requires faults { Lists of_definitions.items (IsDefinitionFault files.now) }
-    ensures { IfOk result (λ report. IsReport files.now report.items) }
+    requires names { IsTrue sound_names → AreNamesSound files.now }
+    ensures { IfOk result (IsReportOf files.now) }
 {
     let mut of_definitions = of_definitions;
-    let of_names = name_faults(alloc, files)?;
+    let of_names = faults_by_names(alloc, files, sound_names)?;
+    let has_sound_names = are_none(of_names.as_slice());
     let mut faults = shared_faults(alloc, of_names)?;
     faults.append(&mut of_definitions)?;
     let report = in_order(alloc, faults)?;
-    Ok(report)
+    Ok(Reported {
+        faults: report,
+        has_sound_names,
+    })
 }
 
 /// The report of files whose schema has these faults, and whose definitions have those. If the
-/// schema has faults, they alone are reported.
+/// schema has faults, they alone are reported. `sound_names` says whether it is known that no rule on
+/// names finds a fault.
 fn report_of(
     alloc: Global,
     files: &Files,
     schema_faults: &[Shared<Fault>],
     of_definitions: Vec<Shared<Fault>>,
-) -> Result<Vec<Shared<Fault>>, AllocError>
+    sound_names: bool,
+) -> Result<Reported, AllocError>
     requires schema { AreSchemaFaults files.now schema_faults.now }
     requires faults { IsSound files.now → Lists of_definitions.items (IsDefinitionFault files.now) }
-    ensures { IfOk result (λ report. IsReport files.now report.items) }
+    requires names { IsTrue sound_names → AreNamesSound files.now }
+    ensures { IfOk result (IsReportOf files.now) }
 {
     if !schema_faults.is_empty() {
-        return schema_report(alloc, schema_faults);
+        let faults = schema_report(alloc, schema_faults)?;
+        return Ok(Reported {
+            faults,
+            has_sound_names: sound_names,
+        });
     }
-    documents_report(alloc, files, of_definitions)
+    let reported = documents_report(alloc, files, of_definitions, sound_names)?;
+    Ok(reported)
 }
 
 /// What is known of files with this schema and these definitions, which have these faults.
+/// `sound_names` says whether it is known that no rule on names finds a fault.
 pub fn known_with(
     alloc: Global,
     files: &Files,
     schema: Shared<SchemaSide>,
     index: DocumentIndex,
     of_definitions: Vec<Shared<Fault>>,
+    sound_names: bool,
 ) -> Result<Known, AllocError>
     requires schema { IsSideOf files.now schema }
     requires index { IsIndexOf files.now index }
     requires faults { IsSound files.now → Lists of_definitions.items (IsDefinitionFault files.now) }
+    requires names { IsTrue sound_names → AreNamesSound files.now }
     ensures { IfOk result (IsKnownOf files.now) }
 {
-    let report = report_of(alloc, files, schema.get().faults.as_slice(), of_definitions)?;
-    let owners = Owners::new(alloc, report.as_slice())?;
+    let of_schema = schema.get().faults.as_slice();
+    let reported = report_of(alloc, files, of_schema, of_definitions, sound_names)?;
+    let owners = Owners::new(alloc, reported.faults.as_slice())?;
     Ok(Known {
         schema,
         index,
-        report,
+        has_sound_names: reported.has_sound_names,
+        report: reported.faults,
         owners,
     })
 }

@@ -5,6 +5,7 @@ pub mod Certified
 pub mod Edited
 pub mod EditedSchema
 pub mod FileLists
+pub mod FilePut
 pub mod Filled
 pub mod LedTo
 pub mod Marking
@@ -13,6 +14,7 @@ pub mod Ordered
 pub mod PairsKnown
 pub mod Picked
 pub mod Refreshed
+pub mod SameViews
 pub mod Seen
 pub mod SeenKeys
 pub mod SpreadForms

@@ -4,6 +4,7 @@ pub mod DocumentEdits
 pub mod Faults
 pub mod FileOrder
 pub mod NameFaults
+pub mod NameViews
 pub mod Naming
 pub mod Marks
 pub mod Plans

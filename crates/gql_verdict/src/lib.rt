@@ -13,6 +13,7 @@ mod meter;
 mod names;
 mod naming;
 mod plan;
+mod same_names;
 mod schema_edit;
 mod shared_work;
 mod sharing;
@@ -29,6 +30,7 @@ mod verdict;
 
 pub use meter::Meter;
 pub use names::name_faults;
+pub use same_names::keeps_names;
 pub use shared_work::SharedWork;
 pub use sharing::shared_faults;
 pub use shelf::{Prepared, Shelf};

@@ -1,11 +1,12 @@
 //! The names of fragments that are spread.
-ghost use Rattle.std.specs.Prelude.{◌≡◌, ◌||◌, ◌++◌, ℕ, List, IfOk, OnOk, bytes_eq, is_some, map};
+ghost use Rattle.std.specs.Prelude.{◌≡◌, ◌||◌, ◌++◌, ℕ, List, IfOk, IsTrue, OnOk, bytes_eq, is_some, map};
 ghost use Rattle.std.specs.HashMap as hash;
 ghost use Rattle.gql_ast.specs.declared.executable.Selection.TheVariants as selections;
 ghost use Rattle.gql_verdict.specs.Spreads as spec;
 ghost use Rattle.gql_verdict.specs.V14FragmentsMustBeUsed.{is_spread};
 
 use gql_ast::{Definition, Name, Selection, Tree};
+use gql_types::is_same_name;
 use std::alloc::{AllocError, Global};
 use std::collections::HashMap;
 
@@ -50,6 +51,41 @@ fn add_tree_spreads<'t>(tree: &'t Tree, names: &mut Vec<&'t Name>) -> Result<(),
         Tree::Fragment(fragment) => add_set_spreads(fragment.get().selections.as_slice(), names),
         _ => Ok(()),
     }
+}
+
+/// The names that are spread in a definition, in their order.
+fn tree_spreads<'t>(alloc: Global, tree: &'t Tree) -> Result<Vec<&'t Name>, AllocError>
+    ensures { IfOk result (λ names. map (λ n. n.now.text) names.items
+        ≡ spec.tree_spreads tree.now) }
+{
+    let mut names = Vec::new(alloc);
+    add_tree_spreads(tree, &mut names)?;
+    Ok(names)
+}
+
+/// Whether these are the same names, in the same order.
+fn are_same(names: &[&Name], others: &[&Name]) -> bool
+    ensures { IsTrue result → map (λ n. n.now.text) names.now ≡ map (λ n. n.now.text) others.now }
+{
+    if names.len() != others.len() {
+        return false;
+    }
+    for i in 0..names.len() {
+        if !is_same_name(names[i].as_str(), others[i].as_str()) {
+            return false;
+        }
+    }
+    true
+}
+
+/// Whether two definitions spread the same names, in the same order.
+pub fn has_same_spreads(alloc: Global, tree: &Tree, other: &Tree) -> Result<bool, AllocError>
+    ensures { IfOk result (λ same.
+        IsTrue same → spec.tree_spreads tree.now ≡ spec.tree_spreads other.now) }
+{
+    let names = tree_spreads(alloc, tree)?;
+    let others = tree_spreads(alloc, other)?;
+    Ok(are_same(names.as_slice(), others.as_slice()))
 }
 
 /// The names that are spread in these definitions, in their order.

@@ -5,9 +5,10 @@ use Rattle.gql_ast.specs.declared.files.Files.{Files}
 use Rattle.gql_registry.specs.EditPlans.{IsSchemaEdit}
 use Rattle.gql_registry.specs.Keeping.{IsSideOf}
 use Rattle.gql_registry.specs.Sides.{with_file}
-use Rattle.gql_registry.proofs.PlannedFiles.{schema_edited}
+use Rattle.gql_registry.proofs.PlannedFiles.{schema_edited, schema_files}
 use Rattle.gql_registry.proofs.SchemaTouched.{schema_touches}
 use Rattle.gql_verdict.specs.DocumentEdits.{ChangesOnly}
+use Rattle.gql_verdict.specs.NameViews.{AreNamesSound}
 use Rattle.gql_registry.proofs.SameSchema.{known_before}
 use Rattle.gql_registry.proofs.UndoneEdits.{differs_at}
 use Rattle.gql_registry.proofs.edit_plan.schema_plan.Goals as goal
@@ -35,4 +36,5 @@ returns c =
           (schema_touches c.edit_schema.ensures before made c.args.known.now c.in_ok-schema.schema c.in_ok-edited.edited c.in_ok-touched.touched c.requires c.in_ok-schema.ensures edit
           (sym (ap (λ (f : Files). f.documents) c.in_ok-changed.ensures)) c.in_ok-touched.ensures);
       schema = subst (λ (f : Files). IfSome c.in_ok-schema.schema (IsSideOf f)) (sym is) c.in_ok-schema.ensures;
+      names = λ keeps none. subst AreNamesSound (sym (schema_files before c.args.name c.args.document)) none;
     }

@@ -2,6 +2,7 @@ use Rattle.std.proofs.Common.{rules, refl, sym, subst}
 use Rattle.gql_facts.specs.Facts.{fact_of}
 use Rattle.gql_verdict.specs.Definitions.{all_definitions}
 use Rattle.gql_verdict.specs.DocumentEdits.{ChangesOnly}
+use Rattle.gql_registry.specs.EditPlans.{IsEditPlanOf}
 use Rattle.gql_registry.specs.Keeping.{ArePairsOf, IsWorkOn, Keeping, KeepsPairs}
 use Rattle.gql_registry.proofs.Knowing.{known, pairs_known}
 use Rattle.gql_registry.proofs.Working.{on_err_of}
@@ -22,6 +23,11 @@ pub examine-requires-clause-pairs : goal.examine-requires-clause-pairs
 examine-requires-clause-pairs c =
     pairs_known c.self.inside.files c.args.plan.files c.self.inside.shelf.pairs c.args.plan.touched c.self.invariant.pairs
     (subst (λ (k : Keeping). ChangesOnly c.args.plan.touched k.files c.args.plan.files) (sym c.self.view_is) c.requires.touched)
+
+pub examine-requires-clause-names : goal.examine-requires-clause-names
+examine-requires-clause-names c = λ sound.
+    c.keeps_sound_names-sound_names.ensures sound c.self.inside.files c.self.invariant.known
+    (subst (λ (k : Keeping). IsEditPlanOf k.files c.args.plan) (sym c.self.view_is) c.requires)
 
 pub returns-in_err-found-clause-pairs : goal.returns-in_err-found-clause-pairs
 returns-in_err-found-clause-pairs c = search rules
