@@ -57,8 +57,9 @@ def reads_fragments(number):
 
 
 def fragments(operations, moved=0):
-    """A file of the fragments that operations spread, half of which spread others."""
-    parts = [f"# moved {moved}\n"] if moved else []
+    """A file of the fragments that operations spread, half of which spread others, moved down by so many
+    lines."""
+    parts = ["\n" * moved]
     read = {n % FRAGMENTS for n in range(operations) if reads_fragments(n)}
     for n in sorted(read):
         below = f"owner {{ ...Name{n} }}" if n % 4 else "owner { id name }"
