@@ -1,6 +1,6 @@
 -- The first definitions of a list with one more at its end.
-use Rattle.std.proofs.Common.{◌≡◌, ◌++◌, ℕ, List, [], ◌∷◌, Bool, ◌||◌, ◌+◌, ◌<◌, length, get_or, take, bytes_eq, refl, ◌∙◌, cond, arith}
-use Rattle.std.proofs.lemmas.List.{take_more}
+use Rattle.std.proofs.Common.{◌≡◌, ◌++◌, ℕ, List, [], ◌∷◌, Bool, ◌||◌, ◌+◌, ◌<◌, length, get_or, map, take, bytes_eq, refl, ◌∙◌, cond, arith}
+use Rattle.std.proofs.lemmas.List.{map-append, take_more}
 use Rattle.std.proofs.lemmas.Slice.Eq.{bytes_eq-Decides}
 use Rattle.std.proofs.lemmas.Grind.{common_steps}
 use Rattle.std.specs.List.{list_any}
@@ -16,18 +16,19 @@ pub first_more : (ds : List (Sited TypeDefinition)) (x : Sited TypeDefinition) �
 first_more [] x = refl
 first_more (d ∷ ds) x = grind (arith, common_steps, bytes_eq-Decides d.node.name.text x.node.name.text, bytes_eq-Decides x.node.name.text d.node.name.text, first_more ds x)
 
--- a definition more was looked at
-pub seen_step : (q : List ℕ) (ds : List (Sited TypeDefinition)) (i : ℕ) (x : Sited TypeDefinition) (old new : Bool) → i < length ds → get_or ds i x ≡ x
-    → old ≡ list_any (λ (d : Sited TypeDefinition). bytes_eq q d.node.name.text) (take i ds)
-    → new ≡ (old || bytes_eq q x.node.name.text)
-    → new ≡ list_any (λ (d : Sited TypeDefinition). bytes_eq q d.node.name.text) (take (i + 1) ds)
-seen_step q ds i x old new within item before after =
-    rw (take_more ds i x within, item, list_any-append (λ (d : Sited TypeDefinition). bytes_eq q d.node.name.text) (take i ds) (x ∷ [])) grind (arith, common_steps, before, after)
+module _ {X : Type 0} (f : X → Sited TypeDefinition) where
+  -- a definition more was looked at
+  pub seen_step : (q : List ℕ) (xs : List X) (i : ℕ) (x : X) (old new : Bool) → i < length xs → get_or xs i x ≡ x
+      → old ≡ list_any (λ (d : Sited TypeDefinition). bytes_eq q d.node.name.text) (map f (take i xs))
+      → new ≡ (old || bytes_eq q (f x).node.name.text)
+      → new ≡ list_any (λ (d : Sited TypeDefinition). bytes_eq q d.node.name.text) (map f (take (i + 1) xs))
+  seen_step q xs i x old new within item before after =
+      rw (take_more xs i x within, item, map-append f (take i xs) (x ∷ []), list_any-append (λ (d : Sited TypeDefinition). bytes_eq q d.node.name.text) (map f (take i xs)) (f x ∷ [])) grind (arith, common_steps, before, after)
 
-pub first_step : (ds : List (Sited TypeDefinition)) (i : ℕ) (x : Sited TypeDefinition) (seen : Bool) (old new : List (Sited TypeDefinition)) → i < length ds → get_or ds i x ≡ x
-    → seen ≡ seen_in x (take i ds)
-    → old ≡ first_definitions (take i ds)
-    → new ≡ old ++ cond seen [] (x ∷ [])
-    → new ≡ first_definitions (take (i + 1) ds)
-first_step ds i x seen old new within item were before after =
-    rw (take_more ds i x within, item, first_more (take i ds) x) (after ∙ (λ k. before k ++ cond (were k) [] (x ∷ [])))
+  pub first_step : (xs : List X) (i : ℕ) (x : X) (seen : Bool) (old new : List (Sited TypeDefinition)) → i < length xs → get_or xs i x ≡ x
+      → seen ≡ seen_in (f x) (map f (take i xs))
+      → old ≡ first_definitions (map f (take i xs))
+      → new ≡ old ++ cond seen [] (f x ∷ [])
+      → new ≡ first_definitions (map f (take (i + 1) xs))
+  first_step xs i x seen old new within item were before after =
+      rw (take_more xs i x within, item, map-append f (take i xs) (x ∷ []), first_more (map f (take i xs)) (f x)) (after ∙ (λ k. before k ++ cond (were k) [] (f x ∷ [])))

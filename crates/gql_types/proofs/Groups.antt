@@ -1,5 +1,5 @@
 -- The extensions of each definition, by their names first and then by their kinds.
-use Rattle.std.proofs.Common.{◌≡◌, ◌&&◌, ◌++◌, ◌+◌, ◌<◌, ℕ, List, [], ◌∷◌, Bool, Bor, map, filter, length, get_or, take, bytes_eq, refl, ap, ◌∙◌, arith}
+use Rattle.std.proofs.Common.{◌≡◌, ◌&&◌, ◌++◌, ◌+◌, ◌<◌, ℕ, List, [], ◌∷◌, Bool, map, filter, length, get_or, take, bytes_eq, refl, ap, ◌∙◌, arith}
 use Rattle.std.proofs.lemmas.List.{take_more, map-append}
 use Rattle.std.proofs.lemmas.Grind.{common_steps}
 use Rattle.gql_ast.specs.declared.type_system.TypeDefinition.{TypeDefinition}
@@ -28,10 +28,10 @@ types_by_groups at es ds found = map_same (λ (d : Sited TypeDefinition). assemb
     (λ d. ap (assembled d) (ap (filter (of_kind d)) (found d.node.name.text)
     ∙ filter_twice (λ (e : Sited TypeExtension). bytes_eq d.node.name.text e.node.name.text) (of_kind d) es))
 
--- one of the borrowed was looked at
-pub borrowed_step : {X Y : Type 0} (f : X → Y) (xs : List (Bor X)) (i : ℕ) (x : Bor X) (old new : List Y) → i < length xs → get_or xs i x ≡ x
-    → old ≡ map f (map (λ (r : Bor X). r.now) (take i xs))
-    → new ≡ old ++ f x.now ∷ []
-    → new ≡ map f (map (λ (r : Bor X). r.now) (take (i + 1) xs))
-borrowed_step f xs i x old new within item before after =
-    rw (take_more xs i x within, item, map-append (λ r. r.now) (take i xs) (x ∷ []), map-append f (map (λ r. r.now) (take i xs)) (x.now ∷ [])) (after ∙ ap (λ ys. ys ++ f x.now ∷ []) before)
+-- one thing more was looked at, of which another is made
+pub made_step : {W X Y : Type 0} (f : X → Y) (form : W → X) (xs : List W) (i : ℕ) (x : W) (old new : List Y) → i < length xs → get_or xs i x ≡ x
+    → old ≡ map f (map form (take i xs))
+    → new ≡ old ++ f (form x) ∷ []
+    → new ≡ map f (map form (take (i + 1) xs))
+made_step f form xs i x old new within item before after =
+    rw (take_more xs i x within, item, map-append form (take i xs) (x ∷ []), map-append f (map form (take i xs)) (form x ∷ [])) (after ∙ ap (λ ys. ys ++ f (form x) ∷ []) before)

@@ -8,6 +8,7 @@ pub mod Groups
 pub mod Members
 pub mod Once
 pub mod Ordering
+pub mod Others
 pub mod OtherTypes
 pub mod Places
 pub mod Wrapping

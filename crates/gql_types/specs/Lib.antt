@@ -14,6 +14,7 @@ pub mod Possible
 pub mod RequiredInputs
 pub mod Roots
 pub mod Schemas
+pub mod Sites
 pub mod Types
 pub mod Written
 pub mod WrittenTypes

@@ -11,6 +11,7 @@ mod definitions;
 mod edited;
 mod edited_types;
 mod first_definitions;
+mod gathered;
 mod kind;
 pub mod laws;
 mod named;
@@ -22,6 +23,7 @@ mod same_name;
 mod schema;
 mod schema_type;
 mod sorted_names;
+mod type_site;
 mod written_type;
 
 pub use all_possible::AllPossible;

@@ -2,7 +2,7 @@
 
 ghost use Rattle.std.specs.Prelude.{◌≡◌, ℕ, List, [], IfOk, IfSome, IsTrue, Some, find, map, bytes_eq, slice_get};
 ghost use Rattle.std.specs.Option.{option_copied};
-ghost use Rattle.gql_types.specs.Names.{are_among};
+ghost use Rattle.gql_types.specs.Names.{AreOnce, are_among};
 
 use crate::named_list::{NamedList, have_same_names};
 use gql_ast::{Shared, Text};
@@ -128,6 +128,16 @@ impl<T: HasName> Named<T> {
         match &self.list {
             Some(list) => list.get().as_slice(),
             None => &[],
+        }
+    }
+
+    /// Whether it is known that each name occurs once.
+    pub fn are_once(&self) -> bool
+        ensures { IsTrue result → AreOnce (map T.name self.now) }
+    {
+        match &self.list {
+            Some(list) => list.get().are_once(),
+            None => true,
         }
     }
 

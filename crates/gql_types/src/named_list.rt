@@ -122,7 +122,7 @@ fn first_named<'a, T: HasName>(things: &'a [T], name: &str) -> Option<&'a T>
 }
 
 /// The thing at a place.
-fn thing_at<T>(things: &[T], place: usize) -> Option<&T>
+pub fn thing_at<T>(things: &[T], place: usize) -> Option<&T>
     ensures { option_copied result ≡ slice_get things.now place }
 {
     things.get(place)
@@ -188,6 +188,16 @@ impl<T: HasName> NamedList<T> {
         ensures { result.now ≡ self.now }
     {
         self.things.as_slice()
+    }
+
+    /// Whether it is known that each name occurs once.
+    pub fn are_once(&self) -> bool
+        ensures { IsTrue result → AreOnce (map T.name self.now) }
+    {
+        match &self.places {
+            Some(places) => places.get().are_once,
+            None => false,
+        }
     }
 
     /// The first of that name.

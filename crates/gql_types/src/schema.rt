@@ -1,17 +1,23 @@
 //! The schema of all schema files (GraphQL specification, 3.3).
-ghost use Rattle.std.specs.Prelude.{◌≡◌, IfOk};
+ghost use Rattle.std.specs.Prelude.{◌≡◌, IfOk, map};
 ghost use Rattle.std.specs.Option.{option_copied};
+ghost use Rattle.gql_types.specs.Definitions.{type_extensions};
 ghost use Rattle.gql_types.specs.Edits.{KeepsOthers, KeepsTypes};
+ghost use Rattle.gql_types.specs.Names.{AreOnce};
+ghost use Rattle.gql_types.specs.Possible.{name_of};
 ghost use Rattle.gql_types.specs.Schemas as spec;
+ghost use Rattle.gql_types.specs.Sites as sites;
+ghost use Rattle.gql_types.specs.Sites.{site};
+ghost use Rattle.gql_types.specs.Types.{types_of};
 
 use crate::all_possible::AllPossible;
 use crate::applied::append_in;
 use crate::defined_inputs::DefinedInputs;
 use crate::definitions::{
-    definitions, directive_definitions, schema_definitions, schema_extensions, type_definitions,
-    type_extensions,
+    directive_definitions, schema_definitions, schema_extensions, type_extensions,
 };
 use crate::edited_types::types_after_edit;
+use crate::gathered::{Gathered, gather};
 use crate::kind::{TypeKind, is_operation};
 use crate::named::{HasName, Named};
 use crate::roots::{Root, roots_of};
@@ -20,7 +26,7 @@ use gql_ast::{
     DirectiveDefinition, EnumValueDefinition, FieldDefinition, Files, InputValueDefinition, Items,
     OperationKind, Shared, Text, Tree,
 };
-use gql_built_in::Sited;
+use gql_built_in::{Sited, built_in_definitions};
 use std::alloc::{AllocError, Global};
 
 /// All schema files as one schema. Look-ups borrow what `assemble` made, and allocate nothing.
@@ -50,62 +56,57 @@ impl HasName for Sited<Shared<DirectiveDefinition>> {
     }
 }
 
-fn types(
-    alloc: Global,
-    definitions: &[Sited<Tree>],
-) -> Result<Named<Shared<SchemaType>>, AllocError>
-    ensures { IfOk result (λ types. types ≡ spec.types_in definitions.now) }
+/// The types of gathered definitions.
+fn types(alloc: Global, definitions: &Gathered<'_>) -> Result<Named<Shared<SchemaType>>, AllocError>
+    ensures { IfOk result (λ types. types ≡ types_of
+        (map site definitions.now.types.items) (type_extensions definitions.now.others)) }
 {
-    let extensions = type_extensions(alloc, definitions)?;
-    let definitions = type_definitions(alloc, definitions)?;
-    Named::new(
-        alloc,
-        types_of(alloc, definitions.as_slice(), extensions.as_slice())?,
-    )
+    let extensions = type_extensions(alloc, definitions.others.as_slice())?;
+    let types = types_of(alloc, definitions.types.as_slice(), extensions.as_slice())?;
+    Named::new(alloc, types)
 }
 
-/// The types of these definitions after an edit, by the schema before it.
+/// The types of gathered definitions after an edit, by the schema before it.
 fn types_after(
     alloc: Global,
-    definitions: &[Sited<Tree>],
+    definitions: &Gathered<'_>,
     before: &Schema,
     edited: &Named<Text>,
 ) -> Result<Named<Shared<SchemaType>>, AllocError>
-    ensures { IfOk result (λ types.
-        KeepsTypes edited.now before.now (spec.types_in definitions.now)
-        → types ≡ spec.types_in definitions.now) }
+    ensures { IfOk result (λ types. KeepsTypes edited.now before.now (types_of
+        (map site definitions.now.types.items) (type_extensions definitions.now.others))
+        → types ≡ types_of (map site definitions.now.types.items)
+        (type_extensions definitions.now.others)) }
 {
-    let extensions = type_extensions(alloc, definitions)?;
-    let definitions = type_definitions(alloc, definitions)?;
-    let extensions = extensions.as_slice();
-    let types = types_after_edit(alloc, definitions.as_slice(), extensions, before, edited)?;
-    let types = Named::like(alloc, types, &before.types)?;
+    let extensions = type_extensions(alloc, definitions.others.as_slice())?;
+    let sites = definitions.types.as_slice();
+    let types = types_after_edit(alloc, sites, extensions.as_slice(), before, edited)?;
     Ok(types)
 }
 
 fn roots(
     alloc: Global,
-    definitions: &[Sited<Tree>],
+    others: &[Sited<Tree>],
     types: &Named<Shared<SchemaType>>,
 ) -> Result<Items<Root>, AllocError>
-    ensures { IfOk result (λ roots. roots ≡ spec.roots_in definitions.now types.now) }
+    ensures { IfOk result (λ roots. roots ≡ spec.roots_in others.now types.now) }
 {
-    let schemas = schema_definitions(alloc, definitions)?;
-    let extensions = schema_extensions(alloc, definitions)?;
+    let schemas = schema_definitions(alloc, others)?;
+    let extensions = schema_extensions(alloc, others)?;
     roots_of(alloc, types, schemas.as_slice(), extensions.as_slice())
 }
 
-/// The schema of these definitions, with these types.
+/// The schema with these types, by the definitions that are not of types.
 fn schema_with(
     alloc: Global,
-    definitions: &[Sited<Tree>],
     types: Named<Shared<SchemaType>>,
+    others: &[Sited<Tree>],
 ) -> Result<Schema, AllocError>
-    requires { types ≡ spec.types_in definitions.now }
-    ensures { IfOk result (λ schema. schema ≡ spec.schema_in definitions.now) }
+    requires { AreOnce (map name_of types) }
+    ensures { IfOk result (λ schema. schema ≡ sites.schema_with types others.now) }
 {
-    let roots = roots(alloc, definitions, &types)?;
-    let directives = Named::new(alloc, directive_definitions(alloc, definitions)?)?;
+    let roots = roots(alloc, others, &types)?;
+    let directives = Named::new(alloc, directive_definitions(alloc, others)?)?;
     let possible = AllPossible::new(alloc, &types)?;
     Ok(Schema {
         types,
@@ -121,9 +122,11 @@ fn schema_with(
 pub fn assemble(alloc: Global, files: &Files) -> Result<Schema, AllocError>
     ensures { IfOk result (λ schema. schema ≡ spec.schema_of files.now) }
 {
-    let definitions = definitions(alloc, files)?;
-    let types = types(alloc, definitions.as_slice())?;
-    schema_with(alloc, definitions.as_slice(), types)
+    let built_in = built_in_definitions(alloc)?;
+    let definitions = gather(alloc, built_in.as_slice(), files)?;
+    let types = types(alloc, &definitions)?;
+    let schema = schema_with(alloc, types, definitions.others.as_slice())?;
+    Ok(schema)
 }
 
 /// The schema of all schema files after an edit, by the schema before it. The edit changed types of
@@ -137,9 +140,10 @@ pub fn assemble_after_edit(
     requires { KeepsOthers edited.now before.now (spec.schema_of files.now) }
     ensures { IfOk result (λ schema. schema ≡ spec.schema_of files.now) }
 {
-    let definitions = definitions(alloc, files)?;
-    let types = types_after(alloc, definitions.as_slice(), before, edited)?;
-    let schema = schema_with(alloc, definitions.as_slice(), types)?;
+    let built_in = built_in_definitions(alloc)?;
+    let definitions = gather(alloc, built_in.as_slice(), files)?;
+    let types = types_after(alloc, &definitions, before, edited)?;
+    let schema = schema_with(alloc, types, definitions.others.as_slice())?;
     Ok(schema)
 }
 

@@ -2,9 +2,11 @@
 ghost use Rattle.std.specs.Prelude.{◌≡◌, ◌++◌, ◌∷◌, [], ℕ, List, IfOk, OnOk, map, filter, bytes_eq};
 ghost use Rattle.std.specs.Option.{option_map_or};
 ghost use Rattle.std.specs.HashMap as hash;
+ghost use Rattle.gql_types.specs.EditedTypes.{type_by};
 ghost use Rattle.gql_types.specs.Kinds.{same_kind};
 ghost use Rattle.gql_types.specs.Parts.{kind_of};
 ghost use Rattle.gql_types.specs.RequiredInputs.{is_required_input};
+ghost use Rattle.gql_types.specs.Sites.{site};
 ghost use Rattle.gql_types.specs.Types as spec;
 
 use crate::by_name::{ByName, by_name};
@@ -13,12 +15,13 @@ use crate::first_definitions::first_definitions;
 use crate::kind::TypeKind;
 use crate::named::{HasName, Named};
 use crate::parts::{all_held, interfaces, members, parts_in};
+use crate::type_site::TypeSite;
 use crate::written_type::is_non_null;
 use gql_ast::{
     EnumValueDefinition, FieldDefinition, InputValueDefinition, Items, Name, Shared,
     TypeDefinition, TypeExtension,
 };
-use gql_built_in::{Sited, same_source};
+use gql_built_in::{Sited, SourceFile, same_source};
 use std::alloc::{AllocError, Global};
 
 /// A type: its first definition, the extensions of its kind in their order, and the parts of all of
@@ -177,7 +180,7 @@ fn assembled(
 }
 
 /// The type of a definition, with the extensions of its name and kind.
-pub(crate) fn with_extensions(
+fn with_extensions(
     alloc: Global,
     definition: &Sited<Shared<TypeDefinition>>,
     extensions: &ByName<'_, Sited<Shared<TypeExtension>>>,
@@ -193,22 +196,39 @@ pub(crate) fn with_extensions(
     Ok(of_type)
 }
 
+/// The type of a definition, with the extensions of its name and kind. It shares the name of its
+/// file with this one, if that is the same; else its own takes the place of that.
+pub(crate) fn made_type(
+    alloc: Global,
+    definition: &TypeSite<'_>,
+    extensions: &ByName<'_, Sited<Shared<TypeExtension>>>,
+    source: &mut SourceFile,
+) -> Result<Shared<SchemaType>, AllocError>
+    ensures { IfOk result (λ t.
+        t ≡ type_by (λ q. option_map_or (λ group. map (λ x. x.now) group.items)
+        (hash.get_by_text extensions.now q) []) (site definition.now)) }
+{
+    let definition = definition.shared(alloc, source)?;
+    let of_type = with_extensions(alloc, &definition, extensions)?;
+    *source = same_source(&definition.file)?;
+    let made = Shared::new(alloc, of_type)?;
+    Ok(made)
+}
+
 fn all_with_extensions(
     alloc: Global,
-    definitions: &[&Sited<Shared<TypeDefinition>>],
+    definitions: &[TypeSite<'_>],
     extensions: &ByName<'_, Sited<Shared<TypeExtension>>>,
 ) -> Result<Vec<Shared<SchemaType>>, AllocError>
     ensures { IfOk result (λ types.
-        types.items ≡ map (λ d.
-        spec.assembled d (filter (λ e. same_kind (kind_of d.node.parts) (kind_of e.node.parts))
-        (option_map_or (λ group. map (λ x. x.now) group.items)
-        (hash.get_by_text extensions.now d.node.name.text) [])))
-        (map (λ d. d.now) definitions.now)) }
+        types.items ≡ map (type_by (λ q. option_map_or (λ group. map (λ x. x.now) group.items)
+        (hash.get_by_text extensions.now q) [])) (map site definitions.now)) }
 {
     let mut types = Vec::with_capacity(alloc, definitions.len())?;
+    let mut source = None;
     for definition in definitions {
-        let of_type = with_extensions(alloc, definition, extensions)?;
-        types.push(Shared::new(alloc, of_type)?)?;
+        let of_type = made_type(alloc, definition, extensions, &mut source)?;
+        types.push(of_type)?;
     }
     Ok(types)
 }
@@ -216,10 +236,11 @@ fn all_with_extensions(
 /// The types of these definitions, each with the extensions of its name and kind.
 pub fn types_of(
     alloc: Global,
-    definitions: &[Sited<Shared<TypeDefinition>>],
+    definitions: &[TypeSite<'_>],
     extensions: &[Sited<Shared<TypeExtension>>],
 ) -> Result<Vec<Shared<SchemaType>>, AllocError>
-    ensures { IfOk result (λ types. types.items ≡ spec.types_of definitions.now extensions.now) }
+    ensures { IfOk result (λ types.
+        types.items ≡ spec.types_of (map site definitions.now) extensions.now) }
 {
     let groups = by_name(alloc, extensions)?;
     let firsts = first_definitions(alloc, definitions)?;

@@ -1,14 +1,26 @@
-use Rattle.std.proofs.Common.{◌∙◌, [], map, ap}
+use Rattle.std.proofs.Common.{◌∙◌, [], map, ap, rules, sym}
 use Rattle.std.specs.Option.{option_map_or}
 use Rattle.std.specs.HashMap as hash
 use Rattle.gql_types.specs.EditedTypes.{type_by}
+use Rattle.gql_types.specs.Possible.{name_of}
+use Rattle.gql_types.specs.Sites.{site}
 use Rattle.gql_types.specs.Types.{first_definitions}
 use Rattle.gql_types.proofs.EditedTypes.{kept_same}
 use Rattle.gql_types.proofs.Groups.{types_by_groups}
+use Rattle.gql_types.proofs.Others.{all_in_place}
 use Rattle.gql_types.proofs.edited_types.types_after_edit.Goals as goal
 
+pub returns-then-are_in_place : goal.returns-then-are_in_place
+returns-then-are_in_place c = λ keeps. c.in_ok-types-2.ensures
+    ∙ kept_same c.args.edited.now c.args.before.now c.in_ok-types.types.items _ _
+    (ap (map (type_by (λ q. option_map_or (λ group. map (λ x. x.now) group.items) (hash.get_by_text c.in_ok-groups.groups q) [])))
+    (sym (all_in_place site c.args.definitions.now (map name_of c.named_types-names.result.now) (c.are_in_place.ensures.names (search rules)) (c.are_in_place.ensures.once (search rules))))
+    ∙ types_by_groups (λ q. option_map_or (λ group. map (λ x. x.now) group.items) (hash.get_by_text c.in_ok-groups.groups q) []) c.args.extensions.now (first_definitions (map site c.args.definitions.now)) c.in_ok-groups.ensures)
+    c.in_ok-types.ensures keeps
+
 pub returns : goal.returns
-returns c = kept_same c.args.edited.now c.args.before.now c.in_ok-types.types.items _ _
-    (ap (map (type_by (λ q. option_map_or (λ group. map (λ x. x.now) group.items) (hash.get_by_text c.in_ok-groups.groups q) []))) (ap (map (λ d. d.now)) c.as_slice.ensures.value ∙ c.in_ok-firsts.ensures)
-    ∙ types_by_groups (λ q. option_map_or (λ group. map (λ x. x.now) group.items) (hash.get_by_text c.in_ok-groups.groups q) []) c.args.extensions.now (first_definitions c.args.definitions.now) c.in_ok-groups.ensures)
-    c.in_ok-types.ensures
+returns c = λ keeps. c.in_ok-types-4.ensures
+    ∙ kept_same c.args.edited.now c.args.before.now c.in_ok-types-3.types.items _ _
+    (ap (map (type_by (λ q. option_map_or (λ group. map (λ x. x.now) group.items) (hash.get_by_text c.in_ok-groups.groups q) []))) (ap (map site) c.as_slice.ensures.value ∙ c.in_ok-firsts.ensures)
+    ∙ types_by_groups (λ q. option_map_or (λ group. map (λ x. x.now) group.items) (hash.get_by_text c.in_ok-groups.groups q) []) c.args.extensions.now (first_definitions (map site c.args.definitions.now)) c.in_ok-groups.ensures)
+    c.in_ok-types-3.ensures keeps

@@ -1,6 +1,0 @@
-use Rattle.std.proofs.Common.{◌≡◌, take}
-use Rattle.gql_types.specs.Definitions as spec
-use Rattle.gql_types.proofs.definitions.type_definitions.Given as goal
-
-abbrev pub invariant-loop-definition : goal.invariant-loop-definition
-invariant-loop-definition l = l.found ≡ spec.type_definitions (take l.definition-index l.definitions)

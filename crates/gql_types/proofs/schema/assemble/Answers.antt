@@ -1,0 +1,24 @@
+use Rattle.std.proofs.Common.{◌++◌, ◌∙◌, ap, map, subst, sym}
+use Rattle.gql_types.specs.Definitions.{definitions, of_files, type_definitions, type_extensions}
+use Rattle.gql_types.specs.Names.{AreOnce}
+use Rattle.gql_types.specs.Possible.{name_of}
+use Rattle.gql_types.specs.Sites.{others_in, schema_with, site}
+use Rattle.gql_types.proofs.EachPossible.{types_once}
+use Rattle.gql_types.proofs.Others.{same_schema, same_types}
+use Rattle.gql_types.proofs.schema.assemble.Goals as goal
+
+pub schema_with-requires : goal.schema_with-requires
+schema_with-requires c = subst (λ types. AreOnce (map name_of types)) (sym c.in_ok-types.ensures)
+    (types_once (map site c.in_ok-definitions.definitions.types.items) (type_extensions c.in_ok-definitions.definitions.others))
+
+pub returns : goal.returns
+returns c =
+    let built = c.as_slice.ensures ∙ c.in_ok-built_in.ensures in
+    let found = map site c.in_ok-definitions.definitions.types.items in
+    let others = c.in_ok-definitions.definitions.others in
+    let are_types = c.in_ok-definitions.ensures.types ∙ ap (λ bs. type_definitions (bs ++ of_files c.args.files.now.schema)) built in
+    let are_others = c.in_ok-definitions.ensures.others ∙ ap (λ bs. others_in (bs ++ of_files c.args.files.now.schema)) built in
+    let are = same_types (definitions c.args.files.now) found others are_types are_others in
+    same_schema (definitions c.args.files.now) found others are_types are_others c.in_ok-types.types c.in_ok-schema.schema
+    (c.in_ok-types.ensures ∙ are)
+    (c.in_ok-schema.ensures ∙ ap (schema_with c.in_ok-types.types) c.as_slice-2.ensures)

@@ -1,0 +1,135 @@
+//! The definitions of a schema (GraphQL specification, 3.1), gathered in one walk.
+ghost use Rattle.std.specs.Prelude.{◌≡◌, ◌++◌, ◌∷◌, [], IfOk, OnOk, map};
+ghost use Rattle.std.specs.Option.{option_copied};
+ghost use Rattle.gql_ast.specs.declared.definition.Tree.TheVariants as tree;
+ghost use Rattle.gql_types.specs.Definitions as spec;
+ghost use Rattle.gql_types.specs.Sites.{others_in, site};
+
+use crate::type_site::{TypeSite, source_like};
+use gql_ast::{Definition, FileName, Files, Items, Shared, Tree, TypeDefinition};
+use gql_built_in::{Sited, SourceFile, name_of_source};
+use std::alloc::{AllocError, Global};
+
+/// The definitions of types other than Float, where they stand, and all definitions that are not of
+/// types.
+#[derive(Drop)]
+pub struct Gathered<'d> {
+    pub types: Vec<TypeSite<'d>>,
+    pub others: Items<Sited<Tree>>,
+    /// The file of the last of the others, whose name is shared.
+    source: SourceFile,
+}
+
+fn names_a_type(name: &str) -> bool
+    ensures { result ≡ spec.names_a_type name.now }
+{
+    name != "Float"
+}
+
+impl<'d> Gathered<'d> {
+    /// Adds the definition of a type, unless it is Float.
+    fn add_type(
+        &mut self,
+        file: Option<&'d FileName>,
+        node: &'d Shared<TypeDefinition>,
+    ) -> Result<(), AllocError>
+        ensures types { OnOk result (map site self.new.types.items ≡ map site self.old.types.items
+            ++ spec.type_in (option_copied file.entry) (tree.Type node.now)) }
+        ensures others { self.new.others ≡ self.old.others }
+    {
+        if names_a_type(node.get().name.as_str()) {
+            self.types.push(TypeSite { file, node })?;
+        }
+        Ok(())
+    }
+
+    /// Adds a definition that is not of a type.
+    fn add_other(
+        &mut self,
+        alloc: Global,
+        file: Option<&FileName>,
+        tree: &Tree,
+    ) -> Result<(), AllocError>
+        ensures types { self.new.types ≡ self.old.types }
+        ensures others { OnOk result (self.new.others ≡ self.old.others
+            ++ (record { file = option_copied file.entry; node = tree.now }) ∷ []) }
+    {
+        self.source = source_like(alloc, file, &self.source)?;
+        self.others.push(Sited {
+            file: source_like(alloc, file, &self.source)?,
+            node: tree.copy()?,
+        })?;
+        Ok(())
+    }
+
+    /// Adds a definition.
+    fn add(
+        &mut self,
+        alloc: Global,
+        file: Option<&'d FileName>,
+        tree: &'d Tree,
+    ) -> Result<(), AllocError>
+        ensures types { OnOk result (map site self.new.types.items ≡ map site self.old.types.items
+            ++ spec.type_in (option_copied file.entry) tree.now) }
+        ensures others { OnOk result (self.new.others ≡ self.old.others
+            ++ others_in ((record { file = option_copied file.entry; node = tree.now }) ∷ [])) }
+    {
+        match tree {
+            Tree::Type(node) => self.add_type(file, node),
+            _ => self.add_other(alloc, file, tree),
+        }
+    }
+
+    /// Adds the built-in definitions.
+    fn add_built_in(
+        &mut self,
+        alloc: Global,
+        definitions: &'d [Sited<Tree>],
+    ) -> Result<(), AllocError>
+        ensures types { OnOk result (map site self.new.types.items ≡ map site self.old.types.items
+            ++ spec.type_definitions definitions.now) }
+        ensures others { OnOk result (self.new.others ≡ self.old.others
+            ++ others_in definitions.now) }
+    {
+        for definition in definitions {
+            self.add(alloc, name_of_source(&definition.file), &definition.node)?;
+        }
+        Ok(())
+    }
+
+    /// Adds the definitions of a file.
+    fn add_file(&mut self, alloc: Global, definitions: &'d [Definition]) -> Result<(), AllocError>
+        ensures types { OnOk result (map site self.new.types.items ≡ map site self.old.types.items
+            ++ spec.type_definitions (spec.in_order_of definitions.now)) }
+        ensures others { OnOk result (self.new.others ≡ self.old.others
+            ++ others_in (spec.in_order_of definitions.now)) }
+    {
+        for definition in definitions {
+            self.add(alloc, Some(&definition.file), &definition.tree)?;
+        }
+        Ok(())
+    }
+}
+
+/// The definitions of the schema files, after the built-in ones.
+pub fn gather<'d>(
+    alloc: Global,
+    built_in: &'d [Sited<Tree>],
+    files: &'d Files,
+) -> Result<Gathered<'d>, AllocError>
+    ensures types { IfOk result (λ found. map site found.types.items
+        ≡ spec.type_definitions (built_in.now ++ spec.of_files files.now.schema)) }
+    ensures others { IfOk result (λ found. found.others
+        ≡ others_in (built_in.now ++ spec.of_files files.now.schema)) }
+{
+    let mut found = Gathered {
+        types: Vec::new(alloc),
+        others: Items::new(alloc),
+        source: None,
+    };
+    found.add_built_in(alloc, built_in)?;
+    for (_name, document) in files.schema.entries().iter() {
+        found.add_file(alloc, document.get().definitions.as_slice())?;
+    }
+    Ok(found)
+}
