@@ -16,7 +16,7 @@ use Rattle.gql_facts.specs.ListMembers.{Contains-nil, Contains-here, Contains-th
 use Rattle.gql_facts.specs.Worlds.{Facts}
 use Rattle.gql_reads.specs.declared.observation.Answer.{Answer}
 use Rattle.gql_facts.specs.declared.key.Key.{Key}
-use Rattle.gql_readers.specs.Changes.{AreNotes, IsEdit, Noted, Notes}
+use Rattle.gql_readers.specs.Changes.{AreNotes, HasAnswer, HasKey, IsEdit, Noted, Notes}
 use Rattle.gql_readers.specs.Indexes.{AreAlike, IsIndexOf, Reading}
 use Rattle.gql_readers.specs.Merged.{IsUnchanged, changed_key, edited, entry_if, answer_after, answer_by, here, index_after, key_of, made, readers_after, readers_found}
 use Rattle.gql_readers.specs.Orders.{AreInOrder, key_order}
@@ -24,7 +24,7 @@ use Rattle.gql_readers.specs.Readers.{Reader, readers_of}
 use Rattle.gql_readers.proofs.Alike.{alike, answer_held}
 use Rattle.gql_readers.proofs.Merging.{about, here_from, here_has, merged_from, merged_keeps, merged_makes, merged_rises, not_less, pairs_head, pairs_none, pairs_one, pairs_tail}
 use Rattle.gql_readers.specs.OrderLaws.{key_exact, key_total}
-use Rattle.gql_readers.proofs.Reading.{about_id, edited_in_order, edited_readers, none_reads, observes_from, observes_has, reads_from, reads_has, reads_in_order, same_ids, same_readers, with_from, with_new, with_old, without_from, without_has}
+use Rattle.gql_readers.proofs.Reading.{about_id, answer_reads, edited_in_order, edited_readers, none_reads, observes_from, observes_has, reads_answer, reads_has, reads_in_order, same_ids, same_readers, with_from, with_new, with_old, without_from, without_has}
 
 -- ---- what is noted of a key
 
@@ -138,15 +138,15 @@ module _ (F : Facts) (es : List Reading) (notes : Notes) (old going coming new :
   come_answer : (c : Key × Noted) → Contains notes c → c.1.comes ≢ [] → (r : Reader) (o : Answer) → Contains new r → Contains r.answers o → o.observation.key ≡ c.0 → AreAlike c.1.answer o
   come_answer c m some r o in_new n e =
       let told = are.answers c.0 c.1 (noted_at notes sorted c m) some in
-      let there = edit.comes told.0 told.2 in
+      let there = edit.difference.comes told.0.id told.1 (told.0, told.2, refl, told.3) in
       subst (λ a. AreAlike a o) told.5
-      (alike F told.1 o (told.4 ∙ sym e) (answer_held F told.0.answers told.1 (edit.holds told.0 there) told.3) (answer_held F r.answers o (edit.holds r in_new) n)
-      (edit.led told.0 there told.1 told.3) (edit.led r in_new o n))
+      (alike F told.1 o (told.4 ∙ sym e) (answer_held F there.0.answers told.1 (edit.holds there.0 there.1) there.3) (answer_held F r.answers o (edit.holds r in_new) n)
+      (edit.led there.0 there.1 told.1 there.3) (edit.led r in_new o n))
 
-  -- a new reader of a key that nobody comes to had it before
-  was_old : (k : Key) → readers_of k coming ≡ [] → (r : Reader) (o : Answer) → Contains new r → Contains r.answers o → o.observation.key ≡ k → Contains old r
-  was_old k none r o m n e = elim (edit.from r m) [
-    | inl j ↦ absurd (no_reader (readers_of k coming) r.id none (reads_has k coming r j (observes_has k r o n e)))
+  -- an answer to a key that nobody comes to was there before
+  was_old : (k : Key) → readers_of k coming ≡ [] → (r : Reader) (o : Answer) → Contains new r → Contains r.answers o → o.observation.key ≡ k → HasAnswer old r.id o
+  was_old k none r o m n e = elim (edit.difference.from r.id o (r, m, refl, n)) [
+    | inl j ↦ absurd (no_reader (readers_of k coming) r.id none (subst (λ z. HasKey coming r.id z) e j))
     | inr s ↦ s.0
   ]
 
@@ -158,12 +158,12 @@ module _ (F : Facts) (es : List Reading) (notes : Notes) (old going coming new :
       → (found : List Reading) → ((e : Reading) → Contains found e → Contains es e × (e.key ≡ c.0)) → ((e : Reading) → Contains es e → e.key ≡ c.0 → Contains found e) → AreAlike (answer_after found c.1) o
   answer_found c m r o in_new n e [] from has = come_answer c m (λ none.
       let kept = was_old c.0 (sym (comes_are c m) ∙ none) r o in_new n e in
-      let f = index.answers r o kept n in
+      let f = index.answers kept.0 o kept.1 kept.3 in
       Contains-nil f.0 (has f.0 f.1 (f.2 ∙ e))) r o in_new n e
   answer_found c m r o in_new n e (d ∷ rest) from has = answer_comes c.1.comes c.1.answer d.answer o (λ some. come_answer c m some r o in_new n e)
       (λ none.
       let kept = was_old c.0 (sym (comes_are c m) ∙ none) r o in_new n e in
-      let f = index.answers r o kept n in
+      let f = index.answers kept.0 o kept.1 kept.3 in
       let g = from d (Contains-here d rest) in
       let same : d ≡ f.0 = one_entry es index.order d f.0 g.0 f.1 (g.1 ∙ sym (f.2 ∙ e)) in
       subst (λ (z : Reading). AreAlike z.answer o) (sym same) f.3)
@@ -194,7 +194,7 @@ module _ (F : Facts) (es : List Reading) (notes : Notes) (old going coming new :
           )
       | inr lacks ↦
           let kept = was_old o.observation.key (nobody_comes o.observation.key lacks) r o m n refl in
-          let f = index.answers r o kept n in
+          let f = index.answers kept.0 o kept.1 kept.3 in
           (f.0, merged_keeps key_order key_total key_exact key_of changed_key made es notes f.0 f.1 (λ c h q. lacks c h (sym q ∙ f.2)), f.2, f.3)
     ];
   }
@@ -210,8 +210,8 @@ module _ (F : Facts) (es : List Reading) (notes : Notes) (old going coming new :
   -- who goes from a key has read it
   pub goes_among : (c : Key × Noted) → Contains notes c → (id : DefinitionId) → Contains c.1.goes id → Contains (readers_found (here key_order key_of c.0 es)) id
   goes_among c m id h =
-      let g = reads_from c.0 going id (subst (λ ids. Contains ids id) (goes_are c m) h) in
-      subst (λ ids. Contains ids id) (sym (here_readers c.0)) (subst (λ x. Contains (readers_of c.0 old) x) g.2 (reads_has c.0 old g.0 (edit.goes g.0 g.1) g.3))
+      let g = reads_answer going id c.0 (subst (λ ids. Contains ids id) (goes_are c m) h) in
+      subst (λ ids. Contains ids id) (sym (here_readers c.0)) (subst (λ z. HasKey old id z) g.2 (answer_reads old id g.0 (edit.difference.goes id g.0 g.1)))
 
 -- ---- an entry that a change leaves as it is
 

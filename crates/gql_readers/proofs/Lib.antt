@@ -1,8 +1,10 @@
 pub mod Alike
+pub mod Between
 pub mod Coming
 pub mod Editing
 pub mod Found
 pub mod Merging
 pub mod Noting
 pub mod Reading
+pub mod Replacing
 pub mod Splitting

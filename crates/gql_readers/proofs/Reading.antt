@@ -12,7 +12,7 @@ use Rattle.gql_facts.specs.declared.key.Key.{Key}
 use Rattle.gql_reads.specs.Observations.{keys_of}
 use Rattle.gql_reads.specs.declared.observation.Answer.{Answer}
 use Rattle.gql_reads.specs.declared.observation.Observation.{Observation}
-use Rattle.gql_readers.specs.Changes.{IsEdit}
+use Rattle.gql_readers.specs.Changes.{HasAnswer, HasKey, IsEdit}
 use Rattle.gql_readers.specs.Merged.{edited, itself, one_if}
 use Rattle.gql_readers.specs.Orders.{AreInOrder, id_order}
 use Rattle.gql_readers.specs.Readers.{InReadingOrder, Reader, observes, readers_of}
@@ -157,30 +157,38 @@ module _ (xs cs : List DefinitionId) (up : AreInOrder cs) where
   edited_in_order false all = merged_rises id_order id_total id_exact itself itself (one_if false) xs cs up all
       (λ ys c. record { place = λ y m. absurd (Contains-nil y m); once = pairs_none (λ (x y : DefinitionId). Before x y) })
 
+-- ---- answers of readers, and keys
+
+pub answer_reads : (rs : List Reader) (id : DefinitionId) (o : Answer) → HasAnswer rs id o → HasKey rs id o.observation.key
+answer_reads rs id o h = subst (λ z. HasKey rs z o.observation.key) h.2 (reads_has o.observation.key rs h.0 h.1 (observes_has o.observation.key h.0 o h.3 refl))
+
+pub reads_answer : (rs : List Reader) (id : DefinitionId) (k : Key) → HasKey rs id k → (o : Answer) × HasAnswer rs id o × (o.observation.key ≡ k)
+reads_answer rs id k c =
+    let r = reads_from k rs id c in
+    let x = observes_from k r.0 r.3 in
+    (x.0, (r.0, r.1, r.2, x.1), x.2)
+
 -- ---- the readers of a key after an edit
 
 module _ (F : Facts) (old going coming new : List Reader) (edit : IsEdit F old going coming new) (k : Key) where
   -- who reads it afterwards came, or stayed
-  pub read_after : (id : DefinitionId) → Contains (readers_of k new) id → Contains (readers_of k coming) id ⊎ (Contains (readers_of k old) id × (Contains (readers_of k going) id → ⊥))
+  pub read_after : (id : DefinitionId) → HasKey new id k → HasKey coming id k ⊎ (HasKey old id k × (HasKey going id k → ⊥))
   read_after id c =
-      let r = reads_from k new id c in
-      elim (edit.from r.0 r.1) [
-        | inl j ↦ inl (subst (λ z. Contains (readers_of k coming) z) r.2 (reads_has k coming r.0 j r.3))
-        | inr o ↦ inr (
-          subst (λ z. Contains (readers_of k old) z) r.2 (reads_has k old r.0 o.0 r.3),
-          λ m. let g = reads_from k going id m in o.1 g.0 g.1 (g.2 ∙ sym r.2),
-        )
+      let a = reads_answer new id k c in
+      elim (edit.difference.from id a.0 a.1) [
+        | inl j ↦ inl (subst (λ z. HasKey coming id z) a.2 j)
+        | inr o ↦ inr (subst (λ z. HasKey old id z) a.2 (answer_reads old id a.0 o.0), λ m. o.1 (subst (λ z. HasKey going id z) (sym a.2) m))
       ]
 
-  pub came : (id : DefinitionId) → Contains (readers_of k coming) id → Contains (readers_of k new) id
-  came id c = let r = reads_from k coming id c in subst (λ z. Contains (readers_of k new) z) r.2 (reads_has k new r.0 (edit.comes r.0 r.1) r.3)
+  pub came : (id : DefinitionId) → HasKey coming id k → HasKey new id k
+  came id c =
+      let a = reads_answer coming id k c in
+      subst (λ z. HasKey new id z) a.2 (answer_reads new id a.0 (edit.difference.comes id a.0 a.1))
 
-  pub stayed : (id : DefinitionId) → Contains (readers_of k old) id → (Contains (readers_of k going) id → ⊥) → Contains (readers_of k new) id
+  pub stayed : (id : DefinitionId) → HasKey old id k → (HasKey going id k → ⊥) → HasKey new id k
   stayed id c n =
-      let r = reads_from k old id c in
-      subst (λ z. Contains (readers_of k new) z) r.2 (reads_has k new r.0 (edit.stays r.0 r.1 (λ g m e.
-      let same : g ≡ r.0 = one_reader old edit.old_order g r.0 (edit.goes g m) r.1 e in
-      n (subst (λ z. Contains (readers_of k going) z) (ap (λ (z : Reader). z.id) same ∙ r.2) (reads_has k going g m (subst (λ (z : Reader). observes k z ≡ true) (sym same) r.3))))) r.3)
+      let a = reads_answer old id k c in
+      subst (λ z. HasKey new id z) a.2 (edit.difference.stays id a.0 a.1 (λ m. n (subst (λ z. HasKey going id z) a.2 m)))
 
   old_in : AreInOrder (readers_of k old)
   old_in = reads_in_order k old edit.old_order

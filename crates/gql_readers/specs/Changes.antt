@@ -11,7 +11,7 @@ use Rattle.gql_reads.specs.Leading.{AreLed}
 use Rattle.gql_reads.specs.Observations.{Hold, observed_in}
 use Rattle.gql_readers.specs.Indexes.{IsIndexOf, Reading}
 use Rattle.gql_readers.specs.Orders.{key_order}
-use Rattle.gql_readers.specs.Readers.{InReadingOrder, Reader, readers_of}
+use Rattle.gql_readers.specs.Readers.{InReadingOrder, Reader, ids_of, readers_of}
 
 -- of one key: the answer, the readers that come, and those that go
 pub record Noted : Type 0 where
@@ -48,20 +48,37 @@ pub record AreNotes (notes : Notes) (coming going : List Reader) : Type 0 where
   pub answers : (k : Key) (n : Noted) → noted_of notes k ≡ Some n → n.comes ≢ []
       → WasTold coming k n.answer
 
--- Some of the old readers go, others come, and those are the new readers: all in file order, each
--- definition once. What the new readers observed holds, and each of their answers has exactly the types
--- that it leads to.
+-- a reader on this definition has this answer
+abbrev pub HasAnswer : List Reader → DefinitionId → Answer → Type 0
+HasAnswer readers id o = (r : Reader) × Contains readers r × (r.id ≡ id) × Contains r.answers o
+
+-- a reader on this definition has an answer to this key
+abbrev pub HasKey : List Reader → DefinitionId → Key → Type 0
+HasKey readers id k = Contains (readers_of k readers) id
+
+-- The answers that go and those that come make the new readers of the old ones. What goes was
+-- there, and what comes is there afterwards. A key that was read and does not go is still read. To
+-- the key of each answer that is there afterwards its reader comes, or the answer was there, and its
+-- reader does not go from its key.
+pub record IsDifference (old going coming new : List Reader) : Type 0 where
+  pub goes : (id : DefinitionId) (o : Answer) → HasAnswer going id o → HasAnswer old id o
+  pub comes : (id : DefinitionId) (o : Answer) → HasAnswer coming id o → HasAnswer new id o
+  pub stays : (id : DefinitionId) (o : Answer) → HasAnswer old id o
+      → (HasKey going id o.observation.key → ⊥) → HasKey new id o.observation.key
+  pub from : (id : DefinitionId) (o : Answer) → HasAnswer new id o
+      → HasKey coming id o.observation.key
+      ⊎ (HasAnswer old id o × (HasKey going id o.observation.key → ⊥))
+
+-- Answers of the old readers go, others come, and that makes the new readers: all in file order,
+-- each definition once. A reader that goes or comes can have a part of the answers of its definition.
+-- What the new readers observed holds, and each of their answers has exactly the types that it leads
+-- to.
 pub record IsEdit (facts : Facts) (old going coming new : List Reader) : Type 0 where
   pub old_order : InReadingOrder old
   pub going_order : InReadingOrder going
   pub coming_order : InReadingOrder coming
   pub new_order : InReadingOrder new
-  pub goes : (r : Reader) → Contains going r → Contains old r
-  pub comes : (r : Reader) → Contains coming r → Contains new r
-  pub stays : (r : Reader) → Contains old r → ((g : Reader) → Contains going g → g.id ≡ r.id → ⊥)
-      → Contains new r
-  pub from : (r : Reader) → Contains new r → Contains coming r
-      ⊎ (Contains old r × ((g : Reader) → Contains going g → g.id ≡ r.id → ⊥))
+  pub difference : IsDifference old going coming new
   pub holds : (r : Reader) → Contains new r → Hold facts (observed_in r.answers)
   pub led : (r : Reader) → Contains new r → AreLed r.answers
 
@@ -75,6 +92,16 @@ pub record IsChange (facts : Facts) (index : List Reading) (notes : Notes)
   pub index_of : IsIndexOf index old
   pub notes_of : AreNotes notes coming going
   pub edit : IsEdit facts old going coming new
+
+-- The notes say what makes the new readers of the old ones: for each new reader one comes, with its
+-- answers or a part of them, and for each old one such a reader goes.
+pub record AreNotesBetween (notes : Notes) (old new : List Reader) : Type 0 where
+  pub coming : List Reader
+  pub going : List Reader
+  pub notes_of : AreNotes notes coming going
+  pub coming_ids : ids_of coming ≡ ids_of new
+  pub going_ids : ids_of going ≡ ids_of old
+  pub difference : IsDifference old going coming new
 
 -- the notes are those of some edit of the readers of the index
 abbrev pub IsSomeChange : List Reading → Notes → Type 0

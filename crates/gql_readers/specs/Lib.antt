@@ -4,3 +4,4 @@ pub mod Merged
 pub mod OrderLaws
 pub mod Orders
 pub mod Readers
+pub mod Replacements

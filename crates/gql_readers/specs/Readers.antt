@@ -29,6 +29,10 @@ observes k r = list_any (λ (a : Answer). is_key a.observation.key k) r.answers
 abbrev pub readers_of : Key → List Reader → List DefinitionId
 readers_of k readers = map (λ (r : Reader). r.id) (filter (observes k) readers)
 
+-- the definitions on which readers are
+abbrev pub ids_of : List Reader → List DefinitionId
+ids_of readers = map (λ (r : Reader). r.id) readers
+
 -- readers in file order, each definition once
 abbrev pub InReadingOrder : List Reader → Type 0
-InReadingOrder readers = AreInOrder (map (λ (r : Reader). r.id) readers)
+InReadingOrder readers = AreInOrder (ids_of readers)

@@ -2,10 +2,11 @@
 ghost use Rattle.std.specs.Prelude.{◌≡◌, ◌++◌, ◌∷◌, [], List, IfOk, OnOk};
 ghost use Rattle.gql_reads.specs.Readings.{answers_in};
 ghost use Rattle.gql_reads.specs.declared.observation.Answer.{Answer as AnAnswer};
-ghost use Rattle.gql_readers.specs.Changes.{AreNotes, IsNew, noted_of};
+ghost use Rattle.gql_readers.specs.Changes.{AreNotes, AreNotesBetween, IsNew, noted_of};
 ghost use Rattle.gql_readers.specs.Merged.{AreComing, AreGoing, NotesAt, come_noted, go_noted, is_last, noted_or, nothing_noted, with_last};
 ghost use Rattle.gql_readers.specs.Readers.{Reader, with_reader};
 
+use crate::differences::difference_of;
 use crate::ids::is_same;
 use crate::orders::OrderedKey;
 use gql_ast::{DefinitionId, Shared};
@@ -296,6 +297,29 @@ impl Changes {
         for part in reading.parts.as_slice() {
             self.go_with(alloc, id, part.seen().get().answers(), &mut seen)?;
         }
+        Ok(())
+    }
+
+    /// Notes that a definition has other answers than before. Only what differs is noted: the key of
+    /// an answer that is at the same place before and after is passed over, unless another answer to
+    /// it goes.
+    pub fn replace(
+        &mut self,
+        alloc: Global,
+        id: &Shared<DefinitionId>,
+        before: &Reading,
+        after: &Reading,
+    ) -> Result<(), AllocError>
+        ensures { OnOk result ((old new : List Reader) → AreNotesBetween self.old old new
+            → IsNew id.now old → IsNew id.now new
+            → AreNotesBetween self.new (with_reader old id.now (answers_in before.now))
+            (with_reader new id.now (answers_in after.now))) }
+    {
+        let differ = difference_of(alloc, before, after)?;
+        let mut gone = IndexSet::new(alloc);
+        self.go_with(alloc, id, differ.went.as_slice(), &mut gone)?;
+        let mut seen = IndexSet::new(alloc);
+        self.come_with(alloc, id, differ.came.as_slice(), &mut seen)?;
         Ok(())
     }
 }

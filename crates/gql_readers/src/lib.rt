@@ -2,6 +2,7 @@
 #![tactic(auto)]
 
 mod changes;
+mod differences;
 mod entries;
 mod ids;
 mod index;

@@ -10,10 +10,11 @@ use Rattle.gql_ast.specs.declared.definition.Definition.{Definition}
 use Rattle.gql_ast.specs.declared.definition.DefinitionId.{DefinitionId}
 use Rattle.gql_facts.specs.ListMembers.{Contains-nil, Contains-here, Contains-there, Contains-cases, Contains-map, either}
 use Rattle.gql_facts.specs.Worlds.{Facts}
-use Rattle.gql_readers.specs.Changes.{AreNotes, IsChange, IsEdit, IsNew, Notes}
+use Rattle.gql_readers.specs.Changes.{AreNotesBetween, IsChange, IsDifference, IsEdit, IsNew, Notes}
 use Rattle.gql_readers.specs.Indexes.{Reading}
-use Rattle.gql_readers.specs.Orders.{id_order}
+use Rattle.gql_readers.specs.Orders.{AreInOrder, id_order}
 use Rattle.gql_readers.specs.Readers.{InReadingOrder, Reader}
+use Rattle.gql_readers.proofs.Between.{whole_differ}
 use Rattle.gql_readers.proofs.Merging.{pairs_head, pairs_none, pairs_tail}
 use Rattle.gql_readers.proofs.Reading.{pairs_map_from, pairs_map_to}
 use Rattle.gql_reads.proofs.Members.{Contains-map_from}
@@ -206,19 +207,25 @@ module _ (F : Facts) (kept : List Slot) (ds : List Definition) (steps : List Slo
                 i.2 (subst (λ n. IsMarked marks n) (same_index kept shelved j i.0 w g at i.1 (sym p)) (are.to j at.within m)),
           )
 
-  pub edit_of : IsEdit F (readers (verdicts kept)) (readers (gone kept marks)) (readers (verdicts steps)) (readers (verdicts (map (resolve kept) steps)))
-  edit_of = record {
-    old_order = in_reading (verdicts kept) (before_from (verdicts kept) shelved.order);
-    going_order = in_reading (gone kept marks) (gone_order kept marks (before_from (verdicts kept) shelved.order));
-    coming_order = in_reading (verdicts steps) (new_order F kept ds steps zip after_order);
-    new_order = in_reading (verdicts (map (resolve kept) steps)) after_order;
-    goes = λ r c. let m = Contains-map_from reader_of (gone kept marks) r c in subst (λ (x : Reader). Contains (readers (verdicts kept)) x) m.2 (Contains-map reader_of (verdicts kept) m.0 (gone_in kept marks m.0 m.1));
-    comes = λ r c. let m = Contains-map_from reader_of (verdicts steps) r c in subst (λ (x : Reader). Contains (readers (verdicts (map (resolve kept) steps))) x) m.2 (Contains-map reader_of (verdicts (map (resolve kept) steps)) m.0 (new_in kept steps m.0 m.1));
-    stays = λ r c n.
+  pub gone_rises : InReadingOrder (readers (gone kept marks))
+  gone_rises = in_reading (gone kept marks) (gone_order kept marks (before_from (verdicts kept) shelved.order))
+
+  pub new_rises : InReadingOrder (readers (verdicts steps))
+  new_rises = in_reading (verdicts steps) (new_order F kept ds steps zip after_order)
+
+  module _ (notes : Notes) (b : AreNotesBetween notes (readers (gone kept marks)) (readers (verdicts steps))) where
+    kept_order : InReadingOrder (readers (verdicts kept))
+    kept_order = in_reading (verdicts kept) (before_from (verdicts kept) shelved.order)
+
+    differ_of : IsDifference (readers (verdicts kept)) b.going b.coming (readers (verdicts (map (resolve kept) steps)))
+    differ_of = whole_differ (readers (verdicts kept)) (readers (gone kept marks)) (readers (verdicts steps)) (readers (verdicts (map (resolve kept) steps))) kept_order
+        (λ r c. let m = Contains-map_from reader_of (gone kept marks) r c in subst (λ (x : Reader). Contains (readers (verdicts kept)) x) m.2 (Contains-map reader_of (verdicts kept) m.0 (gone_in kept marks m.0 m.1)))
+        (λ r c. let m = Contains-map_from reader_of (verdicts steps) r c in subst (λ (x : Reader). Contains (readers (verdicts (map (resolve kept) steps))) x) m.2 (Contains-map reader_of (verdicts (map (resolve kept) steps)) m.0 (new_in kept steps m.0 m.1)))
+        (λ r c n.
         let m = Contains-map_from reader_of (verdicts kept) r c in
         subst (λ (x : Reader). Contains (readers (verdicts (map (resolve kept) steps))) x) m.2 (Contains-map reader_of (verdicts (map (resolve kept) steps)) m.0
-        (stayed m.0 m.1 (λ g. n (reader_of m.0) (Contains-map reader_of (gone kept marks) m.0 g) (ap (λ (x : Reader). x.id) m.2))));
-    from = λ r c.
+        (stayed m.0 m.1 (λ g. n (reader_of m.0) (Contains-map reader_of (gone kept marks) m.0 g) (ap (λ (x : Reader). x.id) m.2)))))
+        (λ r c.
         let m = Contains-map_from reader_of (verdicts (map (resolve kept) steps)) r c in
         elim (came_from m.0 m.1) [
           | inl n ↦ inl (subst (λ (x : Reader). Contains (readers (verdicts steps)) x) m.2 (Contains-map reader_of (verdicts steps) m.0 n))
@@ -228,10 +235,19 @@ module _ (F : Facts) (kept : List Slot) (ds : List Definition) (steps : List Slo
                 let k = Contains-map_from reader_of (gone kept marks) g h in
                 o.1 k.0 k.1 (ap (λ (x : Reader). x.id) k.2 ∙ e ∙ sym (ap (λ (x : Reader). x.id) m.2)),
           )
-        ];
-    holds = λ r c. let m = Contains-map_from reader_of (verdicts (map (resolve kept) steps)) r c in subst (λ (x : Reader). Hold F (observed_in x.answers)) m.2 (subst (λ (os : List Observation). Hold F os) (serve.reads m.0 m.1).flat (serve.holds m.0 m.1));
-    led = λ r c. let m = Contains-map_from reader_of (verdicts (map (resolve kept) steps)) r c in subst (λ (x : Reader). AreLed x.answers) m.2 (serve.reads m.0 m.1).led;
-  }
+        ])
+        b.going b.coming b.difference
+
+    edit_of : IsEdit F (readers (verdicts kept)) b.going b.coming (readers (verdicts (map (resolve kept) steps)))
+    edit_of = record {
+      old_order = kept_order;
+      going_order = subst (λ (is : List DefinitionId). AreInOrder is) (sym b.going_ids) gone_rises;
+      coming_order = subst (λ (is : List DefinitionId). AreInOrder is) (sym b.coming_ids) new_rises;
+      new_order = in_reading (verdicts (map (resolve kept) steps)) after_order;
+      difference = differ_of;
+      holds = λ r c. let m = Contains-map_from reader_of (verdicts (map (resolve kept) steps)) r c in subst (λ (x : Reader). Hold F (observed_in x.answers)) m.2 (subst (λ (os : List Observation). Hold F os) (serve.reads m.0 m.1).flat (serve.holds m.0 m.1));
+      led = λ r c. let m = Contains-map_from reader_of (verdicts (map (resolve kept) steps)) r c in subst (λ (x : Reader). AreLed x.answers) m.2 (serve.reads m.0 m.1).led;
+    }
 
 -- ---- one step more
 
@@ -290,17 +306,38 @@ module _ (slots : List Slot) (marks : List Bool) (i : ℕ) (s : Slot) (b : Bool)
 
 -- ---- one verdict noted
 
-pub came_one : (s : Slot) (v : Judgement) → s ≡ Here v → (coming going : List Reader) (new : Notes)
-    → (IsNew (id_of v.def) coming → AreNotes new (coming ++ reader_of v ∷ []) going) → AreNew (verdicts (s ∷ [])) coming → AreNotes new (coming ++ readers (verdicts (s ∷ []))) going
-came_one s v e coming going new f = subst (λ (x : Slot). AreNew (verdicts (x ∷ [])) coming → AreNotes new (coming ++ readers (verdicts (x ∷ []))) going) (sym e) (λ fresh. f (fresh v (Contains-here v [])))
+pub came_one : (s : Slot) (v : Judgement) → s ≡ Here v → (olds news : List Reader) (notes : Notes)
+    → (IsNew (id_of v.def) news → AreNotesBetween notes olds (news ++ reader_of v ∷ [])) → AreNew (verdicts (s ∷ [])) news → AreNotesBetween notes olds (news ++ readers (verdicts (s ∷ [])))
+came_one s v e olds news notes f = subst (λ (x : Slot). AreNew (verdicts (x ∷ [])) news → AreNotesBetween notes olds (news ++ readers (verdicts (x ∷ [])))) (sym e) (λ fresh. f (fresh v (Contains-here v [])))
 
-pub went_one : (s : Slot) (b : Bool) (v : Judgement) → s ≡ Here v → b ≡ false → (coming going : List Reader) (new : Notes)
-    → (IsNew (id_of v.def) going → AreNotes new coming (going ++ reader_of v ∷ [])) → AreNew (gone (s ∷ []) (b ∷ [])) going → AreNotes new coming (going ++ readers (gone (s ∷ []) (b ∷ [])))
-went_one s b v e f coming going new g = subst (λ (x : Slot). AreNew (gone (x ∷ []) (b ∷ [])) going → AreNotes new coming (going ++ readers (gone (x ∷ []) (b ∷ [])))) (sym e)
-    (subst (λ (t : Bool). AreNew (gone (Here v ∷ []) (t ∷ [])) going → AreNotes new coming (going ++ readers (gone (Here v ∷ []) (t ∷ [])))) (sym f) (λ fresh. g (fresh v (Contains-here v []))))
+pub went_one : (s : Slot) (b : Bool) (v : Judgement) → s ≡ Here v → b ≡ false → (olds news : List Reader) (notes : Notes)
+    → (IsNew (id_of v.def) olds → AreNotesBetween notes (olds ++ reader_of v ∷ []) news) → AreNew (gone (s ∷ []) (b ∷ [])) olds → AreNotesBetween notes (olds ++ readers (gone (s ∷ []) (b ∷ []))) news
+went_one s b v e f olds news notes g = subst (λ (x : Slot). AreNew (gone (x ∷ []) (b ∷ [])) olds → AreNotesBetween notes (olds ++ readers (gone (x ∷ []) (b ∷ []))) news) (sym e)
+    (subst (λ (t : Bool). AreNew (gone (Here v ∷ []) (t ∷ [])) olds → AreNotesBetween notes (olds ++ readers (gone (Here v ∷ []) (t ∷ []))) news) (sym f) (λ fresh. g (fresh v (Contains-here v []))))
+
+-- the verdict in a slot that is not marked
+module _ (slots : List Slot) (marks : List Bool) (i : ℕ) (w : Judgement) (long : length marks ≡ length slots) (lt : i < length slots) (is : Here w ≡ get_or slots i (Here w)) (mark : get_or marks i false ≡ false) where
+  unmarked : false ≡ get_or marks i false
+  unmarked = sym mark
+
+  pub place_new : InReadingOrder (readers (gone slots marks)) → IsNew (id_of w.def) (readers (gone (take i slots) (take i marks)))
+  place_new up = gone_new slots marks i (Here w) false long lt is unmarked up w (Contains-here w [])
+
+  pub place_readers : readers (gone (take i slots) (take i marks)) ++ reader_of w ∷ [] ≡ readers (gone (take (i + 1) slots) (take (i + 1) marks))
+  place_readers = gone_readers slots marks i (Here w) false long lt is unmarked
+
+-- the verdict that is in a slot
+pub is_there : (slots : List Slot) (i : ℕ) (v : Judgement) (s : Slot) → IsAt slots i v → s ≡ get_or slots i s → s ≡ Here v
+is_there slots i v s at is = is ∙ at.is s
+
+pub same_verdict : (v w : Judgement) (s : Slot) → s ≡ Here v → s ≡ Here w → v ≡ w
+same_verdict v w s e f = let q : Here v ≡ Here w = sym e ∙ f in cc q
+
+pub not_there : (v : Judgement) (j : ℕ) (s : Slot) → s ≡ Here v → s ≡ At j → ⊥
+not_there v j s e f = let q : Here v ≡ At j = sym e ∙ f in cc q
 
 -- the notes of those that come and go are a change of the index
 pub led_change : (F : Facts) (kept : List Slot) (ds : List Definition) (steps : List Slot) (marks : List Bool) → (index : List Reading) → IsShelved kept index → InFileOrder ds → AllZip (IsStep F kept) ds steps → AreKept steps (length kept) marks
-    → (notes : Notes) → AreNotes notes (readers (verdicts steps)) (readers (gone kept marks))
-    → IsChange F index notes (readers (verdicts kept)) (readers (gone kept marks)) (readers (verdicts steps)) (readers (verdicts (map (resolve kept) steps)))
-led_change F kept ds steps marks index shelved up zip are notes noted = record { index_of = shelved.reads; notes_of = noted; edit = edit_of F kept ds steps marks shelved.order up zip are }
+    → (notes : Notes) → (b : AreNotesBetween notes (readers (gone kept marks)) (readers (verdicts steps)))
+    → IsChange F index notes (readers (verdicts kept)) b.going b.coming (readers (verdicts (map (resolve kept) steps)))
+led_change F kept ds steps marks index shelved up zip are notes b = record { index_of = shelved.reads; notes_of = b.notes_of; edit = edit_of F kept ds steps marks shelved.order up zip are notes b }

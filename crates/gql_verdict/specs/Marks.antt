@@ -1,5 +1,5 @@
 -- Helper definitions for private contracts: marks of the kept verdicts that an edit has broken.
-use Rattle.std.specs.Prelude.{◌≡◌, ◌≢◌, ◌⊎◌, ◌<◌, ℕ, List, [], ◌∷◌, Bool, true, false, length, slice_index_or, Contains}
+use Rattle.std.specs.Prelude.{◌≡◌, ◌≢◌, ◌⊎◌, ◌<◌, ◌≤◌, ℕ, List, [], ◌∷◌, Bool, true, false, length, slice_index_or, Contains}
 use Rattle.std.specs.List.{AllZip}
 use Rattle.gql_ast.specs.Trees.{id_of}
 use Rattle.gql_ast.specs.declared.definition.Definition.{Definition}
@@ -89,6 +89,16 @@ gone (s ∷ slots) [] = []
 gone (s ∷ slots) (true ∷ marks) = gone slots marks
 gone (Here v ∷ slots) (false ∷ marks) = v ∷ gone slots marks
 gone (At j ∷ slots) (false ∷ marks) = gone slots marks
+
+-- the verdict in a slot is on the definition of this name, it is not marked, and it is not before
+-- an index
+pub record IsReplacedAt (slots : List Slot) (marks : List Bool) (at : ℕ) (id : DefinitionId) (j : ℕ)
+    : Type 0 where
+  pub after : at ≤ j
+  pub verdict : Judgement
+  pub there : IsAt slots j verdict
+  pub named : id_of verdict.def ≡ id
+  pub goes : slice_index_or marks j false ≡ false
 
 -- the answer for a fragment was compared, if it was read
 abbrev pub IsFragmentCompared : Facts → List Slot → List Reading → List Bool → List ℕ → Type 0
