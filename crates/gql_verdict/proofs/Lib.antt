@@ -14,6 +14,7 @@ pub mod Ordered
 pub mod PairsKnown
 pub mod Picked
 pub mod Refreshed
+pub mod SameLists
 pub mod SameViews
 pub mod Seen
 pub mod SeenKeys

@@ -1,7 +1,9 @@
 -- What the rules on names see of a definition: whether it is an operation or a fragment, its name, and
 -- the names that it spreads (GraphQL 5.1.1, 5.2.1.1, 5.2.2.1, 5.5.1.1, 5.5.1.4).
-use Rattle.std.specs.Prelude.{◌≡◌, ℕ, List, [], map, Option, option_map}
+use Rattle.std.specs.Prelude.{◌≡◌, ℕ, List, [], map, Option, Some, option_map}
+use Rattle.gql_ast.specs.FileMaps.{file_named}
 use Rattle.gql_ast.specs.declared.definition.Definition.{Definition}
+use Rattle.gql_ast.specs.declared.definition.Document.{Document}
 use Rattle.gql_ast.specs.declared.definition.Tree.{Tree}
 use Rattle.gql_ast.specs.declared.definition.Tree.TheVariants as tree
 use Rattle.gql_ast.specs.declared.files.Files.{Files}
@@ -36,6 +38,12 @@ view_of d = record { title = titled d.tree; spreads = tree_spreads d.tree }
 -- what they see of these definitions
 abbrev pub views_of : List Definition → List NameView
 views_of = map view_of
+
+-- a file of this name is there, and the rules on names see the same of it as of this one
+abbrev pub SeesTheSame : List (List ℕ × Document) → List ℕ → Document → Type 0
+SeesTheSame documents name document =
+    option_map (λ (d : Document). views_of d.definitions) (file_named documents name)
+    ≡ Some (views_of document.definitions)
 
 -- no rule on names finds a fault in these files
 abbrev pub AreNamesSound : Files → Type 0

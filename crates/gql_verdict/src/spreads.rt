@@ -1,5 +1,5 @@
 //! The names of fragments that are spread.
-ghost use Rattle.std.specs.Prelude.{◌≡◌, ◌||◌, ◌++◌, ℕ, List, IfOk, IsTrue, OnOk, bytes_eq, is_some, map};
+ghost use Rattle.std.specs.Prelude.{◌↔◌, ◌≡◌, ◌||◌, ◌++◌, ℕ, List, IfOk, IsTrue, OnOk, bytes_eq, is_some, map};
 ghost use Rattle.std.specs.HashMap as hash;
 ghost use Rattle.gql_ast.specs.declared.executable.Selection.TheVariants as selections;
 ghost use Rattle.gql_verdict.specs.Spreads as spec;
@@ -65,7 +65,8 @@ fn tree_spreads<'t>(alloc: Global, tree: &'t Tree) -> Result<Vec<&'t Name>, Allo
 
 /// Whether these are the same names, in the same order.
 fn are_same(names: &[&Name], others: &[&Name]) -> bool
-    ensures { IsTrue result → map (λ n. n.now.text) names.now ≡ map (λ n. n.now.text) others.now }
+    ensures { IsTrue result
+        ↔ (map (λ n. n.now.text) names.now ≡ map (λ n. n.now.text) others.now) }
 {
     if names.len() != others.len() {
         return false;
@@ -81,7 +82,7 @@ fn are_same(names: &[&Name], others: &[&Name]) -> bool
 /// Whether two definitions spread the same names, in the same order.
 pub fn has_same_spreads(alloc: Global, tree: &Tree, other: &Tree) -> Result<bool, AllocError>
     ensures { IfOk result (λ same.
-        IsTrue same → spec.tree_spreads tree.now ≡ spec.tree_spreads other.now) }
+        IsTrue same ↔ (spec.tree_spreads tree.now ≡ spec.tree_spreads other.now)) }
 {
     let names = tree_spreads(alloc, tree)?;
     let others = tree_spreads(alloc, other)?;
