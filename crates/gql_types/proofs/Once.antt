@@ -11,6 +11,14 @@ use Rattle.gql_types.proofs.Filtering.{either}
 pub itself : (a : List ℕ) → bytes_eq a a ≡ true
 itself a = (bytes_eq-Decides a a).1 refl
 
+-- one place further to the back
+shifted : {X : Type 0} (test : X → Bool) (p : ℕ) (xs : List X) → position_from test (p + 1) xs ≡ option_map suc (position_from test p xs)
+shifted test p [] = refl
+shifted test p (x ∷ xs) = elim (either (test x)) [
+  | inl h ↦ rw h (ap Some (omega arith))
+  | inr h ↦ rw h (shifted test (p + 1) xs)
+]
+
 module _ {X : Type 0} (name : X → List ℕ) where
   abbrev named : List ℕ → X → Bool
   named q x = bytes_eq q (name x)
@@ -43,6 +51,20 @@ module _ {X : Type 0} (name : X → List ℕ) where
     | inr h ↦ rw h (once_found ys k x once.1 is)
   ]
 
+  -- each of them stands where it is found by its name
+  pub once_placed : (xs : List X) (i : ℕ) (x : X) → AreOnce (map name xs) → slice_get xs i ≡ Some x
+      → position_from (named (name x)) 0 xs ≡ Some i
+  once_placed [] i x once is = absurd (cc is)
+  once_placed (y ∷ ys) zero x once is =
+      let e : y ≡ x = cc is in subst (λ z. position_from (named (name x)) 0 (z ∷ ys) ≡ Some 0) (sym e) (rw (itself (name x)) refl)
+  once_placed (y ∷ ys) (suc k) x once is = elim (either (bytes_eq (name x) (name y))) [
+    | inl h ↦
+        let same : name x ≡ name y = (bytes_eq-Decides (name x) (name y)).0 h in
+        let none : bytes_eq (name y) (name x) ≡ false = of_none (name y) ys k x once.0 is in
+        absurd (cc (sym (itself (name y)) ∙ ap (bytes_eq (name y)) (sym same) ∙ none))
+    | inr h ↦ rw h (shifted (named (name x)) 0 ys ∙ ap (option_map suc) (once_placed ys k x once.1 is))
+  ]
+
   -- a name without a place is not among the names
   unplaced : (q : List ℕ) (p : ℕ) (xs : List X) → position_from (named q) p xs ≡ None → is_some (find (bytes_eq q) (map name xs)) ≡ false
   unplaced q p [] is = refl
@@ -61,14 +83,6 @@ module _ {X : Type 0} (name : X → List ℕ) where
 -- ---- marks
 
 module _ {X : Type 0} (name : X → List ℕ) where
-  -- one place further to the back
-  shifted : (test : X → Bool) (p : ℕ) (xs : List X) → position_from test (p + 1) xs ≡ option_map suc (position_from test p xs)
-  shifted test p [] = refl
-  shifted test p (x ∷ xs) = elim (either (test x)) [
-    | inl h ↦ rw h (ap Some (omega arith))
-    | inr h ↦ rw h (shifted test (p + 1) xs)
-  ]
-
   -- whether a name is among these and one more
   among_more : (n q : List ℕ) (names : List (List ℕ)) → is_some (find (bytes_eq n) (names ++ q ∷ [])) ≡ is_some (find (bytes_eq n) names) || bytes_eq n q
   among_more n q [] = elim (either (bytes_eq n q)) [ inl h ↦ rw h refl | inr h ↦ rw h refl ]

@@ -1,15 +1,14 @@
 //! The types of a schema after an edit of a schema file. A type that the edit leaves as it is is
 //! shared with the schema before the edit.
-ghost use Rattle.std.specs.Prelude.{◌≡◌, [], IfOk, IfSome, IsTrue, Some, false, map, slice_get, unwrap_or};
+ghost use Rattle.std.specs.Prelude.{◌≡◌, [], IfOk, IfSome, IsTrue, None, Some, bytes_eq, false, find, is_some, map, option_and_then, slice_get, unwrap_or};
 ghost use Rattle.std.specs.Option.{option_copied, option_map_or};
 ghost use Rattle.std.specs.HashMap as hash;
 ghost use Rattle.gql_types.specs.EditedTypes.{AreEdited, type_by};
-ghost use Rattle.gql_types.specs.Edits.{KeepsType, KeepsTypes};
+ghost use Rattle.gql_types.specs.Edits.{KeepsTypes};
 ghost use Rattle.gql_types.specs.Names.{AreOnce};
 ghost use Rattle.gql_types.specs.Possible.{name_of};
 ghost use Rattle.gql_types.specs.Sites.{site};
 ghost use Rattle.gql_types.specs.Types as spec;
-ghost use Rattle.gql_types.specs.declared.schema_type.SchemaType.{SchemaType as TheSchemaType};
 
 use crate::by_name::{ByName, by_name};
 use crate::first_definitions::first_definitions;
@@ -41,37 +40,19 @@ fn is_kept_at(are_edited: &[bool], place: usize) -> bool
     }
 }
 
-/// The type of this name before the edit, if the edit does not change types of the name. It is soon
-/// found if it is at this place.
-fn kept_type<'b>(before: &'b Before<'_>, place: usize, name: &str) -> Option<&'b Shared<SchemaType>>
+/// The type that stood at this place before the edit, if the edit does not change types of its name.
+fn kept_type<'b>(before: &'b Before<'_>, stood: Option<usize>) -> Option<&'b Shared<SchemaType>>
     requires { AreEdited before.now }
-    ensures { IfSome (option_copied result) (λ t. (u : TheSchemaType) → name_of u ≡ name.now
-        → KeepsType before.entry.now.edited.now before.entry.now.schema.now u → t ≡ u) }
+    ensures there { IfSome (option_copied result) (λ t.
+        option_and_then (λ i. slice_get before.entry.now.schema.now.types i) stood ≡ Some t) }
+    ensures unedited { IfSome (option_copied result) (λ t.
+        is_some (find (bytes_eq (name_of t)) before.entry.now.edited.now) ≡ false) }
 {
-    if let Some(found) = before.schema.named_types().get_at(place, name) {
-        if is_kept_at(before.are_edited.as_slice(), place) {
-            return Some(found);
+    match stood {
+        Some(place) if is_kept_at(before.are_edited.as_slice(), place) => {
+            thing_at(before.schema.types(), place)
         }
-        return None;
-    }
-    if before.edited.get(name).is_some() {
-        return None;
-    }
-    before.schema.shared(name)
-}
-
-/// The type that stood at a place before the edit, if the edit does not change types of its name.
-fn kept_in_place<'b>(before: &'b Before<'_>, place: usize) -> Option<&'b Shared<SchemaType>>
-    requires edited { AreEdited before.now }
-    requires once { AreOnce (map name_of before.now.schema.now.types) }
-    ensures { IfSome (option_copied result) (λ t. (u : TheSchemaType)
-        → slice_get (map name_of before.entry.now.schema.now.types) place ≡ Some (name_of u)
-        → KeepsType before.entry.now.edited.now before.entry.now.schema.now u → t ≡ u) }
-{
-    if is_kept_at(before.are_edited.as_slice(), place) {
-        thing_at(before.schema.types(), place)
-    } else {
-        None
+        _ => None,
     }
 }
 
@@ -104,24 +85,38 @@ fn all_in_place(
     requires once { AreOnce (map name_of before.now.schema.now.types) }
     requires names { map (λ s. s.node.now.name.text) definitions.now
         ≡ map name_of before.now.schema.now.types }
-    ensures { IfOk result (λ types.
+    ensures types { IfOk result (λ types.
         KeepsTypes before.now.edited.now before.now.schema.now (map (type_by
         (λ q. option_map_or (λ group. map (λ x. x.now) group.items)
         (hash.get_by_text extensions.now q) [])) (map site definitions.now))
         → types.items ≡ map (type_by (λ q. option_map_or (λ group. map (λ x. x.now) group.items)
         (hash.get_by_text extensions.now q) [])) (map site definitions.now)) }
+    ensures names { IfOk result (λ types.
+        map name_of types.items ≡ map (λ s. s.node.now.name.text) definitions.now) }
 {
     let mut types = Vec::with_capacity(alloc, definitions.len())?;
     let mut source = None;
     for place in 0..definitions.len() {
-        let kept = kept_in_place(before, place);
+        let kept = kept_type(before, Some(place));
         let of_type = kept_or_made(alloc, kept, &definitions[place], extensions, &mut source)?;
         types.push(of_type)?;
     }
     Ok(types)
 }
 
-/// The types of first definitions after the edit. Most of them are where they were before it.
+/// Where to look first for the next type, if this one stood here: most types follow one another as
+/// they did before the edit. Nothing rests on it.
+fn next_place(stood: Option<usize>, place: usize) -> usize
+    ensures { stood ≡ None → result ≡ place }
+{
+    match stood {
+        Some(stood) => stood.saturating_add(1),
+        None => place,
+    }
+}
+
+/// The types of first definitions after the edit. Most of them follow those that they followed before
+/// it.
 fn all_after(
     alloc: Global,
     definitions: &[TypeSite<'_>],
@@ -129,22 +124,42 @@ fn all_after(
     before: &Before<'_>,
 ) -> Result<Vec<Shared<SchemaType>>, AllocError>
     requires { AreEdited before.now }
-    ensures { IfOk result (λ types.
+    ensures types { IfOk result (λ types.
         KeepsTypes before.now.edited.now before.now.schema.now (map (type_by
         (λ q. option_map_or (λ group. map (λ x. x.now) group.items)
         (hash.get_by_text extensions.now q) [])) (map site definitions.now))
         → types.items ≡ map (type_by (λ q. option_map_or (λ group. map (λ x. x.now) group.items)
         (hash.get_by_text extensions.now q) [])) (map site definitions.now)) }
+    ensures names { IfOk result (λ types.
+        map name_of types.items ≡ map (λ s. s.node.now.name.text) definitions.now) }
 {
+    let names = before.schema.named_types();
     let mut types = Vec::with_capacity(alloc, definitions.len())?;
     let mut source = None;
+    let mut next = 0;
     for place in 0..definitions.len() {
         let definition = &definitions[place];
-        let kept = kept_type(before, place, definition.name());
+        let stood = names.place_near(next, definition.name());
+        next = next_place(stood, next);
+        let kept = kept_type(before, stood);
         let of_type = kept_or_made(alloc, kept, definition, extensions, &mut source)?;
         types.push(of_type)?;
     }
     Ok(types)
+}
+
+/// Definitions of types, with a look-up of the first of a name.
+fn named_sites<'d>(
+    alloc: Global,
+    definitions: &[TypeSite<'d>],
+) -> Result<Named<TypeSite<'d>>, AllocError>
+    ensures { IfOk result (λ named. named ≡ definitions.now) }
+{
+    let mut sites = Vec::with_capacity(alloc, definitions.len())?;
+    for definition in definitions {
+        sites.push(*definition)?;
+    }
+    Named::new(alloc, sites)
 }
 
 /// Whether the names of these definitions are those of the types of a schema, in their order, and
@@ -159,7 +174,8 @@ fn are_in_place(definitions: &[TypeSite<'_>], types: &Named<Shared<SchemaType>>)
 
 /// The types of these definitions after an edit, each with the extensions of its name and kind. The
 /// edit changed types of these names alone. Where no name came, went or moved, each definition is
-/// the first of its name, and the types share the look-up of those before the edit.
+/// the first of its name, and the types share the look-up of those before the edit. So it is where
+/// each name occurs once, and the types share the look-up of the definitions.
 pub fn types_after_edit(
     alloc: Global,
     definitions: &[TypeSite<'_>],
@@ -180,7 +196,13 @@ pub fn types_after_edit(
     };
     if are_in_place(definitions, names) {
         let types = all_in_place(alloc, definitions, &groups, &before)?;
-        let types = Named::like(alloc, types, names)?;
+        let types = Named::of_names(alloc, types, names)?;
+        return Ok(types);
+    }
+    let sites = named_sites(alloc, definitions)?;
+    if sites.are_once() {
+        let types = all_after(alloc, sites.as_slice(), &groups, &before)?;
+        let types = Named::of_names(alloc, types, &sites)?;
         return Ok(types);
     }
     let firsts = first_definitions(alloc, definitions)?;

@@ -2,6 +2,7 @@
 
 ghost use Rattle.std.specs.Prelude.{◌≡◌, ℕ, List, [], IfOk, IfSome, IsTrue, Some, find, map, bytes_eq, slice_get};
 ghost use Rattle.std.specs.Option.{option_copied};
+ghost use Rattle.std.specs.List.{position_from};
 ghost use Rattle.gql_types.specs.Names.{AreOnce, are_among};
 
 use crate::named_list::{NamedList, have_same_names};
@@ -158,15 +159,12 @@ impl<T: HasName> Named<T> {
         }
     }
 
-    /// The thing at a place, if it has that name, and it is known that each name occurs once.
-    pub fn get_at(&self, place: usize, name: &str) -> Option<&T>
-        ensures first { IfSome (option_copied result) (λ found.
-            find (λ x. bytes_eq name.now (T.name x)) self.now ≡ Some found) }
-        ensures here { IfSome (option_copied result) (λ found.
-            slice_get self.now place ≡ Some found) }
+    /// Where the first of that name is. It is soon found if it is at this place.
+    pub fn place_near(&self, place: usize, name: &str) -> Option<usize>
+        ensures { result ≡ position_from (λ x. bytes_eq name.now (T.name x)) 0 self.now }
     {
         match &self.list {
-            Some(list) => list.get().get_at(place, name),
+            Some(list) => list.get().place_near(place, name),
             None => None,
         }
     }

@@ -121,11 +121,33 @@ fn first_named<'a, T: HasName>(things: &'a [T], name: &str) -> Option<&'a T>
     None
 }
 
+/// Where the first of that name is, each compared.
+fn first_place<T: HasName>(things: &[T], name: &str) -> Option<usize>
+    ensures { result ≡ position_from (λ x. bytes_eq name.now (T.name x)) 0 things.now }
+{
+    for place in 0..things.len() {
+        if is_same_name(name, things[place].name()) {
+            return Some(place);
+        }
+    }
+    None
+}
+
 /// The thing at a place.
 pub fn thing_at<T>(things: &[T], place: usize) -> Option<&T>
     ensures { option_copied result ≡ slice_get things.now place }
 {
     things.get(place)
+}
+
+/// Where the first of that name is, by the map of places.
+fn place_in_map(first: &HashMap<String, usize>, name: &str) -> Option<usize>
+    ensures { result ≡ hash.get_by_text first.now name.now }
+{
+    match first.get(name) {
+        Some(place) => Some(*place),
+        None => None,
+    }
 }
 
 /// The first of that name, by the map of places.
@@ -210,26 +232,38 @@ impl<T: HasName> NamedList<T> {
         }
     }
 
-    /// The thing at a place, if it has that name, and each name occurs once.
-    pub fn get_at(&self, place: usize, name: &str) -> Option<&T>
-        ensures first { IfSome (option_copied result) (λ found.
-            find (λ x. bytes_eq name.now (T.name x)) self.now ≡ Some found) }
-        ensures here { IfSome (option_copied result) (λ found.
-            slice_get self.now place ≡ Some found) }
+    /// Where the first of that name is.
+    fn place_of(&self, name: &str) -> Option<usize>
+        ensures { result ≡ position_from (λ x. bytes_eq name.now (T.name x)) 0 self.now }
     {
-        let Some(places) = &self.places else {
-            return None;
-        };
-        if !places.get().are_once {
-            return None;
+        match &self.places {
+            Some(places) => place_in_map(&places.get().first, name),
+            None => first_place(self.things.as_slice(), name),
         }
-        let Some(thing) = thing_at(self.things.as_slice(), place) else {
-            return None;
-        };
-        if is_same_name(name, thing.name()) {
-            Some(thing)
+    }
+
+    /// Whether it is known that the first of that name is at this place.
+    fn is_at(&self, place: usize, name: &str) -> bool
+        ensures { IsTrue result
+            → position_from (λ x. bytes_eq name.now (T.name x)) 0 self.now ≡ Some place }
+    {
+        if !self.are_once() {
+            return false;
+        }
+        match thing_at(self.things.as_slice(), place) {
+            Some(thing) => is_same_name(name, thing.name()),
+            None => false,
+        }
+    }
+
+    /// Where the first of that name is. It is soon found if it is at this place.
+    pub fn place_near(&self, place: usize, name: &str) -> Option<usize>
+        ensures { result ≡ position_from (λ x. bytes_eq name.now (T.name x)) 0 self.now }
+    {
+        if self.is_at(place, name) {
+            Some(place)
         } else {
-            None
+            self.place_of(name)
         }
     }
 
@@ -237,9 +271,10 @@ impl<T: HasName> NamedList<T> {
     pub fn get_near(&self, place: usize, name: &str) -> Option<&T>
         ensures { option_copied result ≡ find (λ x. bytes_eq name.now (T.name x)) self.now }
     {
-        match self.get_at(place, name) {
-            Some(thing) => Some(thing),
-            None => self.get(name),
+        if self.is_at(place, name) {
+            thing_at(self.things.as_slice(), place)
+        } else {
+            self.get(name)
         }
     }
 

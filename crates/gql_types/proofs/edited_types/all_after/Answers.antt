@@ -3,15 +3,16 @@ use Rattle.std.specs.Option.{option_copied, option_map_or}
 use Rattle.std.specs.HashMap as hash
 use Rattle.gql_types.specs.EditedTypes.{type_by}
 use Rattle.gql_types.specs.Sites.{site}
-use Rattle.gql_types.proofs.EditedTypes.{kept_named, kept_step}
+use Rattle.gql_types.proofs.EditedTypes.{found_step}
 use Rattle.gql_types.proofs.edited_types.all_after.Goals as goal
 
 pub loop-place-preserved : goal.loop-place-preserved
 loop-place-preserved c =
     let made = type_by (λ q. option_map_or (λ group. map (λ x. x.now) group.items) (hash.get_by_text c.args.extensions.now q) []) in
-    kept_step c.args.before.now.edited.now c.args.before.now.schema.now made site
+    found_step c.args.before.now.edited.now c.args.before.now.schema.now made site (λ s. s.node.now.name.text)
     c.args.definitions.now c.loop-place.place c.index-definitions-place.result c.in_ok-of_type.of_type c.loop-place.types.items c.push.new.self.items
-    (search rules) (search rules) c.loop-place.invariant
-    (kept_named c.args.before.now.edited.now c.args.before.now.schema.now c.name.result.now (option_copied c.kept_type-kept.result) (made (site c.index-definitions-place.result)) c.in_ok-of_type.of_type
-    c.kept_type-kept.ensures (search rules) c.in_ok-of_type.ensures)
+    c.place_near-stood.result
+    (option_copied c.kept_type-kept.result)
+    (search rules) (search rules)
     (search rules)
+    c.kept_type-kept.ensures.there c.kept_type-kept.ensures.unedited (search rules) c.in_ok-of_type.ensures (search rules) c.loop-place.invariant

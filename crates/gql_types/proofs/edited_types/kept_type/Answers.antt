@@ -1,7 +1,8 @@
-use Rattle.std.proofs.Common.{rules}
-use Rattle.gql_types.proofs.EditedTypes.{kept_here}
+use Rattle.std.proofs.Common.{◌∙◌, ap, rules, slice_get}
+use Rattle.gql_types.proofs.EditedTypes.{unedited_there}
 use Rattle.gql_types.proofs.edited_types.kept_type.Goals as goal
 
-pub returns-then-is_kept_at : goal.returns-then-is_kept_at
-returns-then-is_kept_at c = kept_here c.args.before.now.edited.now c.args.before.now.schema.now c.args.before.now.are_edited.items c.args.place c.args.name.now c.in-Some.found.now
-    c.requires (search rules) (search rules) (search rules)
+pub returns-in-Some-clause-unedited : goal.returns-in-Some-clause-unedited
+returns-in-Some-clause-unedited c =
+    unedited_there c.args.before.now.edited.now c.args.before.now.schema.now.types c.args.before.now.are_edited.items c.in-Some.place _
+    c.requires (search rules) (c.thing_at.ensures ∙ ap (λ types. slice_get types c.in-Some.place) c.types.ensures)

@@ -1,7 +1,8 @@
-use Rattle.std.proofs.Common.{◌∙◌, [], map, ap, rules, sym}
+use Rattle.std.proofs.Common.{◌∙◌, [], map, ap, refl, rules, subst, sym}
 use Rattle.std.specs.Option.{option_map_or}
 use Rattle.std.specs.HashMap as hash
 use Rattle.gql_types.specs.EditedTypes.{type_by}
+use Rattle.gql_types.specs.Names.{AreOnce}
 use Rattle.gql_types.specs.Possible.{name_of}
 use Rattle.gql_types.specs.Sites.{site}
 use Rattle.gql_types.specs.Types.{first_definitions}
@@ -16,11 +17,21 @@ returns-then-are_in_place c = λ keeps. c.in_ok-types-2.ensures
     (ap (map (type_by (λ q. option_map_or (λ group. map (λ x. x.now) group.items) (hash.get_by_text c.in_ok-groups.groups q) [])))
     (sym (all_in_place site c.args.definitions.now (map name_of c.named_types-names.result.now) (c.are_in_place.ensures.names (search rules)) (c.are_in_place.ensures.once (search rules))))
     ∙ types_by_groups (λ q. option_map_or (λ group. map (λ x. x.now) group.items) (hash.get_by_text c.in_ok-groups.groups q) []) c.args.extensions.now (first_definitions (map site c.args.definitions.now)) c.in_ok-groups.ensures)
-    c.in_ok-types.ensures keeps
+    c.in_ok-types.ensures.types keeps
+
+pub returns-then-are_once : goal.returns-then-are_once
+returns-then-are_once c = λ keeps. c.in_ok-types-4.ensures
+    ∙ kept_same c.args.edited.now c.args.before.now c.in_ok-types-3.types.items _ _
+    (ap (map (type_by (λ q. option_map_or (λ group. map (λ x. x.now) group.items) (hash.get_by_text c.in_ok-groups.groups q) [])))
+    (ap (map site) (c.as_slice.ensures ∙ c.in_ok-sites.ensures)
+    ∙ sym (all_in_place site c.args.definitions.now (map (λ s. s.node.now.name.text) c.args.definitions.now) refl
+    (subst (λ sites. AreOnce (map (λ s. s.node.now.name.text) sites)) c.in_ok-sites.ensures (c.are_once.ensures (search rules)))))
+    ∙ types_by_groups (λ q. option_map_or (λ group. map (λ x. x.now) group.items) (hash.get_by_text c.in_ok-groups.groups q) []) c.args.extensions.now (first_definitions (map site c.args.definitions.now)) c.in_ok-groups.ensures)
+    c.in_ok-types-3.ensures.types keeps
 
 pub returns : goal.returns
-returns c = λ keeps. c.in_ok-types-4.ensures
-    ∙ kept_same c.args.edited.now c.args.before.now c.in_ok-types-3.types.items _ _
-    (ap (map (type_by (λ q. option_map_or (λ group. map (λ x. x.now) group.items) (hash.get_by_text c.in_ok-groups.groups q) []))) (ap (map site) c.as_slice.ensures.value ∙ c.in_ok-firsts.ensures)
+returns c = λ keeps. c.in_ok-types-6.ensures
+    ∙ kept_same c.args.edited.now c.args.before.now c.in_ok-types-5.types.items _ _
+    (ap (map (type_by (λ q. option_map_or (λ group. map (λ x. x.now) group.items) (hash.get_by_text c.in_ok-groups.groups q) []))) (ap (map site) c.as_slice-2.ensures.value ∙ c.in_ok-firsts.ensures)
     ∙ types_by_groups (λ q. option_map_or (λ group. map (λ x. x.now) group.items) (hash.get_by_text c.in_ok-groups.groups q) []) c.args.extensions.now (first_definitions (map site c.args.definitions.now)) c.in_ok-groups.ensures)
-    c.in_ok-types-3.ensures keeps
+    c.in_ok-types-5.ensures.types keeps
