@@ -12,7 +12,7 @@ ghost use Rattle.gql_types.specs.Types as spec;
 
 use crate::by_name::{ByName, by_name};
 use crate::first_definitions::first_definitions;
-use crate::named::{HasName, Named};
+use crate::named::{HasName, Named, next_place};
 use crate::named_list::{have_same_names, thing_at};
 use crate::schema::Schema;
 use crate::schema_type::{SchemaType, made_type};
@@ -102,17 +102,6 @@ fn all_in_place(
         types.push(of_type)?;
     }
     Ok(types)
-}
-
-/// Where to look first for the next type, if this one stood here: most types follow one another as
-/// they did before the edit. Nothing rests on it.
-fn next_place(stood: Option<usize>, place: usize) -> usize
-    ensures { stood ≡ None → result ≡ place }
-{
-    match stood {
-        Some(stood) => stood.saturating_add(1),
-        None => place,
-    }
 }
 
 /// The types of first definitions after the edit. Most of them follow those that they followed before

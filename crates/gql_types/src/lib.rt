@@ -32,7 +32,7 @@ pub use defined_inputs::{DefinedInput, DefinedInputs};
 pub use edited::edited_names;
 pub use gql_built_in::Sited;
 pub use kind::TypeKind;
-pub use named::{HasName, Named};
+pub use named::{HasName, Named, next_place};
 pub use possible::PossibleTypes;
 pub use roots::Root;
 pub use same_name::is_same_name;

@@ -1,6 +1,6 @@
 //! Things that have names, with a look-up of the first of a name.
 
-ghost use Rattle.std.specs.Prelude.{◌≡◌, ℕ, List, [], IfOk, IfSome, IsTrue, Some, find, map, bytes_eq, slice_get};
+ghost use Rattle.std.specs.Prelude.{◌≡◌, ℕ, List, [], IfOk, IsTrue, None, find, map, bytes_eq};
 ghost use Rattle.std.specs.Option.{option_copied};
 ghost use Rattle.std.specs.List.{position_from};
 ghost use Rattle.gql_types.specs.Names.{AreOnce, are_among};
@@ -32,6 +32,17 @@ impl<T: HasName> HasName for Shared<T> {
 
     fn name(&self) -> &str {
         self.get().name()
+    }
+}
+
+/// Where to look first for the next thing of a list, if the one before it was found here in another
+/// list: most things follow one another in both. Nothing rests on it.
+pub fn next_place(found: Option<usize>, place: usize) -> usize
+    ensures { found ≡ None → result ≡ place }
+{
+    match found {
+        Some(found) => found.saturating_add(1),
+        None => place,
     }
 }
 
