@@ -1,6 +1,6 @@
 //! Lists of things that have names, with a look-up of the first of a name.
 
-ghost use Rattle.std.specs.Prelude.{◌≡◌, ℕ, List, IfOk, IfSome, IsTrue, None, Some, find, map, bytes_eq, slice_get, option_and_then};
+ghost use Rattle.std.specs.Prelude.{◌≡◌, ℕ, List, IfOk, IsTrue, None, Some, find, map, bytes_eq, slice_get, option_and_then};
 ghost use Rattle.std.specs.Option.{option_copied};
 ghost use Rattle.std.specs.List.{position_from};
 ghost use Rattle.std.specs.HashMap as hash;
