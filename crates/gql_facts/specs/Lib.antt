@@ -1,4 +1,5 @@
 pub mod Members
+pub mod Singles
 pub mod ListMembers
 pub mod Keys
 pub mod Worlds

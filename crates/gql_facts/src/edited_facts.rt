@@ -1,41 +1,57 @@
 //! The facts of a schema after an edit of a schema file. The facts of a type that the edit leaves as
 //! it is are shared with those before the edit.
-ghost use Rattle.std.specs.Prelude.{◌≡◌, ℕ, List, Bool, IfOk, IfSome, IsTrue, Some, bytes_eq, find, is_some, map, slice_get};
+ghost use Rattle.std.specs.Prelude.{◌≡◌, ◌↔◌, ℕ, List, Bool, IfOk, IfSome, IsTrue, Some, bytes_eq, find, is_some, map, slice_get};
+ghost use Rattle.std.specs.List.{position_from};
 ghost use Rattle.std.specs.Option.{option_copied};
 ghost use Rattle.gql_types.specs.Edits.{KeepsOthers};
 ghost use Rattle.gql_types.specs.Possible.{name_of};
 ghost use Rattle.gql_types.specs.declared.schema.Schema.{Schema as TheSchema};
 ghost use Rattle.gql_facts.specs.EditedFacts as spec;
-ghost use Rattle.gql_facts.specs.Tables.{tables_of};
+ghost use Rattle.gql_facts.specs.Tables.{tables_of, type_in};
 
 use crate::meta_fields::MetaFields;
+use crate::possible_names::PossibleNames;
 use crate::schema_facts::{SchemaFacts, TypeEntry, directive_entries, root_entries, type_entry};
-use gql_ast::{Shared, Text, same_items};
-use gql_types::{HasName, Named, Schema, SchemaType};
+use gql_ast::{Shared, Text};
+use gql_types::{HasName, Named, Schema, SchemaType, next_place};
 use std::alloc::{AllocError, Global};
 
 /// Whether both are absent, or both are there with the same names.
-fn are_same_names(names: &Option<Shared<Named<Text>>>, others: Option<&[Text]>) -> bool
-    ensures { IsTrue result → names.now ≡ option_copied others.entry }
+fn are_same_names(names: &Option<PossibleNames>, others: Option<&[Text]>) -> bool
+    ensures { IsTrue result ↔ (names.now ≡ option_copied others.entry) }
 {
     match names {
         Some(names) => match others {
-            Some(others) => same_items(names.get().as_slice(), others),
+            Some(others) => names.are(others),
             None => false,
         },
         None => others.is_none(),
     }
 }
 
-/// The entry of the type at a place before the edit, if it is that after the edit: the edit does not
-/// change the type, nor its possible types.
+/// The entry that stood here before the edit, if there was one.
+fn entry_before<'b>(before: &'b SchemaFacts, stood: Option<usize>) -> Option<&'b Shared<TypeEntry>>
+    ensures { (name : List ℕ)
+        → stood ≡ position_from (λ e. bytes_eq name e.name) 0 before.entry.now.types
+        → option_copied result ≡ type_in before.entry.now name }
+{
+    match stood {
+        Some(place) => before.types.as_slice().get(place),
+        None => None,
+    }
+}
+
+/// The entry that a type had before the edit, if it is that after the edit: the edit does not change
+/// the type, nor its possible types. It stood here, and the type is at this place.
 fn kept_entry<'b>(
     schema: &Schema,
     before: &'b SchemaFacts,
+    stood: Option<usize>,
     place: usize,
     of_type: &SchemaType,
     is_edited: bool,
 ) -> Option<&'b Shared<TypeEntry>>
+    requires { stood ≡ position_from (λ e. bytes_eq (name_of of_type.now) e.name) 0 before.now.types }
     ensures entry { (edited : List (List ℕ))
         → is_edited ≡ is_some (find (bytes_eq (name_of of_type.now)) edited)
         → IfSome (option_copied result)
@@ -45,34 +61,34 @@ fn kept_entry<'b>(
     if is_edited {
         return None;
     }
-    let name = of_type.name();
-    match before.types.get_near(place, name) {
-        Some(entry) => {
-            if are_same_names(&entry.get().possible, schema.possible_near(place, name)) {
-                Some(entry)
-            } else {
-                None
-            }
-        }
-        None => None,
+    let Some(entry) = entry_before(before, stood) else {
+        return None;
+    };
+    let possible = schema.possible_near(place, of_type.name());
+    if are_same_names(&entry.get().possible, possible) {
+        Some(entry)
+    } else {
+        None
     }
 }
 
-/// The entry of the type at a place after the edit.
+/// The entry of the type at a place after the edit, which stood here before it.
 fn entry_after(
     alloc: Global,
     schema: &Schema,
     before: &SchemaFacts,
+    stood: Option<usize>,
     place: usize,
     of_type: &SchemaType,
     is_edited: bool,
 ) -> Result<Shared<TypeEntry>, AllocError>
+    requires { stood ≡ position_from (λ e. bytes_eq (name_of of_type.now) e.name) 0 before.now.types }
     ensures entry { IfOk result (λ entry. (edited : List (List ℕ))
         → is_edited ≡ is_some (find (bytes_eq (name_of of_type.now)) edited)
         → spec.IsEntryAfter before.now edited schema.now of_type.now entry) }
     ensures name { IfOk result (λ entry. entry.name ≡ name_of of_type.now) }
 {
-    match kept_entry(schema, before, place, of_type, is_edited) {
+    match kept_entry(schema, before, stood, place, of_type, is_edited) {
         Some(entry) => {
             let kept = entry.clone()?;
             Ok(kept)
@@ -110,9 +126,13 @@ fn entries_after(
     let are_edited = schema.named_types().are_among(alloc, edited)?;
     let types = schema.types();
     let mut entries = Vec::with_capacity(alloc, types.len())?;
+    let mut next = 0;
     for place in 0..types.len() {
+        let of_type = types[place].get();
         let is_edited = is_edited_at(are_edited.as_slice(), place);
-        let entry = entry_after(alloc, schema, before, place, types[place].get(), is_edited)?;
+        let stood = before.types.place_near(next, of_type.name());
+        next = next_place(stood, next);
+        let entry = entry_after(alloc, schema, before, stood, place, of_type, is_edited)?;
         entries.push(entry)?;
     }
     Ok(entries)

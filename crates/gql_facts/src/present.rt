@@ -133,7 +133,7 @@ fn possible_of(schema: &SchemaFacts, of_type: &str) -> Result<Fact, AllocError>
         return Ok(Fact::Absent);
     };
     match &entry.possible {
-        Some(names) => Ok(Fact::Possible(names.clone()?)),
+        Some(names) => Ok(Fact::Possible(names.shared()?)),
         None => Ok(Fact::Absent),
     }
 }

@@ -8,6 +8,7 @@ ghost use Rattle.gql_facts.specs.Tables as tables;
 
 use crate::fact::{DirectiveFact, Fact, FieldFact, InputFact};
 use crate::meta_fields::MetaFields;
+use crate::possible_names::PossibleNames;
 use gql_ast::{
     DirectiveDefinition, DirectiveLocation, EnumValueDefinition, FieldDefinition,
     InputValueDefinition, Items, OperationKind, Shared, Text,
@@ -30,7 +31,7 @@ pub struct TypeEntry {
     pub name: Text,
     pub kind: TypeKind,
     pub fields: Named<FieldEntry>,
-    pub possible: Option<Shared<Named<Text>>>,
+    pub possible: Option<PossibleNames>,
     pub inputs: Option<Shared<DefinedInputs<InputFact>>>,
     pub values: Option<Shared<Named<Text>>>,
 }
@@ -142,16 +143,6 @@ fn value_names(
     Named::new(alloc, names)
 }
 
-fn copied_names(alloc: Global, names: &[Text]) -> Result<Named<Text>, AllocError>
-    ensures { IfOk result (λ copies. copies ≡ names.now) }
-{
-    let mut copies = Vec::with_capacity(alloc, names.len())?;
-    for name in names {
-        copies.push(name.copy()?)?;
-    }
-    Named::new(alloc, copies)
-}
-
 fn copied_locations(
     alloc: Global,
     locations: &[DirectiveLocation],
@@ -195,15 +186,15 @@ fn field_entries(
     Ok(entries)
 }
 
-fn shared_possible(
+fn possible_names(
     alloc: Global,
     schema: &Schema,
     name: &str,
-) -> Result<Option<Shared<Named<Text>>>, AllocError>
+) -> Result<Option<PossibleNames>, AllocError>
     ensures { IfOk result (λ o. o ≡ possible_named schema.now name.now) }
 {
     match schema.possible(name) {
-        Some(names) => Ok(Some(Shared::new(alloc, copied_names(alloc, names)?)?)),
+        Some(names) => Ok(Some(PossibleNames::new(alloc, names)?)),
         None => Ok(None),
     }
 }
@@ -254,7 +245,7 @@ pub fn type_entry(
         name: Text::from_str(alloc, name)?,
         kind: of_type.kind,
         fields: Named::new(alloc, fields)?,
-        possible: shared_possible(alloc, schema, name)?,
+        possible: possible_names(alloc, schema, name)?,
         inputs: shared_inputs(alloc, of_type)?,
         values: shared_values(alloc, of_type)?,
     })

@@ -4,23 +4,10 @@ ghost use Rattle.gql_facts.specs.declared.schema_facts.TypeEntry.{TypeEntry};
 ghost use Rattle.gql_verdict.specs.SchemaEdits as spec;
 
 use crate::touched::{SchemaEdit, Touched};
-use gql_ast::{Shared, Text, same_items};
+use gql_ast::{Text, same_option};
 use gql_facts::SchemaFacts;
 use gql_types::Named;
 use std::alloc::{AllocError, Global};
-
-/// Whether both are absent, or both are there with the same names.
-fn are_same_names(names: &Option<Shared<Named<Text>>>, others: &Option<Shared<Named<Text>>>) -> bool
-    ensures { IsTrue result ↔ (names.now ≡ others.now) }
-{
-    match names {
-        Some(names) => match others {
-            Some(others) => same_items(names.get().as_slice(), others.get().as_slice()),
-            None => false,
-        },
-        None => others.is_none(),
-    }
-}
 
 /// Whether the type at a place after the edit has the same possible types as before.
 fn has_same_possible(before: &SchemaFacts, after: &SchemaFacts, place: usize) -> bool
@@ -31,7 +18,7 @@ fn has_same_possible(before: &SchemaFacts, after: &SchemaFacts, place: usize) ->
     let types = after.types.as_slice();
     let entry = types[place].get();
     match before.types.get_near(place, entry.name.as_str()) {
-        Some(earlier) => are_same_names(&entry.possible, &earlier.get().possible),
+        Some(earlier) => same_option(&entry.possible, &earlier.get().possible),
         None => entry.possible.is_none(),
     }
 }

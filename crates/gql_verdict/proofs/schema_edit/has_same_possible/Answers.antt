@@ -13,8 +13,8 @@ returns-in-Some c = λ e at.
     let item : get_or c.args.after.now.types c.args.place x ≡ x = search rules in
     let is : x ≡ e = sym item ∙ get_or_default c.args.after.now.types c.args.place x e c.requires ∙ at in
     let found : type_in c.args.before.now c.get-entry.result.now.name ≡ Some c.in-Some.earlier.now = search rules in
-    subst (λ (x : TypeEntry). IsTrue c.are_same_names.result ↔ IsSamePossible c.args.before.now x) is
-    (same_as c.args.before.now c.get-entry.result.now c.in-Some.earlier.now found c.are_same_names.result (search rules))
+    subst (λ (x : TypeEntry). IsTrue c.same_option.result ↔ IsSamePossible c.args.before.now x) is
+    (same_as c.args.before.now c.get-entry.result.now c.in-Some.earlier.now found c.same_option.result (search rules))
 
 pub returns-in-None : goal.returns-in-None
 returns-in-None c = λ e at.

@@ -1,5 +1,5 @@
 use Rattle.std.proofs.Common.{◌≡◌, take}
-use Rattle.gql_facts.proofs.schema_facts.copied_names.Given as goal
+use Rattle.gql_facts.proofs.possible_names.copied_names.Given as goal
 
 abbrev pub invariant-loop-name : goal.invariant-loop-name
 invariant-loop-name l = l.copies.items ≡ take l.name-index l.names
