@@ -29,6 +29,13 @@ fn are_same_names(names: &Option<PossibleNames>, others: Option<&[Text]>) -> boo
     }
 }
 
+/// The entry at a place.
+fn entry_at(entries: &[Shared<TypeEntry>], place: usize) -> Option<&Shared<TypeEntry>>
+    ensures { option_copied result ≡ slice_get entries.now place }
+{
+    entries.get(place)
+}
+
 /// The entry that stood here before the edit, if there was one.
 fn entry_before<'b>(before: &'b SchemaFacts, stood: Option<usize>) -> Option<&'b Shared<TypeEntry>>
     ensures { (name : List ℕ)
@@ -36,7 +43,7 @@ fn entry_before<'b>(before: &'b SchemaFacts, stood: Option<usize>) -> Option<&'b
         → option_copied result ≡ type_in before.entry.now name }
 {
     match stood {
-        Some(place) => before.types.as_slice().get(place),
+        Some(place) => entry_at(before.types.as_slice(), place),
         None => None,
     }
 }

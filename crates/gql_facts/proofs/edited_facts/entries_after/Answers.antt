@@ -15,10 +15,10 @@ loop-place-preserved c =
     let marked : c.is_edited_at-is_edited.result ≡ is_some (find (bytes_eq (name_of c.index-types-place.result)) c.args.edited.now) =
     c.is_edited_at-is_edited.ensures _ (marked_at c.args.edited.now c.types-types.result.now c.as_slice.result.now c.loop-place.place c.index-types-place.result are within item) in
     let its : IsEntryAfter c.args.before.now c.args.edited.now c.args.schema.now c.index-types-place.result c.in_ok-entry.entry =
-    subst (λ t. IsEntryAfter c.args.before.now c.args.edited.now c.args.schema.now t c.in_ok-entry.entry) c.get.ensures
-    (c.in_ok-entry.ensures.entry c.args.edited.now (subst (λ t. c.is_edited_at-is_edited.result ≡ is_some (find (bytes_eq (name_of t)) c.args.edited.now)) (sym c.get.ensures) marked)) in (
+    subst (λ t. IsEntryAfter c.args.before.now c.args.edited.now c.args.schema.now t c.in_ok-entry.entry) c.get-of_type.ensures
+    (c.in_ok-entry.ensures.entry c.args.edited.now (subst (λ t. c.is_edited_at-is_edited.result ≡ is_some (find (bytes_eq (name_of t)) c.args.edited.now)) (sym c.get-of_type.ensures) marked)) in (
       entries_step c.args.before.now c.args.edited.now c.args.schema.now c.types-types.result.now c.loop-place.place c.index-types-place.result c.in_ok-entry.entry
           c.loop-place.entries.items c.push.new.self.items c.types-types.ensures within item c.loop-place.invariant.0 its (search rules),
       names_step c.types-types.result.now c.loop-place.place c.index-types-place.result c.in_ok-entry.entry c.loop-place.entries.items c.push.new.self.items within item
-          c.loop-place.invariant.1 (c.in_ok-entry.ensures.name ∙ ap name_of c.get.ensures) (search rules),
+          c.loop-place.invariant.1 (c.in_ok-entry.ensures.name ∙ ap name_of c.get-of_type.ensures) (search rules),
     )
