@@ -5,3 +5,4 @@ pub mod Directives
 pub mod Selections
 pub mod Operations
 pub mod Documents
+pub mod Stacks

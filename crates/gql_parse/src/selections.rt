@@ -4,6 +4,7 @@ ghost use Rattle.gql_text.specs.declared.token.Kind.TheVariants as k;
 ghost use Rattle.gql_text.specs.Lexeme.{lexeme};
 ghost use Rattle.gql_grammar.specs.Symbol.{IsRest, Reads, optional, sees, sees_name};
 ghost use Rattle.gql_parse.specs.Selections as spec;
+ghost use Rattle.gql_parse.specs.Stacks.{Adds};
 
 use crate::applied::{directives, optional_arguments};
 use crate::literal::ValueForm;
@@ -104,84 +105,131 @@ fn spread(alloc: Global, cursor: &mut Cursor<'_>, mark: Token<'_>) -> Result<Spr
 }
 
 /// A set of selections in braces (2.4).
-#[cycle(set)]
-#[tactic(auto, using(gql_grammar::proofs::Rests::rests, crate::proofs::Rules::set_is), unfolding(crate::specs::Selections::set_of))]
 pub fn set(alloc: Global, cursor: &mut Cursor<'_>) -> Result<Items<Selection>, ParseError>
     ensures value { Reads (spec.set.read cursor.old) result cursor.new }
     ensures shorter { OnOk result (length cursor.new < length cursor.old) }
     ensures rest { IsRest cursor.new cursor.old }
 {
-    cursor.expect(Kind::LeftBrace)?;
-    let found = selections(alloc, cursor)?;
-    cursor.expect(Kind::RightBrace)?;
-    Ok(found)
+    let mut stack = Vec::new(alloc);
+    set_over(alloc, cursor, &mut stack)
 }
 
 /// The selections of a set, without its braces (2.4).
-#[cycle(set)]
-#[tactic(auto, using(gql_grammar::proofs::Rests::rests, gql_grammar::proofs::Loops::going_init, gql_grammar::proofs::Loops::going_on))]
 pub fn selections(alloc: Global, cursor: &mut Cursor<'_>) -> Result<Items<Selection>, ParseError>
     ensures value { Reads ((spec.selections_of spec.set).read cursor.old) result cursor.new }
     ensures shorter { OnOk result (length cursor.new < length cursor.old) }
     ensures rest { IsRest cursor.new cursor.old }
 {
-    let mut found = Vec::new(alloc);
-    found.push(selection(alloc, cursor)?)?;
-    'selections: while cursor.before(Kind::RightBrace) {
-        found.push(selection(alloc, cursor)?)?;
-    }
-    // A document is held as long as its file, so no room for more selections is.
-    found.shrink_to_fit();
-    Ok(Items::from_vec(found))
+    let mut stack = Vec::new(alloc);
+    selections_over(alloc, cursor, &mut stack)
 }
 
+/// A set in braces. The selections of sets that are not closed yet lie on the stack.
+#[cycle(set)]
+#[tactic(auto, using(gql_grammar::proofs::Rests::rests, crate::proofs::Rules::set_is), unfolding(crate::specs::Selections::set_of))]
+fn set_over(
+    alloc: Global,
+    cursor: &mut Cursor<'_>,
+    stack: &mut Vec<Selection>,
+) -> Result<Items<Selection>, ParseError>
+    ensures value { Reads (spec.set.read cursor.old) result cursor.new }
+    ensures shorter { OnOk result (length cursor.new < length cursor.old) }
+    ensures rest { IsRest cursor.new cursor.old }
+    ensures stack { OnOk result (stack.new.items ≡ stack.old.items) }
+{
+    cursor.expect(Kind::LeftBrace)?;
+    let found = selections_over(alloc, cursor, stack)?;
+    cursor.expect(Kind::RightBrace)?;
+    Ok(found)
+}
+
+/// The selections of a set. Each is put on the stack, and all are taken off at the end, so that they
+/// take no more memory than they need: a document is held as long as its file.
+#[cycle(set)]
+#[tactic(auto, using(gql_grammar::proofs::Rests::rests))]
+fn selections_over(
+    alloc: Global,
+    cursor: &mut Cursor<'_>,
+    stack: &mut Vec<Selection>,
+) -> Result<Items<Selection>, ParseError>
+    ensures value { Reads ((spec.selections_of spec.set).read cursor.old) result cursor.new }
+    ensures shorter { OnOk result (length cursor.new < length cursor.old) }
+    ensures rest { IsRest cursor.new cursor.old }
+    ensures stack { OnOk result (stack.new.items ≡ stack.old.items) }
+{
+    let start = stack.len();
+    push_selection(alloc, cursor, stack)?;
+    'selections: while cursor.before(Kind::RightBrace) {
+        push_selection(alloc, cursor, stack)?;
+    }
+    Ok(Items::from_vec(stack.split_off(start)?))
+}
+
+/// Puts the next selection on the stack (2.4).
 #[cycle(set)]
 #[tactic(auto, using(gql_grammar::proofs::Rests::rests), unfolding(crate::specs::Selections::selection_of))]
-fn selection(alloc: Global, cursor: &mut Cursor<'_>) -> Result<Selection, ParseError>
-    ensures value { Reads ((spec.selection_of spec.set).read cursor.old) result cursor.new }
+fn push_selection(
+    alloc: Global,
+    cursor: &mut Cursor<'_>,
+    stack: &mut Vec<Selection>,
+) -> Result<(), ParseError>
+    ensures value { Adds stack.old.items stack.new.items
+        ((spec.selection_of spec.set).read cursor.old) result cursor.new }
     ensures shorter { OnOk result (length cursor.new < length cursor.old) }
     ensures rest { IsRest cursor.new cursor.old }
 {
     match cursor.kind() {
-        Kind::Name => Ok(Selection::Field(field(alloc, cursor)?)),
-        Kind::Ellipsis => spread_or_inline(alloc, cursor),
+        Kind::Name => push_field(alloc, cursor, stack),
+        Kind::Ellipsis => push_spread_or_inline(alloc, cursor, stack),
         _ => Err(ParseError::Unexpected),
     }
 }
 
+/// Puts the next field on the stack (2.5).
 #[cycle(set)]
 #[tactic(auto, using(gql_grammar::proofs::Rests::rests), unfolding(crate::specs::Selections::field_of))]
-fn field(alloc: Global, cursor: &mut Cursor<'_>) -> Result<Field, ParseError>
-    ensures value { Reads ((spec.field_of spec.set).read cursor.old) result cursor.new }
+fn push_field(
+    alloc: Global,
+    cursor: &mut Cursor<'_>,
+    stack: &mut Vec<Selection>,
+) -> Result<(), ParseError>
+    ensures value { Adds stack.old.items stack.new.items
+        ((spec.selection_by spec.set k.Name).read cursor.old) result cursor.new }
     ensures shorter { OnOk result (length cursor.new < length cursor.old) }
     ensures rest { IsRest cursor.new cursor.old }
 {
     let (alias, name) = names(alloc, cursor)?;
     let arguments = optional_arguments(alloc, cursor, ValueForm::WithVariables)?;
     let directives = directives(alloc, cursor, ValueForm::WithVariables)?;
-    let selections = optional_set(alloc, cursor)?;
-    Ok(Field {
+    let selections = optional_set(alloc, cursor, stack)?;
+    stack.push(Selection::Field(Field {
         alias,
         name,
         arguments,
         directives,
         selections,
-    })
+    }))?;
+    Ok(())
 }
 
 /// The selections below a field, or none.
 #[cycle(set)]
 #[tactic(auto, using(gql_grammar::proofs::Rests::rests))]
-fn optional_set(alloc: Global, cursor: &mut Cursor<'_>) -> Result<Items<Selection>, ParseError>
+fn optional_set(
+    alloc: Global,
+    cursor: &mut Cursor<'_>,
+    stack: &mut Vec<Selection>,
+) -> Result<Items<Selection>, ParseError>
     ensures value { Reads
         ((optional (sees k.LeftBrace) [] spec.set).read cursor.old) result cursor.new }
     ensures shorter { OnOk result (length cursor.new ≤ length cursor.old) }
     ensures rest { IsRest cursor.new cursor.old }
+    ensures stack { OnOk result (stack.new.items ≡ stack.old.items) }
 {
     if !cursor.sees(Kind::LeftBrace) {
         return Ok(Items::new(alloc));
     }
-    set(alloc, cursor)
+    set_over(alloc, cursor, stack)
 }
 
 #[cycle(set)]
@@ -190,15 +238,17 @@ fn inline_fragment(
     alloc: Global,
     cursor: &mut Cursor<'_>,
     mark: Token<'_>,
+    stack: &mut Vec<Selection>,
 ) -> Result<InlineFragment, ParseError>
     ensures value { Reads
         ((spec.inline_fragment_of (lexeme mark.entry) spec.set).read cursor.old) result cursor.new }
     ensures shorter { OnOk result (length cursor.new < length cursor.old) }
     ensures rest { IsRest cursor.new cursor.old }
+    ensures stack { OnOk result (stack.new.items ≡ stack.old.items) }
 {
     let condition = optional_condition(alloc, cursor)?;
     let directives = directives(alloc, cursor, ValueForm::WithVariables)?;
-    let selections = set(alloc, cursor)?;
+    let selections = set_over(alloc, cursor, stack)?;
     Ok(InlineFragment {
         place: mark.place,
         condition,
@@ -209,15 +259,39 @@ fn inline_fragment(
 
 #[cycle(set)]
 #[tactic(auto, using(gql_grammar::proofs::Rests::rests), unfolding(crate::specs::Selections::spread_or_inline_of))]
-fn spread_or_inline(alloc: Global, cursor: &mut Cursor<'_>) -> Result<Selection, ParseError>
+fn spread_or_inline(
+    alloc: Global,
+    cursor: &mut Cursor<'_>,
+    stack: &mut Vec<Selection>,
+) -> Result<Selection, ParseError>
     ensures value { Reads ((spec.spread_or_inline_of spec.set).read cursor.old) result cursor.new }
     ensures shorter { OnOk result (length cursor.new < length cursor.old) }
     ensures rest { IsRest cursor.new cursor.old }
+    ensures stack { OnOk result (stack.new.items ≡ stack.old.items) }
 {
     let mark = cursor.expect(Kind::Ellipsis)?;
     if sees_fragment_name(cursor) {
         Ok(Selection::Spread(spread(alloc, cursor, mark)?))
     } else {
-        Ok(Selection::InlineFragment(inline_fragment(alloc, cursor, mark)?))
+        let inline = inline_fragment(alloc, cursor, mark, stack)?;
+        Ok(Selection::InlineFragment(inline))
     }
+}
+
+/// Puts the next spread or inline fragment on the stack (2.8).
+#[cycle(set)]
+#[tactic(auto, using(gql_grammar::proofs::Rests::rests))]
+fn push_spread_or_inline(
+    alloc: Global,
+    cursor: &mut Cursor<'_>,
+    stack: &mut Vec<Selection>,
+) -> Result<(), ParseError>
+    ensures value { Adds stack.old.items stack.new.items
+        ((spec.spread_or_inline_of spec.set).read cursor.old) result cursor.new }
+    ensures shorter { OnOk result (length cursor.new < length cursor.old) }
+    ensures rest { IsRest cursor.new cursor.old }
+{
+    let found = spread_or_inline(alloc, cursor, stack)?;
+    stack.push(found)?;
+    Ok(())
 }
