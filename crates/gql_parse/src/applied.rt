@@ -100,9 +100,8 @@ fn directive(
     })
 }
 
-/// The directives that follow, possibly none (2.12). Values of their arguments are of this form.
 #[tactic(auto, unfolding(crate::specs::Directives::directives), using(gql_grammar::proofs::Rests::rests, gql_grammar::proofs::Loops::going_init, gql_grammar::proofs::Loops::going_on))]
-pub fn directives(
+fn directive_list(
     alloc: Global,
     cursor: &mut Cursor<'_>,
     form: ValueForm,
@@ -116,4 +115,22 @@ pub fn directives(
         found.push(directive(alloc, cursor, form)?)?;
     }
     Ok(found)
+}
+
+/// The directives that follow, possibly none (2.12). Values of their arguments are of this form.
+/// Most places have none, so that is tested first.
+#[tactic(auto, unfolding(crate::specs::Directives::directives, gql_grammar::specs::Repetition::while_from), using(gql_grammar::proofs::Rests::rests))]
+pub fn directives(
+    alloc: Global,
+    cursor: &mut Cursor<'_>,
+    form: ValueForm,
+) -> Result<Items<Directive>, ParseError>
+    ensures value { Reads ((spec.directives (is_constant form)).read cursor.old) result cursor.new }
+    ensures shorter { OnOk result (length cursor.new ≤ length cursor.old) }
+    ensures rest { IsRest cursor.new cursor.old }
+{
+    if !cursor.sees(Kind::At) {
+        return Ok(Items::new(alloc));
+    }
+    directive_list(alloc, cursor, form)
 }

@@ -6,7 +6,7 @@ ghost use Rattle.gql_grammar.specs.Repetition.{some_while};
 ghost use Rattle.gql_parse.specs.Documents as spec;
 
 use crate::operations::{fragment, operation};
-use gql_ast::{Definition, Document, FileName, Items, Shared, Tree};
+use gql_ast::{Definition, Document, FileName, Items, Tree};
 use gql_grammar::{Cursor, ParseError};
 use gql_text::Kind;
 use std::alloc::Global;
@@ -19,11 +19,9 @@ pub fn definition(alloc: Global, cursor: &mut Cursor<'_>) -> Result<Tree, ParseE
     ensures rest { IsRest cursor.new cursor.old }
 {
     if cursor.sees_word("fragment") {
-        let fragment = fragment(alloc, cursor)?;
-        Ok(Tree::Fragment(Shared::new(alloc, fragment)?))
+        Ok(Tree::Fragment(fragment(alloc, cursor)?))
     } else {
-        let operation = operation(alloc, cursor)?;
-        Ok(Tree::Operation(Shared::new(alloc, operation)?))
+        Ok(Tree::Operation(operation(alloc, cursor)?))
     }
 }
 

@@ -11,7 +11,7 @@ use crate::literal::{ValueForm, value};
 use crate::names::{name, optional_name};
 use crate::selections::{fragment_name, selections, set, type_condition};
 use crate::types::type_ref;
-use gql_ast::{Fragment, Items, Literal, Operation, OperationKind, VariableDefinition};
+use gql_ast::{Fragment, Items, Literal, Operation, OperationKind, Shared, VariableDefinition};
 use gql_grammar::{Cursor, ParseError, Unexpected};
 use gql_text::{Kind, Token};
 use std::alloc::Global;
@@ -124,7 +124,10 @@ fn operation_word<'a>(cursor: &mut Cursor<'a>) -> Result<Token<'a>, Unexpected>
 }
 
 #[tactic(auto, using(gql_grammar::proofs::Rests::rests), unfolding(crate::specs::Operations::named_operation))]
-fn named_operation(alloc: Global, cursor: &mut Cursor<'_>) -> Result<Operation, ParseError>
+fn named_operation(
+    alloc: Global,
+    cursor: &mut Cursor<'_>,
+) -> Result<Shared<Operation>, ParseError>
     ensures value { Reads (spec.named_operation.read cursor.old) result cursor.new }
     ensures shorter { OnOk result (length cursor.new < length cursor.old) }
     ensures rest { IsRest cursor.new cursor.old }
@@ -134,18 +137,19 @@ fn named_operation(alloc: Global, cursor: &mut Cursor<'_>) -> Result<Operation, 
     let variables = optional_variables(alloc, cursor)?;
     let directives = directives(alloc, cursor, ValueForm::WithVariables)?;
     let selections = set(alloc, cursor)?;
-    Ok(Operation {
+    let operation = Operation {
         place: word.place,
         kind: operation_kind(word.text),
         name,
         variables,
         directives,
         selections,
-    })
+    };
+    Ok(Shared::new(alloc, operation)?)
 }
 
 #[tactic(auto, using(gql_grammar::proofs::Rests::rests), unfolding(crate::specs::Operations::shorthand))]
-fn shorthand(alloc: Global, cursor: &mut Cursor<'_>) -> Result<Operation, ParseError>
+fn shorthand(alloc: Global, cursor: &mut Cursor<'_>) -> Result<Shared<Operation>, ParseError>
     ensures value { Reads (spec.shorthand.read cursor.old) result cursor.new }
     ensures shorter { OnOk result (length cursor.new < length cursor.old) }
     ensures rest { IsRest cursor.new cursor.old }
@@ -153,19 +157,20 @@ fn shorthand(alloc: Global, cursor: &mut Cursor<'_>) -> Result<Operation, ParseE
     let mark = cursor.expect(Kind::LeftBrace)?;
     let selections = selections(alloc, cursor)?;
     cursor.expect(Kind::RightBrace)?;
-    Ok(Operation {
+    let operation = Operation {
         place: mark.place,
         kind: OperationKind::Query,
         name: None,
         variables: Items::new(alloc),
         directives: Items::new(alloc),
         selections,
-    })
+    };
+    Ok(Shared::new(alloc, operation)?)
 }
 
 /// An operation (GraphQL specification, 2.3).
 #[tactic(auto, using(gql_grammar::proofs::Rests::rests))]
-pub fn operation(alloc: Global, cursor: &mut Cursor<'_>) -> Result<Operation, ParseError>
+pub fn operation(alloc: Global, cursor: &mut Cursor<'_>) -> Result<Shared<Operation>, ParseError>
     ensures value { Reads (spec.operation.read cursor.old) result cursor.new }
     ensures shorter { OnOk result (length cursor.new < length cursor.old) }
     ensures rest { IsRest cursor.new cursor.old }
@@ -179,7 +184,7 @@ pub fn operation(alloc: Global, cursor: &mut Cursor<'_>) -> Result<Operation, Pa
 
 /// A fragment with a name (GraphQL specification, 2.8).
 #[tactic(auto, using(gql_grammar::proofs::Rests::rests), unfolding(crate::specs::Operations::fragment))]
-pub fn fragment(alloc: Global, cursor: &mut Cursor<'_>) -> Result<Fragment, ParseError>
+pub fn fragment(alloc: Global, cursor: &mut Cursor<'_>) -> Result<Shared<Fragment>, ParseError>
     ensures value { Reads (spec.fragment.read cursor.old) result cursor.new }
     ensures shorter { OnOk result (length cursor.new < length cursor.old) }
     ensures rest { IsRest cursor.new cursor.old }
@@ -189,11 +194,12 @@ pub fn fragment(alloc: Global, cursor: &mut Cursor<'_>) -> Result<Fragment, Pars
     let condition = type_condition(alloc, cursor)?;
     let directives = directives(alloc, cursor, ValueForm::WithVariables)?;
     let selections = set(alloc, cursor)?;
-    Ok(Fragment {
+    let fragment = Fragment {
         place: mark.place,
         name,
         condition,
         directives,
         selections,
-    })
+    };
+    Ok(Shared::new(alloc, fragment)?)
 }

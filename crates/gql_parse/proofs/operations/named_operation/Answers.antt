@@ -9,3 +9,6 @@ returns-in_err-selections-clause-rest c = rest_then c.set.ensures.rest (rest_the
 
 pub returns-clause-rest : goal.returns-clause-rest
 returns-clause-rest c = rest_then c.set.ensures.rest (rest_then c.directives.ensures.rest (rest_then c.optional_variables.ensures.rest (rest_then c.optional_name.ensures.rest c.operation_word.ensures.rest)))
+
+pub returns-in_err-new-clause-rest : goal.returns-in_err-new-clause-rest
+returns-in_err-new-clause-rest c = rest_then c.set.ensures.rest (rest_then c.directives.ensures.rest (rest_then c.optional_variables.ensures.rest (rest_then c.optional_name.ensures.rest c.operation_word.ensures.rest)))

@@ -4,7 +4,7 @@ use Rattle.gql_grammar.specs.Symbol.{sees}
 use Rattle.gql_grammar.proofs.Loops.{Going}
 use Rattle.gql_parse.specs.Directives.{directive}
 use Rattle.gql_parse.specs.Values.{is_constant}
-use Rattle.gql_parse.proofs.applied.directives.Given as goal
+use Rattle.gql_parse.proofs.applied.directive_list.Given as goal
 
 abbrev pub invariant-directives : goal.invariant-directives
 invariant-directives l = Going (sees At) (directive (is_constant l.form)) [] l.initial.cursor l.found l.cursor

@@ -3,7 +3,7 @@ use Rattle.gql_text.specs.declared.token.Kind.TheVariants as k
 use Rattle.gql_grammar.specs.Symbol.{sees}
 use Rattle.gql_grammar.proofs.Loops.{fault_reads, going_ends}
 use Rattle.gql_parse.specs.Directives.{directives}
-use Rattle.gql_parse.proofs.applied.directives.Goals as goal
+use Rattle.gql_parse.proofs.applied.directive_list.Goals as goal
 
 pub returns-clause-value : goal.returns-clause-value
 unfolding directives
