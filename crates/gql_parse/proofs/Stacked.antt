@@ -1,5 +1,5 @@
 -- Values that are read one after another and put on a stack: those of one list lie on top.
-use Rattle.std.proofs.Common.{◌≡◌, ℕ, ◌<◌, ◌≤◌, ◌+◌, List, [], ◌∷◌, ◌++◌, length, take, drop, Ok, Err, Bool, true, false, refl, sym, ap, ◌∙◌, suc, append_assoc, length-append, arith}
+use Rattle.std.proofs.Common.{◌≡◌, ℕ, ◌<◌, ◌≤◌, List, [], ◌∷◌, ◌++◌, length, take, drop, Ok, Err, Bool, true, false, refl, sym, ap, ◌∙◌, suc, append_assoc, length-append, arith}
 use Rattle.gql_text.specs.Lexeme.{Lexeme}
 use Rattle.gql_grammar.specs.Symbol.{Phrase, IsRest, Outcome, and_then}
 use Rattle.gql_grammar.specs.Repetition.{some_while, while_from}
@@ -39,7 +39,10 @@ stacked_on {item = item} {below = below} {stack = stack} {ts = ts} g more new re
     let a = added stack new (item.read ts) rest h in
     let less = taken item ts rest a.0 a.1 in
     record {
-      first = g.first; middle = g.middle; found = g.found ++ a.0 ∷ []; is = g.is;
+      first = g.first;
+      middle = g.middle;
+      found = g.found ++ a.0 ∷ [];
+      is = g.is;
       going = going_on rest a.0 g.going more a.1 r (g.found ++ a.0 ∷ []) refl;
       parts = a.2 ∙ ap (λ xs. xs ++ a.0 ∷ []) g.parts ∙ append_assoc below g.found (a.0 ∷ []);
       shorter = omega (arith, less, g.shorter);

@@ -124,10 +124,7 @@ fn operation_word<'a>(cursor: &mut Cursor<'a>) -> Result<Token<'a>, Unexpected>
 }
 
 #[tactic(auto, using(gql_grammar::proofs::Rests::rests), unfolding(crate::specs::Operations::named_operation))]
-fn named_operation(
-    alloc: Global,
-    cursor: &mut Cursor<'_>,
-) -> Result<Shared<Operation>, ParseError>
+fn named_operation(alloc: Global, cursor: &mut Cursor<'_>) -> Result<Shared<Operation>, ParseError>
     ensures value { Reads (spec.named_operation.read cursor.old) result cursor.new }
     ensures shorter { OnOk result (length cursor.new < length cursor.old) }
     ensures rest { IsRest cursor.new cursor.old }

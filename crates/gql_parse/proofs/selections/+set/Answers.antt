@@ -1,4 +1,4 @@
-use Rattle.std.proofs.Common.{◌≡◌, ◌≤◌, ◌∙◌, true, false, arith, length}
+use Rattle.std.proofs.Common.{◌≡◌, ◌∙◌, true, false, arith}
 use Rattle.gql_text.specs.declared.token.Kind.TheVariants as k
 use Rattle.gql_grammar.specs.Symbol.{before}
 use Rattle.gql_grammar.proofs.Loops.{some_fault}
