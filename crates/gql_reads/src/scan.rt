@@ -31,12 +31,8 @@ fn note_directives<W: World>(
         ≡ add_keys (keys answers.old) (spec.directive_reads directives.now)) }
 {
     for directive in directives {
-        note(
-            alloc,
-            world,
-            Key::DirectiveOf(directive.name.text.copy()?),
-            answers,
-        )?;
+        let key = Key::DirectiveOf(directive.name.text.copy()?);
+        note(alloc, world, key, answers)?;
     }
     Ok(())
 }
