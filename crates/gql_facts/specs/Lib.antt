@@ -10,6 +10,7 @@ pub mod Views
 pub mod Scans
 pub mod Walks
 pub mod Facts
+pub mod FileFragments
 pub mod Tables
 pub mod Presents
 pub mod EditedFacts

@@ -16,7 +16,7 @@ mod walk;
 mod world;
 
 pub use fact::{DirectiveFact, Fact, FieldFact, FragmentFact, InputFact};
-pub use fragments::Fragments;
+pub use fragments::{Fragments, have_same_fragments};
 pub use key::Key;
 pub use possible_names::PossibleNames;
 pub use present::Present;
