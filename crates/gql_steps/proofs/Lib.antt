@@ -1,4 +1,5 @@
 pub mod Alike
+pub mod Asking
 pub mod Completing
 pub mod Directly
 pub mod Doing

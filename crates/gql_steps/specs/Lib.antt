@@ -1,3 +1,4 @@
+pub mod Asked
 pub mod Columns
 pub mod Direct
 pub mod DirectParts

@@ -3,10 +3,11 @@ ghost use Rattle.std.specs.Prelude.{◌≡◌, ◌≢◌, ◌<◌, List, ℕ, le
 ghost use Rattle.serde_json.specs.Data as json;
 ghost use Rattle.serde_json.specs.Data.{Data, Members};
 ghost use Rattle.serde_json.specs.View.{members_view, view};
+ghost use Rattle.gql_steps.specs.Asked.{asked_members, text_member};
 ghost use Rattle.gql_steps.specs.Columns.{AreTestsOf};
 ghost use Rattle.gql_steps.specs.Resolution as spec;
 
-use crate::same::is_same;
+use crate::asked::{Asked, AskedText, has_members, has_text, only_text, taken_apart};
 use gql_ast::Shared;
 use gql_coerce::CoercedValue;
 use serde_json::{Map, Value};
@@ -19,51 +20,14 @@ pub struct Test<'c> {
     pub print: u64,
 }
 
-/// Whether an argument equals a member; a missing member equals null.
-#[tactic(auto, using(crate::proofs::Alike::same_as_null))]
-fn equals_member(
-    alloc: Global,
-    argument: &Value,
-    object: &Value,
-    name: &str,
-) -> Result<bool, AllocError>
-    ensures { IfOk result (λ equals. equals ≡ spec.same_data (view argument.now)
-        (spec.member_or_null name.now (view object.now))) }
-{
-    match object.get(name) {
-        Some(member) => is_same(alloc, argument, member),
-        None => Ok(argument.is_null()),
-    }
-}
-
-/// Whether an object has each argument as a member.
-fn has_members(
-    alloc: Global,
-    arguments: &Map<String, Shared<CoercedValue>>,
-    object: &Value,
-) -> Result<bool, AllocError>
-    ensures { IfOk result (λ has. has
-        ≡ spec.has_members (members_view arguments.now.entries) (view object.now)) }
-{
-    for (name, argument) in arguments.iter() {
-        if !equals_member(alloc, argument.get().get(), object, name.as_str())? {
-            return Ok(false);
-        }
-    }
-    Ok(true)
-}
-
 /// Whether an item is an object that has each argument as a member.
-fn meets(
-    alloc: Global,
-    arguments: &Map<String, Shared<CoercedValue>>,
-    item: &Value,
-) -> Result<bool, AllocError>
+#[inline(always)]
+fn meets(alloc: Global, asked: &[Asked<'_>], item: &Value) -> Result<bool, AllocError>
     ensures { IfOk result (λ meets. meets
-        ≡ spec.meets (members_view arguments.now.entries) (view item.now)) }
+        ≡ spec.meets (asked_members asked.now) (view item.now)) }
 {
     match item {
-        Value::Object(_) => has_members(alloc, arguments, item),
+        Value::Object(_) => has_members(alloc, asked, item),
         Value::Null => Ok(false),
         Value::Bool(_) => Ok(false),
         Value::Number(_) => Ok(false),
@@ -97,26 +61,68 @@ fn may_meet(tests: &[Test<'_>], i: usize) -> bool
 }
 
 /// Whether the item of this number meets the arguments, which these tests are of.
+#[inline(always)]
 fn meets_at(
     alloc: Global,
-    arguments: &Map<String, Shared<CoercedValue>>,
+    asked: &[Asked<'_>],
     tests: &[Test<'_>],
     i: usize,
     item: &Value,
 ) -> Result<bool, AllocError>
     ensures { IfOk result (λ meets. (items : List Data)
-        → AreTestsOf (members_view arguments.now.entries) items tests.now
+        → AreTestsOf (asked_members asked.now) items tests.now
         → slice_index_or items i json.null ≡ view item.now
-        → meets ≡ spec.meets (members_view arguments.now.entries) (view item.now)) }
+        → meets ≡ spec.meets (asked_members asked.now) (view item.now)) }
 {
     if may_meet(tests, i) {
-        meets(alloc, arguments, item)
+        meets(alloc, asked, item)
     } else {
         Ok(false)
     }
 }
 
-/// The items that meet the arguments, which these tests are of.
+/// The items that meet these arguments, which these tests are of.
+fn kept_by_all<'v>(
+    alloc: Global,
+    asked: &[Asked<'_>],
+    tests: &[Test<'_>],
+    items: &'v [Value],
+) -> Result<Vec<&'v Value>, AllocError>
+    requires { AreTestsOf (asked_members asked.now) (map view items.now) tests.now }
+    ensures { IfOk result (λ found. map (λ v. view v.now) found.items
+        ≡ filter (spec.meets (asked_members asked.now)) (map view items.now)) }
+{
+    let mut found = Vec::new(alloc);
+    for i in 0..items.len() {
+        let item = &items[i];
+        if meets_at(alloc, asked, tests, i, item)? {
+            found.push(item)?;
+        }
+    }
+    Ok(found)
+}
+
+/// The items that have this argument as a member.
+fn kept_by_text<'v>(
+    alloc: Global,
+    argument: &AskedText<'_>,
+    items: &'v [Value],
+) -> Result<Vec<&'v Value>, AllocError>
+    ensures { IfOk result (λ found. map (λ v. view v.now) found.items
+        ≡ filter (spec.meets (text_member argument.now)) (map view items.now)) }
+{
+    let mut found = Vec::new(alloc);
+    for i in 0..items.len() {
+        let item = &items[i];
+        if has_text(argument, item) {
+            found.push(item)?;
+        }
+    }
+    Ok(found)
+}
+
+/// The items that meet the arguments, which these tests are of. One argument that is a text, with no
+/// tests, has a shorter walk.
 pub fn kept<'v>(
     alloc: Global,
     arguments: &Map<String, Shared<CoercedValue>>,
@@ -127,17 +133,51 @@ pub fn kept<'v>(
     ensures { IfOk result (λ found. map (λ v. view v.now) found.items
         ≡ filter (spec.meets (members_view arguments.now.entries)) (map view items.now)) }
 {
-    let mut found = Vec::new(alloc);
-    for i in 0..items.len() {
-        let item = &items[i];
-        if meets_at(alloc, arguments, tests, i, item)? {
-            found.push(item)?;
+    let asked = taken_apart(alloc, arguments)?;
+    if tests.is_empty() {
+        if let Some(argument) = only_text(asked.as_slice()) {
+            return kept_by_text(alloc, &argument, items);
         }
     }
-    Ok(found)
+    kept_by_all(alloc, asked.as_slice(), tests, items)
 }
 
-/// The first item that meets the arguments, which these tests are of, if there is one.
+/// The first item that meets these arguments, which these tests are of, if there is one.
+fn first_by_all<'v>(
+    alloc: Global,
+    asked: &[Asked<'_>],
+    tests: &[Test<'_>],
+    items: &'v [Value],
+) -> Result<Option<&'v Value>, AllocError>
+    requires { AreTestsOf (asked_members asked.now) (map view items.now) tests.now }
+    ensures { IfOk result (λ found. option_map (λ v. view v.now) found
+        ≡ find (spec.meets (asked_members asked.now)) (map view items.now)) }
+{
+    for i in 0..items.len() {
+        let item = &items[i];
+        if meets_at(alloc, asked, tests, i, item)? {
+            return Ok(Some(item));
+        }
+    }
+    Ok(None)
+}
+
+/// The first item that has this argument as a member, if there is one.
+fn first_by_text<'v>(argument: &AskedText<'_>, items: &'v [Value]) -> Option<&'v Value>
+    ensures { option_map (λ v. view v.now) result
+        ≡ find (spec.meets (text_member argument.now)) (map view items.now) }
+{
+    for i in 0..items.len() {
+        let item = &items[i];
+        if has_text(argument, item) {
+            return Some(item);
+        }
+    }
+    None
+}
+
+/// The first item that meets the arguments, which these tests are of, if there is one. One argument
+/// that is a text, with no tests, has a shorter walk.
 pub fn first_kept<'v>(
     alloc: Global,
     arguments: &Map<String, Shared<CoercedValue>>,
@@ -148,11 +188,11 @@ pub fn first_kept<'v>(
     ensures { IfOk result (λ found. option_map (λ v. view v.now) found
         ≡ find (spec.meets (members_view arguments.now.entries)) (map view items.now)) }
 {
-    for i in 0..items.len() {
-        let item = &items[i];
-        if meets_at(alloc, arguments, tests, i, item)? {
-            return Ok(Some(item));
+    let asked = taken_apart(alloc, arguments)?;
+    if tests.is_empty() {
+        if let Some(argument) = only_text(asked.as_slice()) {
+            return Ok(first_by_text(&argument, items));
         }
     }
-    Ok(None)
+    first_by_all(alloc, asked.as_slice(), tests, items)
 }

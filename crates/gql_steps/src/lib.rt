@@ -4,6 +4,7 @@
 //! are public.
 #![tactic(auto)]
 
+mod asked;
 pub mod columns;
 pub mod credit;
 pub mod direct;

@@ -170,27 +170,13 @@ fn are_same_rests(alloc: Global, frame: PairFrame<'_>) -> Result<bool, AllocErro
     Err(AllocError)
 }
 
-/// Whether two values of which one is a list or an object are the same.
+/// Whether two values are the same, numbers as integers.
 #[inline(never)]
-fn are_same_parts(alloc: Global, value: &Value, other: &Value) -> Result<bool, AllocError>
+pub fn is_same(alloc: Global, value: &Value, other: &Value) -> Result<bool, AllocError>
     ensures { IfOk result (λ same. same ≡ spec.same_data (view value.now) (view other.now)) }
 {
     match compare(value, other) {
         Compared::Done(same) => Ok(same),
         Compared::Inner(frame) => are_same_rests(alloc, frame),
     }
-}
-
-/// Whether two values are the same, numbers as integers. Texts are compared here: most values are
-/// texts, and what compares lists and objects clears some KB of its stack at each call.
-pub fn is_same(alloc: Global, value: &Value, other: &Value) -> Result<bool, AllocError>
-    ensures { IfOk result (λ same. same ≡ spec.same_data (view value.now) (view other.now)) }
-{
-    if let Value::String(text) = value {
-        return Ok(match other.as_str() {
-            Some(other) => text.as_str() == other,
-            None => false,
-        });
-    }
-    are_same_parts(alloc, value, other)
 }

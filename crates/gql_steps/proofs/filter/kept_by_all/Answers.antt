@@ -1,14 +1,15 @@
 use Rattle.std.proofs.Common.{◌<◌, map, length, refl, sym, ap, Vec, Bor, Global, ◌∙◌, arith}
-use Rattle.serde_json.specs.View.{members_view, view}
+use Rattle.serde_json.specs.View.{view}
+use Rattle.gql_steps.specs.Asked.{asked_members}
 use Rattle.serde_json.specs.declared.value.Value.{Value}
 use Rattle.gql_steps.specs.Resolution.{meets}
 use Rattle.gql_steps.proofs.Printing.{item_at, kept_more, kept_same}
-use Rattle.gql_steps.proofs.filter.kept.Goals.{then-branch+in_ok-push, else-branch}
-use Rattle.gql_steps.proofs.filter.kept.Goals as goal
+use Rattle.gql_steps.proofs.filter.kept_by_all.Goals.{then-branch+in_ok-push, else-branch}
+use Rattle.gql_steps.proofs.filter.kept_by_all.Goals as goal
 
 pub loop-i-preserved : goal.loop-i-preserved
 loop-i-preserved c =
-    let p = meets (members_view c.args.arguments.now.entries) in
+    let p = meets (asked_members c.args.asked.now) in
     let items = c.args.items.now in
     let item = c.index-items-i.result in
     let within : c.loop-i.i < length items = omega arith in

@@ -1,12 +1,13 @@
 use Rattle.std.proofs.Common.{◌<◌, map, length, sym, ◌∙◌, arith}
-use Rattle.serde_json.specs.View.{members_view, view}
+use Rattle.serde_json.specs.View.{view}
+use Rattle.gql_steps.specs.Asked.{asked_members}
 use Rattle.gql_steps.specs.Resolution.{meets}
 use Rattle.gql_steps.proofs.Printing.{found_here, found_later, item_at}
-use Rattle.gql_steps.proofs.filter.first_kept.Goals as goal
+use Rattle.gql_steps.proofs.filter.first_by_all.Goals as goal
 
 pub returns-then-branch : goal.returns-then-branch
 returns-then-branch c =
-    let p = meets (members_view c.args.arguments.now.entries) in
+    let p = meets (asked_members c.args.asked.now) in
     let items = c.args.items.now in
     let item = c.index-items-i.result in
     let within : c.loop-i.i < length items = omega arith in
@@ -15,7 +16,7 @@ returns-then-branch c =
 
 pub loop-i-preserved : goal.loop-i-preserved
 loop-i-preserved c =
-    let p = meets (members_view c.args.arguments.now.entries) in
+    let p = meets (asked_members c.args.asked.now) in
     let items = c.args.items.now in
     let item = c.index-items-i.result in
     let within : c.loop-i.i < length items = omega arith in
