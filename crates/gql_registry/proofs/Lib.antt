@@ -14,6 +14,7 @@ pub mod PlannedFiles
 pub mod Reports
 pub mod Working
 pub mod SameSchema
+pub mod SameFragments
 pub mod SchemaTouched
 pub mod Restored
 pub mod UndoneEdits

@@ -108,7 +108,7 @@ one_load one s t u (e ∷ edits) (step {t = a} accepted leaves more) (step {t = 
 -- ---- the change
 
 -- a change that may have changed everything, and leaves files whose definitions are in order
-pub whole_plan : (before after : Files) → AreFilesPlaced after.documents → IsEditPlanOf before (record { files = after; touched = All; schema = None; keeps_names = false })
+pub whole_plan : (before after : Files) → AreFilesPlaced after.documents → IsEditPlanOf before (record { files = after; touched = All; schema = None; index = None; keeps_names = false })
 whole_plan before after placed = record {
   placed = placed;
   touched = record {
@@ -116,6 +116,7 @@ whole_plan before after placed = record {
     definitions = λ all d there untouched. absurd (cc untouched);
   };
   schema = tt;
+  index = tt;
   names = λ keeps. absurd (cc keeps);
 }
 

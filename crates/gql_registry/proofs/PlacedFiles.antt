@@ -15,7 +15,7 @@ use Rattle.gql_parse_sdl.specs.Placed as parsed
 use Rattle.gql_registry.specs.EditPlans.{IsEditPlanOf, IsEditPlanTo}
 use Rattle.gql_verdict.specs.NameViews.{KeepsNamesSound}
 use Rattle.gql_registry.specs.Checks.{IsPlacedOn}
-use Rattle.gql_registry.specs.Keeping.{IsSideOf}
+use Rattle.gql_registry.specs.Keeping.{IsIndexOf, IsSideOf}
 use Rattle.gql_registry.specs.Sides.{with_put, with_removed}
 use Rattle.gql_registry.specs.declared.edit_plan.EditPlan.{EditPlan}
 use Rattle.gql_verdict.specs.DocumentEdits.{ChangesOnly}
@@ -73,6 +73,7 @@ plan_of before after c placed to = record {
   placed = subst (λ (f : Files). AreFilesPlaced f.documents) (sym to.files) placed;
   touched = subst (λ (f : Files). ChangesOnly c.touched before f) (sym to.files) to.touched;
   schema = subst (λ (f : Files). IfSome c.schema (IsSideOf f)) (sym to.files) to.schema;
+  index = subst (λ (f : Files). IfSome c.index (IsIndexOf f)) (sym to.files) to.index;
   names = λ keeps. subst (λ (f : Files). KeepsNamesSound before f) (sym to.files) (to.names keeps);
 }
 

@@ -37,7 +37,7 @@ module _ {T : Type 0} where
   removed es k = remove_entry (is_at (name_order k)) es
 
   -- a name below all names is not there
-  absent_below : (k x : List ℕ) (es : List (List ℕ × T)) → name_order k x ≡ Less → AllByRecursion (λ y. name_order x y ≡ Less) (keys_of es) → found k es ≡ None
+  pub absent_below : (k x : List ℕ) (es : List (List ℕ × T)) → name_order k x ≡ Less → AllByRecursion (λ y. name_order x y ≡ Less) (keys_of es) → found k es ≡ None
   absent_below k x [] less all = refl
   absent_below k x (e ∷ es) less all =
       let below : name_order k e.0 ≡ Less = nat_list_cmp_total.trans k x e.0 less all.0 in

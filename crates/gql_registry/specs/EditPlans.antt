@@ -1,13 +1,16 @@
 -- Helper definitions for private contracts: what an edit makes of the files, before it is committed.
-use Rattle.std.specs.Prelude.{◌≡◌, ◌⊎◌, ℕ, List, Option, Some, None, Err, length, IfSome, IsTrue}
+use Rattle.std.specs.Prelude.{◌≡◌, ◌⊎◌, ℕ, Bool, List, Option, Some, None, Err, length, IfSome, IsTrue}
+use Rattle.gql_ast.specs.declared.definition.Document.{Document}
 use Rattle.gql_ast.specs.declared.fault.Fault.{Fault}
 use Rattle.gql_ast.specs.declared.files.Files.{Files}
+use Rattle.gql_facts.specs.Facts.{fragments}
 use Rattle.gql_registry.specs.Checks.{IsInTime}
 use Rattle.gql_registry.specs.Edits.{Edit, IsAccepted, Leaves, Makes}
-use Rattle.gql_registry.specs.Keeping.{IsKnownOf, IsSideOf}
+use Rattle.gql_registry.specs.Keeping.{IsIndexOf, IsKnownOf, IsSideOf}
 use Rattle.gql_registry.specs.Report.{IsReport}
 use Rattle.gql_registry.specs.State.{State, next}
 use Rattle.gql_registry.specs.declared.edit_plan.EditPlan.{EditPlan}
+use Rattle.gql_registry.specs.declared.index.DocumentIndex.{DocumentIndex}
 use Rattle.gql_registry.specs.declared.refusal.Refusal.{Refusal}
 use Rattle.gql_registry.specs.declared.report.Known.{Known}
 use Rattle.gql_registry.specs.declared.report.SchemaSide.{SchemaSide}
@@ -16,7 +19,7 @@ use Rattle.gql_types.specs.Edits.{KeepsOthers}
 use Rattle.gql_types.specs.Schemas.{schema_of}
 use Rattle.gql_verdict.specs.DocumentEdits.{ChangesOnly}
 use Rattle.gql_verdict.specs.FileOrder.{AreFilesPlaced}
-use Rattle.gql_verdict.specs.NameViews.{KeepsNamesSound}
+use Rattle.gql_verdict.specs.NameViews.{KeepsNamesSound, SeesTheSame}
 use Rattle.gql_verdict.specs.SchemaEdits.{IsTouchedBySchema}
 use Rattle.gql_verdict.specs.declared.touched.Touched.{Touched}
 use Rattle.gql_verdict.specs.declared.touched.Touched.TheVariants.{All}
@@ -55,11 +58,36 @@ abbrev pub IsSideAfterDocuments : Option Known → Option SchemaSide → Type 0
 IsSideAfterDocuments known schema = (before after : Files) → IfSome known (IsKnownOf before)
     → before.schema ≡ after.schema → IfSome schema (IsSideOf after)
 
+-- If this is known of files, the index is that of all files with the same document files.
+abbrev pub IsIndexAfterSchema : Option Known → Option DocumentIndex → Type 0
+IsIndexAfterSchema known index = (before after : Files) → IfSome known (IsKnownOf before)
+    → before.documents ≡ after.documents → IfSome index (IsIndexOf after)
+
+-- the document files have the same fragments before and after an edit, at the same places
+abbrev pub KeepsFragments : Files → Files → Type 0
+KeepsFragments before after = fragments before.documents ≡ fragments after.documents
+
+-- what is known has the fragments of these files, if they are said to be the same
+abbrev pub IsIndexBefore : Bool → Files → Known → Type 0
+IsIndexBefore are_same files known =
+    IsTrue are_same → known.index.fragments.all ≡ fragments files.documents
+
+-- a document file is put of which the rules on names see the same as of the file in its place
+abbrev pub IsSeenAsBefore : List (List ℕ × Document) → List ℕ → Option Document → Type 0
+IsSeenAsBefore documents name (Some document) = SeesTheSame documents name document
+IsSeenAsBefore documents name None = ⊥
+
+-- it is known that no rule on names finds a fault
+abbrev pub KnowsSoundNames : Option Known → Type 0
+KnowsSoundNames (Some known) = IsTrue known.has_sound_names
+KnowsSoundNames None = ⊥
+
 -- the plan of an edit that makes `after` of the files `before`
 pub record IsEditPlanTo (before after : Files) (p : EditPlan) : Type 0 where
   pub files : p.files ≡ after
   pub touched : ChangesOnly p.touched before after
   pub schema : IfSome p.schema (IsSideOf after)
+  pub index : IfSome p.index (IsIndexOf after)
   pub names : IsTrue p.keeps_names → KeepsNamesSound before after
 
 -- the plan of an edit of these files
@@ -67,6 +95,7 @@ pub record IsEditPlanOf (before : Files) (p : EditPlan) : Type 0 where
   pub placed : AreFilesPlaced p.files.documents
   pub touched : ChangesOnly p.touched before p.files
   pub schema : IfSome p.schema (IsSideOf p.files)
+  pub index : IfSome p.index (IsIndexOf p.files)
   pub names : IsTrue p.keeps_names → KeepsNamesSound before p.files
 
 -- the edit passes all checks after the first two, and this is its plan

@@ -1,27 +1,35 @@
 //! What an edit of one file makes, before it is committed.
-ghost use Rattle.std.specs.Prelude.{◌≡◌, IfOk, IfSome, IsTrue, OnOk};
+ghost use Rattle.std.specs.Prelude.{◌≡◌, ◌↔◌, IfOk, IfSome, IsTrue, OnOk};
 ghost use Rattle.std.specs.Option.{option_copied};
+ghost use Rattle.gql_ast.specs.FileMaps.{file_named};
 ghost use Rattle.gql_ast.specs.declared.fault.FileSide.TheVariants as on;
+ghost use Rattle.gql_facts.specs.FileFragments.{fragments_in};
 ghost use Rattle.gql_registry.specs.EditPlans.{IsEditPlanTo, IsSchemaEdit, IsSchemaTouched, IsSideAfterDocuments, IsSideBeforeEdit};
-ghost use Rattle.gql_registry.specs.Keeping.{IsKnownOf, IsSideOf};
+ghost use Rattle.gql_registry.specs.EditPlans.{IsIndexAfterSchema, IsIndexBefore};
+ghost use Rattle.gql_registry.specs.EditPlans.{IsSeenAsBefore, KeepsFragments};
+ghost use Rattle.gql_registry.specs.Keeping.{IsIndexOf, IsKnownOf, IsSideOf};
 ghost use Rattle.gql_registry.specs.Sides as spec;
 ghost use Rattle.gql_types.specs.Edits.{KeepsOthers};
 ghost use Rattle.gql_types.specs.Schemas.{schema_of};
 ghost use Rattle.gql_verdict.specs.DocumentEdits.{ChangesOnly};
 ghost use Rattle.gql_verdict.specs.NameViews.{KeepsNamesSound};
 
+use crate::index::{DocumentIndex, index_after_edit};
 use crate::report::{Known, SchemaSide, side_after_edit};
 use gql_ast::{Document, FileMap, FileName, FileSide, Files, Shared, Text};
+use gql_facts::have_same_fragments;
 use gql_types::{Named, edited_names, laws as type_laws};
 use gql_verdict::{Touched, keeps_names, laws};
 use std::alloc::{AllocError, Global};
 
-/// The files that an edit leaves, what it touches, and the schema of the files if it is known.
+/// The files that an edit leaves, what it touches, and the schema and the index of the files if they
+/// are known.
 #[derive(Drop)]
 pub struct EditPlan {
     pub files: Files,
     pub touched: Touched,
     pub schema: Option<Shared<SchemaSide>>,
+    pub index: Option<DocumentIndex>,
     /// Whether no rule on names finds a fault after the edit if none finds one before it.
     pub keeps_names: bool,
 }
@@ -119,6 +127,57 @@ fn kept_schema(known: &Option<Known>) -> Result<Option<Shared<SchemaSide>>, Allo
     Ok(Some(schema))
 }
 
+/// The index of the document files that is known. An edit of a schema file keeps it.
+#[tactic(auto, using(crate::proofs::SameFragments::kept_index))]
+fn kept_index(known: &Option<Known>) -> Result<Option<DocumentIndex>, AllocError>
+    ensures { IfOk result (IsIndexAfterSchema known.now) }
+{
+    let Some(known) = known else {
+        return Ok(None);
+    };
+    let index = known.index.copy()?;
+    Ok(Some(index))
+}
+
+/// Whether an edit of a document file leaves the fragments of the file as they are, and so all
+/// fragments. `after` is the file that is put, or none if the file is removed.
+fn keeps_fragments(
+    alloc: Global,
+    files: &Files,
+    name: &FileName,
+    after: Option<&Document>,
+) -> Result<bool, AllocError>
+    ensures all { IfOk result (λ keeps. IsTrue keeps → KeepsFragments files.now
+        (spec.with_file on.Documents files.now name.now (option_copied after.entry))) }
+    ensures exact { IfOk result (λ keeps. IsTrue keeps
+        ↔ (fragments_in (file_named files.now.documents name.now)
+        ≡ fragments_in (option_copied after.entry))) }
+{
+    let _in_order = files.documents.entries();
+    match files.documents.get(name) {
+        Some(before) => have_same_fragments(alloc, Some(before.get()), after),
+        None => have_same_fragments(alloc, None, after),
+    }
+}
+
+/// The index of the document files after an edit of one of them, if the index before it is known.
+/// `are_same` says whether all fragments are as before the edit.
+fn edited_index(
+    alloc: Global,
+    files: &Files,
+    known: &Option<Known>,
+    are_same: bool,
+) -> Result<Option<DocumentIndex>, AllocError>
+    requires { IfSome known.now (IsIndexBefore are_same files.now) }
+    ensures { IfOk result (λ index. IfSome index (IsIndexOf files.now)) }
+{
+    let Some(known) = known else {
+        return Ok(None);
+    };
+    let index = index_after_edit(alloc, files, &known.index, are_same)?;
+    Ok(Some(index))
+}
+
 /// What an edit of a schema file touches that changes types of these names alone, by what was known
 /// before it and the schema after it. All, if one of them is not known, or if there are no document
 /// files, so that nothing depends on it.
@@ -154,8 +213,10 @@ fn edit_keeps_names(
     name: &FileName,
     after: Option<&Document>,
 ) -> Result<bool, AllocError>
-    ensures { IfOk result (λ keeps. IsTrue keeps → KeepsNamesSound files.now
+    ensures sound { IfOk result (λ keeps. IsTrue keeps → KeepsNamesSound files.now
         (spec.with_file on.Documents files.now name.now (option_copied after.entry))) }
+    ensures exact { IfOk result (λ keeps. IsTrue keeps
+        ↔ IsSeenAsBefore files.now.documents name.now (option_copied after.entry)) }
 {
     let Some(document) = after else {
         return Ok(false);
@@ -183,10 +244,12 @@ fn schema_plan(
     edit_file(alloc, &mut changed.schema, &name, document)?;
     let schema = edited_schema(alloc, &changed, known, &name, &edited)?;
     let touched = schema_touched(alloc, files, known, &schema, &edited)?;
+    let index = kept_index(known)?;
     Ok(EditPlan {
         files: changed,
         touched,
         schema,
+        index,
         keeps_names: true,
     })
 }
@@ -205,13 +268,16 @@ fn document_plan(
 {
     let touched = touched_by(alloc, files, &name, document.as_ref())?;
     let keeps_names = edit_keeps_names(alloc, files, &name, document.as_ref())?;
+    let are_same = keeps_fragments(alloc, files, &name, document.as_ref())?;
     let mut changed = files.copy()?;
     edit_file(alloc, &mut changed.documents, &name, document)?;
     let schema = kept_schema(known)?;
+    let index = edited_index(alloc, &changed, known, are_same)?;
     Ok(EditPlan {
         files: changed,
         touched,
         schema,
+        index,
         keeps_names,
     })
 }

@@ -1,10 +1,11 @@
 //! Files, with a verdict on each definition of the document files.
-ghost use Rattle.std.specs.Prelude.{◌≡◌, ◌↔◌, IfOk, IfSome, IsTrue, OnOk, OnErr, option_map};
+ghost use Rattle.std.specs.Prelude.{◌≡◌, ◌↔◌, IfOk, IfSome, IsTrue, OnOk, OnErr};
 ghost use Rattle.std.specs.Option.{option_copied};
 ghost use Rattle.serde_json.specs.View.{view};
 ghost use Rattle.gql_registry.specs.Calls.{Answers};
 ghost use Rattle.gql_registry.specs.Prepared.{ran_of};
 ghost use Rattle.gql_registry.specs.EditPlans.{IsEditPlanOf, IsEditPlanTo, IsReportLength};
+ghost use Rattle.gql_registry.specs.EditPlans.{KnowsSoundNames};
 ghost use Rattle.gql_registry.specs.Examining.{IsExaminedFor};
 ghost use Rattle.gql_registry.specs.Keeping.{ArePairsBefore, ArePairsOf, KeepsPairs};
 ghost use Rattle.gql_registry.specs.Keeping.{AreSchemaFaults, IsDefinitionFault, IsPlanFor, IsShelfOf};
@@ -20,7 +21,6 @@ ghost use Rattle.gql_verdict.specs.NameViews.{AreNamesSound};
 use crate::calling::{Ran, answer_call};
 use crate::edit_plan::{EditPlan, edit_plan};
 use crate::index::{DocumentIndex, document_index};
-use crate::operations::Operations;
 use crate::refusal::Refusal;
 use crate::report::{Known, SchemaSide, known_with, schema_side, sharing};
 use gql_ast::{Document, Fault, FileName, FileSide, Files, Shared};
@@ -98,6 +98,21 @@ fn known_side(
     }
 }
 
+/// The index of the document files: this one, or if it is not known, one that is made.
+fn known_index(
+    alloc: Global,
+    index: &Option<DocumentIndex>,
+    files: &Files,
+) -> Result<DocumentIndex, AllocError>
+    requires { IfSome index.now (IsIndexOf files.now) }
+    ensures { IfOk result (IsIndexOf files.now) }
+{
+    match index {
+        Some(index) => index.copy(),
+        None => document_index(alloc, files),
+    }
+}
+
 /// Prepares the verdicts for the files of a plan, which have this schema.
 fn verdicts_for(
     alloc: Global,
@@ -168,26 +183,17 @@ fn known_of(alloc: Global, shelf: &Shelf, files: &Files) -> Result<Known, AllocE
     ensures { IfOk result (IsKnownOf files.now) }
 {
     let schema = known_side(alloc, &None, files)?;
-    let index = document_index(alloc, files, None)?;
+    let index = document_index(alloc, files)?;
     let faults = present_faults(alloc, shelf, schema.get())?;
     known_with(alloc, files, schema, index, faults, false)
-}
-
-/// The operations of the files, if they are known.
-fn known_operations(known: &Option<Known>) -> Option<&Operations>
-    ensures { option_copied result ≡ option_map (λ k. k.index.operations) known.now }
-{
-    match known {
-        Some(known) => Some(&known.index.operations),
-        None => None,
-    }
 }
 
 /// Whether it is known that no rule on names finds a fault after an edit: none found one before it, and
 /// the edit keeps that.
 fn keeps_sound_names(known: &Option<Known>, plan: &EditPlan) -> bool
-    ensures { IsTrue result → (before : TheFiles) → IfSome known.now (IsKnownOf before)
+    ensures sound { IsTrue result → (before : TheFiles) → IfSome known.now (IsKnownOf before)
         → IsEditPlanOf before plan.now → AreNamesSound plan.now.files }
+    ensures exact { IsTrue result ↔ (KnowsSoundNames known.now × IsTrue plan.now.keeps_names) }
 {
     match known {
         Some(known) => known.has_sound_names && plan.keeps_names,
@@ -196,17 +202,16 @@ fn keeps_sound_names(known: &Option<Known>, plan: &EditPlan) -> bool
 }
 
 /// Examines the definitions whose verdicts do not hold for the files of a plan, and makes the report
-/// of these files. `before` is what is known of the files before them, of which some is shared, and
-/// `sound_names` says whether it is known that no rule on names finds a fault.
+/// of these files. `sound_names` says whether it is known that no rule on names finds a fault.
 fn examine(
     alloc: Global,
     shelf: &Shelf,
-    before: &Option<Known>,
     plan: &EditPlan,
     sound_names: bool,
     meter: &mut Meter,
 ) -> Result<Examined, AllocError>
     requires schema { IfSome plan.now.schema (IsSideOf plan.now.files) }
+    requires index { IfSome plan.now.index (IsIndexOf plan.now.files) }
     requires placed { AreFilesPlaced plan.now.files.documents }
     requires known { IsKnownBefore plan.now.files shelf.now.verdicts plan.now.touched }
     requires pairs { ArePairsBefore plan.now.files shelf.now.pairs plan.now.touched }
@@ -217,7 +222,7 @@ fn examine(
     ensures work { IsWorkOn plan.now.files shelf.now.verdicts meter.old meter.new }
 {
     let schema = known_side(alloc, &plan.schema, &plan.files)?;
-    let index = document_index(alloc, &plan.files, known_operations(before))?;
+    let index = known_index(alloc, &plan.index, &plan.files)?;
     let verdicts = verdicts_for(alloc, shelf, schema.get(), &index, plan, meter)?;
     let faults = prepared_faults(alloc, shelf, &verdicts, schema.get())?;
     let files = &plan.files;
@@ -342,7 +347,7 @@ impl Kept {
         ensures work { IsWorkOn plan.files self.old.shelf meter.old meter.new }
     {
         let sound_names = keeps_sound_names(&self.known, &plan);
-        let found = examine(alloc, &self.shelf, &self.known, &plan, sound_names, meter)?;
+        let found = examine(alloc, &self.shelf, &plan, sound_names, meter)?;
         let count = found.known.report.len() as u64;
         self.shelf.commit(found.verdicts);
         self.known = Some(found.known);

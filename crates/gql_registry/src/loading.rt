@@ -239,6 +239,7 @@ impl Registry {
             files,
             touched: Touched::All,
             schema: None,
+            index: None,
             keeps_names: false,
         };
         let faults = self.kept.commit(self.alloc, plan, meter)?;

@@ -4,7 +4,7 @@ ghost use Rattle.std.specs.Prelude.{◌≡◌, ◌++◌, ℕ, List, Some, IfOk, 
 ghost use Rattle.std.specs.Option.{option_copied};
 ghost use Rattle.gql_ast.specs.declared.definition.Document.{Document as TheDocument};
 ghost use Rattle.gql_registry.specs.Chosen as spec;
-ghost use Rattle.gql_registry.specs.Indexed.{IsIndexOf};
+ghost use Rattle.gql_registry.specs.Indexed.{AddsToFirstTwo, IsIndexOf};
 
 use gql_ast::{Definition, Document, FileMap, Shared, Text, Tree};
 use gql_types::{HasName, Named};
@@ -34,27 +34,30 @@ impl HasName for NamedOperation {
 }
 
 /// The operations of all document files, in the order of the files' names. Of those of one name,
-/// the first counts.
+/// the first counts. A copy shares those with names.
 pub struct Operations {
     named: Named<NamedOperation>,
-    all: Vec<Definition>,
+    /// The only operation, if there is one only.
+    only: Option<Definition>,
 }
 
 impl Drop for Operations {
     fn drop(self) {
-        let Operations { named: _, all: _ } = self;
+        let Operations { named: _, only: _ } = self;
     }
 }
 
-/// Adds a definition that is an operation.
+/// Adds a definition that is an operation: to those with names if it has one, and to the first two of
+/// all.
 fn add_operation(
     definition: &Definition,
     named: &mut Vec<NamedOperation>,
-    all: &mut Vec<Definition>,
+    first_two: &mut Vec<Definition>,
 ) -> Result<(), AllocError>
     ensures named { OnOk result (named.new.items
         ≡ named.old.items ++ spec.named_in definition.now) }
-    ensures all { OnOk result (all.new.items ≡ all.old.items ++ spec.operation_in definition.now) }
+    ensures first_two { OnOk result (AddsToFirstTwo (spec.operation_in definition.now)
+        first_two.old.items first_two.new.items) }
 {
     if let Tree::Operation(operation) = &definition.tree {
         if let Some(name) = &operation.get().name {
@@ -63,26 +66,40 @@ fn add_operation(
                 definition: definition.copy()?,
             })?;
         }
-        all.push(definition.copy()?)?;
+        if first_two.len() < 2 {
+            first_two.push(definition.copy()?)?;
+        }
     }
     Ok(())
 }
 
-/// Adds the operations of a file.
+/// Adds the operations of a file: to those with names, and to the first two of all.
 fn add_operations(
     definitions: &[Definition],
     named: &mut Vec<NamedOperation>,
-    all: &mut Vec<Definition>,
+    first_two: &mut Vec<Definition>,
 ) -> Result<(), AllocError>
     ensures named { OnOk result (named.new.items
         ≡ named.old.items ++ flat_map spec.named_in definitions.now) }
-    ensures all { OnOk result (all.new.items
-        ≡ all.old.items ++ flat_map spec.operation_in definitions.now) }
+    ensures first_two { OnOk result (AddsToFirstTwo (flat_map spec.operation_in definitions.now)
+        first_two.old.items first_two.new.items) }
 {
     for definition in definitions {
-        add_operation(definition, named, all)?;
+        add_operation(definition, named, first_two)?;
     }
     Ok(())
+}
+
+/// The only one of these, if there is one only.
+fn only_of(definitions: Vec<Definition>) -> Option<Definition>
+    ensures { result ≡ spec.only definitions.items }
+{
+    let mut definitions = definitions;
+    if definitions.len() == 1 {
+        definitions.pop()
+    } else {
+        None
+    }
 }
 
 /// These operations, in their order. They share the look-up of those before, if these have the same
@@ -110,16 +127,28 @@ impl Operations {
     ) -> Result<Operations, AllocError>
         ensures { IfOk result (IsIndexOf documents.now) }
     {
-        let mut named = Vec::new(alloc);
-        let mut all = Vec::new(alloc);
+        let mut named = Vec::with_capacity(alloc, documents.len())?;
+        let mut first_two = Vec::new(alloc);
         for (_name, document) in documents.entries().iter() {
             let definitions = document.get().definitions.as_slice();
-            add_operations(definitions, &mut named, &mut all)?;
+            add_operations(definitions, &mut named, &mut first_two)?;
         }
         Ok(Operations {
             named: named_like(alloc, named, before)?,
-            all,
+            only: only_of(first_two),
         })
+    }
+
+    /// The same operations, which both share.
+    pub fn copy(&self) -> Result<Operations, AllocError>
+        ensures { IfOk result (λ copy. copy ≡ self.now) }
+    {
+        let named = self.named.copy()?;
+        let only = match &self.only {
+            Some(definition) => Some(definition.copy()?),
+            None => None,
+        };
+        Ok(Operations { named, only })
     }
 
     /// The operation of a name.
@@ -133,17 +162,6 @@ impl Operations {
         }
     }
 
-    /// The only operation.
-    fn only(&self) -> Option<&Definition>
-        ensures { option_copied result ≡ spec.only self.now.all.items }
-    {
-        if self.all.len() == 1 {
-            self.all.first()
-        } else {
-            None
-        }
-    }
-
     /// The operation that a call names: the first of that name, or, without a name, the only one
     /// (GraphQL specification, 6.1).
     pub fn chosen(&self, name: Option<&str>) -> Option<&Definition>
@@ -152,7 +170,7 @@ impl Operations {
     {
         match name {
             Some(name) => self.of_name(name),
-            None => self.only(),
+            None => self.only.as_ref(),
         }
     }
 }

@@ -36,5 +36,7 @@ returns c =
           (schema_touches c.edit_schema.ensures before made c.args.known.now c.in_ok-schema.schema c.in_ok-edited.edited c.in_ok-touched.touched c.requires c.in_ok-schema.ensures edit
           (sym (ap (λ (f : Files). f.documents) c.in_ok-changed.ensures)) c.in_ok-touched.ensures);
       schema = subst (λ (f : Files). IfSome c.in_ok-schema.schema (IsSideOf f)) (sym is) c.in_ok-schema.ensures;
+      index = c.in_ok-index.ensures before (with_file Schema before c.args.name c.args.document) c.requires
+          (sym (ap (λ (f : Files). f.documents) (schema_files before c.args.name c.args.document)));
       names = λ keeps none. subst AreNamesSound (sym (schema_files before c.args.name c.args.document)) none;
     }

@@ -11,6 +11,9 @@ use Rattle.gql_registry.proofs.kept.Kept.commit.Goals as goal
 pub examine-requires-clause-schema : goal.examine-requires-clause-schema
 examine-requires-clause-schema c = c.requires.schema
 
+pub examine-requires-clause-index : goal.examine-requires-clause-index
+examine-requires-clause-index c = c.requires.index
+
 pub examine-requires-clause-placed : goal.examine-requires-clause-placed
 examine-requires-clause-placed c = c.requires.placed
 
@@ -26,7 +29,7 @@ examine-requires-clause-pairs c =
 
 pub examine-requires-clause-names : goal.examine-requires-clause-names
 examine-requires-clause-names c = λ sound.
-    c.keeps_sound_names-sound_names.ensures sound c.self.inside.files c.self.invariant.known
+    c.keeps_sound_names-sound_names.ensures.sound sound c.self.inside.files c.self.invariant.known
     (subst (λ (k : Keeping). IsEditPlanOf k.files c.args.plan) (sym c.self.view_is) c.requires)
 
 pub returns-in_err-found-clause-pairs : goal.returns-in_err-found-clause-pairs
