@@ -1,4 +1,5 @@
 pub mod Places
+pub mod Plain
 pub mod Runs
 pub mod Fitting
 pub mod Lines
@@ -16,3 +17,4 @@ pub mod Cuts
 pub mod StringRules
 pub mod BlockRules
 pub mod IgnoredRules
+pub mod PlainParts

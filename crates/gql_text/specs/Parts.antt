@@ -1,6 +1,8 @@
 -- Helper definitions for private contracts: how far a part of a text goes.
-use Rattle.std.specs.Prelude.{ℕ, ◌≡◌, ◌≤◌, ◌<◌, ◌+◌, List, Bool, true, false}
+use Rattle.std.specs.Prelude.{ℕ, ◌≡◌, ◌≤◌, ◌<◌, ◌+◌, List, Bool, true, false, ◌&&◌, nat_le, nat_lt}
 use Rattle.std.specs.Str.{IsCharBoundary}
+use Rattle.gql_text.specs.declared.token.Kind.{Kind}
+use Rattle.gql_text.specs.declared.token.Kind.TheVariants.{IntValue, FloatValue, StringValue, BlockString}
 use Rattle.gql_text.specs.declared.front.Part.{Part}
 use Rattle.gql_text.specs.declared.front.Part.TheVariants.{Dropped, Taken, Refused}
 
@@ -24,3 +26,15 @@ pub record Fits (n len : ℕ) (p : Part) : Type 0 where
 -- the part ends at the boundary of a character, unless it is refused
 abbrev pub CutsBehind : List ℕ → ℕ → Part → Type 0
 CutsBehind source offset p = is_refused p ≡ false → IsCharBoundary source (offset + part_len p)
+
+-- a byte that is a character by itself and ends no line
+abbrev pub is_plain : ℕ → Bool
+is_plain b = nat_le 32 b && nat_lt b 128
+
+-- whether a token of this kind is a number or a text
+abbrev pub is_value : Kind → Bool
+is_value IntValue = true
+is_value FloatValue = true
+is_value StringValue = true
+is_value BlockString = true
+is_value _ = false

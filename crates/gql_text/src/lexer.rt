@@ -5,11 +5,12 @@ ghost use Rattle.std.specs.Str.{IsCharBoundary};
 ghost use Rattle.gql_text.specs.Place.{place_after};
 ghost use Rattle.gql_text.specs.Lexeme.{lexeme};
 ghost use Rattle.gql_text.specs.Lexis.{Stands, IsLexed, IsLexFault};
-ghost use Rattle.gql_text.specs.Parts.{Fits, CutsBehind};
+ghost use Rattle.gql_text.specs.Parts.{Fits, CutsBehind, is_value};
+ghost use Rattle.gql_text.specs.declared.front.Part.TheVariants.{Taken};
 
 use crate::front::{Part, first_part};
-use crate::place::{Place, past};
-use crate::token::{LexFault, LexRefusal, Token};
+use crate::place::{Place, past, past_plain};
+use crate::token::{Kind, LexFault, LexRefusal, Token};
 use std::alloc::Global;
 
 /// How many bytes a text may have.
@@ -45,6 +46,32 @@ fn past_part(source: &str, place: Place, count: usize) -> Place
     past(source.as_bytes(), place, count)
 }
 
+/// Whether a token of this kind is a number or a text. Any other has only characters of one byte.
+fn is_value(kind: Kind) -> bool
+    ensures { result ≡ is_value kind }
+{
+    matches!(
+        kind,
+        Kind::IntValue | Kind::FloatValue | Kind::StringValue | Kind::BlockString
+    )
+}
+
+/// The place after the token that is at this place.
+fn past_token(source: &str, place: Place, kind: Kind, count: usize) -> Place
+    requires within { place.offset + count ≤ length source.now }
+    requires short { length source.now ≤ 65536 }
+    requires known { place ≡ place_after (take place.offset source.now) }
+    requires token { Stands (drop place.offset source.now) (Taken kind count) }
+    ensures value { result ≡ place_after (take (place.offset + count) source.now) }
+    ensures moved { result.offset ≡ place.offset + count }
+{
+    if is_value(kind) {
+        past_part(source, place, count)
+    } else {
+        past_plain(source.as_bytes(), place, count)
+    }
+}
+
 /// The tokens of a text, in order, or its first fault, 101 to 106 (2.1); `Memory` if an allocation
 /// fails. A text has at most 65,536 bytes. The tokens borrow it.
 pub fn lex<'a>(alloc: Global, source: &'a str) -> Result<Vec<Token<'a>>, LexFault>
@@ -65,7 +92,7 @@ pub fn lex<'a>(alloc: Global, source: &'a str) -> Result<Vec<Token<'a>>, LexFaul
             Part::Taken(kind, count) => {
                 let text = &source[place.offset..place.offset + count];
                 tokens.push(Token { kind, text, place })?;
-                place = past_part(source, place, count);
+                place = past_token(source, place, kind, count);
             }
             Part::Refused(number, count) => {
                 let place = past_part(source, place, count);

@@ -1,7 +1,9 @@
 //! Places in a text: line, column and offset.
 
-ghost use Rattle.std.specs.Prelude.{◌≡◌, ◌+◌, ◌<◌, ◌≤◌, length, take};
+ghost use Rattle.std.specs.Prelude.{◌≡◌, ◌+◌, ◌<◌, ◌≤◌, length, take, drop};
+ghost use Rattle.std.specs.List.{prefix_len};
 ghost use Rattle.gql_text.specs.Place.{place_after};
+ghost use Rattle.gql_text.specs.Parts.{is_plain};
 
 /// Where a token starts in its text: line and column count from 1, and a column counts characters;
 /// the offset counts the bytes before it.
@@ -46,6 +48,21 @@ fn past_byte(source: &[u8], place: Place) -> Place
         line,
         column,
         offset: offset + 1,
+    }
+}
+
+/// The place after the next bytes, each of which is a character by itself and ends no line.
+pub fn past_plain(source: &[u8], place: Place, count: usize) -> Place
+    requires short { length source.now ≤ 65536 }
+    requires known { place ≡ place_after (take place.offset source.now) }
+    requires plain { count ≤ prefix_len is_plain (drop place.offset source.now) }
+    ensures { result ≡ place_after (take (place.offset + count) source.now) }
+{
+    let _source = source;
+    Place {
+        line: place.line,
+        column: place.column + count,
+        offset: place.offset + count,
     }
 }
 

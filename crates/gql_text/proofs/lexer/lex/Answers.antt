@@ -45,15 +45,15 @@ pub range-text-requires-clause-end_boundary : goal.range-text-requires-clause-en
 range-text-requires-clause-end_boundary c = c.in-Taken.ensures.cuts refl
 
 pub parts-smaller : goal.parts-smaller
-parts-smaller c = let some : 0 < c.in-Taken.count = c.in-Taken.ensures.fits.some refl in omega (arith, c.past_part-place-in-Taken.ensures.moved)
+parts-smaller c = let some : 0 < c.in-Taken.count = c.in-Taken.ensures.fits.some refl in omega (arith, c.past_token-place.ensures.moved)
 
 pub parts-preserved : goal.parts-preserved
 parts-preserved c =
-    let e = c.past_part-place-in-Taken.ensures.moved in
+    let e = c.past_token-place.ensures.moved in
     record {
       short = omega arith;
       within = omega (arith, e, c.in-Taken.ensures.fits.within);
-      known = c.past_part-place-in-Taken.ensures.value ∙ ap (λ o. place_after (take o c.args.source.now)) (sym e);
+      known = c.past_token-place.ensures.value ∙ ap (λ o. place_after (take o c.args.source.now)) (sym e);
       cut = rw e (c.in-Taken.ensures.cuts refl);
       tokens = λ ts h.
           let items = c.in_ok-push-in-Taken.ensures.items in
