@@ -18,3 +18,4 @@ pub mod StringRules
 pub mod BlockRules
 pub mod IgnoredRules
 pub mod PlainParts
+pub mod BlankRuns

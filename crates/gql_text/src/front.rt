@@ -44,7 +44,8 @@ pub fn continues_name(byte: u8) -> bool
     starts_name(byte) || byte.is_ascii_digit()
 }
 
-fn is_ignored(byte: u8) -> bool
+/// Whether this byte is a blank: a tab, a space, a line end or a comma.
+pub fn is_ignored(byte: u8) -> bool
     ensures { result ≡ is_blank byte }
 {
     byte == b'\t' || byte == b' ' || byte == b'\n' || byte == b'\r' || byte == b','

@@ -1,13 +1,16 @@
 //! The lexer: the tokens of a text, or its first fault.
 
 ghost use Rattle.std.specs.Prelude.{◌≡◌, ◌≤◌, ◌<◌, ◌+◌, ◌-◌, map, length, take, drop, IfOk, IfErr};
+ghost use Rattle.std.specs.List.{prefix_len};
 ghost use Rattle.std.specs.Str.{IsCharBoundary};
+ghost use Rattle.gql_text.specs.Chars.{is_blank};
 ghost use Rattle.gql_text.specs.Place.{place_after};
 ghost use Rattle.gql_text.specs.Lexeme.{lexeme};
 ghost use Rattle.gql_text.specs.Lexis.{Stands, IsLexed, IsLexFault};
 ghost use Rattle.gql_text.specs.Parts.{Fits, CutsBehind, is_value};
 ghost use Rattle.gql_text.specs.declared.front.Part.TheVariants.{Taken};
 
+use crate::blanks::past_blanks;
 use crate::front::{Part, first_part};
 use crate::place::{Place, past, past_plain};
 use crate::token::{Kind, LexFault, LexRefusal, Token};
@@ -72,6 +75,20 @@ fn past_token(source: &str, place: Place, kind: Kind, count: usize) -> Place
     }
 }
 
+/// The place after the blanks that are at this place.
+fn behind_blanks(source: &str, place: Place) -> Place
+    requires short { length source.now ≤ 65536 }
+    requires known { place ≡ place_after (take place.offset source.now) }
+    requires cut { IsCharBoundary source.now place.offset }
+    ensures value { result ≡ place_after (take result.offset source.now) }
+    ensures moved { result.offset
+        ≡ place.offset + prefix_len is_blank (drop place.offset source.now) }
+    ensures within { result.offset ≤ length source.now }
+    ensures cut { IsCharBoundary source.now result.offset }
+{
+    past_blanks(source.as_bytes(), place)
+}
+
 /// The tokens of a text, in order, or its first fault, 101 to 106 (2.1); `Memory` if an allocation
 /// fails. A text has at most 65,536 bytes. The tokens borrow it.
 pub fn lex<'a>(alloc: Global, source: &'a str) -> Result<Vec<Token<'a>>, LexFault>
@@ -88,11 +105,15 @@ pub fn lex<'a>(alloc: Global, source: &'a str) -> Result<Vec<Token<'a>>, LexFaul
     let mut tokens = Vec::new(alloc);
     'parts: while place.offset < source.len() {
         match part_at(source, place.offset) {
-            Part::Dropped(count) => place = past_part(source, place, count),
+            Part::Dropped(count) => {
+                let behind = past_part(source, place, count);
+                place = behind_blanks(source, behind);
+            }
             Part::Taken(kind, count) => {
                 let text = &source[place.offset..place.offset + count];
+                let behind = past_token(source, place, kind, count);
                 tokens.push(Token { kind, text, place })?;
-                place = past_token(source, place, kind, count);
+                place = behind_blanks(source, behind);
             }
             Part::Refused(number, count) => {
                 let place = past_part(source, place, count);

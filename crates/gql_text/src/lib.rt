@@ -2,6 +2,7 @@
 //! section 2.1).
 #![tactic(auto)]
 
+mod blanks;
 mod block;
 mod front;
 pub mod laws;

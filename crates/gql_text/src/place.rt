@@ -15,7 +15,7 @@ pub struct Place {
 }
 
 /// The place after one more byte.
-fn past_byte(source: &[u8], place: Place) -> Place
+pub fn past_byte(source: &[u8], place: Place) -> Place
     requires within { place.offset < length source.now }
     requires short { length source.now ≤ 65536 }
     requires known { place ≡ place_after (take place.offset source.now) }
@@ -58,7 +58,6 @@ pub fn past_plain(source: &[u8], place: Place, count: usize) -> Place
     requires plain { count ≤ prefix_len is_plain (drop place.offset source.now) }
     ensures { result ≡ place_after (take (place.offset + count) source.now) }
 {
-    let _source = source;
     Place {
         line: place.line,
         column: place.column + count,

@@ -1,10 +1,11 @@
-use Rattle.std.proofs.Common.{arith, ◌<◌, take, [], refl, sym, ap, ◌∙◌}
+use Rattle.std.proofs.Common.{arith, ◌<◌, ◌≤◌, length, take, [], refl, sym, ap, ◌∙◌}
 use Rattle.gql_text.specs.Place.{place_after}
 use Rattle.gql_text.specs.declared.token.Token as code
 use Rattle.std.proofs.lemmas.List.{append-nil}
 use Rattle.gql_text.specs.Lexis.{too_long, first}
 use Rattle.std.proofs.lemmas.Str.{IsCharBoundary-start}
 use Rattle.gql_text.proofs.Steps.{tokens_dropped, tokens_token, faulty_dropped, faulty_token, faulty_here, tokens_end, slice_is, pushed, lexeme_is}
+use Rattle.gql_text.proofs.BlankRuns.{tokens_blanks, faulty_blanks}
 use Rattle.gql_text.proofs.lexer.lex.Goals as goal
 
 pub returns-then-source-gt-LIMIT-clause-fault : goal.returns-then-source-gt-LIMIT-clause-fault
@@ -20,22 +21,37 @@ parts-init c = record {
   fault = λ f p h. h;
 }
 
-pub past_part-place-requires-clause-within : goal.past_part-place-requires-clause-within
-past_part-place-requires-clause-within c = omega (arith, c.in-Dropped.ensures.fits.within)
+pub past_part-behind-requires-clause-within : goal.past_part-behind-requires-clause-within
+past_part-behind-requires-clause-within c = omega (arith, c.in-Dropped.ensures.fits.within)
+
+pub behind_blanks-place-requires-clause-known : goal.behind_blanks-place-requires-clause-known
+behind_blanks-place-requires-clause-known c = c.past_part-behind.ensures.value ∙ ap (λ o. place_after (take o c.args.source.now)) (sym c.past_part-behind.ensures.moved)
+
+pub behind_blanks-place-requires-clause-cut : goal.behind_blanks-place-requires-clause-cut
+behind_blanks-place-requires-clause-cut c = rw c.past_part-behind.ensures.moved (c.in-Dropped.ensures.cuts refl)
 
 pub parts-smaller-in-Dropped : goal.parts-smaller-in-Dropped
-parts-smaller-in-Dropped c = let some : 0 < c.in-Dropped.count = c.in-Dropped.ensures.fits.some refl in omega (arith, c.past_part-place.ensures.moved)
+parts-smaller-in-Dropped c =
+    let some : 0 < c.in-Dropped.count = c.in-Dropped.ensures.fits.some refl in
+    omega (arith, c.past_part-behind.ensures.moved, c.behind_blanks-place.ensures.moved)
 
 pub parts-preserved-in-Dropped : goal.parts-preserved-in-Dropped
 parts-preserved-in-Dropped c =
-    let e = c.past_part-place.ensures.moved in
+    let s = c.args.source.now in
+    let e = c.past_part-behind.ensures.moved in
+    let b = c.behind_blanks-place.ensures.moved in
+    let within : c.past_part-behind.result.offset ≤ length s = omega (arith, e, c.in-Dropped.ensures.fits.within) in
     record {
       short = omega arith;
-      within = omega (arith, e, c.in-Dropped.ensures.fits.within);
-      known = c.past_part-place.ensures.value ∙ ap (λ o. place_after (take o c.args.source.now)) (sym e);
-      cut = rw e (c.in-Dropped.ensures.cuts refl);
-      tokens = λ ts h. c.parts.invariant.tokens ts (tokens_dropped c.args.source.now c.parts.place.offset c.in-Dropped.count ts c.in-Dropped.ensures.stands (rw e at h));
-      fault = λ f p h. c.parts.invariant.fault f p (faulty_dropped c.args.source.now c.parts.place.offset c.in-Dropped.count f p c.in-Dropped.ensures.stands (rw e at h));
+      within = c.behind_blanks-place.ensures.within;
+      known = c.behind_blanks-place.ensures.value;
+      cut = c.behind_blanks-place.ensures.cut;
+      tokens = λ ts h.
+          let after = tokens_blanks s c.past_part-behind.result.offset ts within (rw b at h) in
+          c.parts.invariant.tokens ts (tokens_dropped s c.parts.place.offset c.in-Dropped.count ts c.in-Dropped.ensures.stands (rw e at after));
+      fault = λ f p h.
+          let after = faulty_blanks s c.past_part-behind.result.offset f p within (rw b at h) in
+          c.parts.invariant.fault f p (faulty_dropped s c.parts.place.offset c.in-Dropped.count f p c.in-Dropped.ensures.stands (rw e at after));
     }
 
 pub overflow_add-place : goal.overflow_add-place
@@ -44,33 +60,47 @@ overflow_add-place c = omega (arith, c.in-Taken.ensures.fits.within)
 pub range-text-requires-clause-end_boundary : goal.range-text-requires-clause-end_boundary
 range-text-requires-clause-end_boundary c = c.in-Taken.ensures.cuts refl
 
+pub behind_blanks-place-requires-in-Taken-clause-known : goal.behind_blanks-place-requires-in-Taken-clause-known
+behind_blanks-place-requires-in-Taken-clause-known c = c.past_token-behind.ensures.value ∙ ap (λ o. place_after (take o c.args.source.now)) (sym c.past_token-behind.ensures.moved)
+
+pub behind_blanks-place-requires-in-Taken-clause-cut : goal.behind_blanks-place-requires-in-Taken-clause-cut
+behind_blanks-place-requires-in-Taken-clause-cut c = rw c.past_token-behind.ensures.moved (c.in-Taken.ensures.cuts refl)
+
 pub parts-smaller : goal.parts-smaller
-parts-smaller c = let some : 0 < c.in-Taken.count = c.in-Taken.ensures.fits.some refl in omega (arith, c.past_token-place.ensures.moved)
+parts-smaller c =
+    let some : 0 < c.in-Taken.count = c.in-Taken.ensures.fits.some refl in
+    omega (arith, c.past_token-behind.ensures.moved, c.behind_blanks-place-in-Taken.ensures.moved)
 
 pub parts-preserved : goal.parts-preserved
 parts-preserved c =
-    let e = c.past_token-place.ensures.moved in
+    let s = c.args.source.now in
+    let e = c.past_token-behind.ensures.moved in
+    let b = c.behind_blanks-place-in-Taken.ensures.moved in
+    let within : c.past_token-behind.result.offset ≤ length s = omega (arith, e, c.in-Taken.ensures.fits.within) in
     record {
       short = omega arith;
-      within = omega (arith, e, c.in-Taken.ensures.fits.within);
-      known = c.past_token-place.ensures.value ∙ ap (λ o. place_after (take o c.args.source.now)) (sym e);
-      cut = rw e (c.in-Taken.ensures.cuts refl);
+      within = c.behind_blanks-place-in-Taken.ensures.within;
+      known = c.behind_blanks-place-in-Taken.ensures.value;
+      cut = c.behind_blanks-place-in-Taken.ensures.cut;
       tokens = λ ts h.
           let items = c.in_ok-push-in-Taken.ensures.items in
-          let more = c.parts.invariant.tokens _ (tokens_token c.args.source.now c.parts.place.offset c.in-Taken.count c.in-Taken.kind ts c.in-Taken.ensures.stands (rw e at h)) in
-          let text = c.range-text.ensures.value ∙ slice_is c.args.source.now c.parts.place.offset c.in-Taken.count in
+          let after = tokens_blanks s c.past_token-behind.result.offset ts within (rw b at h) in
+          let more = c.parts.invariant.tokens _ (tokens_token s c.parts.place.offset c.in-Taken.count c.in-Taken.kind ts c.in-Taken.ensures.stands (rw e at after)) in
+          let text = c.range-text.ensures.value ∙ slice_is s c.parts.place.offset c.in-Taken.count in
           let t : code.Token = record { kind = c.in-Taken.kind; text = c.range-text.result; place = c.parts.place } in
-          pushed c.args.source.now c.parts.tokens.items c.push.new.self.items t _ ts items (lexeme_is t _ _ text c.parts.invariant.known) more;
-      fault = λ f p h. c.parts.invariant.fault f p (faulty_token c.args.source.now c.parts.place.offset c.in-Taken.count c.in-Taken.kind f p c.in-Taken.ensures.stands (rw e at h));
+          pushed s c.parts.tokens.items c.push.new.self.items t _ ts items (lexeme_is t _ _ text c.parts.invariant.known) more;
+      fault = λ f p h.
+          let after = faulty_blanks s c.past_token-behind.result.offset f p within (rw b at h) in
+          c.parts.invariant.fault f p (faulty_token s c.parts.place.offset c.in-Taken.count c.in-Taken.kind f p c.in-Taken.ensures.stands (rw e at after));
     }
 
-pub past_part-place-requires-in-Refused-clause-within : goal.past_part-place-requires-in-Refused-clause-within
-past_part-place-requires-in-Refused-clause-within c = omega (arith, c.in-Refused.ensures.fits.within)
+pub past_part-place-requires-clause-within : goal.past_part-place-requires-clause-within
+past_part-place-requires-clause-within c = omega (arith, c.in-Refused.ensures.fits.within)
 
 pub returns-in-Refused-clause-fault : goal.returns-in-Refused-clause-fault
 returns-in-Refused-clause-fault c =
-    first c.parts.invariant.short (c.parts.invariant.fault c.in-Refused.number c.past_part-place-in-Refused.result
-    (faulty_here c.args.source.now c.parts.place.offset c.in-Refused.count c.in-Refused.number _ c.in-Refused.ensures.stands c.past_part-place-in-Refused.ensures.value))
+    first c.parts.invariant.short (c.parts.invariant.fault c.in-Refused.number c.past_part-place.result
+    (faulty_here c.args.source.now c.parts.place.offset c.in-Refused.count c.in-Refused.number _ c.in-Refused.ensures.stands c.past_part-place.ensures.value))
 
 pub returns-clause-tokens : goal.returns-clause-tokens
 returns-clause-tokens c =
