@@ -14,22 +14,13 @@ use Rattle.gql_text.specs.Place.{place_after}
 use Rattle.gql_text.specs.declared.place.Place.{Place}
 use Rattle.gql_text.specs.declared.token.LexRefusal.{LexRefusal}
 use Rattle.gql_text.specs.declared.front.Part.TheVariants.{Dropped}
-use Rattle.gql_text.proofs.Fronts.{none_from}
+use Rattle.gql_text.proofs.Fronts.{none_from, no_three}
 use Rattle.gql_text.proofs.Cuts.{cut_behind}
 use Rattle.gql_text.proofs.Plain.{run_within}
 use Rattle.gql_text.proofs.Steps.{tokens_dropped, faulty_dropped}
 
 not_quote : (b : ℕ) → is_blank b ≡ true → (b == 34) ≡ false
 not_quote b e = grind (arith, nat_tests)
-
-not_three : (p q r : Bool) → p ≡ false → (p && q && r) ≡ false
-not_three false q r e = refl
-not_three true q r e = absurd (cc)
-
-no_three : (b : ℕ) (bs : List ℕ) → (b == 34) ≡ false → three_quotes (b ∷ bs) ≡ false
-no_three b [] e = refl
-no_three b (c ∷ []) e = refl
-no_three b (c ∷ d ∷ bs) e = not_three (b == 34) (c == 34) (d == 34) e
 
 blank_part : (b : ℕ) (bs : List ℕ) → is_blank b ≡ true → Dropped 1 ≡ plain_part b bs
 unfolding plain_part

@@ -30,6 +30,16 @@ none_from b [] e = e
 none_from b (c ∷ []) e = e
 none_from b (c ∷ d ∷ bs) e = first_is_other (b == 34) (c == 34) (d == 34) e
 
+not_three : (p q r : Bool) → p ≡ false → (p && q && r) ≡ false
+not_three false q r e = refl
+not_three true q r e = absurd (cc)
+
+-- a text that doesn't begin with a quote doesn't begin with three
+pub no_three : (b : ℕ) (bs : List ℕ) → (b == 34) ≡ false → three_quotes (b ∷ bs) ≡ false
+no_three b [] e = refl
+no_three b (c ∷ []) e = refl
+no_three b (c ∷ d ∷ bs) e = not_three (b == 34) (c == 34) (d == 34) e
+
 pub stands_block : (xs : List ℕ) (p : Part) → three_quotes xs ≡ true → Run block_piece BlockString 3 (take (length xs - 3) (drop 3 xs)) p → Stands xs p
 stands_block xs p e r = block_string e (rw take_rest at r)
 
@@ -38,5 +48,5 @@ stands_string xs rest b p e q h r =
     let is : xs ≡ 34 ∷ rest = e.0 ∙ ap (λ n. n ∷ rest) q in
     rw is (string (one_from rest (rw is at h)) r)
 
-pub stands_plain : (xs rest : List ℕ) (b : ℕ) (p : Part) → IsFirstAndRest xs b rest → b ≢ 34 → three_quotes xs ≡ false → p ≡ plain_part b rest → Stands xs p
-stands_plain xs rest b p e q h r = rw e.0 (plain (rw e.0 at h) (none_from b rest (ne_eqb b 34 q)) r)
+pub stands_plain : (xs rest : List ℕ) (b : ℕ) (p : Part) → IsFirstAndRest xs b rest → b ≢ 34 → p ≡ plain_part b rest → Stands xs p
+stands_plain xs rest b p e q r = let n = ne_eqb b 34 q in rw e.0 (plain (no_three b rest n) (none_from b rest n) r)

@@ -140,23 +140,18 @@ fn plain(first: u8, bytes: &[u8], behind: &[u8]) -> Part
     requires short { length bytes.now ≤ 65536 }
     ensures { result ≡ plain_part first behind.now }
 {
-    if is_ignored(first) {
-        Part::Dropped(1)
-    } else if starts_name(first) {
-        Part::Taken(Kind::Name, 1 + name_len(behind))
-    } else if first == b'-' {
-        number(1, behind)
-    } else if first.is_ascii_digit() {
-        number(0, bytes)
-    } else if first == b'#' {
-        let count = line_len(behind);
-        comment(1 + count, &behind[count..])
-    } else if first == b'.' {
-        dots(behind)
-    } else if first == 239 {
-        order_mark(behind)
-    } else {
-        mark(first)
+    match first {
+        b'a'..=b'z' | b'A'..=b'Z' | b'_' => Part::Taken(Kind::Name, 1 + name_len(behind)),
+        b'\t' | b' ' | b'\n' | b'\r' | b',' => Part::Dropped(1),
+        b'0'..=b'9' => number(0, bytes),
+        b'-' => number(1, behind),
+        b'#' => {
+            let count = line_len(behind);
+            comment(1 + count, &behind[count..])
+        }
+        b'.' => dots(behind),
+        239 => order_mark(behind),
+        _ => mark(first),
     }
 }
 
@@ -167,11 +162,11 @@ pub fn first_part(bytes: &[u8]) -> Part
     ensures { Stands bytes.now result }
 {
     let (first, behind) = bytes.split_first().unwrap();
-    if is_three_quotes(bytes) {
-        block_part(&bytes[3..])
-    } else if *first == b'"' {
-        string_part(behind)
-    } else {
+    if *first != b'"' {
         plain(*first, bytes, behind)
+    } else if is_three_quotes(bytes) {
+        block_part(&bytes[3..])
+    } else {
+        string_part(behind)
     }
 }

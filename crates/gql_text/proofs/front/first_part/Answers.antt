@@ -5,10 +5,10 @@ use Rattle.gql_text.proofs.front.first_part.Goals as goal
 pub returns-then-is_three_quotes : goal.returns-then-is_three_quotes
 returns-then-is_three_quotes c = stands_block _ _ (sym c.is_three_quotes.ensures ∙ c.if-is_three_quotes.true) c.block_part.ensures
 
-pub returns-then-first-eq34 : goal.returns-then-first-eq34
-returns-then-first-eq34 c = let k = rw c.unwrap.ensures at c.split_first.ensures.cases in
-    stands_string _ _ _ _ k c.if-first-eq34.true (sym c.is_three_quotes.ensures ∙ c.if-is_three_quotes.false) c.string_part.ensures
+pub returns-then-first-ne34 : goal.returns-then-first-ne34
+returns-then-first-ne34 c = let k = rw c.unwrap.ensures at c.split_first.ensures.cases in
+    stands_plain _ _ _ _ k c.if-first-ne34.true c.plain.ensures
 
-pub returns-else-first-eq34 : goal.returns-else-first-eq34
-returns-else-first-eq34 c = let k = rw c.unwrap.ensures at c.split_first.ensures.cases in
-    stands_plain _ _ _ _ k c.if-first-eq34.false (sym c.is_three_quotes.ensures ∙ c.if-is_three_quotes.false) c.plain.ensures
+pub returns-else-is_three_quotes : goal.returns-else-is_three_quotes
+returns-else-is_three_quotes c = let k = rw c.unwrap.ensures at c.split_first.ensures.cases in
+    stands_string _ _ _ _ k c.if-first-ne34.false (sym c.is_three_quotes.ensures ∙ c.if-is_three_quotes.false) c.string_part.ensures
