@@ -19,6 +19,10 @@ use std::alloc::Global;
 /// How many bytes a text may have.
 const LIMIT: usize = 65536;
 
+/// The list of tokens has room for a token in each so many bytes from the start, and grows if there
+/// are more.
+const BYTES_PER_TOKEN: usize = 4;
+
 /// The place of the first byte of a text.
 const START: Place = Place {
     line: 1,
@@ -102,7 +106,9 @@ pub fn lex<'a>(alloc: Global, source: &'a str) -> Result<Vec<Token<'a>>, LexFaul
             place,
         });
     }
-    let mut tokens = Vec::new(alloc);
+    let Ok(mut tokens) = Vec::with_capacity(alloc, source.len() / BYTES_PER_TOKEN) else {
+        return Err(LexFault::Memory);
+    };
     'parts: while place.offset < source.len() {
         match part_at(source, place.offset) {
             Part::Dropped(count) => {

@@ -17,7 +17,7 @@ parts-init c = record {
   within = omega arith;
   known = refl;
   cut = IsCharBoundary-start c.args.source.now c.utf8.source;
-  tokens = λ ts h. rw c.new-tokens.ensures.items h;
+  tokens = λ ts h. rw c.in-Ok.ensures.items h;
   fault = λ f p h. h;
 }
 
