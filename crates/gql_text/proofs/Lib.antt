@@ -19,3 +19,4 @@ pub mod BlockRules
 pub mod IgnoredRules
 pub mod PlainParts
 pub mod BlankRuns
+pub mod Entries

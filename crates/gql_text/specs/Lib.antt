@@ -13,4 +13,5 @@ pub mod Parts
 pub mod Pieces
 pub mod Place
 pub mod Strings
+pub mod Tables
 pub mod Values

@@ -1,11 +1,12 @@
 //! What is at the front of a text, or of the rest of a string: a token, ignored bytes, or a
 //! refusal.
 
-ghost use Rattle.std.specs.Prelude.{◌≡◌, ◌+◌, ◌<◌, ◌≤◌, ◌∷◌, length, drop};
+ghost use Rattle.std.specs.Prelude.{◌≡◌, ◌+◌, ◌<◌, ◌≤◌, ◌∷◌, IsTrue, length, drop};
 ghost use Rattle.std.specs.List.{prefix_len};
 ghost use Rattle.gql_text.specs.Chars.{is_name_start, is_name_byte, is_source_byte, is_blank};
 ghost use Rattle.gql_text.specs.Marks.{mark_kind, mark_part, dots_part, order_part, comment_part, plain_part};
 ghost use Rattle.gql_text.specs.Lexis.{Stands};
+ghost use Rattle.gql_text.specs.Tables.{is_table};
 
 use crate::number::number;
 use crate::pieces::{block_part, is_three_quotes, string_part};
@@ -38,10 +39,32 @@ const fn starts_name(byte: u8) -> bool
     byte == b'_' || byte.is_ascii_alphabetic()
 }
 
+/// For each byte, 32 in a row, 1 if a name goes on with it, else 0.
+static NAME_BYTES: [u8; 256] = [
+    0, 0, 0, 0, 0, 0, 0, 0, 0, 0, 0, 0, 0, 0, 0, 0, 0, 0, 0, 0, 0, 0, 0, 0, 0, 0, 0, 0, 0, 0, 0, 0,
+    0, 0, 0, 0, 0, 0, 0, 0, 0, 0, 0, 0, 0, 0, 0, 0, 1, 1, 1, 1, 1, 1, 1, 1, 1, 1, 0, 0, 0, 0, 0, 0,
+    0, 1, 1, 1, 1, 1, 1, 1, 1, 1, 1, 1, 1, 1, 1, 1, 1, 1, 1, 1, 1, 1, 1, 1, 1, 1, 1, 0, 0, 0, 0, 1,
+    0, 1, 1, 1, 1, 1, 1, 1, 1, 1, 1, 1, 1, 1, 1, 1, 1, 1, 1, 1, 1, 1, 1, 1, 1, 1, 1, 0, 0, 0, 0, 0,
+    0, 0, 0, 0, 0, 0, 0, 0, 0, 0, 0, 0, 0, 0, 0, 0, 0, 0, 0, 0, 0, 0, 0, 0, 0, 0, 0, 0, 0, 0, 0, 0,
+    0, 0, 0, 0, 0, 0, 0, 0, 0, 0, 0, 0, 0, 0, 0, 0, 0, 0, 0, 0, 0, 0, 0, 0, 0, 0, 0, 0, 0, 0, 0, 0,
+    0, 0, 0, 0, 0, 0, 0, 0, 0, 0, 0, 0, 0, 0, 0, 0, 0, 0, 0, 0, 0, 0, 0, 0, 0, 0, 0, 0, 0, 0, 0, 0,
+    0, 0, 0, 0, 0, 0, 0, 0, 0, 0, 0, 0, 0, 0, 0, 0, 0, 0, 0, 0, 0, 0, 0, 0, 0, 0, 0, 0, 0, 0, 0, 0,
+];
+
+/// Whether the entry for this byte is 1, in the table of the bytes that continue a name.
+fn has_entry(table: &[u8], byte: u8) -> bool
+    requires long { length table.now ≡ 256 }
+    requires names { IsTrue (is_table is_name_byte 0 table.now) }
+    ensures { result ≡ is_name_byte byte }
+{
+    table[usize::from(byte)] == 1
+}
+
+/// Whether a name goes on with this byte.
 pub fn continues_name(byte: u8) -> bool
     ensures { result ≡ is_name_byte byte }
 {
-    starts_name(byte) || byte.is_ascii_digit()
+    has_entry(&NAME_BYTES, byte)
 }
 
 /// Whether this byte is a blank: a tab, a space, a line end or a comma.
