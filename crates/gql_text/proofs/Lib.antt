@@ -20,3 +20,4 @@ pub mod IgnoredRules
 pub mod PlainParts
 pub mod BlankRuns
 pub mod Entries
+pub mod LineEnds

@@ -11,8 +11,9 @@ ghost use Rattle.gql_text.specs.Parts.{Fits, CutsBehind, is_value};
 ghost use Rattle.gql_text.specs.declared.front.Part.TheVariants.{Taken};
 
 use crate::blanks::past_blanks;
+use crate::ends::place_at_end;
 use crate::front::{Part, first_part};
-use crate::place::{Place, past, past_plain};
+use crate::place::{Place, START, past, past_plain};
 use crate::token::{Kind, LexFault, LexRefusal, Token};
 use std::alloc::Global;
 
@@ -22,13 +23,6 @@ const LIMIT: usize = 65536;
 /// The list of tokens has room for a token in each so many bytes from the start, and grows if there
 /// are more.
 const BYTES_PER_TOKEN: usize = 4;
-
-/// The place of the first byte of a text.
-const START: Place = Place {
-    line: 1,
-    column: 1,
-    offset: 0,
-};
 
 /// What is at an offset of the text.
 fn part_at(source: &str, offset: usize) -> Part
@@ -135,5 +129,5 @@ pub fn end_place(source: &str) -> Place
     requires { length source.now ≤ 65536 }
     ensures { result ≡ place_after source.now }
 {
-    past_part(source, START, source.len())
+    place_at_end(source.as_bytes())
 }

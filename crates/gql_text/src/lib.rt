@@ -4,6 +4,7 @@
 
 mod blanks;
 mod block;
+mod ends;
 mod front;
 pub mod laws;
 mod lexer;

@@ -14,6 +14,13 @@ pub struct Place {
     pub offset: usize,
 }
 
+/// The place of the first byte of a text.
+pub const START: Place = Place {
+    line: 1,
+    column: 1,
+    offset: 0,
+};
+
 /// The place after one more byte.
 pub fn past_byte(source: &[u8], place: Place) -> Place
     requires within { place.offset < length source.now }
