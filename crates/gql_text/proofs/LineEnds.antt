@@ -1,14 +1,11 @@
 -- How often a byte occurs in a text, and the line after the text.
-use Rattle.std.proofs.Common.{◌≡◌, ℕ, zero, suc, ◌+◌, ◌-◌, ◌<◌, ◌≤◌, List, [], ◌∷◌, ◌++◌, length, get_or, take, drop, refl, sym, ap, ◌∙◌, arith, Bool, true, false, inl, inr}
-use Rattle.std.specs.Prelude.{◌==◌, ◌&&◌, ◌||◌, not, reverse, slice_range, nat_lt, if◌then◌else◌}
-use Rattle.std.specs.List.{count_by, sum_by}
-use Rattle.std.proofs.lemmas.Bool.Decides.{nat_tests}
+use Rattle.std.proofs.Common.{◌≡◌, ℕ, zero, suc, ◌+◌, ◌-◌, ◌<◌, ◌≤◌, List, ◌∷◌, length, get_or, take, drop, refl, sym, ap, ◌∙◌, arith, Bool, true, false}
+use Rattle.std.specs.Prelude.{◌==◌, ◌&&◌, ◌||◌, not, reverse, slice_range, if◌then◌else◌}
+use Rattle.std.specs.List.{count_by}
 use Rattle.std.proofs.lemmas.List.{take_rest, take_all}
 use Rattle.std.proofs.lemmas.List.Sums.{sum_by-append, sum_by-take-drop, count_by_more_yes, count_by_more_no, get_or-le-sum_by}
 use Rattle.gql_text.specs.Place.{place_after, line_behind, column_behind, starts_with_return}
-use Rattle.gql_text.specs.declared.place.Place.{Place}
 use Rattle.gql_text.proofs.Places.{reverse_more, return_before}
-use Rattle.gql_text.proofs.Runs.{split}
 use Rattle.gql_text.proofs.Steps.{before_more, slice_is}
 
 -- the bytes up to o, and n more
