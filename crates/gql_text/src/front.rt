@@ -1,12 +1,12 @@
 //! What is at the front of a text, or of the rest of a string: a token, ignored bytes, or a
 //! refusal.
 
-ghost use Rattle.std.specs.Prelude.{◌≡◌, ◌+◌, ◌<◌, ◌≤◌, ◌∷◌, IsTrue, length, drop};
+ghost use Rattle.std.specs.Prelude.{◌≡◌, ◌+◌, ◌<◌, ◌≤◌, ◌∷◌, IsTrue, None, false, length, drop};
 ghost use Rattle.std.specs.List.{prefix_len};
 ghost use Rattle.gql_text.specs.Chars.{is_name_start, is_name_byte, is_source_byte, is_blank};
-ghost use Rattle.gql_text.specs.Marks.{mark_kind, mark_part, dots_part, order_part, comment_part, plain_part};
+ghost use Rattle.gql_text.specs.Marks.{mark_kind, dots_part, order_part, comment_part, plain_part};
 ghost use Rattle.gql_text.specs.Lexis.{Stands};
-ghost use Rattle.gql_text.specs.Tables.{is_table};
+ghost use Rattle.gql_text.specs.Tables.{name_class, is_table};
 
 use crate::number::number;
 use crate::pieces::{block_part, is_three_quotes, string_part};
@@ -33,38 +33,39 @@ pub enum Piece {
     Stops(LexRefusal),
 }
 
-const fn starts_name(byte: u8) -> bool
-    ensures { result ≡ is_name_start byte }
-{
-    byte == b'_' || byte.is_ascii_alphabetic()
-}
-
-/// For each byte, 32 in a row, 1 if a name goes on with it, else 0.
+/// For each byte, 32 in a row: 2 if a name starts with it, 1 if it only continues a name, else 0.
 static NAME_BYTES: [u8; 256] = [
     0, 0, 0, 0, 0, 0, 0, 0, 0, 0, 0, 0, 0, 0, 0, 0, 0, 0, 0, 0, 0, 0, 0, 0, 0, 0, 0, 0, 0, 0, 0, 0,
     0, 0, 0, 0, 0, 0, 0, 0, 0, 0, 0, 0, 0, 0, 0, 0, 1, 1, 1, 1, 1, 1, 1, 1, 1, 1, 0, 0, 0, 0, 0, 0,
-    0, 1, 1, 1, 1, 1, 1, 1, 1, 1, 1, 1, 1, 1, 1, 1, 1, 1, 1, 1, 1, 1, 1, 1, 1, 1, 1, 0, 0, 0, 0, 1,
-    0, 1, 1, 1, 1, 1, 1, 1, 1, 1, 1, 1, 1, 1, 1, 1, 1, 1, 1, 1, 1, 1, 1, 1, 1, 1, 1, 0, 0, 0, 0, 0,
+    0, 2, 2, 2, 2, 2, 2, 2, 2, 2, 2, 2, 2, 2, 2, 2, 2, 2, 2, 2, 2, 2, 2, 2, 2, 2, 2, 0, 0, 0, 0, 2,
+    0, 2, 2, 2, 2, 2, 2, 2, 2, 2, 2, 2, 2, 2, 2, 2, 2, 2, 2, 2, 2, 2, 2, 2, 2, 2, 2, 0, 0, 0, 0, 0,
     0, 0, 0, 0, 0, 0, 0, 0, 0, 0, 0, 0, 0, 0, 0, 0, 0, 0, 0, 0, 0, 0, 0, 0, 0, 0, 0, 0, 0, 0, 0, 0,
     0, 0, 0, 0, 0, 0, 0, 0, 0, 0, 0, 0, 0, 0, 0, 0, 0, 0, 0, 0, 0, 0, 0, 0, 0, 0, 0, 0, 0, 0, 0, 0,
     0, 0, 0, 0, 0, 0, 0, 0, 0, 0, 0, 0, 0, 0, 0, 0, 0, 0, 0, 0, 0, 0, 0, 0, 0, 0, 0, 0, 0, 0, 0, 0,
     0, 0, 0, 0, 0, 0, 0, 0, 0, 0, 0, 0, 0, 0, 0, 0, 0, 0, 0, 0, 0, 0, 0, 0, 0, 0, 0, 0, 0, 0, 0, 0,
 ];
 
-/// Whether the entry for this byte is 1, in the table of the bytes that continue a name.
-fn has_entry(table: &[u8], byte: u8) -> bool
+/// The entry for this byte in the table of the bytes of names.
+fn class_in(table: &[u8], byte: u8) -> u8
     requires long { length table.now ≡ 256 }
-    requires names { IsTrue (is_table is_name_byte 0 table.now) }
-    ensures { result ≡ is_name_byte byte }
+    requires names { IsTrue (is_table name_class 0 table.now) }
+    ensures { result ≡ name_class byte }
 {
-    table[usize::from(byte)] == 1
+    table[usize::from(byte)]
+}
+
+/// Whether a name starts with this byte.
+fn starts_name(byte: u8) -> bool
+    ensures { result ≡ is_name_start byte }
+{
+    class_in(&NAME_BYTES, byte) == 2
 }
 
 /// Whether a name goes on with this byte.
 pub fn continues_name(byte: u8) -> bool
     ensures { result ≡ is_name_byte byte }
 {
-    has_entry(&NAME_BYTES, byte)
+    class_in(&NAME_BYTES, byte) != 0
 }
 
 /// Whether this byte is a blank: a tab, a space, a line end or a comma.
@@ -146,25 +147,17 @@ fn punctuator(byte: u8) -> Option<Kind>
     }
 }
 
-/// The token for a punctuator of one byte. Any other byte here begins no token.
-fn mark(byte: u8) -> Part
-    ensures { result ≡ mark_part (mark_kind byte) }
-{
-    match punctuator(byte) {
-        Some(kind) => Part::Taken(kind, 1),
-        None => Part::Refused(LexRefusal::BadCharacter, 0),
-    }
-}
-
-/// What is at the front of a text that begins with this byte, which is not a quote.
+/// What is at the front of a text that begins with this byte, which is not a quote, and with which
+/// neither a name nor a punctuator of one byte begins.
 #[tactic(auto, unfolding(crate::specs::Marks::plain_part))]
 fn plain(first: u8, bytes: &[u8], behind: &[u8]) -> Part
     requires whole { bytes.now ≡ first ∷ behind.now }
     requires short { length bytes.now ≤ 65536 }
+    requires name { is_name_start first ≡ false }
+    requires mark { mark_kind first ≡ None }
     ensures { result ≡ plain_part first behind.now }
 {
     match first {
-        b'a'..=b'z' | b'A'..=b'Z' | b'_' => Part::Taken(Kind::Name, 1 + name_len(behind)),
         b'\t' | b' ' | b'\n' | b'\r' | b',' => Part::Dropped(1),
         b'0'..=b'9' => number(0, bytes),
         b'-' => number(1, behind),
@@ -174,22 +167,41 @@ fn plain(first: u8, bytes: &[u8], behind: &[u8]) -> Part
         }
         b'.' => dots(behind),
         239 => order_mark(behind),
-        _ => mark(first),
+        _ => Part::Refused(LexRefusal::BadCharacter, 0),
     }
 }
 
-/// What is at the front of a text.
+/// What is at the front of a text that begins with this byte, with which neither a name nor a
+/// punctuator of one byte begins.
+#[inline(never)]
+fn other_part(first: u8, bytes: &[u8], behind: &[u8]) -> Part
+    requires whole { bytes.now ≡ first ∷ behind.now }
+    requires short { length bytes.now ≤ 65536 }
+    requires name { is_name_start first ≡ false }
+    requires mark { mark_kind first ≡ None }
+    ensures { Stands bytes.now result }
+{
+    if first != b'"' {
+        plain(first, bytes, behind)
+    } else if is_three_quotes(bytes) {
+        block_part(&bytes[3..])
+    } else {
+        string_part(behind)
+    }
+}
+
+/// What is at the front of a text. Names and punctuators, the most frequent, come first.
 pub fn first_part(bytes: &[u8]) -> Part
     requires some { 0 < length bytes.now }
     requires short { length bytes.now ≤ 65536 }
     ensures { Stands bytes.now result }
 {
     let (first, behind) = bytes.split_first().unwrap();
-    if *first != b'"' {
-        plain(*first, bytes, behind)
-    } else if is_three_quotes(bytes) {
-        block_part(&bytes[3..])
-    } else {
-        string_part(behind)
+    if starts_name(*first) {
+        return Part::Taken(Kind::Name, 1 + name_len(behind));
+    }
+    match punctuator(*first) {
+        Some(kind) => Part::Taken(kind, 1),
+        None => other_part(*first, bytes, behind),
     }
 }

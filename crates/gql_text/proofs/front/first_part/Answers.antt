@@ -1,14 +1,11 @@
 use Rattle.std.proofs.Common.{sym, ◌∙◌}
-use Rattle.gql_text.proofs.Fronts.{stands_block, stands_string, stands_plain}
+use Rattle.gql_text.proofs.Fronts.{stands_name, stands_mark}
 use Rattle.gql_text.proofs.front.first_part.Goals as goal
 
-pub returns-then-is_three_quotes : goal.returns-then-is_three_quotes
-returns-then-is_three_quotes c = stands_block _ _ (sym c.is_three_quotes.ensures ∙ c.if-is_three_quotes.true) c.block_part.ensures
+pub returns-then-starts_name : goal.returns-then-starts_name
+returns-then-starts_name c = let k = rw c.unwrap.ensures at c.split_first.ensures.cases in
+    rw c.name_len.ensures.value (stands_name _ _ _ k.0 (sym c.starts_name.ensures ∙ c.if-starts_name.true))
 
-pub returns-then-first-ne34 : goal.returns-then-first-ne34
-returns-then-first-ne34 c = let k = rw c.unwrap.ensures at c.split_first.ensures.cases in
-    stands_plain _ _ _ _ k c.if-first-ne34.true c.plain.ensures
-
-pub returns-else-is_three_quotes : goal.returns-else-is_three_quotes
-returns-else-is_three_quotes c = let k = rw c.unwrap.ensures at c.split_first.ensures.cases in
-    stands_string _ _ _ _ k c.if-first-ne34.false (sym c.is_three_quotes.ensures ∙ c.if-is_three_quotes.false) c.string_part.ensures
+pub returns-in-Some : goal.returns-in-Some
+returns-in-Some c = let k = rw c.unwrap.ensures at c.split_first.ensures.cases in
+    stands_mark _ _ _ _ k.0 (sym c.punctuator.ensures ∙ c.in-Some.is)
