@@ -75,7 +75,7 @@ fn past_token(source: &str, place: Place, kind: Kind, count: usize) -> Place
 }
 
 /// The place after the blanks that are at this place.
-fn behind_blanks(source: &str, place: Place) -> Place
+fn after_blanks(source: &str, place: Place) -> Place
     requires short { length source.now ≤ 65536 }
     requires known { place ≡ place_after (take place.offset source.now) }
     requires cut { IsCharBoundary source.now place.offset }
@@ -107,14 +107,14 @@ pub fn lex<'a>(alloc: Global, source: &'a str) -> Result<Vec<Token<'a>>, LexFaul
     'parts: while place.offset < source.len() {
         match part_at(source, place.offset) {
             Part::Dropped(count) => {
-                let behind = past_part(source, place, count);
-                place = behind_blanks(source, behind);
+                let after = past_part(source, place, count);
+                place = after_blanks(source, after);
             }
             Part::Taken(kind, count) => {
                 let text = &source[place.offset..place.offset + count];
-                let behind = past_token(source, place, kind, count);
+                let after = past_token(source, place, kind, count);
                 tokens.push(Token { kind, text, place })?;
-                place = behind_blanks(source, behind);
+                place = after_blanks(source, after);
             }
             Part::Refused(number, count) => {
                 let place = past_part(source, place, count);

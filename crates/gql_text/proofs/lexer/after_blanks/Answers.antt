@@ -4,8 +4,8 @@ use Rattle.gql_text.specs.Chars.{is_blank}
 use Rattle.gql_text.specs.Place.{place_after}
 use Rattle.gql_text.specs.declared.place.Place.{Place}
 use Rattle.gql_text.proofs.BlankRuns.{cut_blanks, blanks_within}
-use Rattle.gql_text.proofs.lexer.behind_blanks.Goals as goal
-use Rattle.gql_text.proofs.lexer.behind_blanks.Goals.{After-past_blanks}
+use Rattle.gql_text.proofs.lexer.after_blanks.Goals as goal
+use Rattle.gql_text.proofs.lexer.after_blanks.Goals.{After-past_blanks}
 
 moved : (c : After-past_blanks) → c.past_blanks.result.offset ≡ c.args.place.offset + prefix_len is_blank (drop c.args.place.offset c.args.source.now)
 moved c =
