@@ -173,7 +173,6 @@ fn plain(first: u8, bytes: &[u8], behind: &[u8]) -> Part
 
 /// What is at the front of a text that begins with this byte, with which neither a name nor a
 /// punctuator of one byte begins.
-#[inline(never)]
 fn other_part(first: u8, bytes: &[u8], behind: &[u8]) -> Part
     requires whole { bytes.now ≡ first ∷ behind.now }
     requires short { length bytes.now ≤ 65536 }

@@ -37,7 +37,6 @@ fn part_at(source: &str, offset: usize) -> Part
 }
 
 /// The place after the next bytes.
-#[inline(never)]
 fn past_part(source: &str, place: Place, count: usize) -> Place
     requires within { place.offset + count ≤ length source.now }
     requires short { length source.now ≤ 65536 }
