@@ -53,7 +53,7 @@ others_blank s o n h = record {
   each = λ i less. let at : o + 1 + i ≡ o + suc i = omega arith in rw at (h.each (suc i) (omega arith));
 }
 
--- behind n blanks, as in front of them
+-- what follows n blanks follows from their start on
 tokens_over : (s : List ℕ) (o n : ℕ) (ts : List Lexeme) → BlankAt s o n → Tokens (take (o + n) s) (drop (o + n) s) ts → Tokens (take o s) (drop o s) ts
 tokens_over s o zero ts h r = let e : o + 0 ≡ o = omega arith in rw e at r
 tokens_over s o (suc n) ts h r =

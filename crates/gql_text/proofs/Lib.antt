@@ -21,3 +21,4 @@ pub mod PlainParts
 pub mod BlankRuns
 pub mod Entries
 pub mod LineEnds
+pub mod Simple

@@ -16,7 +16,7 @@ line_step b bs h = grind (arith, nat_tests)
 column_step : (b : ℕ) (bs : List ℕ) → is_plain b ≡ true → column_behind (b ∷ bs) ≡ 1 + column_behind bs
 column_step b bs h = grind (arith, nat_tests)
 
--- n plain bytes stand at o
+-- the n bytes from o on are plain
 record PlainAt (s : List ℕ) (o n : ℕ) : Type 0 where
   pub within : o + n ≤ length s
   pub each : (i : ℕ) → i < n → is_plain (get_or s (o + i) 0) ≡ true

@@ -1,6 +1,7 @@
 -- Helper definitions for private contracts: how far a part of a text goes.
-use Rattle.std.specs.Prelude.{ℕ, ◌≡◌, ◌≤◌, ◌<◌, ◌+◌, List, Bool, true, false, ◌&&◌, nat_le, nat_lt}
+use Rattle.std.specs.Prelude.{ℕ, ◌≡◌, ◌≤◌, ◌<◌, ◌+◌, List, Bool, true, false, ◌&&◌, ◌==◌, not, nat_le, nat_lt}
 use Rattle.std.specs.Str.{IsCharBoundary}
+use Rattle.gql_text.specs.Chars.{is_source_byte}
 use Rattle.gql_text.specs.declared.token.Kind.{Kind}
 use Rattle.gql_text.specs.declared.token.Kind.TheVariants.{IntValue, FloatValue, StringValue, BlockString}
 use Rattle.gql_text.specs.declared.front.Part.{Part}
@@ -38,3 +39,8 @@ is_value FloatValue = true
 is_value StringValue = true
 is_value BlockString = true
 is_value _ = false
+
+-- a byte that is by itself a part of a string and of a block string: it is in no escape, and closes
+-- neither
+abbrev pub is_simple : ℕ → Bool
+is_simple b = is_source_byte b && not (b == 34) && not (b == 92)

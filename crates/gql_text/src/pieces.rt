@@ -6,6 +6,7 @@ ghost use Rattle.std.specs.Char.{is_ascii_hexdigit};
 ghost use Rattle.gql_text.specs.Chars.{three_quotes, is_break};
 ghost use Rattle.gql_text.specs.Pieces.{hex_value, four_digits, is_high, is_low, escaped_number, short_escape, number_piece, digits_piece, escape_piece, string_piece, block_piece};
 ghost use Rattle.gql_text.specs.Lexis.{Run, refused_at};
+ghost use Rattle.gql_text.specs.Parts.{is_simple};
 ghost use Rattle.gql_text.specs.declared.token.Kind.TheVariants.{StringValue, BlockString};
 
 use crate::front::{Part, Piece};
@@ -151,6 +152,22 @@ pub fn escape(bytes: &[u8]) -> Piece
     }
 }
 
+/// Whether this byte is by itself a part of a string and of a block string: a tab or a byte that is
+/// no control character, and neither a quote nor a backslash.
+fn is_simple(byte: u8) -> bool
+    ensures { result ≡ is_simple byte }
+{
+    byte >= 32 && byte != b'"' && byte != b'\\' || byte == b'\t'
+}
+
+/// How many bytes at the front are parts of a string by themselves.
+fn simple_len(bytes: &[u8]) -> usize
+    ensures value { result ≡ prefix_len is_simple bytes.now }
+    ensures short { result ≤ length bytes.now }
+{
+    bytes.iter().take_while(|byte| is_simple(**byte)).count()
+}
+
 /// What is at the front of the rest of a string.
 #[tactic(auto, unfolding(crate::specs::Pieces::string_piece))]
 fn next_piece(bytes: &[u8]) -> Piece
@@ -204,6 +221,7 @@ pub fn string_part(bytes: &[u8]) -> Part
 {
     let mut read = 0;
     'pieces: while read <= bytes.len() {
+        read += simple_len(&bytes[read..]);
         match next_piece(&bytes[read..]) {
             Piece::Closes(count) => return Part::Taken(Kind::StringValue, 1 + read + count),
             Piece::Goes(count) => read += count,
@@ -222,6 +240,7 @@ pub fn block_part(bytes: &[u8]) -> Part
 {
     let mut read = 0;
     'pieces: while read <= bytes.len() {
+        read += simple_len(&bytes[read..]);
         match next_block_piece(&bytes[read..]) {
             Piece::Closes(count) => return Part::Taken(Kind::BlockString, 3 + read + count),
             Piece::Goes(count) => read += count,

@@ -1,31 +1,39 @@
-use Rattle.std.proofs.Common.{arith, drop, length-drop, drop-drop, sym}
+use Rattle.std.proofs.Common.{arith, ◌+◌, drop, length-drop, drop-drop, sym}
 use Rattle.gql_text.specs.Pieces.{string_piece}
 use Rattle.gql_text.specs.declared.token.Kind.TheVariants.{StringValue}
 use Rattle.gql_text.proofs.Runs.{IsStep, string_goes, run_closes, run_stops, run_goes, seen}
+use Rattle.gql_text.proofs.Simple.{past_simple, string_simple}
 use Rattle.gql_text.proofs.Fitting.{string_closes}
 use Rattle.gql_text.proofs.pieces.string_part.Goals.{In-Goes}
 use Rattle.gql_text.proofs.pieces.string_part.Goals as goal
 
-step : (c : In-Goes) → IsStep c.in-Goes.count (drop c.pieces.read c.args.bytes.now)
-step c = string_goes _ _ (sym (seen string_piece c.args.bytes.now c.pieces.read _ c.in-Goes.ensures))
+step : (c : In-Goes) → IsStep c.in-Goes.count (drop (c.pieces.read + c.simple_len-read.result) c.args.bytes.now)
+step c = string_goes _ _ (sym (seen string_piece c.args.bytes.now (c.pieces.read + c.simple_len-read.result) _ c.in-Goes.ensures))
 
-pub overflow_add-read : goal.overflow_add-read
-overflow_add-read c = omega (arith, (step c).within, length-drop c.pieces.read c.args.bytes.now)
+pub overflow_add-read-in-Goes : goal.overflow_add-read-in-Goes
+overflow_add-read-in-Goes c = omega (arith, (step c).within, length-drop (c.pieces.read + c.simple_len-read.result) c.args.bytes.now)
 
 pub overflow_add-result-in-Closes : goal.overflow_add-result-in-Closes
-overflow_add-result-in-Closes c = omega (arith, string_closes _ _ (sym (seen string_piece c.args.bytes.now c.pieces.read _ c.in-Closes.ensures)), length-drop c.pieces.read c.args.bytes.now)
+overflow_add-result-in-Closes c =
+    omega (arith, string_closes _ _ (sym (seen string_piece c.args.bytes.now (c.pieces.read + c.simple_len-read.result) _ c.in-Closes.ensures)), length-drop (c.pieces.read + c.simple_len-read.result) c.args.bytes.now)
 
 pub pieces-smaller : goal.pieces-smaller
-pieces-smaller c = omega (arith, (step c).some, (step c).within, length-drop c.pieces.read c.args.bytes.now)
+pieces-smaller c = omega (arith, (step c).some, (step c).within, length-drop (c.pieces.read + c.simple_len-read.result) c.args.bytes.now)
 
 pub pieces-preserved : goal.pieces-preserved
 pieces-preserved c = record {
-  within = omega (arith, (step c).within, length-drop c.pieces.read c.args.bytes.now);
-  run = λ p r. c.pieces.invariant.run p (run_goes string_piece StringValue _ _ _ _ _ p (seen string_piece c.args.bytes.now c.pieces.read _ c.in-Goes.ensures) (omega arith) (sym (drop-drop c.in-Goes.count c.pieces.read c.args.bytes.now)) r);
+  within = omega (arith, (step c).within, length-drop (c.pieces.read + c.simple_len-read.result) c.args.bytes.now);
+  run = λ p r.
+      let after = run_goes string_piece StringValue _ _ _ _ _ p (seen string_piece c.args.bytes.now (c.pieces.read + c.simple_len-read.result) _ c.in-Goes.ensures) (omega arith) (sym (drop-drop c.in-Goes.count (c.pieces.read + c.simple_len-read.result) c.args.bytes.now)) r in
+      c.pieces.invariant.run p (past_simple string_piece string_simple StringValue c.args.bytes.now 1 c.pieces.read c.simple_len-read.result p c.simple_len-read.ensures.value after);
 }
 
 pub returns-in-Closes : goal.returns-in-Closes
-returns-in-Closes c = c.pieces.invariant.run _ (run_closes string_piece StringValue _ _ _ _ (seen string_piece c.args.bytes.now c.pieces.read _ c.in-Closes.ensures) (omega arith))
+returns-in-Closes c =
+    let after = run_closes string_piece StringValue _ _ _ _ (seen string_piece c.args.bytes.now (c.pieces.read + c.simple_len-read.result) _ c.in-Closes.ensures) (omega arith) in
+    c.pieces.invariant.run _ (past_simple string_piece string_simple StringValue c.args.bytes.now 1 c.pieces.read c.simple_len-read.result _ c.simple_len-read.ensures.value after)
 
 pub returns-in-Stops : goal.returns-in-Stops
-returns-in-Stops c = c.pieces.invariant.run _ (run_stops string_piece StringValue _ _ _ _ (seen string_piece c.args.bytes.now c.pieces.read _ c.in-Stops.ensures) c.refusal_offset.ensures)
+returns-in-Stops c =
+    let after = run_stops string_piece StringValue _ _ _ _ (seen string_piece c.args.bytes.now (c.pieces.read + c.simple_len-read.result) _ c.in-Stops.ensures) c.refusal_offset.ensures in
+    c.pieces.invariant.run _ (past_simple string_piece string_simple StringValue c.args.bytes.now 1 c.pieces.read c.simple_len-read.result _ c.simple_len-read.ensures.value after)
