@@ -5,6 +5,7 @@ pub mod EditedTypes
 pub mod Filtering
 pub mod Firsts
 pub mod Groups
+pub mod KeptTypes
 pub mod Members
 pub mod Once
 pub mod Ordering

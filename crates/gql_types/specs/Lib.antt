@@ -6,6 +6,7 @@ pub mod Definitions
 pub mod Edits
 pub mod EditedTypes
 pub mod Held
+pub mod KeptTypes
 pub mod Kinds
 pub mod Marks
 pub mod Names
