@@ -20,15 +20,10 @@ use std::alloc::{AllocError, Global};
 
 /// The schema after an edit. For each of its types, where it stood among those before the edit, if it
 /// is known to be the same and to have the same possible types.
+#[derive(Drop)]
 pub struct EditedSchema {
     pub schema: Schema,
     pub places: Vec<Option<usize>>,
-}
-
-impl Drop for EditedSchema {
-    fn drop(self) {
-        let EditedSchema { schema: _, places: _ } = self;
-    }
 }
 
 /// The types of gathered definitions after an edit, by the schema before it.
