@@ -11,9 +11,7 @@ ghost use Rattle.gql_facts.specs.Tables.{tables_of, type_in};
 
 use crate::meta_fields::MetaFields;
 use crate::possible_names::PossibleNames;
-use crate::schema_facts::{
-    SchemaFacts, TypeEntry, directive_entries, root_entries, type_entry,
-};
+use crate::schema_facts::{SchemaFacts, TypeEntry, directive_entries, root_entries, type_entry};
 use gql_ast::{Shared, Text};
 use gql_types::{HasName, Named, Schema, SchemaType};
 use std::alloc::{AllocError, Global};

@@ -17,8 +17,7 @@ loop-place-preserved c =
     (search rules) (search rules)
     (found_in_place (λ s. s.node.now.name.text) c.args.before.now.schema.now.types c.args.definitions.now c.loop-place.place c.index-definitions-place.result
     c.requires.names c.requires.once (search rules) (search rules))
-    c.kept_type-kept.ensures.there c.kept_type-kept.ensures.unedited (search rules) c.in_ok-of_type.ensures (search rules) (c.loop-place.invariant.0, c.loop-place.invariant.1) in
-    (
+    c.kept_type-kept.ensures.there c.kept_type-kept.ensures.unedited (search rules) c.in_ok-of_type.ensures (search rules) (c.loop-place.invariant.0, c.loop-place.invariant.1) in (
       both.0,
       both.1,
       zip_step (IsConcreteAt c.args.before.now.schema.now.types) c.loop-place.places.items c.push-in-loop-place.new.self.items c.loop-place.types.items c.push.new.self.items
