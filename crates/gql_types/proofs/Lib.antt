@@ -11,5 +11,6 @@ pub mod Once
 pub mod Ordering
 pub mod Others
 pub mod OtherTypes
+pub mod OwnPrints
 pub mod Places
 pub mod Wrapping
