@@ -73,11 +73,11 @@ zip_get R (a ∷ more) (b ∷ bs) (suc i) x y all is are = zip_get R more bs i x
 pub given : (before : SchemaFacts) (names : List (List ℕ)) (places : List (Option ℕ)) (after : Schema) (i : ℕ) (e : TypeEntry) → AreFactsBefore before names places after
     → (stood : ℕ) × (slice_get places i ≡ Some (Some stood)) × (slice_get before.types stood ≡ Some e)
     → (t : SchemaType) → slice_get after.types i ≡ Some t → e ≡ type_entry after t
-given before names places after i e facts there t is =
+given before names places after i e facts stands t is =
     let old = facts.0 in
-    let kept : IsKeptAt old after (Some there.0) t = zip_get (IsKeptAt old after) places after.types i (Some there.0) t facts.1.1.1 there.1.0 is in
+    let kept : IsKeptAt old after (Some stands.0) t = zip_get (IsKeptAt old after) places after.types i (Some stands.0) t facts.3 stands.1 is in
     let both : Some e ≡ Some (type_entry old t) =
-    sym there.1.1 ∙ ap (λ (f : SchemaFacts). slice_get f.types there.0) facts.1.0 ∙ slice_get-map (type_entry old) old.types there.0 ∙ ap (option_map (type_entry old)) kept.0 in
+    sym stands.2 ∙ ap (λ (f : SchemaFacts). slice_get f.types stands.0) facts.1 ∙ slice_get-map (type_entry old) old.types stands.0 ∙ ap (option_map (type_entry old)) kept.0 in
     let it : e ≡ type_entry old t = cc both in
     it ∙ ap (with_possible t) (sym kept.1)
 
@@ -85,7 +85,7 @@ given before names places after i e facts there t is =
 pub looked_for : (before : SchemaFacts) (names : List (List ℕ)) (places : List (Option ℕ)) (after : Schema) (i : ℕ) (t : SchemaType) (e : TypeEntry)
     → AreFactsBefore before names places after → i < length after.types → slice_get after.types i ≡ Some t → IsEntryAfter before names after t e → e ≡ type_entry after t
 looked_for before names places after i t e facts within is its =
-    its facts.0 facts.1.0 (facts.1.1.0 t (i, within, item_there after.types i t within is))
+    its facts.0 facts.1 (facts.2 t (i, within, item_there after.types i t within is))
 
 -- an entry that is found by a name has the name
 pub entry_named : (q : List ℕ) (es : List TypeEntry) (e : TypeEntry) → find (λ (x : TypeEntry). bytes_eq q x.name) es ≡ Some e → e.name ≡ q
