@@ -1,7 +1,7 @@
--- Helper definitions for private contracts: the entries of types after an edit, by the facts before
--- it.
-use Rattle.std.specs.Prelude.{◌≡◌, ℕ, List, find, bytes_eq, is_some, map, false, Some}
+-- The facts of a schema after an edit, by those before it.
+use Rattle.std.specs.Prelude.{◌≡◌, ℕ, List, Option, find, bytes_eq, is_some, false, Some}
 use Rattle.gql_types.specs.Edits.{KeepsOthers}
+use Rattle.gql_types.specs.KeptTypes.{AreKeptAt}
 use Rattle.gql_types.specs.Possible.{name_of}
 use Rattle.gql_types.specs.Schemas.{type_named}
 use Rattle.gql_types.specs.declared.schema.Schema.{Schema}
@@ -17,9 +17,8 @@ IsEntryAfter before names after t e = (old : Schema) → before ≡ tables_of ol
     → (is_some (find (bytes_eq (name_of t)) names) ≡ false → type_named old (name_of t) ≡ Some t)
     → e ≡ type_entry after t
 
--- the entries are those of the types after an edit of these names, whatever schema the facts before
--- are of, if the edit leaves its types of other names as they are
-abbrev pub AreEntriesAfter : SchemaFacts → List (List ℕ) → Schema → List TypeEntry
-    → List SchemaType → Type 0
-AreEntriesAfter before names after entries types = (old : Schema) → before ≡ tables_of old
-    → KeepsOthers names old after → entries ≡ map (type_entry after) types
+-- The facts are those of a schema whose types of other names than these are the same after an edit.
+-- If a place is given for a type after it, the type stood there, and has the same possible types.
+abbrev pub AreFactsBefore : SchemaFacts → List (List ℕ) → List (Option ℕ) → Schema → Type 0
+AreFactsBefore before names places after = (old : Schema) × (before ≡ tables_of old)
+    × KeepsOthers names old after × AreKeptAt old after places

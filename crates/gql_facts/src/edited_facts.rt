@@ -1,19 +1,19 @@
 //! The facts of a schema after an edit of a schema file. The facts of a type that the edit leaves as
 //! it is are shared with those before the edit.
-ghost use Rattle.std.specs.Prelude.{◌≡◌, ◌↔◌, ℕ, List, Bool, IfOk, IfSome, IsTrue, Some, bytes_eq, find, is_some, map, slice_get};
+ghost use Rattle.std.specs.Prelude.{◌≡◌, ◌↔◌, ◌<◌, ℕ, List, IfOk, IfSome, IsTrue, Some, bytes_eq, find, is_some, length, map, slice_get};
 ghost use Rattle.std.specs.List.{position_from};
 ghost use Rattle.std.specs.Option.{option_copied};
-ghost use Rattle.gql_types.specs.Edits.{KeepsOthers};
 ghost use Rattle.gql_types.specs.Possible.{name_of};
-ghost use Rattle.gql_types.specs.declared.schema.Schema.{Schema as TheSchema};
+ghost use Rattle.gql_types.specs.declared.schema_type.SchemaType.{SchemaType as TheType};
 ghost use Rattle.gql_facts.specs.EditedFacts as spec;
+ghost use Rattle.gql_facts.specs.Tables as tables;
 ghost use Rattle.gql_facts.specs.Tables.{tables_of, type_in};
 
 use crate::meta_fields::MetaFields;
 use crate::possible_names::PossibleNames;
 use crate::schema_facts::{SchemaFacts, TypeEntry, directive_entries, root_entries, type_entry};
 use gql_ast::{Shared, Text};
-use gql_types::{HasName, Named, Schema, SchemaType, next_place};
+use gql_types::{HasName, Named, Schema, SchemaType};
 use std::alloc::{AllocError, Global};
 
 /// Whether both are absent, or both are there with the same names.
@@ -107,15 +107,45 @@ fn entry_after(
     }
 }
 
-/// Whether the type at a place is edited.
-fn is_edited_at(are_edited: &[bool], place: usize) -> bool
-    ensures { (is_edited : Bool) → slice_get are_edited.now place ≡ Some is_edited
-        → result ≡ is_edited }
+/// The entry that the type at a place had before the edit, if it is given where that type stood.
+fn given_entry<'b>(
+    before: &'b SchemaFacts,
+    places: &[Option<usize>],
+    place: usize,
+) -> Option<&'b Shared<TypeEntry>>
+    ensures { IfSome (option_copied result) (λ e. (stood : ℕ)
+        × (slice_get places.now place ≡ Some (Some stood))
+        × (slice_get before.entry.now.types stood ≡ Some e)) }
 {
-    match are_edited.get(place) {
-        Some(is_edited) => *is_edited,
-        None => true,
+    match places.get(place) {
+        Some(Some(stood)) => entry_at(before.types.as_slice(), *stood),
+        _ => None,
     }
+}
+
+/// The entry of the type at a place after the edit.
+fn entry_here(
+    alloc: Global,
+    schema: &Schema,
+    before: &SchemaFacts,
+    edited: &Named<Text>,
+    places: &[Option<usize>],
+    place: usize,
+) -> Result<Shared<TypeEntry>, AllocError>
+    requires before { spec.AreFactsBefore before.now edited.now places.now schema.now }
+    requires within { place < length schema.now.types }
+    ensures { IfOk result (λ entry. (t : TheType) → slice_get schema.now.types place ≡ Some t
+        → entry ≡ tables.type_entry schema.now t) }
+{
+    if let Some(entry) = given_entry(before, places, place) {
+        let kept = entry.clone()?;
+        return Ok(kept);
+    }
+    let of_type = schema.types()[place].get();
+    let stood = before.types.place_near(place, of_type.name());
+    let is_edited = edited.get(of_type.name()).is_some();
+    let entry = entry_after(alloc, schema, before, stood, place, of_type, is_edited)?;
+    Ok(entry)
 }
 
 /// The entries of the types after the edit.
@@ -124,40 +154,35 @@ fn entries_after(
     schema: &Schema,
     before: &SchemaFacts,
     edited: &Named<Text>,
+    places: &[Option<usize>],
 ) -> Result<Vec<Shared<TypeEntry>>, AllocError>
-    ensures entries { IfOk result (λ entries. spec.AreEntriesAfter before.now edited.now schema.now
-        entries.items schema.now.types) }
-    ensures names { IfOk result (λ entries.
-        map (λ e. e.name) entries.items ≡ map name_of schema.now.types) }
+    requires { spec.AreFactsBefore before.now edited.now places.now schema.now }
+    ensures { IfOk result (λ entries. entries.items
+        ≡ map (tables.type_entry schema.now) schema.now.types) }
 {
-    let are_edited = schema.named_types().are_among(alloc, edited)?;
-    let types = schema.types();
-    let mut entries = Vec::with_capacity(alloc, types.len())?;
-    let mut next = 0;
-    for place in 0..types.len() {
-        let of_type = types[place].get();
-        let is_edited = is_edited_at(are_edited.as_slice(), place);
-        let stood = before.types.place_near(next, of_type.name());
-        next = next_place(stood, next);
-        let entry = entry_after(alloc, schema, before, stood, place, of_type, is_edited)?;
-        entries.push(entry)?;
+    let count = schema.types().len();
+    let mut entries = Vec::with_capacity(alloc, count)?;
+    for place in 0..count {
+        entries.push(entry_here(alloc, schema, before, edited, places, place)?)?;
     }
     Ok(entries)
 }
 
 impl SchemaFacts {
     /// The facts of this schema, by those of the schema before an edit which changed types of these
-    /// names alone. Facts of types that are the same are shared with those before.
+    /// names alone. `places` says of types where they stood before the edit, if they and their
+    /// possible types are the same. Facts of types that are the same are shared with those before.
     pub fn after_edit(
         alloc: Global,
         schema: &Schema,
         before: &SchemaFacts,
         edited: &Named<Text>,
+        places: &[Option<usize>],
     ) -> Result<SchemaFacts, AllocError>
-        ensures { IfOk result (λ facts. (old : TheSchema) → before.now ≡ tables_of old
-            → KeepsOthers edited.now old schema.now → facts ≡ tables_of schema.now) }
+        requires { spec.AreFactsBefore before.now edited.now places.now schema.now }
+        ensures { IfOk result (λ facts. facts ≡ tables_of schema.now) }
     {
-        let entries = entries_after(alloc, schema, before, edited)?;
+        let entries = entries_after(alloc, schema, before, edited, places)?;
         let types = Named::of_names(alloc, entries, schema.named_types())?;
         let directives = Named::new(alloc, directive_entries(alloc, schema)?)?;
         let roots = root_entries(alloc, schema.roots())?;

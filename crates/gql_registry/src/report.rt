@@ -20,7 +20,7 @@ use gql_node_rules::SchemaChange;
 use gql_report::in_order;
 use gql_schema_rules::SchemaFaults;
 use gql_serving::Owners;
-use gql_types::{Named, Schema, assemble, assemble_after_edit};
+use gql_types::{EditedSchema, Named, Schema, assemble, assemble_after_edit};
 use gql_verdict::{name_faults, shared_faults};
 use std::alloc::{AllocError, Global};
 
@@ -129,8 +129,10 @@ pub fn side_after_edit(
     requires { IsSideBefore edited.now name.now files.now before.now }
     ensures { IfOk result (IsSideOf files.now) }
 {
-    let schema = assemble_after_edit(alloc, files, &before.schema, edited)?;
-    let facts = SchemaFacts::after_edit(alloc, &schema, &before.facts, edited)?;
+    let EditedSchema { schema, places } =
+        assemble_after_edit(alloc, files, &before.schema, edited)?;
+    let facts =
+        SchemaFacts::after_edit(alloc, &schema, &before.facts, edited, places.as_slice())?;
     let kept = faults_after_edit(alloc, files, &schema, before, name, edited)?;
     let schema_before = &before.schema;
     let made_before = &before.made;

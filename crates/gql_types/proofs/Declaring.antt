@@ -1,9 +1,11 @@
 -- Which objects declare an interface, by the declarations that the code holds.
-use Rattle.std.proofs.Common.{◌≡◌, ◌++◌, ℕ, List, [], ◌∷◌, map, filter, flat_map, bytes_eq, refl, ap, ◌∙◌, arith}
+use Rattle.std.proofs.Common.{◌≡◌, ◌++◌, false, inl, inr, ℕ, List, [], ◌∷◌, map, filter, flat_map, bytes_eq, refl, ap, ◌∙◌, arith}
 use Rattle.std.proofs.lemmas.Grind.{common_steps}
 use Rattle.gql_types.proofs.Ordering.{named, same_order}
 use Rattle.gql_types.specs.Declarations.{declarations, pair}
-use Rattle.gql_types.specs.Abstracts.{abstract_by, all_abstract}
+use Rattle.gql_types.specs.Abstracts.{abstract_by, abstract_types, all_abstract}
+use Rattle.gql_types.specs.Kinds.{is_abstract}
+use Rattle.gql_types.proofs.Filtering.{either}
 use Rattle.gql_types.specs.Possible.{objects_of, in_order, name_of}
 use Rattle.gql_types.specs.declared.kind.TypeKind.{TypeKind}
 use Rattle.gql_types.specs.declared.kind.TypeKind.TheVariants as kind
@@ -34,3 +36,21 @@ abstract_of_all types ds at all found =
     flat_map_same (λ (t : SchemaType). abstract_by t.kind (λ q. map (λ (d : Declaration). d.object.now) (at q)) t) (λ (t : SchemaType). abstract_by t.kind (objects_of types) t) types
     (λ t. abstract_same t.kind (λ q. map (λ (d : Declaration). d.object.now) (at q)) (objects_of types) t
     (λ q. ap in_order (ap (map (λ (d : Declaration). d.object.now)) (found q) ∙ objects_are q ds ∙ ap (named q) all) ∙ same_order q types))
+
+-- a type that is neither an interface nor a union has none
+none_abstract : (k : TypeKind) (at : List ℕ → List (List ℕ)) (t : SchemaType) → is_abstract k ≡ false → abstract_by k at t ≡ []
+none_abstract kind.Object at t concrete = refl
+none_abstract kind.Interface at t concrete = absurd (cc concrete)
+none_abstract kind.Union at t concrete = absurd (cc concrete)
+none_abstract kind.Scalar at t concrete = refl
+none_abstract kind.Enum at t concrete = refl
+none_abstract kind.InputObject at t concrete = refl
+
+-- so that interfaces and unions alone have those of all types
+pub of_abstracts : (at : List ℕ → List (List ℕ)) (types : List SchemaType)
+    → flat_map (λ (t : SchemaType). abstract_by t.kind at t) (abstract_types types) ≡ flat_map (λ (t : SchemaType). abstract_by t.kind at t) types
+of_abstracts at [] = refl
+of_abstracts at (t ∷ ts) = elim (either (is_abstract t.kind)) [
+  | inl h ↦ rw h (ap (λ ps. abstract_by t.kind at t ++ ps) (of_abstracts at ts))
+  | inr h ↦ rw (h, none_abstract t.kind at t h) (of_abstracts at ts)
+]

@@ -6,6 +6,7 @@ use Rattle.gql_ast.specs.declared.type_system.TypeDefinition.{TypeDefinition}
 use Rattle.gql_ast.specs.declared.type_system.TypeExtension.{TypeExtension}
 use Rattle.gql_built_in.specs.declared.sited.Sited.{Sited}
 use Rattle.gql_types.specs.Abstracts.{abstract_by, all_abstract}
+use Rattle.gql_types.specs.Kinds.{is_abstract}
 use Rattle.gql_types.specs.Names.{AreOnce}
 use Rattle.gql_types.specs.Possible.{all_possible, name_of, objects_of, possible_by}
 use Rattle.gql_types.specs.Types.{assembled, extensions_of, first_definitions, types_of}
@@ -139,6 +140,24 @@ same_of_other kind.Scalar at t other = refl
 same_of_other kind.Enum at t other = refl
 same_of_other kind.InputObject at t other = refl
 
+-- the possible types of a type that is neither an interface nor a union
+abbrev pub own : TypeKind → List ℕ → Option (List (List ℕ))
+own kind.Object n = Some (n ∷ [])
+own kind.Interface n = None
+own kind.Union n = None
+own kind.Scalar n = None
+own kind.Enum n = None
+own kind.InputObject n = None
+
+own_head : (k : TypeKind) (at : List ℕ → List (List ℕ)) (t : SchemaType) → is_abstract k ≡ false
+    → option_map (λ (p : PossibleTypes). p.types) (head (possible_by k at t)) ≡ own k (name_of t)
+own_head kind.Object at t concrete = refl
+own_head kind.Interface at t concrete = absurd (cc concrete)
+own_head kind.Union at t concrete = absurd (cc concrete)
+own_head kind.Scalar at t concrete = refl
+own_head kind.Enum at t concrete = refl
+own_head kind.InputObject at t concrete = refl
+
 module _ (types : List SchemaType) (once : AreOnce (map name_of types)) (q : List ℕ) where
   abbrev found : Option SchemaType
   found = find (λ (t : SchemaType). bytes_eq q (name_of t)) types
@@ -174,3 +193,7 @@ module _ (types : List SchemaType) (once : AreOnce (map name_of types)) (q : Lis
     of_other other = among_abstract (Some t) is
         ∙ ap (λ ps. option_map (λ (p : PossibleTypes). p.types) (head ps)) (same_of_other t.kind (objects_of types) t other)
         ∙ sym (among_all (Some t) is)
+
+    -- a type that is neither an interface nor a union has what it has by itself
+    pub of_concrete : is_abstract t.kind ≡ false → possible ≡ own t.kind (name_of t)
+    of_concrete concrete = among_all (Some t) is ∙ own_head t.kind (objects_of types) t concrete

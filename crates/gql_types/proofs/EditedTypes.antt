@@ -1,7 +1,7 @@
 -- The types of first definitions after an edit, one after the other.
 use Rattle.std.proofs.Common.{◌≡◌, ◌+◌, ◌++◌, ◌<◌, ℕ, List, [], ◌∷◌, Bool, Option, Some, None, true, false, inl, inr, bytes_eq, find, slice_get, option_and_then, map, length, get_or, take, Contains, ap, ap₂, ◌∙◌, sym, subst}
 use Rattle.std.specs.Prelude.{IfSome, is_some, option_map, unwrap_or}
-use Rattle.std.specs.List.{position_from}
+use Rattle.std.specs.List.{AllZip, position_from}
 use Rattle.std.proofs.lemmas.List.{map-append, take_more}
 use Rattle.std.proofs.lemmas.Option.{slice_get-get_or, slice_get-map}
 use Rattle.std.proofs.lemmas.Slice.Eq.{bytes_eq-Decides}
@@ -107,3 +107,15 @@ unedited_there names types marks i (Some t) are mark is =
 pub kept_same : (names : List (List ℕ)) (before : Schema) (found one other : List SchemaType) → one ≡ other
     → (KeepsTypes names before one → found ≡ one) → KeepsTypes names before other → found ≡ other
 kept_same names before found one other same is keeps = is (subst (KeepsTypes names before) (sym same) keeps) ∙ same
+
+-- one pair more
+zip_push : {X Y : Type 0} (R : X → Y → Type 0) (xs : List X) (ys : List Y) (x : X) (y : Y) → AllZip R xs ys → R x y → AllZip R (xs ++ x ∷ []) (ys ++ y ∷ [])
+zip_push R [] [] x y all last = (last, tt)
+zip_push R [] (b ∷ bs) x y all last = absurd all
+zip_push R (a ∷ more) [] x y all last = absurd all
+zip_push R (a ∷ more) (b ∷ bs) x y all last = (all.0, zip_push R more bs x y all.1 last)
+
+pub zip_step : {X Y : Type 0} (R : X → Y → Type 0) (xs new_xs : List X) (ys new_ys : List Y) (x : X) (y : Y) → new_xs ≡ xs ++ x ∷ [] → new_ys ≡ ys ++ y ∷ []
+    → AllZip R xs ys → R x y → AllZip R new_xs new_ys
+zip_step R xs new_xs ys new_ys x y is are all last =
+    subst (λ zs. AllZip R new_xs zs) (sym are) (subst (λ zs. AllZip R zs (ys ++ y ∷ [])) (sym is) (zip_push R xs ys x y all last))

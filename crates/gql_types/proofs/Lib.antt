@@ -5,10 +5,12 @@ pub mod EditedTypes
 pub mod Filtering
 pub mod Firsts
 pub mod Groups
+pub mod KeptTypes
 pub mod Members
 pub mod Once
 pub mod Ordering
 pub mod Others
 pub mod OtherTypes
+pub mod OwnPrints
 pub mod Places
 pub mod Wrapping

@@ -44,6 +44,15 @@ is_composite kind.Scalar = false
 is_composite kind.Enum = false
 is_composite kind.InputObject = false
 
+-- whether a kind is abstract: the possible types of such a type are other types
+abbrev pub is_abstract : TypeKind → Bool
+is_abstract kind.Interface = true
+is_abstract kind.Union = true
+is_abstract kind.Object = false
+is_abstract kind.Scalar = false
+is_abstract kind.Enum = false
+is_abstract kind.InputObject = false
+
 -- whether a kind is a leaf: nothing is selected from such a type
 abbrev pub is_leaf : TypeKind → Bool
 is_leaf kind.Scalar = true

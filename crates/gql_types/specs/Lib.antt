@@ -6,11 +6,14 @@ pub mod Definitions
 pub mod Edits
 pub mod EditedTypes
 pub mod Held
+pub mod KeptTypes
 pub mod Kinds
 pub mod Marks
+pub mod NamePlaces
 pub mod Names
 pub mod Parts
 pub mod Possible
+pub mod Prints
 pub mod RequiredInputs
 pub mod Roots
 pub mod Schemas

@@ -1,16 +1,14 @@
 //! Which of some things have names that are among others.
 
-ghost use Rattle.std.specs.Prelude.{◌≡◌, ℕ, List, [], IfOk, map, bytes_eq};
-ghost use Rattle.std.specs.Option.{option_copied};
-ghost use Rattle.std.specs.List.{position_from};
-ghost use Rattle.std.specs.HashMap as hash;
+ghost use Rattle.std.specs.Prelude.{◌≡◌, [], IfOk, map};
+ghost use Rattle.gql_types.specs.NamePlaces.{ArePlaces};
 ghost use Rattle.gql_types.specs.Names as spec;
 ghost use Rattle.gql_types.specs.Marks.{with_mark};
 
+use crate::name_places::Places;
 use crate::named::{HasName, Named};
 use gql_ast::Text;
 use std::alloc::{AllocError, Global};
-use std::collections::HashMap;
 
 /// For each thing, that its name is not among the others: there are none.
 fn no_marks<T: HasName>(alloc: Global, things: &[T]) -> Result<Vec<bool>, AllocError>
@@ -24,12 +22,12 @@ fn no_marks<T: HasName>(alloc: Global, things: &[T]) -> Result<Vec<bool>, AllocE
 }
 
 /// Marks the thing at a place, if there is one.
-fn mark(place: Option<&usize>, marks: &mut Vec<bool>)
-    ensures { marks.new.items ≡ with_mark (option_copied place.entry) marks.old.items }
+fn mark(place: Option<usize>, marks: &mut Vec<bool>)
+    ensures { marks.new.items ≡ with_mark place marks.old.items }
 {
     if let Some(place) = place {
-        if *place < marks.len() {
-            marks[*place] = true;
+        if place < marks.len() {
+            marks[place] = true;
         }
     }
 }
@@ -39,17 +37,16 @@ fn mark(place: Option<&usize>, marks: &mut Vec<bool>)
 pub fn marked<T: HasName>(
     alloc: Global,
     things: &[T],
-    first: &HashMap<String, usize>,
+    places: &Places,
     names: &[Text],
 ) -> Result<Vec<bool>, AllocError>
-    requires first { (q : List ℕ) → hash.get_by_text first.now q
-        ≡ position_from (λ x. bytes_eq q (T.name x)) 0 things.now }
+    requires places { ArePlaces places.now (map T.name things.now) }
     requires once { spec.AreOnce (map T.name things.now) }
     ensures { IfOk result (λ marks. marks.items ≡ spec.are_among names.now (map T.name things.now)) }
 {
     let mut marks = no_marks(alloc, things)?;
     for name in names {
-        mark(first.get(name.as_str()), &mut marks);
+        mark(places.place_of(things, name.as_str()), &mut marks);
     }
     Ok(marks)
 }

@@ -1,14 +1,17 @@
 //! The types of a schema after an edit of a schema file. A type that the edit leaves as it is is
 //! shared with the schema before the edit.
-ghost use Rattle.std.specs.Prelude.{◌≡◌, [], IfOk, IfSome, IsTrue, None, Some, bytes_eq, false, find, is_some, map, option_and_then, slice_get, unwrap_or};
+ghost use Rattle.std.specs.Prelude.{◌≡◌, [], List, IfOk, IfSome, IsTrue, None, Some, bytes_eq, false, find, is_some, map, option_and_then, slice_get, unwrap_or};
 ghost use Rattle.std.specs.Option.{option_copied, option_map_or};
 ghost use Rattle.std.specs.HashMap as hash;
+ghost use Rattle.std.specs.List.{AllZip};
 ghost use Rattle.gql_types.specs.EditedTypes.{AreEdited, type_by};
 ghost use Rattle.gql_types.specs.Edits.{KeepsTypes};
+ghost use Rattle.gql_types.specs.KeptTypes.{IsConcreteAt};
 ghost use Rattle.gql_types.specs.Names.{AreOnce};
 ghost use Rattle.gql_types.specs.Possible.{name_of};
 ghost use Rattle.gql_types.specs.Sites.{site};
 ghost use Rattle.gql_types.specs.Types as spec;
+ghost use Rattle.gql_types.specs.declared.schema_type.SchemaType.{SchemaType as TheType};
 
 use crate::by_name::{ByName, by_name};
 use crate::first_definitions::first_definitions;
@@ -28,6 +31,21 @@ struct Before<'b> {
     schema: &'b Schema,
     edited: &'b Named<Text>,
     are_edited: Vec<bool>,
+}
+
+/// The types after an edit. For each of them, where it stood before the edit, if the edit leaves it
+/// as it is and it is neither an interface nor a union: possible types of these change with others.
+#[derive(Drop)]
+pub struct EditedTypes {
+    pub types: Named<Shared<SchemaType>>,
+    pub places: Vec<Option<usize>>,
+}
+
+/// The same, of types without a look-up.
+#[derive(Drop)]
+struct TypeList {
+    types: Vec<Shared<SchemaType>>,
+    places: Vec<Option<usize>>,
 }
 
 /// Whether the type at a place is not edited.
@@ -56,6 +74,19 @@ fn kept_type<'b>(before: &'b Before<'_>, stood: Option<usize>) -> Option<&'b Sha
     }
 }
 
+/// Where the type that is kept stood, if it is neither an interface nor a union.
+fn kept_place(stood: Option<usize>, kept: Option<&Shared<SchemaType>>) -> Option<usize>
+    ensures { (types : List TheType) → (t made : TheType)
+        → IfSome (option_copied kept.entry) (λ s.
+        option_and_then (λ i. slice_get types i) stood ≡ Some s)
+        → t ≡ unwrap_or (option_copied kept.entry) made → IsConcreteAt types result t }
+{
+    match kept {
+        Some(of_type) if !of_type.get().kind.is_abstract() => stood,
+        _ => None,
+    }
+}
+
 /// The type that is kept, if there is one, or else the type of this definition.
 fn kept_or_made(
     alloc: Global,
@@ -80,28 +111,32 @@ fn all_in_place(
     definitions: &[TypeSite<'_>],
     extensions: &ByName<'_, Sited<Shared<TypeExtension>>>,
     before: &Before<'_>,
-) -> Result<Vec<Shared<SchemaType>>, AllocError>
+) -> Result<TypeList, AllocError>
     requires edited { AreEdited before.now }
     requires once { AreOnce (map name_of before.now.schema.now.types) }
     requires names { map (λ s. s.node.now.name.text) definitions.now
         ≡ map name_of before.now.schema.now.types }
-    ensures types { IfOk result (λ types.
+    ensures types { IfOk result (λ list.
         KeepsTypes before.now.edited.now before.now.schema.now (map (type_by
         (λ q. option_map_or (λ group. map (λ x. x.now) group.items)
         (hash.get_by_text extensions.now q) [])) (map site definitions.now))
-        → types.items ≡ map (type_by (λ q. option_map_or (λ group. map (λ x. x.now) group.items)
+        → list.types.items ≡ map (type_by (λ q. option_map_or (λ group. map (λ x. x.now) group.items)
         (hash.get_by_text extensions.now q) [])) (map site definitions.now)) }
-    ensures names { IfOk result (λ types.
-        map name_of types.items ≡ map (λ s. s.node.now.name.text) definitions.now) }
+    ensures names { IfOk result (λ list.
+        map name_of list.types.items ≡ map (λ s. s.node.now.name.text) definitions.now) }
+    ensures places { IfOk result (λ list.
+        AllZip (IsConcreteAt before.now.schema.now.types) list.places.items list.types.items) }
 {
     let mut types = Vec::with_capacity(alloc, definitions.len())?;
+    let mut places = Vec::with_capacity(alloc, definitions.len())?;
     let mut source = None;
     for place in 0..definitions.len() {
         let kept = kept_type(before, Some(place));
         let of_type = kept_or_made(alloc, kept, &definitions[place], extensions, &mut source)?;
         types.push(of_type)?;
+        places.push(kept_place(Some(place), kept))?;
     }
-    Ok(types)
+    Ok(TypeList { types, places })
 }
 
 /// The types of first definitions after the edit. Most of them follow those that they followed before
@@ -111,19 +146,22 @@ fn all_after(
     definitions: &[TypeSite<'_>],
     extensions: &ByName<'_, Sited<Shared<TypeExtension>>>,
     before: &Before<'_>,
-) -> Result<Vec<Shared<SchemaType>>, AllocError>
+) -> Result<TypeList, AllocError>
     requires { AreEdited before.now }
-    ensures types { IfOk result (λ types.
+    ensures types { IfOk result (λ list.
         KeepsTypes before.now.edited.now before.now.schema.now (map (type_by
         (λ q. option_map_or (λ group. map (λ x. x.now) group.items)
         (hash.get_by_text extensions.now q) [])) (map site definitions.now))
-        → types.items ≡ map (type_by (λ q. option_map_or (λ group. map (λ x. x.now) group.items)
+        → list.types.items ≡ map (type_by (λ q. option_map_or (λ group. map (λ x. x.now) group.items)
         (hash.get_by_text extensions.now q) [])) (map site definitions.now)) }
-    ensures names { IfOk result (λ types.
-        map name_of types.items ≡ map (λ s. s.node.now.name.text) definitions.now) }
+    ensures names { IfOk result (λ list.
+        map name_of list.types.items ≡ map (λ s. s.node.now.name.text) definitions.now) }
+    ensures places { IfOk result (λ list.
+        AllZip (IsConcreteAt before.now.schema.now.types) list.places.items list.types.items) }
 {
     let names = before.schema.named_types();
     let mut types = Vec::with_capacity(alloc, definitions.len())?;
+    let mut places = Vec::with_capacity(alloc, definitions.len())?;
     let mut source = None;
     let mut next = 0;
     for place in 0..definitions.len() {
@@ -133,8 +171,9 @@ fn all_after(
         let kept = kept_type(before, stood);
         let of_type = kept_or_made(alloc, kept, definition, extensions, &mut source)?;
         types.push(of_type)?;
+        places.push(kept_place(stood, kept))?;
     }
-    Ok(types)
+    Ok(TypeList { types, places })
 }
 
 /// Definitions of types, with a look-up of the first of a name.
@@ -171,10 +210,12 @@ pub fn types_after_edit(
     extensions: &[Sited<Shared<TypeExtension>>],
     before: &Schema,
     edited: &Named<Text>,
-) -> Result<Named<Shared<SchemaType>>, AllocError>
-    ensures { IfOk result (λ types.
+) -> Result<EditedTypes, AllocError>
+    ensures types { IfOk result (λ after.
         KeepsTypes edited.now before.now (spec.types_of (map site definitions.now) extensions.now)
-        → types ≡ spec.types_of (map site definitions.now) extensions.now) }
+        → after.types ≡ spec.types_of (map site definitions.now) extensions.now) }
+    ensures places { IfOk result (λ after.
+        AllZip (IsConcreteAt before.now.types) after.places.items after.types) }
 {
     let groups = by_name(alloc, extensions)?;
     let names = before.named_types();
@@ -184,18 +225,18 @@ pub fn types_after_edit(
         are_edited: names.are_among(alloc, edited)?,
     };
     if are_in_place(definitions, names) {
-        let types = all_in_place(alloc, definitions, &groups, &before)?;
+        let TypeList { types, places } = all_in_place(alloc, definitions, &groups, &before)?;
         let types = Named::of_names(alloc, types, names)?;
-        return Ok(types);
+        return Ok(EditedTypes { types, places });
     }
     let sites = named_sites(alloc, definitions)?;
     if sites.are_once() {
-        let types = all_after(alloc, sites.as_slice(), &groups, &before)?;
+        let TypeList { types, places } = all_after(alloc, sites.as_slice(), &groups, &before)?;
         let types = Named::of_names(alloc, types, &sites)?;
-        return Ok(types);
+        return Ok(EditedTypes { types, places });
     }
     let firsts = first_definitions(alloc, definitions)?;
-    let types = all_after(alloc, firsts.as_slice(), &groups, &before)?;
+    let TypeList { types, places } = all_after(alloc, firsts.as_slice(), &groups, &before)?;
     let types = Named::new(alloc, types)?;
-    Ok(types)
+    Ok(EditedTypes { types, places })
 }

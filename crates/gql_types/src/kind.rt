@@ -77,6 +77,16 @@ impl TypeKind {
         }
     }
 
+    /// Whether types of this kind have other types as their possible types.
+    pub fn is_abstract(self) -> bool
+        ensures { result ≡ spec.is_abstract self }
+    {
+        match self {
+            TypeKind::Interface | TypeKind::Union => true,
+            _ => false,
+        }
+    }
+
     /// Whether nothing is selected from types of this kind.
     pub fn is_leaf(self) -> bool
         ensures { result ≡ spec.is_leaf self }

@@ -1,29 +1,21 @@
 //! Lists of things that have names, with a look-up of the first of a name.
 
-ghost use Rattle.std.specs.Prelude.{◌≡◌, ℕ, List, IfOk, IsTrue, None, Some, find, map, bytes_eq, slice_get, option_and_then};
+ghost use Rattle.std.specs.Prelude.{◌≡◌, IfOk, IsTrue, Some, find, map, bytes_eq, slice_get};
 ghost use Rattle.std.specs.Option.{option_copied};
 ghost use Rattle.std.specs.List.{position_from};
-ghost use Rattle.std.specs.HashMap as hash;
+ghost use Rattle.gql_types.specs.NamePlaces.{ArePlaces};
 ghost use Rattle.gql_types.specs.Names.{AreOnce, are_among};
 
 use crate::among::{asked, marked};
+use crate::name_places::Places;
 use crate::named::{HasName, Named};
 use crate::same_name::is_same_name;
 use gql_ast::{Shared, Text};
 use std::alloc::{AllocError, Global};
-use std::collections::HashMap;
 use std::marker::Model;
 
-/// How many things are compared one by one at most. Of more, a map keeps where each name is.
+/// How many things are compared one by one at most. Of more, it is kept where each name is.
 const FEW: usize = 16;
-
-/// Where the first of each name is in a list.
-#[derive(Drop)]
-struct Places {
-    first: HashMap<String, usize>,
-    /// Whether each name occurs once.
-    are_once: bool,
-}
 
 /// Things in their order, with a look-up of the first of a name. Contracts see the list of the
 /// things.
@@ -43,11 +35,9 @@ impl<T: HasName + Drop> Drop for NamedList<T> {
 }
 
 impl<T: HasName> Model for NamedList<T> {
-    ghost use Rattle.std.specs.Prelude.{◌≡◌, ℕ, List, IfSome, IsTrue, bytes_eq, map};
+    ghost use Rattle.std.specs.Prelude.{List, IfSome, map};
     ghost use Rattle.std.specs.Coded.{coded_list};
-    ghost use Rattle.std.specs.List.{position_from};
-    ghost use Rattle.std.specs.HashMap as hash;
-    ghost use Rattle.gql_types.specs.Names.{AreOnce};
+    ghost use Rattle.gql_types.specs.NamePlaces.{ArePlaces};
 
     ghost Value = { List T };
 
@@ -56,35 +46,7 @@ impl<T: HasName> Model for NamedList<T> {
     ghost view = { λ n. n.things.items };
 
     ghost invariant = { λ n. IfSome n.places (λ places.
-        ((q : List ℕ) → hash.get_by_text places.first q
-        ≡ position_from (λ x. bytes_eq q (T.name x)) 0 n.things.items)
-        × (IsTrue places.are_once → AreOnce (map T.name n.things.items))) };
-}
-
-/// Whether each name still occurs once, with one more name: where it occurs again, if it does.
-fn is_once_more(are_once: bool, later: Option<usize>) -> bool
-    ensures once { IsTrue result → IsTrue are_once }
-    ensures new { IsTrue result → later ≡ None }
-{
-    are_once && later.is_none()
-}
-
-/// Where the first of each name is.
-fn places_of<T: HasName>(alloc: Global, things: &[T]) -> Result<Places, AllocError>
-    ensures first { IfOk result (λ places. (q : List ℕ) → hash.get_by_text places.first q
-        ≡ position_from (λ x. bytes_eq q (T.name x)) 0 things.now) }
-    ensures once { IfOk result (λ places.
-        IsTrue places.are_once → AreOnce (map T.name things.now)) }
-{
-    let mut first = HashMap::with_capacity(alloc, things.len())?;
-    let mut are_once = true;
-    let mut place = things.len();
-    'things: while place > 0 {
-        place -= 1;
-        let later = first.insert(String::from_str(alloc, things[place].name())?, place)?;
-        are_once = is_once_more(are_once, later);
-    }
-    Ok(Places { first, are_once })
+        ArePlaces places (map T.name n.things.items)) };
 }
 
 /// Whether a thing has the name of another.
@@ -140,23 +102,13 @@ pub fn thing_at<T>(things: &[T], place: usize) -> Option<&T>
     things.get(place)
 }
 
-/// Where the first of that name is, by the map of places.
-fn place_in_map(first: &HashMap<String, usize>, name: &str) -> Option<usize>
-    ensures { result ≡ hash.get_by_text first.now name.now }
+/// The first of that name among the things whose places these are.
+fn thing_placed<'a, T: HasName>(places: &Places, things: &'a [T], name: &str) -> Option<&'a T>
+    requires { ArePlaces places.now (map T.name things.now) }
+    ensures { option_copied result ≡ find (λ x. bytes_eq name.now (T.name x)) things.now }
 {
-    match first.get(name) {
-        Some(place) => Some(*place),
-        None => None,
-    }
-}
-
-/// The first of that name, by the map of places.
-fn thing_in_map<'a, T>(first: &HashMap<String, usize>, things: &'a [T], name: &str) -> Option<&'a T>
-    ensures { option_copied result
-        ≡ option_and_then (λ i. slice_get things.now i) (hash.get_by_text first.now name.now) }
-{
-    match first.get(name) {
-        Some(place) => thing_at(things, *place),
+    match places.place_of(things, name) {
+        Some(place) => thing_at(things, place),
         None => None,
     }
 }
@@ -172,7 +124,7 @@ impl<T: HasName + Drop> NamedList<T> {
                 places: None,
             });
         }
-        let places = places_of(alloc, things.as_slice())?;
+        let places = Places::of(alloc, things.as_slice())?;
         let places = Shared::new(alloc, places)?;
         Ok(NamedList {
             things,
@@ -217,7 +169,7 @@ impl<T: HasName> NamedList<T> {
         ensures { IsTrue result → AreOnce (map T.name self.now) }
     {
         match &self.places {
-            Some(places) => places.get().are_once,
+            Some(places) => places.get().are_once(),
             None => false,
         }
     }
@@ -227,7 +179,7 @@ impl<T: HasName> NamedList<T> {
         ensures { option_copied result ≡ find (λ x. bytes_eq name.now (T.name x)) self.now }
     {
         match &self.places {
-            Some(places) => thing_in_map(&places.get().first, self.things.as_slice(), name),
+            Some(places) => thing_placed(places.get(), self.things.as_slice(), name),
             None => first_named(self.things.as_slice(), name),
         }
     }
@@ -237,7 +189,7 @@ impl<T: HasName> NamedList<T> {
         ensures { result ≡ position_from (λ x. bytes_eq name.now (T.name x)) 0 self.now }
     {
         match &self.places {
-            Some(places) => place_in_map(&places.get().first, name),
+            Some(places) => places.get().place_of(self.things.as_slice(), name),
             None => first_place(self.things.as_slice(), name),
         }
     }
@@ -283,9 +235,9 @@ impl<T: HasName> NamedList<T> {
         ensures { IfOk result (λ marks. marks.items ≡ are_among names.now (map T.name self.now)) }
     {
         match &self.places {
-            Some(places) if places.get().are_once => {
-                let first = &places.get().first;
-                let marks = marked(alloc, self.things.as_slice(), first, names.as_slice())?;
+            Some(places) if places.get().are_once() => {
+                let places = places.get();
+                let marks = marked(alloc, self.things.as_slice(), places, names.as_slice())?;
                 Ok(marks)
             }
             _ => asked(alloc, self.things.as_slice(), names),

@@ -4,7 +4,7 @@ ghost use Rattle.std.specs.Prelude.{◌≡◌, ◌++◌, ◌∷◌, [], IfOk, On
 ghost use Rattle.std.specs.Option.{option_map_or};
 ghost use Rattle.std.specs.HashMap as hash;
 ghost use Rattle.gql_types.specs.Possible as spec;
-ghost use Rattle.gql_types.specs.Abstracts.{abstract_by, all_abstract};
+ghost use Rattle.gql_types.specs.Abstracts.{abstract_by, abstract_types, all_abstract};
 ghost use Rattle.gql_types.specs.Declarations.{declarations, declared_by, pair};
 
 use crate::by_name::{ByName, by_name};
@@ -72,32 +72,47 @@ fn add_interfaces<'t>(
     Ok(())
 }
 
-fn add_declared<'t>(
-    of_type: &'t SchemaType,
-    found: &mut Vec<Declaration<'t>>,
-) -> Result<(), AllocError>
-    ensures { OnOk result (map pair found.new.items ≡ map pair found.old.items
+/// What possible types are made of: which objects declare interfaces, and the interfaces and unions.
+#[derive(Drop)]
+struct Gathering<'t> {
+    declarations: Vec<Declaration<'t>>,
+    abstracts: Vec<&'t SchemaType>,
+}
+
+/// Adds what an object declares, or an interface or a union.
+fn add_type<'t>(of_type: &'t SchemaType, found: &mut Gathering<'t>) -> Result<(), AllocError>
+    ensures declarations { OnOk result (map pair found.new.declarations.items
+        ≡ map pair found.old.declarations.items
         ++ declared_by of_type.now.kind (spec.name_of of_type.now) of_type.now.interfaces) }
+    ensures abstracts { OnOk result (map (λ t. t.now) found.new.abstracts.items
+        ≡ map (λ t. t.now) found.old.abstracts.items ++ abstract_types (of_type.now ∷ [])) }
 {
     match of_type.kind {
-        TypeKind::Object => add_interfaces(of_type.name(), of_type.interfaces.as_slice(), found),
-        TypeKind::Scalar
-        | TypeKind::Interface
-        | TypeKind::Union
-        | TypeKind::Enum
-        | TypeKind::InputObject => Ok(()),
+        TypeKind::Object => {
+            let interfaces = of_type.interfaces.as_slice();
+            add_interfaces(of_type.name(), interfaces, &mut found.declarations)
+        }
+        TypeKind::Interface | TypeKind::Union => {
+            found.abstracts.push(of_type)?;
+            Ok(())
+        }
+        TypeKind::Scalar | TypeKind::Enum | TypeKind::InputObject => Ok(()),
     }
 }
 
-fn declarations(
-    alloc: Global,
-    types: &[Shared<SchemaType>],
-) -> Result<Vec<Declaration<'_>>, AllocError>
-    ensures { IfOk result (λ found. map pair found.items ≡ declarations types.now) }
+/// What the possible types of these types are made of.
+fn gathering_of(alloc: Global, types: &[Shared<SchemaType>]) -> Result<Gathering<'_>, AllocError>
+    ensures declarations { IfOk result (λ found.
+        map pair found.declarations.items ≡ declarations types.now) }
+    ensures abstracts { IfOk result (λ found.
+        map (λ t. t.now) found.abstracts.items ≡ abstract_types types.now) }
 {
-    let mut found = Vec::new(alloc);
+    let mut found = Gathering {
+        declarations: Vec::new(alloc),
+        abstracts: Vec::new(alloc),
+    };
     for of_type in types {
-        add_declared(of_type.get(), &mut found)?;
+        add_type(of_type.get(), &mut found)?;
     }
     Ok(found)
 }
@@ -185,17 +200,17 @@ fn add_abstract(
 
 fn all_by(
     alloc: Global,
-    types: &[Shared<SchemaType>],
+    types: &[&SchemaType],
     declaring: &ByName<'_, Declaration<'_>>,
 ) -> Result<Vec<PossibleTypes>, AllocError>
     ensures { IfOk result (λ found. found.items ≡ flat_map (λ t. abstract_by t.kind
         (λ q. map (λ d. d.object.now)
         (option_map_or (λ group. map (λ x. x.now) group.items)
-        (hash.get_by_text declaring.now q) [])) t) types.now) }
+        (hash.get_by_text declaring.now q) [])) t) (map (λ t. t.now) types.now)) }
 {
     let mut found = Vec::new(alloc);
     for of_type in types {
-        add_abstract(alloc, of_type.get(), declaring, &mut found)?;
+        add_abstract(alloc, of_type, declaring, &mut found)?;
     }
     Ok(found)
 }
@@ -207,8 +222,8 @@ pub fn all_abstract(
 ) -> Result<Vec<PossibleTypes>, AllocError>
     ensures { IfOk result (λ found. found.items ≡ all_abstract types.now) }
 {
-    let declarations = declarations(alloc, types)?;
-    let declaring = by_name(alloc, declarations.as_slice())?;
-    let found = all_by(alloc, types, &declaring)?;
+    let gathering = gathering_of(alloc, types)?;
+    let declaring = by_name(alloc, gathering.declarations.as_slice())?;
+    let found = all_by(alloc, gathering.abstracts.as_slice(), &declaring)?;
     Ok(found)
 }

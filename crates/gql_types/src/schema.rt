@@ -2,7 +2,6 @@
 ghost use Rattle.std.specs.Prelude.{◌≡◌, IfOk, map};
 ghost use Rattle.std.specs.Option.{option_copied};
 ghost use Rattle.gql_types.specs.Definitions.{type_extensions};
-ghost use Rattle.gql_types.specs.Edits.{KeepsOthers, KeepsTypes};
 ghost use Rattle.gql_types.specs.Names.{AreOnce};
 ghost use Rattle.gql_types.specs.Possible.{name_of};
 ghost use Rattle.gql_types.specs.Schemas as spec;
@@ -16,7 +15,6 @@ use crate::defined_inputs::DefinedInputs;
 use crate::definitions::{
     directive_definitions, schema_definitions, schema_extensions, type_extensions,
 };
-use crate::edited_types::types_after_edit;
 use crate::gathered::{Gathered, gather};
 use crate::kind::{TypeKind, is_operation};
 use crate::named::{HasName, Named};
@@ -66,24 +64,6 @@ fn types(alloc: Global, definitions: &Gathered<'_>) -> Result<Named<Shared<Schem
     Named::new(alloc, types)
 }
 
-/// The types of gathered definitions after an edit, by the schema before it.
-fn types_after(
-    alloc: Global,
-    definitions: &Gathered<'_>,
-    before: &Schema,
-    edited: &Named<Text>,
-) -> Result<Named<Shared<SchemaType>>, AllocError>
-    ensures { IfOk result (λ types. KeepsTypes edited.now before.now (types_of
-        (map site definitions.now.types.items) (type_extensions definitions.now.others))
-        → types ≡ types_of (map site definitions.now.types.items)
-        (type_extensions definitions.now.others)) }
-{
-    let extensions = type_extensions(alloc, definitions.others.as_slice())?;
-    let sites = definitions.types.as_slice();
-    let types = types_after_edit(alloc, sites, extensions.as_slice(), before, edited)?;
-    Ok(types)
-}
-
 fn roots(
     alloc: Global,
     others: &[Sited<Tree>],
@@ -97,7 +77,7 @@ fn roots(
 }
 
 /// The schema with these types, by the definitions that are not of types.
-fn schema_with(
+pub fn schema_with(
     alloc: Global,
     types: Named<Shared<SchemaType>>,
     others: &[Sited<Tree>],
@@ -125,24 +105,6 @@ pub fn assemble(alloc: Global, files: &Files) -> Result<Schema, AllocError>
     let built_in = built_in_definitions(alloc)?;
     let definitions = gather(alloc, built_in.as_slice(), files)?;
     let types = types(alloc, &definitions)?;
-    let schema = schema_with(alloc, types, definitions.others.as_slice())?;
-    Ok(schema)
-}
-
-/// The schema of all schema files after an edit, by the schema before it. The edit changed types of
-/// these names alone. The others are shared with the schema before.
-pub fn assemble_after_edit(
-    alloc: Global,
-    files: &Files,
-    before: &Schema,
-    edited: &Named<Text>,
-) -> Result<Schema, AllocError>
-    requires { KeepsOthers edited.now before.now (spec.schema_of files.now) }
-    ensures { IfOk result (λ schema. schema ≡ spec.schema_of files.now) }
-{
-    let built_in = built_in_definitions(alloc)?;
-    let definitions = gather(alloc, built_in.as_slice(), files)?;
-    let types = types_after(alloc, &definitions, before, edited)?;
     let schema = schema_with(alloc, types, definitions.others.as_slice())?;
     Ok(schema)
 }

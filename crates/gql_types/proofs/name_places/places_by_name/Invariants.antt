@@ -3,7 +3,7 @@ use Rattle.std.specs.Prelude.{IsTrue}
 use Rattle.std.specs.HashMap as hash
 use Rattle.std.specs.List.{position_from}
 use Rattle.gql_types.specs.Names.{AreOnce}
-use Rattle.gql_types.proofs.named_list.places_of.Given as goal
+use Rattle.gql_types.proofs.name_places.places_by_name.Given as goal
 
 abbrev pub invariant-things : goal.invariant-things
 invariant-things g l = (l.place ≤ length l.things) × ((q : List ℕ) → hash.get_by_text l.first q

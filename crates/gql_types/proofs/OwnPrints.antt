@@ -1,0 +1,141 @@
+-- What prints say of names.
+use Rattle.std.proofs.Common.{◌≡◌, inl, inr, ◌+◌, ◌-◌, ◌<◌, ◌≤◌, ℕ, zero, suc, List, [], ◌∷◌, Bool, true, false, cond, Option, Some, None, map, find, bytes_eq, drop, length, get_or, slice_get, refl, sym, ap, ◌∙◌, arith, option_and_then}
+use Rattle.std.specs.Prelude.{is_some, option_map, unwrap_or}
+use Rattle.std.specs.List.{position_from}
+use Rattle.std.proofs.lemmas.Bool.{eq-eqb, eqb-true}
+use Rattle.std.proofs.lemmas.List.{drop-map, drop_more}
+use Rattle.std.proofs.lemmas.Option.{slice_get-map}
+use Rattle.std.proofs.lemmas.Slice.Eq.{bytes_eq-Decides}
+use Rattle.gql_types.specs.Names.{AreOnce}
+use Rattle.gql_types.specs.Prints.{HaveOwnPrints, has_print, print_of}
+use Rattle.gql_types.proofs.Filtering.{either}
+use Rattle.gql_types.proofs.Places.{by_names, found_there}
+
+-- the same names have the same print
+same_print : (q n : List ℕ) → bytes_eq q n ≡ true → has_print (print_of q) n ≡ true
+same_print q n same = eq-eqb (print_of q) (print_of n) (ap print_of ((bytes_eq-Decides q n).0 same))
+
+-- a name of another print is another name
+other_print : (q n : List ℕ) → has_print (print_of q) n ≡ false → bytes_eq q n ≡ false
+other_print q n other = elim (either (bytes_eq q n)) [
+  | inl h ↦ absurd (cc (sym (same_print q n h) ∙ other))
+  | inr h ↦ h
+]
+
+-- a name whose print none of them has has no place
+unnamed : (q : List ℕ) (p : ℕ) (ns : List (List ℕ)) → is_some (find (has_print (print_of q)) ns) ≡ false
+    → position_from (bytes_eq q) p ns ≡ None
+unnamed q p [] none = refl
+unnamed q p (n ∷ ns) none = elim (either (has_print (print_of q) n)) [
+  | inl h ↦ absurd (cc (sym (rw h at none)))
+  | inr h ↦ rw (other_print q n h) (unnamed q (p + 1) ns (rw h at none))
+]
+
+-- a name whose print none of them has is not found
+unfound : (q : List ℕ) (ns : List (List ℕ)) → is_some (find (has_print (print_of q)) ns) ≡ false
+    → is_some (find (bytes_eq q) ns) ≡ false
+unfound q [] none = refl
+unfound q (n ∷ ns) none = elim (either (has_print (print_of q) n)) [
+  | inl h ↦ absurd (cc (sym (rw h at none)))
+  | inr h ↦ rw (other_print q n h) (unfound q ns (rw h at none))
+]
+
+-- names no two of which have one print occur once each
+pub own_once : (ns : List (List ℕ)) → HaveOwnPrints ns → AreOnce ns
+own_once [] own = tt
+own_once (n ∷ ns) own = (unfound n ns own.0, own_once ns own.1)
+
+-- the first name of the print of q is the first that is q, or none is
+found_print : (q : List ℕ) (p : ℕ) (ns : List (List ℕ)) → HaveOwnPrints ns
+    → cond (unwrap_or (option_map (bytes_eq q) (find (has_print (print_of q)) ns)) false) (position_from (has_print (print_of q)) p ns) None
+    ≡ position_from (bytes_eq q) p ns
+found_print q p [] own = refl
+found_print q p (n ∷ ns) own = elim (either (bytes_eq q n)) [
+  | inl h ↦ rw (same_print q n h, h) refl
+  | inr h ↦ elim (either (has_print (print_of q) n)) [
+    | inl k ↦
+        let same : print_of q ≡ print_of n = eqb-true (print_of q) (print_of n) k in
+        let none : is_some (find (has_print (print_of q)) ns) ≡ false = rw same own.0 in
+        rw (k, h) (sym (unnamed q (p + 1) ns none))
+    | inr k ↦ rw (k, h) (found_print q (p + 1) ns own.1)
+  ]
+]
+
+-- a test that no name passes, by places, finds none
+unfound_place : (test : List ℕ → Bool) (p : ℕ) (ns : List (List ℕ)) → position_from test p ns ≡ None → is_some (find test ns) ≡ false
+unfound_place test p [] none = refl
+unfound_place test p (n ∷ ns) none = elim (either (test n)) [
+  | inl h ↦ absurd (cc (rw h at none))
+  | inr h ↦ rw h (unfound_place test (p + 1) ns (rw h at none))
+]
+
+-- a name whose print has no place has none
+pub placed_none : (q : List ℕ) (ns : List (List ℕ)) → position_from (has_print (print_of q)) 0 ns ≡ None
+    → position_from (bytes_eq q) 0 ns ≡ None
+placed_none q ns none = unnamed q 0 ns (unfound_place (has_print (print_of q)) 0 ns none)
+
+-- the place of a name is that of its print, if the name there is the same; else it has none
+placed : (q : List ℕ) (ns : List (List ℕ)) (i : ℕ) → HaveOwnPrints ns → position_from (has_print (print_of q)) 0 ns ≡ Some i
+    → cond (unwrap_or (option_map (bytes_eq q) (slice_get ns i)) false) (Some i) None ≡ position_from (bytes_eq q) 0 ns
+placed q ns i own is =
+    let there : slice_get ns i ≡ find (has_print (print_of q)) ns
+    = ap (λ o. option_and_then (λ k. slice_get ns k) o) (sym is) ∙ found_there (has_print (print_of q)) ns in
+    rw there (rw (← is) (found_print q 0 ns own))
+
+-- one name more at the front, whose print no other has
+pub own_more : {X : Type 0} (name : X → List ℕ) (xs : List X) (p : ℕ) (x : X) → 0 < p → p ≤ length xs → get_or xs (p - 1) x ≡ x
+    → position_from (has_print (print_of (name x))) p (map name (drop p xs)) ≡ None → HaveOwnPrints (map name (drop p xs))
+    → HaveOwnPrints (map name (drop (p - 1) xs))
+own_more name xs p x some within there absent own =
+    let next : p - 1 + 1 ≡ p = omega arith in
+    rw (drop_more xs (p - 1) x (omega arith), there, next)
+    (unfound_place (has_print (print_of (name x))) p (map name (drop p xs)) absent, own)
+
+-- one place further to the front
+pub print_before : {X : Type 0} (name : X → List ℕ) (xs : List X) (p : ℕ) (x : X) (q : ℕ) → 0 < p → p ≤ length xs → get_or xs (p - 1) x ≡ x
+    → position_from (has_print q) (p - 1) (map name (drop (p - 1) xs))
+    ≡ cond (has_print q (name x)) (Some (p - 1)) (position_from (has_print q) p (map name (drop p xs)))
+print_before name xs p x q some within there =
+    let next : p - 1 + 1 ≡ p = omega arith in
+    rw (drop_more xs (p - 1) x (omega arith), there, next) refl
+
+-- the same, of things of these names
+pub placed_thing : {X : Type 0} (name : X → List ℕ) (q : List ℕ) (xs : List X) (i : ℕ) (is_named : Bool) → HaveOwnPrints (map name xs)
+    → position_from (has_print (print_of q)) 0 (map name xs) ≡ Some i
+    → unwrap_or (option_map (λ x. bytes_eq q (name x)) (slice_get xs i)) false ≡ is_named
+    → cond is_named (Some i) None ≡ position_from (λ x. bytes_eq q (name x)) 0 xs
+placed_thing {X = X} name q xs i is_named own is there =
+    let named : unwrap_or (option_map (bytes_eq q) (slice_get (map name xs) i)) false ≡ is_named
+    = rw (slice_get-map name xs i) (mapped (slice_get xs i) ∙ there) in
+    ap (λ b. cond b (Some i) None) (sym named) ∙ placed q (map name xs) i own is ∙ sym (by_names name (bytes_eq q) 0 xs)
+  where
+    mapped : (o : Option X) → unwrap_or (option_map (bytes_eq q) (option_map name o)) false ≡ unwrap_or (option_map (λ x. bytes_eq q (name x)) o) false
+    mapped None = refl
+    mapped (Some x) = refl
+
+-- a test that finds no name has no place
+unplaced : (test : List ℕ → Bool) (p : ℕ) (ns : List (List ℕ)) → is_some (find test ns) ≡ false → position_from test p ns ≡ None
+unplaced test p [] none = refl
+unplaced test p (n ∷ ns) none = elim (either (test n)) [
+  | inl h ↦ absurd (cc (sym (rw h at none)))
+  | inr h ↦ rw h (unplaced test (p + 1) ns (rw h at none))
+]
+
+-- names no two of which have one print, without the first of them
+own_drop : (k : ℕ) (ns : List (List ℕ)) → HaveOwnPrints ns → HaveOwnPrints (drop k ns)
+own_drop zero ns own = own
+own_drop (suc k) [] own = own
+own_drop (suc k) (n ∷ ns) own = own_drop k ns own.1
+
+-- a name whose print a later one has
+pub not_own : {X : Type 0} (name : X → List ℕ) (xs : List X) (p : ℕ) (x : X) (later : Option ℕ) → 0 < p → p ≤ length xs → get_or xs (p - 1) x ≡ x
+    → position_from (has_print (print_of (name x))) p (map name (drop p xs)) ≡ later → is_some later ≡ true → HaveOwnPrints (map name xs) → ⊥
+not_own name xs p x later some within there again is own =
+    let next : p - 1 + 1 ≡ p = omega arith in
+    let rest : HaveOwnPrints (map name (drop (p - 1) xs)) = rw (← drop-map name (p - 1) xs) (own_drop (p - 1) (map name xs) own) in
+    let here : HaveOwnPrints (name x ∷ map name (drop p xs)) = rw (drop_more xs (p - 1) x (omega arith), there, next) at rest in
+    absurd (cc (sym is ∙ ap is_some (sym again ∙ unplaced (has_print (print_of (name x))) p (map name (drop p xs)) here.0)))
+
+-- what a map had under a key that is the print
+pub had_under : {X : Type 0} (get : ℕ → X) (print key : ℕ) (there had : X) → get print ≡ there → print ≡ key → had ≡ get key → there ≡ had
+had_under get print key there had is same old = sym is ∙ ap get same ∙ sym old
