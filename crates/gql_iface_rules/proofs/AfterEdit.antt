@@ -1,18 +1,19 @@
 -- The types that are checked after an edit are enough.
-use Rattle.std.proofs.Common.{◌≡◌, ◌∙◌, ◌⊎◌, inl, inr, ◌&&◌, ℕ, List, [], ◌∷◌, Bool, true, false, map, flat_map, length, get_or, Contains, refl, sym, ap, subst}
-use Rattle.std.specs.Prelude.{if◌then◌else◌, IsTrue}
+use Rattle.std.proofs.Common.{◌≡◌, ◌∙◌, inl, inr, ◌&&◌, ℕ, List, Bool, true, false, map, flat_map, Contains, refl, sym, ap, subst}
+use Rattle.std.specs.Prelude.{◌||◌, not, if◌then◌else◌, IsTrue}
 use Rattle.std.specs.List.{All}
-use Rattle.std.proofs.lemmas.List.Elements.{All-contains, Contains-get_or}
+use Rattle.std.proofs.lemmas.List.Elements.{All-contains}
 use Rattle.gql_ast.specs.declared.fault.Fault.{Fault}
 use Rattle.gql_ast.specs.declared.type_system.DirectiveDefinition.{DirectiveDefinition}
 use Rattle.gql_built_in.specs.declared.sited.Sited.{Sited}
-use Rattle.gql_cycles.specs.Names.{IsStep, Leads, Steps, one, more}
+use Rattle.gql_cycles.specs.Names.{Leads, Steps, one, more}
 use Rattle.gql_faults.specs.Directives.{first_directives}
 use Rattle.gql_types.specs.Edits.{KeepsOthers}
 use Rattle.gql_types.specs.declared.schema.Schema.{Schema}
 use Rattle.gql_types.specs.declared.schema_type.SchemaType.{SchemaType}
-use Rattle.gql_iface_rules.specs.Alike.{HaveSameInterfaces}
+use Rattle.gql_iface_rules.specs.Alike.{KeepsInterfaces}
 use Rattle.gql_iface_rules.specs.Checked.{AreEnough, HasRowsOf}
+use Rattle.gql_iface_rules.specs.KnownNames.{AsksOfKnown}
 use Rattle.gql_iface_rules.specs.Quiet.{IsFaultOn, IsQuiet, types_named}
 use Rattle.gql_iface_rules.specs.S17InputObjectCycles.{input_row, input_rows}
 use Rattle.gql_iface_rules.specs.S19Plain.{TypeNeedsNone}
@@ -21,17 +22,8 @@ use Rattle.gql_iface_rules.specs.S26Leads.{LeadsNowhere, directive_leads}
 use Rattle.gql_iface_rules.specs.declared.quiet.Checked.{Checked}
 use Rattle.gql_iface_rules.specs.declared.quiet.Quiet.{Quiet}
 use Rattle.gql_iface_rules.proofs.Members.{Contains-flat_map, Contains-flat_map_from}
+use Rattle.gql_iface_rules.proofs.KnownNames.{all_of, both, same_faults, still_known}
 use Rattle.gql_iface_rules.proofs.OnTypes.{edited_types, only_types, was_there}
-
--- ---- lists
-
-all_of : {A : Type 0} (P : A → Type 0) (xs : List A) → ((x : A) → Contains xs x → P x) → All P xs
-all_of P xs each = λ k d lt. each (get_or xs k d) (Contains-get_or xs k d lt)
-
-both : (a b : Bool) → (a && b) ≡ true → (a ≡ true) × (b ≡ true)
-both true true is = (refl, refl)
-both true false is = absurd (cc is)
-both false b is = absurd (cc is)
 
 -- ---- rows of input objects
 
@@ -53,23 +45,36 @@ module _ (names : List (List ℕ)) (old s : Schema) (keeps : KeepsOthers names o
   no_input_cycle has none n h = none n (leads_by (input_rows s) (input_rows old) (rows_kept has) h)
 
   -- what holds of all types before, and of the edited types, holds of all types
-  pub all_kept : (P : SchemaType → Type 0) → All P old.types → All P (types_named names s) → All P s.types
-  all_kept P before edited = all_of P s.types (λ t there. elim (was_there names old s keeps t there) [
+  all_kept_from : (P : SchemaType → Type 0) → ((t : SchemaType) → Contains old.types t → P t) → All P (types_named names s) → All P s.types
+  all_kept_from P before edited = all_of P s.types (λ t there. elim (was_there names old s keeps t there) [
     | inl e ↦ All-contains P (types_named names s) t edited e
-    | inr b ↦ All-contains P old.types t before b
+    | inr b ↦ before t b
   ])
+
+  pub all_kept : (P : SchemaType → Type 0) → All P old.types → All P (types_named names s) → All P s.types
+  all_kept P before edited = all_kept_from P (λ t b. All-contains P old.types t before b) edited
 
   same_leads : old.directives ≡ s.directives → directive_leads old ≡ directive_leads s
   same_leads same = ap (λ (ds : List (Sited DirectiveDefinition)). flat_map (λ (r : Steps). r.leads) (map directive_row (first_directives ds))) same
 
   module _ (types all : List SchemaType) (is : types ≡ types_named names s) (whole : all ≡ s.types) where
-    interfaces_enough : (enough : Bool) (checked : List SchemaType) → checked ≡ (if enough then types else all)
-        → (enough ≡ true → HaveSameInterfaces old s × ((f : Fault) → IsFaultOn old old.types f → ⊥))
+    interfaces_enough : (enough may_come : Bool) (checked : List SchemaType) → checked ≡ (if enough then types else all)
+        → (enough ≡ true → KeepsInterfaces may_come old s × ((f : Fault) → IsFaultOn old old.types f → ⊥))
+        → (IsTrue may_come → All (AsksOfKnown old) old.types)
         → (f : Fault) → IsFaultOn s s.types f → IsFaultOn s checked f
-    interfaces_enough true checked by known f h =
+    interfaces_enough true may_come checked by known asked f h =
         let k = known refl in
-        subst (λ ts. IsFaultOn s ts f) (sym (by ∙ is)) (edited_types names old s keeps k.0 k.1 f h)
-    interfaces_enough false checked by known f h = subst (λ ts. IsFaultOn s ts f) (sym (by ∙ whole)) h
+        subst (λ ts. IsFaultOn s ts f) (sym (by ∙ is))
+        (edited_types names old s keeps (λ t g there. same_faults may_come old s k.0 asked t there g) k.1 f h)
+    interfaces_enough false may_come checked by known asked f h = subst (λ ts. IsFaultOn s ts f) (sym (by ∙ whole)) h
+
+    names_enough : (enough may_come : Bool) (checked : List SchemaType) → checked ≡ (if enough then types else all)
+        → (enough ≡ true → KeepsInterfaces may_come old s) → (IsTrue may_come → All (AsksOfKnown old) old.types)
+        → (not enough || may_come) ≡ true → All (AsksOfKnown s) checked → All (AsksOfKnown s) s.types
+    names_enough true may_come checked by known asked may h = all_kept_from (AsksOfKnown s)
+        (λ t there. still_known may_come old s (known refl) asked t there (All-contains (AsksOfKnown old) old.types t (asked may) there))
+        (subst (λ ts. All (AsksOfKnown s) ts) (by ∙ is) h)
+    names_enough false may_come checked by known asked may h = subst (λ ts. All (AsksOfKnown s) ts) (by ∙ whole) h
 
     interfaces_only : (enough : Bool) (checked : List SchemaType) → checked ≡ (if enough then types else all)
         → (f : Fault) → IsFaultOn s checked f → IsFaultOn s s.types f
@@ -82,17 +87,19 @@ module _ (names : List (List ℕ)) (old s : Schema) (keeps : KeepsOthers names o
     all_enough P false checked by known h = subst (λ ts. All P ts) (by ∙ whole) h
 
     pub are_enough : (c : Checked) (were : Quiet) (keeps_interfaces keeps_inputs has_same_directives : Bool)
-        → (keeps_interfaces ≡ true → were.interfaces ≡ true) → (keeps_interfaces ≡ true → HaveSameInterfaces old s)
+        → (keeps_interfaces ≡ true → were.interfaces ≡ true) → (keeps_interfaces ≡ true → KeepsInterfaces were.names old s)
         → (keeps_inputs ≡ true → HasRowsOf old types) → (has_same_directives ≡ true → old.directives ≡ s.directives)
         → IsQuiet old were
         → c.interfaces.now ≡ (if keeps_interfaces then types else all)
+        → c.others_known ≡ (not keeps_interfaces || were.names)
         → c.skips_inputs ≡ (were.inputs && keeps_inputs)
         → c.defaults.now ≡ (if were.defaults then types else all)
         → c.directives.now ≡ (if were.directives && has_same_directives then types else all)
         → AreEnough s c
-    are_enough c were keeps_interfaces keeps_inputs has_same_directives was same rows directives quiet by_interfaces by_inputs by_defaults by_directives = record {
-      interfaces = interfaces_enough keeps_interfaces c.interfaces.now by_interfaces (λ k. (same k, quiet.interfaces (was k)));
+    are_enough c were keeps_interfaces keeps_inputs has_same_directives was same rows directives quiet by_interfaces by_names by_inputs by_defaults by_directives = record {
+      interfaces = interfaces_enough keeps_interfaces were.names c.interfaces.now by_interfaces (λ k. (same k, quiet.interfaces (was k))) quiet.names;
       only = interfaces_only keeps_interfaces c.interfaces.now by_interfaces;
+      names = λ known. names_enough keeps_interfaces were.names c.interfaces.now by_interfaces same quiet.names (sym by_names ∙ known);
       inputs = λ skips.
           let k = both were.inputs keeps_inputs (sym by_inputs ∙ skips) in
           no_input_cycle (subst (λ ts. HasRowsOf old ts) is (rows k.1)) (quiet.inputs k.0);

@@ -1,25 +1,25 @@
--- Two schemas whose types are alike name by name are the same, as far as the rules on interfaces ask.
-use Rattle.std.proofs.Common.{◌≡◌, ◌∙◌, ◌⊎◌, inl, inr, ◌||◌, ◌<◌, ◌+◌, ◌++◌, length, get_or, take, rules, ℕ, List, [], ◌∷◌, Bool, true, false, Option, Some, None, map, find, bytes_eq, Contains, refl, sym, ap, ap₂, subst}
-use Rattle.std.specs.Prelude.{is_some, option_map, option_and_then}
+-- After an edit whose types are alike name by name, what the rules on interfaces ask of names is the same.
+use Rattle.std.proofs.Common.{◌≡◌, ◌∙◌, ◌⊎◌, inl, inr, ◌||◌, ◌<◌, ◌+◌, ◌++◌, length, get_or, take, rules, ℕ, List, [], ◌∷◌, Bool, true, false, Option, Some, None, find, bytes_eq, Contains, refl, sym, ap, subst}
+use Rattle.std.specs.Prelude.{IsTrue, is_some, option_map, option_and_then}
 use Rattle.std.specs.List.{list_any}
 use Rattle.std.proofs.lemmas.List.{take_more}
 use Rattle.std.proofs.lemmas.Slice.Eq.{bytes_eq-Decides}
 use denote.Enum.Bare.{same_true}
 use Rattle.gql_ast.specs.declared.text.Name.{Name}
 use Rattle.gql_built_in.specs.declared.sited.Sited.{Sited}
-use Rattle.gql_types.specs.Covariance.{is_among, is_object, stands_by, stands_for}
+use Rattle.gql_types.specs.Covariance.{is_among, stands_by, stands_for}
 use Rattle.gql_types.specs.Edits.{KeepsOthers}
 use Rattle.gql_types.specs.Kinds.{same_kind}
 use Rattle.gql_types.specs.Possible.{name_of}
-use Rattle.gql_types.specs.Schemas.{kind_named, type_named}
+use Rattle.gql_types.specs.Schemas.{type_named}
 use Rattle.gql_types.specs.contracts.kind.TypeKind as the_kind
 use Rattle.gql_types.specs.declared.kind.TypeKind.{TypeKind}
 use Rattle.gql_types.specs.declared.kind.TypeKind.TheVariants as kind
 use Rattle.gql_types.specs.declared.schema.Schema.{Schema}
 use Rattle.gql_types.specs.declared.schema_type.SchemaType.{SchemaType}
-use Rattle.gql_iface_rules.specs.Alike.{AreAlike, HaveSameInterfaces, IsAlike, texts}
-use Rattle.gql_iface_rules.specs.Implementing.{as_interface, interface_named}
-use Rattle.gql_iface_rules.proofs.Members.{first_of_all, nothing_in, one_more}
+use Rattle.gql_iface_rules.specs.Alike.{AreAlike, IsAlike, IsKept, KeepsInterfaces, texts}
+use Rattle.gql_iface_rules.specs.Implementing.{as_interface}
+use Rattle.gql_iface_rules.proofs.Members.{first_of_all, one_more}
 
 -- ---- what a search finds
 
@@ -104,49 +104,72 @@ unfolding together
 with_second None b c alike = refl
 with_second (Some t) b c alike = ap Some (ap (λ k. stands_by k t b) alike.kinds ∙ stands_second c.kind t b c alike)
 
-first_alike : (o p q : Option SchemaType) → IsAlike o p → together o q ≡ together p q
-first_alike o p q (inl same) = ap (λ x. together x q) same
-first_alike o p q (inr (t, u, is, other, alike)) = ap (λ x. together x q) is ∙ with_first t u q alike ∙ ap (λ x. together x q) (sym other)
+-- what is kept after what is the same
+kept_then : {A : Type 0} (m : Bool) (x y z : Option A) → IsKept m x y → IsKept m y z → IsKept m x z
+kept_then m x y z (inl none) k = inl none
+kept_then m x y z (inr e) (inl (may, none)) = inl (may, e ∙ none)
+kept_then m x y z (inr e) (inr f) = inr (e ∙ f)
 
-second_alike : (o p q : Option SchemaType) → IsAlike p q → together o p ≡ together o q
-second_alike o p q (inl same) = ap (λ x. together o x) same
-second_alike o p q (inr (t, u, is, other, alike)) = ap (λ x. together o x) is ∙ with_second o t u alike ∙ ap (λ x. together o x) (sym other)
+first_alike : (m : Bool) (o p q : Option SchemaType) → IsAlike m o p → IsKept m (together o q) (together p q)
+unfolding together
+first_alike m o p q (inl (may, none)) = inl (may, ap (λ x. together x q) none)
+first_alike m o p q (inr (inl same)) = inr (ap (λ x. together x q) same)
+first_alike m o p q (inr (inr (t, u, is, other, alike))) = inr (ap (λ x. together x q) is ∙ with_first t u q alike ∙ ap (λ x. together x q) (sym other))
 
-same_kinds : (o p : Option SchemaType) → IsAlike o p → option_map (λ (t : SchemaType). t.kind) o ≡ option_map (λ (t : SchemaType). t.kind) p
-same_kinds o p (inl same) = ap (λ x. option_map (λ (t : SchemaType). t.kind) x) same
-same_kinds o p (inr (t, u, is, other, alike)) = ap (λ x. option_map (λ (v : SchemaType). v.kind) x) is ∙ ap Some alike.kinds ∙ ap (λ x. option_map (λ (v : SchemaType). v.kind) x) (sym other)
+with_none : (o : Option SchemaType) → together o None ≡ None
+unfolding together
+with_none None = refl
+with_none (Some t) = refl
+
+second_alike : (m : Bool) (o p q : Option SchemaType) → IsAlike m p q → IsKept m (together o p) (together o q)
+second_alike m o p q (inl (may, none)) = inl (may, ap (λ x. together o x) none ∙ with_none o)
+second_alike m o p q (inr (inl same)) = inr (ap (λ x. together o x) same)
+second_alike m o p q (inr (inr (t, u, is, other, alike))) = inr (ap (λ x. together o x) is ∙ with_second o t u alike ∙ ap (λ x. together o x) (sym other))
+
+-- the kind of a type, if there is one
+abbrev kind_of : Option SchemaType → Option TypeKind
+kind_of o = option_map (λ (t : SchemaType). t.kind) o
+
+kept_kinds : (m : Bool) (o p : Option SchemaType) → IsAlike m o p → IsKept m (kind_of o) (kind_of p)
+kept_kinds m o p (inl (may, none)) = inl (may, ap kind_of none)
+kept_kinds m o p (inr (inl same)) = inr (ap kind_of same)
+kept_kinds m o p (inr (inr (t, u, is, other, alike))) = inr (ap kind_of is ∙ ap Some alike.kinds ∙ ap kind_of (sym other))
 
 no_interface : (t : SchemaType) → same_kind t.kind kind.Interface ≡ false → as_interface t ≡ None
 no_interface t is = rw is refl
 
-same_as_interface : (o p : Option SchemaType) → IsAlike o p → option_and_then as_interface o ≡ option_and_then as_interface p
-same_as_interface o p (inl same) = ap (λ x. option_and_then as_interface x) same
-same_as_interface o p (inr (t, u, is, other, alike)) =
+kept_as_interface : (m : Bool) (o p : Option SchemaType) → IsAlike m o p
+    → (IsTrue m × (kind_of o ≡ None)) ⊎ (option_and_then as_interface o ≡ option_and_then as_interface p)
+kept_as_interface m o p (inl (may, none)) = inl (may, ap kind_of none)
+kept_as_interface m o p (inr (inl same)) = inr (ap (λ x. option_and_then as_interface x) same)
+kept_as_interface m o p (inr (inr (t, u, is, other, alike))) = inr (
     ap (λ x. option_and_then as_interface x) is ∙ no_interface t alike.other
     ∙ sym (no_interface u (subst (λ k. same_kind k kind.Interface ≡ false) alike.kinds alike.other))
-    ∙ ap (λ x. option_and_then as_interface x) (sym other)
+    ∙ ap (λ x. option_and_then as_interface x) (sym other))
 
-same_stand : (a b : Schema) → ((q : List ℕ) → IsAlike (type_named a q) (type_named b q)) → (n base : List ℕ) (e : Bool) → bytes_eq n base ≡ e → stands_for a n base ≡ stands_for b n base
+kept_stand : (m : Bool) (a b : Schema) → ((q : List ℕ) → IsAlike m (type_named a q) (type_named b q)) → (n base : List ℕ) (e : Bool) → bytes_eq n base ≡ e
+    → IsKept m (stands_for a n base) (stands_for b n base)
 unfolding together
-same_stand a b alike n base true is = rw is refl
-same_stand a b alike n base false is = rw is
-    (first_alike (type_named a n) (type_named b n) (type_named a base) (alike n) ∙ second_alike (type_named b n) (type_named a base) (type_named b base) (alike base))
+kept_stand m a b alike n base true is = rw is (inr refl)
+kept_stand m a b alike n base false is = rw is (kept_then m
+    (together (type_named a n) (type_named a base)) (together (type_named b n) (type_named a base)) (together (type_named b n) (type_named b base))
+    (first_alike m (type_named a n) (type_named b n) (type_named a base) (alike n)) (second_alike m (type_named b n) (type_named a base) (type_named b base) (alike base)))
 
-pub all_alike : (a b : Schema) → ((q : List ℕ) → IsAlike (type_named a q) (type_named b q)) → HaveSameInterfaces a b
-all_alike a b alike = record {
-  kinds = λ n. same_kinds (type_named a n) (type_named b n) (alike n);
-  interfaces = λ n. same_as_interface (type_named a n) (type_named b n) (alike n);
-  stand = λ n base. same_stand a b alike n base (bytes_eq n base) refl;
+pub all_alike : (m : Bool) (a b : Schema) → ((q : List ℕ) → IsAlike m (type_named a q) (type_named b q)) → KeepsInterfaces m a b
+all_alike m a b alike = record {
+  kinds = λ n. kept_kinds m (type_named a n) (type_named b n) (alike n);
+  interfaces = λ n. kept_as_interface m (type_named a n) (type_named b n) (alike n);
+  stand = λ n base. kept_stand m a b alike n base (bytes_eq n base) refl;
 }
 
 -- with the names that are not edited
-pub kept_interfaces : (names : List (List ℕ)) (a b : Schema) → KeepsOthers names a b → KeepsOthers names b a
-    → ((q : List ℕ) → is_some (find (bytes_eq q) names) ≡ true → IsAlike (type_named a q) (type_named b q)) → HaveSameInterfaces a b
-kept_interfaces names a b keeps undone edited = all_alike a b (λ q. by q (is_some (find (bytes_eq q) names)) refl)
+pub kept_interfaces : (m : Bool) (names : List (List ℕ)) (a b : Schema) → KeepsOthers names a b → KeepsOthers names b a
+    → ((q : List ℕ) → is_some (find (bytes_eq q) names) ≡ true → IsAlike m (type_named a q) (type_named b q)) → KeepsInterfaces m a b
+kept_interfaces m names a b keeps undone edited = all_alike m a b (λ q. by q (is_some (find (bytes_eq q) names)) refl)
   where
-    by : (q : List ℕ) (e : Bool) → is_some (find (bytes_eq q) names) ≡ e → IsAlike (type_named a q) (type_named b q)
+    by : (q : List ℕ) (e : Bool) → is_some (find (bytes_eq q) names) ≡ e → IsAlike m (type_named a q) (type_named b q)
     by q true is = edited q is
-    by q false is = inl (same_others names a b keeps undone q is)
+    by q false is = inr (inl (same_others names a b keeps undone q is))
 
 -- ---- names one after the other
 
@@ -172,12 +195,12 @@ unfolding same_kind
 same_is a b h = same_true the_kind.the_type (search rules) a b h
 
 -- the names up to one more
-pub alike_more : (a b : Schema) (names : List (List ℕ)) (i : ℕ) (x : List ℕ) → i < length names → get_or names i x ≡ x
-    → ((q : List ℕ) → is_some (find (bytes_eq q) (take i names)) ≡ true → IsAlike (type_named a q) (type_named b q)) → IsAlike (type_named a x) (type_named b x)
-    → (q : List ℕ) → is_some (find (bytes_eq q) (take (i + 1) names)) ≡ true → IsAlike (type_named a q) (type_named b q)
-alike_more a b names i x within item before now q is =
+pub alike_more : (m : Bool) (a b : Schema) (names : List (List ℕ)) (i : ℕ) (x : List ℕ) → i < length names → get_or names i x ≡ x
+    → ((q : List ℕ) → is_some (find (bytes_eq q) (take i names)) ≡ true → IsAlike m (type_named a q) (type_named b q)) → IsAlike m (type_named a x) (type_named b x)
+    → (q : List ℕ) → is_some (find (bytes_eq q) (take (i + 1) names)) ≡ true → IsAlike m (type_named a q) (type_named b q)
+alike_more m a b names i x within item before now q is =
     let whole : take (i + 1) names ≡ take i names ++ x ∷ [] = take_more names i x within ∙ ap (λ z. take i names ++ z ∷ []) item in
     elim (among_last (take i names) x q (subst (λ ns. is_some (find (bytes_eq q) ns) ≡ true) whole is)) [
       | inl earlier ↦ before q earlier
-      | inr same ↦ subst (λ z. IsAlike (type_named a z) (type_named b z)) (sym same) now
+      | inr same ↦ subst (λ z. IsAlike m (type_named a z) (type_named b z)) (sym same) now
     ]

@@ -2,6 +2,7 @@ pub mod AfterEdit
 pub mod AlikeTypes
 pub mod AtNames
 pub mod KeptRows
+pub mod KnownNames
 pub mod Members
 pub mod MetPairs
 pub mod Names

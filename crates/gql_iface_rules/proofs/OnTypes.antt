@@ -1,35 +1,19 @@
 -- The faults of types by the rules on interfaces, and those types that an edit leaves to be checked.
-use Rattle.std.proofs.Common.{◌≡◌, ◌∙◌, ◌⊎◌, inl, inr, ◌++◌, ℕ, List, [], ◌∷◌, Bool, true, false, Option, Some, None, filter, find, flat_map, bytes_eq, Contains, refl, sym, ap, subst}
-use Rattle.std.specs.Prelude.{is_some, if◌then◌else◌}
-use Rattle.std.specs.Option.{option_map_or}
+use Rattle.std.proofs.Common.{◌≡◌, ◌∙◌, ◌↔◌, ◌⊎◌, inl, inr, ◌++◌, ℕ, List, [], ◌∷◌, Bool, true, false, filter, find, flat_map, bytes_eq, Contains, refl, sym, subst}
+use Rattle.std.specs.Prelude.{is_some}
 use Rattle.std.proofs.lemmas.List.Elements.{Contains-append_left, Contains-append_right, Contains-append_cases}
 use Rattle.gql_ast.specs.declared.fault.Fault.{Fault}
-use Rattle.gql_ast.specs.declared.rule.Rule.TheVariants as rule
-use Rattle.gql_ast.specs.declared.text.Name.{Name}
-use Rattle.gql_ast.specs.declared.type_system.FieldDefinition.{FieldDefinition}
-use Rattle.gql_built_in.specs.declared.sited.Sited.{Sited}
-use Rattle.gql_faults.specs.Faults.{fault_at, fault_between, fault_of, own_name_of, place_of, where_known}
-use Rattle.gql_faults.specs.Names.{repeated_faults}
-use Rattle.gql_types.specs.Covariance.{covariant, is_among, nullable, stands_for}
 use Rattle.gql_types.specs.Edits.{KeepsOthers}
-use Rattle.gql_types.specs.Kinds.{same_kind}
 use Rattle.gql_types.specs.Possible.{name_of}
-use Rattle.gql_types.specs.Written.{Written, named, listed, required, written}
-use Rattle.gql_types.specs.declared.kind.TypeKind.{TypeKind}
-use Rattle.gql_types.specs.declared.kind.TypeKind.TheVariants as kind
 use Rattle.gql_types.specs.declared.schema.Schema.{Schema}
 use Rattle.gql_types.specs.declared.schema_type.SchemaType.{SchemaType}
-use Rattle.gql_iface_rules.specs.Alike.{HaveSameInterfaces}
-use Rattle.gql_iface_rules.specs.Implementing.{FieldPair, Implements, implementations_of, pairs_of}
+use Rattle.gql_iface_rules.specs.Implementing.{implementations_of, pairs_of}
 use Rattle.gql_iface_rules.specs.Pairing.{IsFaultOfTypes, IsPairFault}
 use Rattle.gql_iface_rules.specs.Quiet.{IsFaultOn, listed_on, types_named}
 use Rattle.gql_iface_rules.specs.S09BadInterfaceNames as s09
 use Rattle.gql_iface_rules.specs.S10SelfImplementation as s10
 use Rattle.gql_iface_rules.specs.S11UndeclaredInterfaces as s11
 use Rattle.gql_iface_rules.specs.S12MissingFields as s12
-use Rattle.gql_iface_rules.specs.S13MissingArguments as s13
-use Rattle.gql_iface_rules.specs.S14ExtraRequiredArguments as s14
-use Rattle.gql_iface_rules.specs.S15IncompatibleFieldTypes as s15
 use Rattle.gql_iface_rules.proofs.AlikeTypes.{type_found}
 use Rattle.gql_iface_rules.proofs.Members.{Contains-flat_map, Contains-flat_map_from, either_of, first_of_all, nothing_in, one_more}
 
@@ -92,74 +76,17 @@ module _ (s : Schema) (types : List SchemaType) (f : Fault) where
       (Contains-flat_map s12.missing_fields (flat_map (implementations_of s) types) r.0 f (Contains-flat_map (implementations_of s) types t r.0 there r.1) r.2))))
   from_type (t, there, inr (inr (inr (inr p)))) = inr (t, there, p)
 
--- ---- what the rules ask of a schema
-
--- the faults of a type by S09, by the kinds of names
-nine_by : (List ℕ → Option TypeKind) → SchemaType → List Fault
-nine_by kinds t = flat_map (λ (n : Sited Name). where_known (kinds n.node.text) (λ (k : TypeKind).
-    if same_kind k kind.Interface then [] else fault_of rule.S09 n)) t.interfaces ++ repeated_faults rule.S09 t.interfaces
-
--- the interfaces that a type implements, by the interfaces of names
-implementations_by : (List ℕ → Option SchemaType) → SchemaType → List Implements
-implementations_by interfaces t = flat_map (λ (n : Sited Name). option_map_or
-    (λ (i : SchemaType). record { of_type = t; name = n; interface = i } ∷ []) (interfaces n.node.text) []) t.interfaces
-
--- the faults of a type by S11, by the interfaces of names
-eleven_by : (List ℕ → Option SchemaType) → SchemaType → List Fault
-eleven_by interfaces t = flat_map (λ (i : Implements). flat_map (λ (j : Sited Name). where_known (interfaces j.node.text) (λ (x : SchemaType).
-    if is_among j.node.text t.interfaces then [] else fault_at rule.S11 j.node.text (place_of i.name))) i.interface.interfaces)
-    (flat_map (λ (n : Sited Name). option_map_or
-    (λ (i : SchemaType). record { of_type = t; name = n; interface = i } ∷ []) (interfaces n.node.text) []) t.interfaces)
-
--- the fault of a pair by S15, by whether types are covariant
-fifteen_by : (Written → Written → Option Bool) → FieldPair → List Fault
-fifteen_by covariance p =
-    if s15.is_no (covariance (written p.own.node.of_type) (written p.expected.node.of_type))
-    then fault_between rule.S15 p.expected.node.name.text
-    (place_of (own_name_of (λ (f : FieldDefinition). f.name) p.own))
-    (place_of (own_name_of (λ (f : FieldDefinition). f.name) p.expected)) else []
-
-module _ (old s : Schema) (same : HaveSameInterfaces old s) where
-  same_covariance : (t base : Written) → covariant old t base ≡ covariant s t base
-  same_covariance (required t) base = same_covariance t (nullable base)
-  same_covariance (listed t) (listed base) = same_covariance t base
-  same_covariance (listed t) (required base) = refl
-  same_covariance (listed t) (named n) = refl
-  same_covariance (named n) (named base) = same.stand n base
-  same_covariance (named n) (required base) = refl
-  same_covariance (named n) (listed base) = refl
-
-  same_nine : (t : SchemaType) → s09.bad_interface_names s t ≡ s09.bad_interface_names old t
-  unfolding nine_by
-  same_nine t = sym (λ k. nine_by (λ n. same.kinds n k) t)
-
-  same_implementations : (t : SchemaType) → implementations_of s t ≡ implementations_of old t
-  unfolding implementations_by
-  same_implementations t = sym (λ k. implementations_by (λ n. same.interfaces n k) t)
-
-  same_eleven : (t : SchemaType) → s11.faults_of_type s t ≡ s11.faults_of_type old t
-  unfolding eleven_by
-  same_eleven t = sym (λ k. eleven_by (λ n. same.interfaces n k) t)
-
-  same_fifteen : (p : FieldPair) → s15.incompatible_field_type s p ≡ s15.incompatible_field_type old p
-  unfolding fifteen_by
-  same_fifteen p = sym (λ k. fifteen_by (λ t base. same_covariance t base k) p)
-
-  same_pairs : (t : SchemaType) (f : Fault) → IsPairFault s (flat_map pairs_of (implementations_of s t)) f → IsPairFault old (flat_map pairs_of (implementations_of old t)) f
-  same_pairs t f h =
-      let moved = subst (λ (is : List Implements). IsPairFault s (flat_map pairs_of is) f) (same_implementations t) h in
-      subst (λ (g : FieldPair → List Fault). Contains (flat_map s13.missing_arguments (flat_map pairs_of (implementations_of old t))) f
-      ⊎ (Contains (flat_map s14.extra_required_arguments (flat_map pairs_of (implementations_of old t))) f
-      ⊎ Contains (flat_map g (flat_map pairs_of (implementations_of old t))) f)) (λ k p. same_fifteen p k) moved
-
-  -- a type has the same faults in both schemas
-  pub same_faults : (t : SchemaType) (f : Fault) → IsTypeFault s t f → IsTypeFault old t f
-  same_faults t f (inl h) = inl (subst (λ fs. Contains fs f) (same_nine t) h)
-  same_faults t f (inr (inl h)) = inr (inl h)
-  same_faults t f (inr (inr (inl h))) = inr (inr (inl (subst (λ fs. Contains fs f) (same_eleven t) h)))
-  same_faults t f (inr (inr (inr (inl h)))) =
-      inr (inr (inr (inl (subst (λ (is : List Implements). Contains (flat_map s12.missing_fields is) f) (same_implementations t) h))))
-  same_faults t f (inr (inr (inr (inr h)))) = inr (inr (inr (inr (same_pairs t f h))))
+-- the faults by S09 to S12, and then those by S13 to S15
+pub on_types : (s : Schema) (types : List SchemaType) (one two : List Fault) → one ≡ listed_on s types
+    → ((f : Fault) → Contains two f ↔ (Contains one f ⊎ IsFaultOfTypes s types f))
+    → (f : Fault) → Contains two f ↔ IsFaultOn s types f
+on_types s types one two by_listed by_pairs f = (
+  λ h. elim ((by_pairs f).0 h) [ inl l ↦ inl (subst (λ fs. Contains fs f) by_listed l) | inr p ↦ inr p ],
+  λ h. elim h [
+    | inl l ↦ (by_pairs f).1 (inl (subst (λ fs. Contains fs f) (sym by_listed) l))
+    | inr p ↦ (by_pairs f).1 (inr p)
+  ],
+)
 
 -- ---- the types that are edited
 
@@ -209,12 +136,15 @@ only_types names s f h =
     let r = to_type s (types_named names s) f h in
     from_type s s.types f (r.0, from_filter (λ (u : SchemaType). is_some (find (bytes_eq (name_of u)) names)) s.types r.0 r.1, r.2)
 
--- if no type was at fault, the faults of types are those of the edited types
-pub edited_types : (names : List (List ℕ)) (old s : Schema) → KeepsOthers names old s → HaveSameInterfaces old s → ((f : Fault) → IsFaultOn old old.types f → ⊥)
+-- if no type was at fault, and types that are not edited have no new faults, the faults of types are
+-- those of the edited types
+pub edited_types : (names : List (List ℕ)) (old s : Schema) → KeepsOthers names old s
+    → ((t : SchemaType) (f : Fault) → Contains old.types t → IsTypeFault s t f → IsTypeFault old t f)
+    → ((f : Fault) → IsFaultOn old old.types f → ⊥)
     → (f : Fault) → IsFaultOn s s.types f → IsFaultOn s (types_named names s) f
-edited_types names old s keeps same none f h =
+edited_types names old s keeps were none f h =
     let r = to_type s s.types f h in
     elim (was_there names old s keeps r.0 r.1) [
       | inl edited ↦ from_type s (types_named names s) f (r.0, edited, r.2)
-      | inr before ↦ absurd (none f (from_type old old.types f (r.0, before, same_faults old s same r.0 f r.2)))
+      | inr before ↦ absurd (none f (from_type old old.types f (r.0, before, were r.0 f before r.2)))
     ]

@@ -3,6 +3,7 @@ pub mod Borrowed
 pub mod Checked
 pub mod Implementing
 pub mod InterfaceFaults
+pub mod KnownNames
 pub mod Pairing
 pub mod Quiet
 pub mod S09BadInterfaceNames

@@ -1,5 +1,5 @@
 -- Which rules of this crate find nothing in a schema, and what an edit can keep of that.
-use Rattle.std.specs.Prelude.{◌≡◌, ◌++◌, ◌↔◌, ◌⊎◌, ℕ, List, Bool, IsTrue, false, is_some, filter, find, bytes_eq, flat_map, Contains}
+use Rattle.std.specs.Prelude.{◌≡◌, ◌++◌, ◌⊎◌, ℕ, List, IsTrue, false, is_some, filter, find, bytes_eq, flat_map, Contains}
 use Rattle.std.specs.List.{All, list_any}
 use Rattle.gql_ast.specs.declared.fault.Fault.{Fault}
 use Rattle.gql_cycles.specs.Names.{Leads}
@@ -8,6 +8,7 @@ use Rattle.gql_types.specs.declared.schema.Schema.{Schema}
 use Rattle.gql_types.specs.declared.schema_type.SchemaType.{SchemaType}
 use Rattle.gql_iface_rules.specs.Implementing.{implementations_of}
 use Rattle.gql_iface_rules.specs.InterfaceFaults.{IsInterfaceFault}
+use Rattle.gql_iface_rules.specs.KnownNames.{AsksOfKnown}
 use Rattle.gql_iface_rules.specs.Pairing.{IsFaultOfTypes}
 use Rattle.gql_iface_rules.specs.S09BadInterfaceNames as s09
 use Rattle.gql_iface_rules.specs.S10SelfImplementation as s10
@@ -36,9 +37,11 @@ pub record DirectivesEnd (s : Schema) : Type 0 where
   pub unsigned : list_any (λ n. is_some (without_sign n)) (directive_leads s) ≡ false
   pub nowhere : All (LeadsNowhere (directive_leads s)) s.types
 
--- what is said to find nothing in the schema finds nothing
+-- what is said to find nothing in the schema finds nothing; if names are said to be known, the
+-- rules on interfaces ask about no name without a type
 pub record IsQuiet (s : Schema) (q : Quiet) : Type 0 where
   pub interfaces : IsTrue q.interfaces → (f : Fault) → IsFaultOn s s.types f → ⊥
+  pub names : IsTrue q.names → All (AsksOfKnown s) s.types
   pub inputs : IsTrue q.inputs → (n : List ℕ) → Leads (input_rows s) n n → ⊥
   pub defaults : IsTrue q.defaults → All TypeNeedsNone s.types
   pub directives : IsTrue q.directives → DirectivesEnd s

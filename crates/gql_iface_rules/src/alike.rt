@@ -49,27 +49,28 @@ fn are_alike(of_type: &SchemaType, other: &SchemaType) -> bool
     have_same_texts(of_type.members.as_slice(), other.members.as_slice())
 }
 
-/// Whether a name has types before and after an edit that are alike, or has none.
-fn is_alike(before: &Schema, after: &Schema, name: &str) -> bool
+/// Whether a name has types before and after an edit that are alike, or has none. If names may
+/// come, it may also have a type after the edit alone.
+fn is_alike(before: &Schema, after: &Schema, name: &str, may_come: bool) -> bool
     ensures { IsTrue result
-        → spec.IsAlike (type_named before.now name.now) (type_named after.now name.now) }
+        → spec.IsAlike may_come (type_named before.now name.now) (type_named after.now name.now) }
 {
     match before.get(name) {
         Some(its) => match after.get(name) {
             Some(theirs) => are_alike(its, theirs),
             None => false,
         },
-        None => after.get(name).is_none(),
+        None => may_come || after.get(name).is_none(),
     }
 }
 
 /// Whether all of these names are so.
-fn are_all_alike(before: &Schema, after: &Schema, names: &[Text]) -> bool
+fn are_all_alike(before: &Schema, after: &Schema, names: &[Text], may_come: bool) -> bool
     ensures { IsTrue result → (q : List ℕ) → is_some (find (bytes_eq q) names.now) ≡ true
-        → spec.IsAlike (type_named before.now q) (type_named after.now q) }
+        → spec.IsAlike may_come (type_named before.now q) (type_named after.now q) }
 {
     for name in names {
-        if !is_alike(before, after, name.as_str()) {
+        if !is_alike(before, after, name.as_str(), may_come) {
             return false;
         }
     }
@@ -77,11 +78,12 @@ fn are_all_alike(before: &Schema, after: &Schema, names: &[Text]) -> bool
 }
 
 /// Whether the rules on interfaces ask nothing of a name that an edit changed. It changed types of
-/// these names alone.
-pub fn keeps_interfaces(before: &Schema, after: &Schema, edited: &[Text]) -> bool
+/// these names alone. If names may come, the edit may give a type to a name that had none. They may
+/// if these rules asked about no such name.
+pub fn keeps_interfaces(before: &Schema, after: &Schema, edited: &[Text], may_come: bool) -> bool
     ensures { IsTrue result → KeepsOthers edited.now before.now after.now
         → KeepsOthers edited.now after.now before.now
-        → spec.HaveSameInterfaces before.now after.now }
+        → spec.KeepsInterfaces may_come before.now after.now }
 {
-    are_all_alike(before, after, edited)
+    are_all_alike(before, after, edited, may_come)
 }

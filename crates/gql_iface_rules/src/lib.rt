@@ -8,6 +8,7 @@
 mod alike;
 mod arguments;
 mod implementing;
+mod known_names;
 mod name_set;
 mod pairing;
 mod quiet;

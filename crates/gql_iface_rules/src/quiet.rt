@@ -3,11 +3,14 @@
 use gql_ast::{Fault, Shared};
 use gql_types::SchemaType;
 
-/// Which rules find nothing in a schema. An edit keeps that for what it leaves as it is.
+/// Which rules find nothing in a schema, and whether the rules on interfaces ask about names that
+/// have types. An edit keeps that for what it leaves as it is.
 #[derive(Clone, Copy)]
 pub struct Quiet {
     /// No type is at fault by S09 to S15.
     pub interfaces: bool,
+    /// S09 to S15 ask about no name without a type.
+    pub names: bool,
     /// No input object leads back to itself (S17).
     pub inputs: bool,
     /// No default value of an input field holds an object (S19).
@@ -28,6 +31,8 @@ pub struct Found {
 pub struct Checked<'t> {
     /// By S09 to S15.
     pub interfaces: &'t [Shared<SchemaType>],
+    /// Whether S09 to S15 ask about no name without a type, of the types that are not among these.
+    pub others_known: bool,
     /// Whether no input object can lead back to itself, so that S17 finds nothing.
     pub skips_inputs: bool,
     /// By S19, whether they need it.

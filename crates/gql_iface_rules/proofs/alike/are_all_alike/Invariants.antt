@@ -5,4 +5,4 @@ use Rattle.gql_iface_rules.proofs.alike.are_all_alike.Given as goal
 
 abbrev pub invariant-loop-name : goal.invariant-loop-name
 invariant-loop-name l = (q : List ℕ) → is_some (find (bytes_eq q) (take l.name-index l.names)) ≡ true
-    → IsAlike (type_named l.before q) (type_named l.after q)
+    → IsAlike l.may_come (type_named l.before q) (type_named l.after q)
