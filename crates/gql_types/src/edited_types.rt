@@ -142,8 +142,8 @@ fn all_in_place(
     Ok(EditedTypes { types, places })
 }
 
-/// The types of first definitions after the edit, with the prints of their names. Most of them follow
-/// those that they followed before it.
+/// The types of definitions after the edit, each taken for the first of its name, with the prints of
+/// their names. Most of them follow those that they followed before it.
 fn all_after(
     alloc: Global,
     definitions: &[TypeSite<'_>],
