@@ -1,13 +1,13 @@
 -- What prints say of names.
 use Rattle.std.proofs.Common.{◌≡◌, inl, inr, ◌+◌, ◌-◌, ◌<◌, ◌≤◌, ℕ, zero, suc, List, [], ◌∷◌, Bool, true, false, cond, Option, Some, None, map, find, bytes_eq, drop, length, get_or, slice_get, refl, sym, ap, ◌∙◌, arith, option_and_then}
-use Rattle.std.specs.Prelude.{is_some, option_map, unwrap_or}
+use Rattle.std.specs.Prelude.{is_some, nat_eq, option_map, unwrap_or}
 use Rattle.std.specs.List.{position_from}
 use Rattle.std.proofs.lemmas.Bool.{eq-eqb, eqb-true}
-use Rattle.std.proofs.lemmas.List.{drop-map, drop_more}
+use Rattle.std.proofs.lemmas.List.{drop_more}
 use Rattle.std.proofs.lemmas.Option.{slice_get-map}
 use Rattle.std.proofs.lemmas.Slice.Eq.{bytes_eq-Decides}
 use Rattle.gql_types.specs.Names.{AreOnce}
-use Rattle.gql_types.specs.Prints.{HaveOwnPrints, has_print, print_of}
+use Rattle.gql_types.specs.Prints.{AreDistinct, HaveOwnPrints, has_print, print_of}
 use Rattle.gql_types.proofs.Filtering.{either}
 use Rattle.gql_types.proofs.Places.{by_names, found_there}
 
@@ -61,8 +61,8 @@ found_print q p (n ∷ ns) own = elim (either (bytes_eq q n)) [
   ]
 ]
 
--- a test that no name passes, by places, finds none
-unfound_place : (test : List ℕ → Bool) (p : ℕ) (ns : List (List ℕ)) → position_from test p ns ≡ None → is_some (find test ns) ≡ false
+-- a test that nothing passes, by places, finds none
+unfound_place : {X : Type 0} (test : X → Bool) (p : ℕ) (ns : List X) → position_from test p ns ≡ None → is_some (find test ns) ≡ false
 unfound_place test p [] none = refl
 unfound_place test p (n ∷ ns) none = elim (either (test n)) [
   | inl h ↦ absurd (cc (rw h at none))
@@ -82,23 +82,6 @@ placed q ns i own is =
     = ap (λ o. option_and_then (λ k. slice_get ns k) o) (sym is) ∙ found_there (has_print (print_of q)) ns in
     rw there (rw (← is) (found_print q 0 ns own))
 
--- one name more at the front, whose print no other has
-pub own_more : {X : Type 0} (name : X → List ℕ) (xs : List X) (p : ℕ) (x : X) → 0 < p → p ≤ length xs → get_or xs (p - 1) x ≡ x
-    → position_from (has_print (print_of (name x))) p (map name (drop p xs)) ≡ None → HaveOwnPrints (map name (drop p xs))
-    → HaveOwnPrints (map name (drop (p - 1) xs))
-own_more name xs p x some within there absent own =
-    let next : p - 1 + 1 ≡ p = omega arith in
-    rw (drop_more xs (p - 1) x (omega arith), there, next)
-    (unfound_place (has_print (print_of (name x))) p (map name (drop p xs)) absent, own)
-
--- one place further to the front
-pub print_before : {X : Type 0} (name : X → List ℕ) (xs : List X) (p : ℕ) (x : X) (q : ℕ) → 0 < p → p ≤ length xs → get_or xs (p - 1) x ≡ x
-    → position_from (has_print q) (p - 1) (map name (drop (p - 1) xs))
-    ≡ cond (has_print q (name x)) (Some (p - 1)) (position_from (has_print q) p (map name (drop p xs)))
-print_before name xs p x q some within there =
-    let next : p - 1 + 1 ≡ p = omega arith in
-    rw (drop_more xs (p - 1) x (omega arith), there, next) refl
-
 -- the same, of things of these names
 pub placed_thing : {X : Type 0} (name : X → List ℕ) (q : List ℕ) (xs : List X) (i : ℕ) (is_named : Bool) → HaveOwnPrints (map name xs)
     → position_from (has_print (print_of q)) 0 (map name xs) ≡ Some i
@@ -113,29 +96,67 @@ placed_thing {X = X} name q xs i is_named own is there =
     mapped None = refl
     mapped (Some x) = refl
 
--- a test that finds no name has no place
-unplaced : (test : List ℕ → Bool) (p : ℕ) (ns : List (List ℕ)) → is_some (find test ns) ≡ false → position_from test p ns ≡ None
+-- a test that finds nothing has no place
+unplaced : {X : Type 0} (test : X → Bool) (p : ℕ) (ns : List X) → is_some (find test ns) ≡ false → position_from test p ns ≡ None
 unplaced test p [] none = refl
 unplaced test p (n ∷ ns) none = elim (either (test n)) [
   | inl h ↦ absurd (cc (sym (rw h at none)))
   | inr h ↦ rw h (unplaced test (p + 1) ns (rw h at none))
 ]
 
--- names no two of which have one print, without the first of them
-own_drop : (k : ℕ) (ns : List (List ℕ)) → HaveOwnPrints ns → HaveOwnPrints (drop k ns)
-own_drop zero ns own = own
-own_drop (suc k) [] own = own
-own_drop (suc k) (n ∷ ns) own = own_drop k ns own.1
+-- one print more at the front, which no other is
+pub distinct_more : (ps : List ℕ) (i p : ℕ) → 0 < i → i ≤ length ps → get_or ps (i - 1) 0 ≡ p
+    → position_from (nat_eq p) i (drop i ps) ≡ None → AreDistinct (drop i ps) → AreDistinct (drop (i - 1) ps)
+distinct_more ps i p some within there absent distinct =
+    let next : i - 1 + 1 ≡ i = omega arith in
+    rw (drop_more ps (i - 1) 0 (omega arith), there, next) (unfound_place (nat_eq p) i (drop i ps) absent, distinct)
 
--- a name whose print a later one has
-pub not_own : {X : Type 0} (name : X → List ℕ) (xs : List X) (p : ℕ) (x : X) (later : Option ℕ) → 0 < p → p ≤ length xs → get_or xs (p - 1) x ≡ x
-    → position_from (has_print (print_of (name x))) p (map name (drop p xs)) ≡ later → is_some later ≡ true → HaveOwnPrints (map name xs) → ⊥
-not_own name xs p x later some within there again is own =
-    let next : p - 1 + 1 ≡ p = omega arith in
-    let rest : HaveOwnPrints (map name (drop (p - 1) xs)) = rw (← drop-map name (p - 1) xs) (own_drop (p - 1) (map name xs) own) in
-    let here : HaveOwnPrints (name x ∷ map name (drop p xs)) = rw (drop_more xs (p - 1) x (omega arith), there, next) at rest in
-    absurd (cc (sym is ∙ ap is_some (sym again ∙ unplaced (has_print (print_of (name x))) p (map name (drop p xs)) here.0)))
+-- two numbers are the same in either order
+either_way : (p q : ℕ) → nat_eq p q ≡ nat_eq q p
+either_way p q = elim (either (nat_eq p q)) [
+  | inl h ↦ h ∙ sym (eq-eqb q p (sym (eqb-true p q h)))
+  | inr h ↦ elim (either (nat_eq q p)) [
+    | inl k ↦ absurd (cc (sym (eq-eqb p q (sym (eqb-true q p k))) ∙ h))
+    | inr k ↦ h ∙ sym k
+  ]
+]
 
--- what a map had under a key that is the print
-pub had_under : {X : Type 0} (get : ℕ → X) (print key : ℕ) (there had : X) → get print ≡ there → print ≡ key → had ≡ get key → there ≡ had
-had_under get print key there had is same old = sym is ∙ ap get same ∙ sym old
+-- one place further to the front
+pub first_before : (ps : List ℕ) (i p q : ℕ) → 0 < i → i ≤ length ps → get_or ps (i - 1) 0 ≡ p
+    → cond (nat_eq p q) (Some (i - 1)) (position_from (nat_eq q) i (drop i ps)) ≡ position_from (nat_eq q) (i - 1) (drop (i - 1) ps)
+first_before ps i p q some within there =
+    let next : i - 1 + 1 ≡ i = omega arith in
+    rw (drop_more ps (i - 1) 0 (omega arith), there, next, either_way p q) refl
+
+-- distinct prints, without the first of them
+distinct_drop : (k : ℕ) (ps : List ℕ) → AreDistinct ps → AreDistinct (drop k ps)
+distinct_drop zero ps distinct = distinct
+distinct_drop (suc k) [] distinct = distinct
+distinct_drop (suc k) (p ∷ ps) distinct = distinct_drop k ps distinct.1
+
+-- a print that a later one is
+pub not_distinct : (ps : List ℕ) (i p : ℕ) (later : Option ℕ) → 0 < i → i ≤ length ps → get_or ps (i - 1) 0 ≡ p
+    → position_from (nat_eq p) i (drop i ps) ≡ later → is_some later ≡ true → AreDistinct ps → ⊥
+not_distinct ps i p later some within there again is distinct =
+    let next : i - 1 + 1 ≡ i = omega arith in
+    let rest : AreDistinct (drop (i - 1) ps) = distinct_drop (i - 1) ps distinct in
+    let here : AreDistinct (p ∷ drop i ps) = rw (drop_more ps (i - 1) 0 (omega arith), there, next) at rest in
+    absurd (cc (sym is ∙ ap is_some (sym again ∙ unplaced (nat_eq p) i (drop i ps) here.0)))
+
+-- a print is among those of names where one of them has it
+found_print_of : (p : ℕ) (ns : List (List ℕ)) → is_some (find (nat_eq p) (map print_of ns)) ≡ is_some (find (has_print p) ns)
+found_print_of p [] = refl
+found_print_of p (n ∷ ns) = elim (either (nat_eq p (print_of n))) [
+  | inl h ↦ rw h refl
+  | inr h ↦ rw h (found_print_of p ns)
+]
+
+-- names whose prints are distinct have their own prints
+pub own_of_distinct : (ns : List (List ℕ)) → AreDistinct (map print_of ns) → HaveOwnPrints ns
+own_of_distinct [] distinct = tt
+own_of_distinct (n ∷ ns) distinct = (sym (found_print_of (print_of n) ns) ∙ distinct.0, own_of_distinct ns distinct.1)
+
+-- the prints of names that have their own are distinct
+pub distinct_of_own : (ns : List (List ℕ)) → HaveOwnPrints ns → AreDistinct (map print_of ns)
+distinct_of_own [] own = tt
+distinct_of_own (n ∷ ns) own = (found_print_of (print_of n) ns ∙ own.0, distinct_of_own ns own.1)

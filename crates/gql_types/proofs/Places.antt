@@ -31,7 +31,7 @@ module _ {X : Type 0} where
       rw (drop_more xs (p - 1) x (omega arith), there, next) refl
 
 -- where the first of a name is, by the list of the names alone
-pub by_names : {X : Type 0} (name : X → List ℕ) (test : List ℕ → Bool) (p : ℕ) (xs : List X)
+pub by_names : {X N : Type 0} (name : X → N) (test : N → Bool) (p : ℕ) (xs : List X)
     → position_from (λ x. test (name x)) p xs ≡ position_from test p (map name xs)
 by_names name test p [] = refl
 by_names name test p (x ∷ xs) = ap (cond (test (name x)) (Option.Some p)) (by_names name test (p + 1) xs)

@@ -9,6 +9,10 @@ use Rattle.gql_types.specs.declared.name_places.PlacesByName.{PlacesByName}
 use Rattle.gql_types.specs.declared.name_places.Places.{Places}
 use Rattle.gql_types.specs.declared.name_places.Places.TheVariants.{ByName, ByPrint}
 
+-- a map has where the first of each of these prints is
+abbrev pub HasFirsts : {S : Type 0} → HashMap ℕ ℕ S → List ℕ → Type 0
+HasFirsts first prints = (p : ℕ) → hash.get nat_eq first p ≡ position_from (nat_eq p) 0 prints
+
 -- a map has where the first name of each print is
 abbrev pub HasPrints : {S : Type 0} → HashMap ℕ ℕ S → List (List ℕ) → Type 0
 HasPrints first names = (p : ℕ) → hash.get nat_eq first p ≡ position_from (has_print p) 0 names

@@ -19,6 +19,11 @@ abbrev pub HaveOwnPrints : List (List ℕ) → Type 0
 HaveOwnPrints [] = Unit
 HaveOwnPrints (n ∷ ns) = (is_some (find (has_print (print_of n)) ns) ≡ false) × HaveOwnPrints ns
 
+-- no two of these prints are the same
+abbrev pub AreDistinct : List ℕ → Type 0
+AreDistinct [] = Unit
+AreDistinct (p ∷ ps) = (is_some (find (nat_eq p) ps) ≡ false) × AreDistinct ps
+
 -- the print of `a`, whose length is 1 and whose byte is 97
 print_of_a : print_of (codes "a") ≡ 1099511628308
 unfolding mixed

@@ -9,6 +9,7 @@ ghost use Rattle.gql_types.specs.Edits.{KeepsTypes};
 ghost use Rattle.gql_types.specs.KeptTypes.{IsConcreteAt};
 ghost use Rattle.gql_types.specs.Names.{AreOnce};
 ghost use Rattle.gql_types.specs.Possible.{name_of};
+ghost use Rattle.gql_types.specs.Prints as prints;
 ghost use Rattle.gql_types.specs.Sites.{site};
 ghost use Rattle.gql_types.specs.Types as spec;
 ghost use Rattle.gql_types.specs.declared.schema_type.SchemaType.{SchemaType as TheType};
@@ -17,6 +18,7 @@ use crate::by_name::{ByName, by_name};
 use crate::first_definitions::first_definitions;
 use crate::named::{HasName, Named, next_place};
 use crate::named_list::{have_same_names, thing_at};
+use crate::prints::print_of;
 use crate::schema::Schema;
 use crate::schema_type::{SchemaType, made_type};
 use crate::type_site::TypeSite;
@@ -41,11 +43,12 @@ pub struct EditedTypes {
     pub places: Vec<Option<usize>>,
 }
 
-/// The same, of types without a look-up.
+/// The same, of types without a look-up, with the prints of their names.
 #[derive(Drop)]
 struct TypeList {
     types: Vec<Shared<SchemaType>>,
     places: Vec<Option<usize>>,
+    prints: Vec<u64>,
 }
 
 /// Whether the type at a place is not edited.
@@ -105,27 +108,26 @@ fn kept_or_made(
     }
 }
 
-/// The types of definitions that stand where the types of their names stood before the edit.
+/// The types of definitions that stand where the types of their names stood before the edit. They
+/// share the look-up of those.
 fn all_in_place(
     alloc: Global,
     definitions: &[TypeSite<'_>],
     extensions: &ByName<'_, Sited<Shared<TypeExtension>>>,
     before: &Before<'_>,
-) -> Result<TypeList, AllocError>
+) -> Result<EditedTypes, AllocError>
     requires edited { AreEdited before.now }
     requires once { AreOnce (map name_of before.now.schema.now.types) }
     requires names { map (λ s. s.node.now.name.text) definitions.now
         ≡ map name_of before.now.schema.now.types }
-    ensures types { IfOk result (λ list.
+    ensures types { IfOk result (λ after.
         KeepsTypes before.now.edited.now before.now.schema.now (map (type_by
         (λ q. option_map_or (λ group. map (λ x. x.now) group.items)
         (hash.get_by_text extensions.now q) [])) (map site definitions.now))
-        → list.types.items ≡ map (type_by (λ q. option_map_or (λ group. map (λ x. x.now) group.items)
+        → after.types ≡ map (type_by (λ q. option_map_or (λ group. map (λ x. x.now) group.items)
         (hash.get_by_text extensions.now q) [])) (map site definitions.now)) }
-    ensures names { IfOk result (λ list.
-        map name_of list.types.items ≡ map (λ s. s.node.now.name.text) definitions.now) }
-    ensures places { IfOk result (λ list.
-        AllZip (IsConcreteAt before.now.schema.now.types) list.places.items list.types.items) }
+    ensures places { IfOk result (λ after.
+        AllZip (IsConcreteAt before.now.schema.now.types) after.places.items after.types) }
 {
     let mut types = Vec::with_capacity(alloc, definitions.len())?;
     let mut places = Vec::with_capacity(alloc, definitions.len())?;
@@ -136,11 +138,12 @@ fn all_in_place(
         types.push(of_type)?;
         places.push(kept_place(Some(place), kept))?;
     }
-    Ok(TypeList { types, places })
+    let types = Named::of_names(alloc, types, before.schema.named_types())?;
+    Ok(EditedTypes { types, places })
 }
 
-/// The types of first definitions after the edit. Most of them follow those that they followed before
-/// it.
+/// The types of definitions after the edit, each taken for the first of its name, with the prints of
+/// their names. Most of them follow those that they followed before it.
 fn all_after(
     alloc: Global,
     definitions: &[TypeSite<'_>],
@@ -156,38 +159,33 @@ fn all_after(
         (hash.get_by_text extensions.now q) [])) (map site definitions.now)) }
     ensures names { IfOk result (λ list.
         map name_of list.types.items ≡ map (λ s. s.node.now.name.text) definitions.now) }
+    ensures prints { IfOk result (λ list. list.prints.items
+        ≡ map prints.print_of (map (λ s. s.node.now.name.text) definitions.now)) }
     ensures places { IfOk result (λ list.
         AllZip (IsConcreteAt before.now.schema.now.types) list.places.items list.types.items) }
 {
     let names = before.schema.named_types();
     let mut types = Vec::with_capacity(alloc, definitions.len())?;
     let mut places = Vec::with_capacity(alloc, definitions.len())?;
+    let mut prints = Vec::with_capacity(alloc, definitions.len())?;
     let mut source = None;
     let mut next = 0;
     for place in 0..definitions.len() {
         let definition = &definitions[place];
-        let stood = names.place_near(next, definition.name());
+        let name = definition.name();
+        let stood = names.place_near(next, name);
         next = next_place(stood, next);
         let kept = kept_type(before, stood);
         let of_type = kept_or_made(alloc, kept, definition, extensions, &mut source)?;
         types.push(of_type)?;
         places.push(kept_place(stood, kept))?;
+        prints.push(print_of(name))?;
     }
-    Ok(TypeList { types, places })
-}
-
-/// Definitions of types, with a look-up of the first of a name.
-fn named_sites<'d>(
-    alloc: Global,
-    definitions: &[TypeSite<'d>],
-) -> Result<Named<TypeSite<'d>>, AllocError>
-    ensures { IfOk result (λ named. named ≡ definitions.now) }
-{
-    let mut sites = Vec::with_capacity(alloc, definitions.len())?;
-    for definition in definitions {
-        sites.push(*definition)?;
-    }
-    Named::new(alloc, sites)
+    Ok(TypeList {
+        types,
+        places,
+        prints,
+    })
 }
 
 /// Whether the names of these definitions are those of the types of a schema, in their order, and
@@ -203,7 +201,7 @@ fn are_in_place(definitions: &[TypeSite<'_>], types: &Named<Shared<SchemaType>>)
 /// The types of these definitions after an edit, each with the extensions of its name and kind. The
 /// edit changed types of these names alone. Where no name came, went or moved, each definition is
 /// the first of its name, and the types share the look-up of those before the edit. So it is where
-/// each name occurs once, and the types share the look-up of the definitions.
+/// no two names have one print, and the look-up is made of the prints.
 pub fn types_after_edit(
     alloc: Global,
     definitions: &[TypeSite<'_>],
@@ -225,18 +223,20 @@ pub fn types_after_edit(
         are_edited: names.are_among(alloc, edited)?,
     };
     if are_in_place(definitions, names) {
-        let TypeList { types, places } = all_in_place(alloc, definitions, &groups, &before)?;
-        let types = Named::of_names(alloc, types, names)?;
-        return Ok(EditedTypes { types, places });
+        let after = all_in_place(alloc, definitions, &groups, &before)?;
+        return Ok(after);
     }
-    let sites = named_sites(alloc, definitions)?;
-    if sites.are_once() {
-        let TypeList { types, places } = all_after(alloc, sites.as_slice(), &groups, &before)?;
-        let types = Named::of_names(alloc, types, &sites)?;
+    let list = all_after(alloc, definitions, &groups, &before)?;
+    if let Some(types) = Named::of_prints(alloc, list.types, list.prints.as_slice())? {
+        let places = list.places;
         return Ok(EditedTypes { types, places });
     }
     let firsts = first_definitions(alloc, definitions)?;
-    let TypeList { types, places } = all_after(alloc, firsts.as_slice(), &groups, &before)?;
+    let TypeList {
+        types,
+        places,
+        prints: _,
+    } = all_after(alloc, firsts.as_slice(), &groups, &before)?;
     let types = Named::new(alloc, types)?;
     Ok(EditedTypes { types, places })
 }

@@ -4,8 +4,9 @@ ghost use Rattle.std.specs.Prelude.{◌≡◌, ℕ, List, IfNone, IfOk, IfSome, 
 ghost use Rattle.std.specs.List.{position_from};
 ghost use Rattle.std.specs.HashMap as hash;
 ghost use Rattle.gql_types.specs.Names.{AreOnce};
-ghost use Rattle.gql_types.specs.NamePlaces.{ArePlaces, HasNames, HasPrints};
-ghost use Rattle.gql_types.specs.Prints.{HaveOwnPrints};
+ghost use Rattle.gql_types.specs.NamePlaces.{ArePlaces, HasFirsts, HasNames, HasPrints};
+ghost use Rattle.gql_types.specs.Prints as spec;
+ghost use Rattle.gql_types.specs.Prints.{AreDistinct, HaveOwnPrints};
 
 use crate::named::HasName;
 use crate::prints::print_of;
@@ -30,25 +31,36 @@ pub enum Places {
     ByName(PlacesByName),
 }
 
-/// Where the name of each print is; none if two things have one print.
-fn places_by_print<T: HasName>(
+/// Where each print is; none if two are the same.
+fn places_of_prints(
     alloc: Global,
-    things: &[T],
+    prints: &[u64],
 ) -> Result<Option<HashMap<u64, usize>>, AllocError>
     ensures some { IfOk result (λ found. IfSome found (λ first.
-        HasPrints first (map T.name things.now) × HaveOwnPrints (map T.name things.now))) }
-    ensures none { IfOk result (λ found. IfNone found (HaveOwnPrints (map T.name things.now) → ⊥)) }
+        HasFirsts first prints.now × AreDistinct prints.now)) }
+    ensures none { IfOk result (λ found. IfNone found (AreDistinct prints.now → ⊥)) }
 {
-    let mut first = HashMap::with_capacity(alloc, things.len())?;
-    let mut place = things.len();
-    'things: while place > 0 {
+    let mut first = HashMap::with_capacity(alloc, prints.len())?;
+    let mut place = prints.len();
+    'prints: while place > 0 {
         place -= 1;
-        let later = first.insert(print_of(things[place].name()), place)?;
+        let later = first.insert(prints[place], place)?;
         if later.is_some() {
             return Ok(None);
         }
     }
     Ok(Some(first))
+}
+
+/// The print of the name of each thing.
+fn prints_of<T: HasName>(alloc: Global, things: &[T]) -> Result<Vec<u64>, AllocError>
+    ensures { IfOk result (λ prints. prints.items ≡ map spec.print_of (map T.name things.now)) }
+{
+    let mut prints = Vec::with_capacity(alloc, things.len())?;
+    for thing in things {
+        prints.push(print_of(thing.name()))?;
+    }
+    Ok(prints)
 }
 
 /// Whether each name still occurs once, with one more name: where it occurs again, if it does.
@@ -122,12 +134,27 @@ impl Places {
     pub fn of<T: HasName>(alloc: Global, things: &[T]) -> Result<Places, AllocError>
         ensures { IfOk result (λ places. ArePlaces places (map T.name things.now)) }
     {
-        match places_by_print(alloc, things)? {
-            Some(first) => Ok(Places::ByPrint(first)),
+        let prints = prints_of(alloc, things)?;
+        match Places::of_prints(alloc, prints.as_slice())? {
+            Some(places) => Ok(places),
             None => {
                 let places = places_by_name(alloc, things)?;
                 Ok(Places::ByName(places))
             }
+        }
+    }
+
+    /// The places of names by their prints; none if two names have one print.
+    pub fn of_prints(alloc: Global, prints: &[u64]) -> Result<Option<Places>, AllocError>
+        ensures some { (names : List (List ℕ)) → prints.now ≡ map spec.print_of names
+            → IfOk result (λ found. IfSome found (λ places.
+            ArePlaces places names × HaveOwnPrints names)) }
+        ensures none { (names : List (List ℕ)) → prints.now ≡ map spec.print_of names
+            → IfOk result (λ found. IfNone found (HaveOwnPrints names → ⊥)) }
+    {
+        match places_of_prints(alloc, prints)? {
+            Some(first) => Ok(Some(Places::ByPrint(first))),
+            None => Ok(None),
         }
     }
 

@@ -1,9 +1,10 @@
 //! Things that have names, with a look-up of the first of a name.
 
-ghost use Rattle.std.specs.Prelude.{◌≡◌, ℕ, List, [], IfOk, IsTrue, None, find, map, bytes_eq};
+ghost use Rattle.std.specs.Prelude.{◌≡◌, ℕ, List, [], IfNone, IfOk, IfSome, IsTrue, None, find, map, bytes_eq};
 ghost use Rattle.std.specs.Option.{option_copied};
 ghost use Rattle.std.specs.List.{position_from};
 ghost use Rattle.gql_types.specs.Names.{AreOnce, are_among};
+ghost use Rattle.gql_types.specs.Prints.{HaveOwnPrints, print_of};
 
 use crate::named_list::{NamedList, have_same_names};
 use gql_ast::{Shared, Text};
@@ -82,6 +83,27 @@ impl<T: HasName + Drop> Named<T> {
         let list = NamedList::new(alloc, things)?;
         let list = Shared::new(alloc, list)?;
         Ok(Named { list: Some(list) })
+    }
+
+    /// These things, in their order, by the prints of their names; none if two names have one print.
+    pub(crate) fn of_prints(
+        alloc: Global,
+        things: Vec<T>,
+        prints: &[u64],
+    ) -> Result<Option<Named<T>>, AllocError>
+        requires { prints.now ≡ map print_of (map T.name things.items) }
+        ensures some { IfOk result (λ found. IfSome found (λ named.
+            (named ≡ things.items) × HaveOwnPrints (map T.name things.items))) }
+        ensures none { IfOk result (λ found. IfNone found (
+            HaveOwnPrints (map T.name things.items) → ⊥)) }
+    {
+        match NamedList::of_prints(alloc, things, prints)? {
+            Some(list) => {
+                let list = Shared::new(alloc, list)?;
+                Ok(Some(Named { list: Some(list) }))
+            }
+            None => Ok(None),
+        }
     }
 
     /// These things, in their order. They share the look-up of others that have the same names.

@@ -1,10 +1,11 @@
 //! Lists of things that have names, with a look-up of the first of a name.
 
-ghost use Rattle.std.specs.Prelude.{◌≡◌, IfOk, IsTrue, Some, find, map, bytes_eq, slice_get};
+ghost use Rattle.std.specs.Prelude.{◌≡◌, IfNone, IfOk, IfSome, IsTrue, Some, find, map, bytes_eq, slice_get};
 ghost use Rattle.std.specs.Option.{option_copied};
 ghost use Rattle.std.specs.List.{position_from};
 ghost use Rattle.gql_types.specs.NamePlaces.{ArePlaces};
 ghost use Rattle.gql_types.specs.Names.{AreOnce, are_among};
+ghost use Rattle.gql_types.specs.Prints.{HaveOwnPrints, print_of};
 
 use crate::among::{asked, marked};
 use crate::name_places::Places;
@@ -130,6 +131,30 @@ impl<T: HasName + Drop> NamedList<T> {
             things,
             places: Some(places),
         })
+    }
+
+    /// These things, in their order, by the prints of their names; none if two names have one print.
+    pub fn of_prints(
+        alloc: Global,
+        things: Vec<T>,
+        prints: &[u64],
+    ) -> Result<Option<NamedList<T>>, AllocError>
+        requires { prints.now ≡ map print_of (map T.name things.items) }
+        ensures some { IfOk result (λ found. IfSome found (λ named.
+            (named ≡ things.items) × HaveOwnPrints (map T.name things.items))) }
+        ensures none { IfOk result (λ found. IfNone found (
+            HaveOwnPrints (map T.name things.items) → ⊥)) }
+    {
+        match Places::of_prints(alloc, prints)? {
+            Some(places) => {
+                let places = Shared::new(alloc, places)?;
+                Ok(Some(NamedList {
+                    things,
+                    places: Some(places),
+                }))
+            }
+            None => Ok(None),
+        }
     }
 
     /// These things, in their order. They share the look-up of others, which have the same names.
