@@ -129,10 +129,13 @@ pub fn side_after_edit(
     requires { IsSideBefore edited.now name.now files.now before.now }
     ensures { IfOk result (IsSideOf files.now) }
 {
-    let EditedSchema { schema, places } =
-        assemble_after_edit(alloc, files, &before.schema, edited)?;
-    let facts =
-        SchemaFacts::after_edit(alloc, &schema, &before.facts, edited, places.as_slice())?;
+    let EditedSchema { schema, places } = assemble_after_edit(
+        alloc,
+        files,
+        &before.schema,
+        edited,
+    )?;
+    let facts = SchemaFacts::after_edit(alloc, &schema, &before.facts, edited, places.as_slice())?;
     let kept = faults_after_edit(alloc, files, &schema, before, name, edited)?;
     let schema_before = &before.schema;
     let made_before = &before.made;
