@@ -1,42 +1,44 @@
--- The types of first definitions after an edit, one after the other.
-use Rattle.std.proofs.Common.{◌≡◌, ◌+◌, ◌++◌, ◌<◌, ℕ, List, [], ◌∷◌, Bool, Option, Some, None, true, false, inl, inr, bytes_eq, find, slice_get, option_and_then, map, length, get_or, take, Contains, ap, ap₂, ◌∙◌, sym, subst}
-use Rattle.std.specs.Prelude.{IfSome, is_some, option_map, unwrap_or}
+-- The types of definitions after an edit, one after the other.
+use Rattle.std.proofs.Common.{◌≡◌, ◌+◌, ◌++◌, ◌<◌, ℕ, List, [], ◌∷◌, Bool, Option, Some, None, true, false, inl, inr, bytes_eq, find, slice_get, option_and_then, map, length, get_or, take, ap, ap₂, ◌∙◌, sym, subst}
+use Rattle.std.specs.Prelude.{IfSome, OnOk, Result, Ok, Err, is_some, option_map, unwrap_or}
 use Rattle.std.specs.List.{AllZip, position_from}
-use Rattle.std.proofs.lemmas.List.{map-append, take_more}
+use Rattle.std.proofs.lemmas.List.{append_assoc, map-append, take_more}
+use Rattle.std.proofs.lemmas.List.Elements.{Contains-append_left, Contains-append_right}
 use Rattle.std.proofs.lemmas.Option.{slice_get-get_or, slice_get-map}
 use Rattle.std.proofs.lemmas.Slice.Eq.{bytes_eq-Decides}
 use Rattle.gql_ast.specs.declared.type_system.TypeDefinition.{TypeDefinition}
+use Rattle.gql_ast.specs.declared.type_system.TypeExtension.{TypeExtension}
 use Rattle.gql_built_in.specs.declared.sited.Sited.{Sited}
+use Rattle.gql_types.specs.EditedTypes.{AreExtensions, AreMade, concrete_place, defined_name, extensions_at, type_by}
 use Rattle.gql_types.specs.Edits.{KeepsType, KeepsTypes}
+use Rattle.gql_types.specs.Kinds.{is_abstract}
+use Rattle.gql_types.specs.KeptTypes.{IsConcreteAt}
 use Rattle.gql_types.specs.Names.{AreOnce, are_among}
 use Rattle.gql_types.specs.Possible.{name_of}
+use Rattle.gql_types.specs.Prints.{print_of}
+use Rattle.gql_types.specs.Types.{first_definitions, types_of}
 use Rattle.gql_types.specs.declared.schema.Schema.{Schema}
 use Rattle.gql_types.specs.declared.schema_type.SchemaType.{SchemaType}
+use Rattle.gql_types.specs.declared.edited_types.TypeEdit.{TypeEdit}
+use Rattle.gql_types.specs.declared.type_list.TypeList.{TypeList}
 use Rattle.gql_types.proofs.Filtering.{either}
-use Rattle.gql_types.proofs.Groups.{made_step}
-use Rattle.gql_types.proofs.Members.{Contains-to_map}
+use Rattle.gql_types.proofs.Groups.{types_by_groups}
+use Rattle.gql_types.proofs.Members.{here}
 use Rattle.gql_types.proofs.Once.{once_placed}
+use Rattle.gql_types.proofs.Others.{all_first}
 use Rattle.gql_types.proofs.Places.{found_there, same_places}
 
--- one definition more
-pub kept_step : {W : Type 0} (names : List (List ℕ)) (before : Schema) (f : Sited TypeDefinition → SchemaType) (form : W → Sited TypeDefinition) (xs : List W) (i : ℕ) (x : W) (t : SchemaType)
-    (old new : List SchemaType) → i < length xs → get_or xs i x ≡ x
-    → (KeepsTypes names before (map f (map form xs)) → old ≡ map f (map form (take i xs)))
-    → (KeepsType names before (f (form x)) → t ≡ f (form x))
-    → new ≡ old ++ t ∷ []
-    → KeepsTypes names before (map f (map form xs)) → new ≡ map f (map form (take (i + 1) xs))
-kept_step names before f form xs i x t old new within item earlier its after keeps =
-    let there : Contains xs x = (i, within, item) in
-    let is : t ≡ f (form x) = its (keeps (f (form x)) (Contains-to_map f (map form xs) (form x) (Contains-to_map form xs x there))) in
-    made_step f form xs i x old new within item (earlier keeps) (after ∙ ap (λ u. old ++ u ∷ []) is)
+-- one pair more
+zip_push : {X Y : Type 0} (R : X → Y → Type 0) (xs : List X) (ys : List Y) (x : X) (y : Y) → AllZip R xs ys → R x y → AllZip R (xs ++ x ∷ []) (ys ++ y ∷ [])
+zip_push R [] [] x y all last = (last, tt)
+zip_push R [] (b ∷ bs) x y all last = absurd all
+zip_push R (a ∷ more) [] x y all last = absurd all
+zip_push R (a ∷ more) (b ∷ bs) x y all last = (all.0, zip_push R more bs x y all.1 last)
 
--- one name more
-names_step : {W : Type 0} (name : W → List ℕ) (xs : List W) (i : ℕ) (x : W) (t : SchemaType) (old new : List SchemaType) → i < length xs → get_or xs i x ≡ x
-    → map name_of old ≡ map name (take i xs) → name_of t ≡ name x → new ≡ old ++ t ∷ []
-    → map name_of new ≡ map name (take (i + 1) xs)
-names_step name xs i x t old new within item earlier named after =
-    rw (take_more xs i x within, item, map-append name (take i xs) (x ∷ []))
-    (ap (map name_of) after ∙ map-append name_of old (t ∷ []) ∙ ap₂ (λ ns n. ns ++ n ∷ []) earlier named)
+pub zip_step : {X Y : Type 0} (R : X → Y → Type 0) (xs new_xs : List X) (ys new_ys : List Y) (x : X) (y : Y) → new_xs ≡ xs ++ x ∷ [] → new_ys ≡ ys ++ y ∷ []
+    → AllZip R xs ys → R x y → AllZip R new_xs new_ys
+zip_step R xs new_xs ys new_ys x y is are all last =
+    subst (λ zs. AllZip R new_xs zs) (sym are) (subst (λ zs. AllZip R zs (ys ++ y ∷ [])) (sym is) (zip_push R xs ys x y all last))
 
 found_passes : {A : Type 0} (p : A → Bool) (xs : List A) (x : A) → find p xs ≡ Some x → p x ≡ true
 found_passes p [] x is = absurd (cc is)
@@ -46,7 +48,7 @@ found_passes p (y ∷ ys) x is = elim (either (p y)) [
 ]
 
 -- a type that stood where its name was found, and is not edited, or else the type that is made
-kept_found : (names : List (List ℕ)) (before : Schema) (q : List ℕ) (stood : Option ℕ) (found : Option SchemaType) (made t : SchemaType)
+pub kept_found : (names : List (List ℕ)) (before : Schema) (q : List ℕ) (stood : Option ℕ) (found : Option SchemaType) (made t : SchemaType)
     → stood ≡ position_from (λ (u : SchemaType). bytes_eq q (name_of u)) 0 before.types
     → IfSome found (λ s. option_and_then (λ i. slice_get before.types i) stood ≡ Some s)
     → IfSome found (λ s. is_some (find (bytes_eq (name_of s)) names) ≡ false)
@@ -67,24 +69,71 @@ kept_found names before q stood (Some s) made t place there unedited named is =
       ap name_of is ∙ sym name,
     )
 
--- the types of the first so many definitions, and their names
-abbrev AreTypesOf : {W : Type 0} → List (List ℕ) → Schema → (Sited TypeDefinition → SchemaType) → (W → Sited TypeDefinition) → (W → List ℕ) → List W → ℕ → List SchemaType → Type 0
-AreTypesOf names before f form name xs i types =
-    (KeepsTypes names before (map f (map form xs)) → types ≡ map f (map form (take i xs))) × (map name_of types ≡ map name (take i xs))
+-- where a type that is kept stood
+pub kept_there : (types : List SchemaType) (t : SchemaType) (stood : Option ℕ) → option_and_then (λ i. slice_get types i) stood ≡ Some t
+    → IsConcreteAt types (concrete_place t stood) t
+kept_there types t None there = absurd (cc there)
+kept_there types t (Some i) there = elim (either (is_abstract t.kind)) [
+  | inl h ↦ rw h tt
+  | inr h ↦ rw h (there, h)
+]
 
--- one definition more, whose type is kept if it stood where its name was found
-pub found_step : {W : Type 0} (names : List (List ℕ)) (before : Schema) (f : Sited TypeDefinition → SchemaType) (form : W → Sited TypeDefinition) (name : W → List ℕ) (xs : List W) (i : ℕ) (x : W)
-    (t : SchemaType) (old new : List SchemaType) (stood : Option ℕ) (found : Option SchemaType) → i < length xs → get_or xs i x ≡ x
-    → stood ≡ position_from (λ (u : SchemaType). bytes_eq (name x) (name_of u)) 0 before.types
-    → IfSome found (λ s. option_and_then (λ j. slice_get before.types j) stood ≡ Some s)
-    → IfSome found (λ s. is_some (find (bytes_eq (name_of s)) names) ≡ false)
-    → name_of (f (form x)) ≡ name x → t ≡ unwrap_or found (f (form x)) → new ≡ old ++ t ∷ []
-    → AreTypesOf names before f form name xs i old → AreTypesOf names before f form name xs (i + 1) new
-found_step names before f form name xs i x t old new stood found within item place there unedited named is after earlier =
-    let both = kept_found names before (name x) stood found (f (form x)) t place there unedited named is in (
-      kept_step names before f form xs i x t old new within item earlier.0 both.0 after,
-      names_step name xs i x t old new within item earlier.1 both.1 after,
-    )
+-- one type more
+module _ (edit : TypeEdit) (sites : List (Sited TypeDefinition)) (d : Sited TypeDefinition) (old new : TypeList) (t : SchemaType) (place : Option ℕ) (print : ℕ) where
+  abbrev made : Sited TypeDefinition → SchemaType
+  made = type_by (extensions_at edit)
+
+  pub made_more : (KeepsType edit.edited.now edit.schema.now (made d) → t ≡ made d) → name_of t ≡ defined_name d → print ≡ print_of (defined_name d)
+      → IsConcreteAt edit.schema.now.types place t
+      → new.types ≡ old.types ++ t ∷ [] → new.places.items ≡ old.places.items ++ place ∷ [] → new.prints.items ≡ old.prints.items ++ print ∷ []
+      → AreMade edit sites old → AreMade edit (sites ++ d ∷ []) new
+  made_more its named printed there types places prints before = record {
+    types = λ keeps.
+        let both = subst (KeepsTypes edit.edited.now edit.schema.now) (map-append made sites (d ∷ [])) keeps in
+        let earlier : old.types ≡ map made sites = before.types (λ u h. both u (Contains-append_left (map made sites) (made d ∷ []) u h)) in
+        let last : t ≡ made d = its (both (made d) (Contains-append_right (map made sites) (made d ∷ []) (made d) (here (made d) []))) in
+        types ∙ ap₂ (λ us u. us ++ u ∷ []) earlier last ∙ sym (map-append made sites (d ∷ []));
+    names = ap (map name_of) types ∙ map-append name_of old.types (t ∷ []) ∙ ap₂ (λ ns n. ns ++ n ∷ []) before.names named ∙ sym (map-append defined_name sites (d ∷ []));
+    prints = prints ∙ ap₂ (λ ps p. ps ++ p ∷ []) before.prints printed
+        ∙ sym (ap (map print_of) (map-append defined_name sites (d ∷ [])) ∙ map-append print_of (map defined_name sites) (defined_name d ∷ []));
+    places = zip_step (IsConcreteAt edit.schema.now.types) old.places.items new.places.items old.types new.types place t places types before.places there;
+  }
+
+-- the types of the first definitions of each name
+pub made_firsts : (edit : TypeEdit) (ds : List (Sited TypeDefinition)) (extensions : List (Sited TypeExtension)) → AreExtensions edit extensions
+    → map (type_by (extensions_at edit)) (first_definitions ds) ≡ types_of ds extensions
+made_firsts edit ds extensions are = types_by_groups (extensions_at edit) extensions (first_definitions ds) are
+
+-- the types of definitions of different names
+pub made_once : (edit : TypeEdit) (ds : List (Sited TypeDefinition)) (extensions : List (Sited TypeExtension)) → AreExtensions edit extensions → AreOnce (map defined_name ds)
+    → map (type_by (extensions_at edit)) ds ≡ types_of ds extensions
+made_once edit ds extensions are once = ap (map (type_by (extensions_at edit))) (sym (all_first ds once)) ∙ made_firsts edit ds extensions are
+
+-- what follows from three facts about a success
+pub three_ok : {T E : Type 0} {A B C D : Type 0} (r : Result T E) → (A → B → C → D) → OnOk r A → OnOk r B → OnOk r C → OnOk r D
+three_ok (Ok x) gives a b c = gives a b c
+three_ok (Err e) gives a b c = tt
+
+-- no types
+pub made_none : (edit : TypeEdit) (list : TypeList) → list.types ≡ [] → list.places.items ≡ [] → list.prints.items ≡ [] → AreMade edit [] list
+made_none edit list types places prints = record {
+  types = λ keeps. types;
+  names = ap (map name_of) types;
+  prints = prints;
+  places = subst (λ ts. AllZip (IsConcreteAt edit.schema.now.types) list.places.items ts) (sym types)
+      (subst (λ ps. AllZip (IsConcreteAt edit.schema.now.types) ps []) (sym places) tt);
+}
+
+-- one definition more of several
+pub made_next : {W : Type 0} (edit : TypeEdit) (form : W → Sited TypeDefinition) (xs : List W) (i : ℕ) (x : W) (sites : List (Sited TypeDefinition)) (first old new : TypeList)
+    → i < length xs → get_or xs i x ≡ x
+    → (AreMade edit sites first → AreMade edit (sites ++ map form (take i xs)) old)
+    → ((ds : List (Sited TypeDefinition)) → AreMade edit ds old → AreMade edit (ds ++ form x ∷ []) new)
+    → AreMade edit sites first → AreMade edit (sites ++ map form (take (i + 1) xs)) new
+made_next edit form xs i x sites first old new within item before more start =
+    let next : sites ++ map form (take (i + 1) xs) ≡ (sites ++ map form (take i xs)) ++ form x ∷ []
+    = rw (take_more xs i x within, item, map-append form (take i xs) (x ∷ [])) (sym (append_assoc sites (map form (take i xs)) (form x ∷ []))) in
+    subst (λ ds. AreMade edit ds new) (sym next) (more (sites ++ map form (take i xs)) (before start))
 
 -- things of the names of types, each once, are where these are found by their names
 pub found_in_place : {W : Type 0} (name : W → List ℕ) (types : List SchemaType) (xs : List W) (i : ℕ) (x : W) → map name xs ≡ map name_of types → AreOnce (map name_of types)
@@ -107,15 +156,3 @@ unedited_there names types marks i (Some t) are mark is =
 pub kept_same : (names : List (List ℕ)) (before : Schema) (found one other : List SchemaType) → one ≡ other
     → (KeepsTypes names before one → found ≡ one) → KeepsTypes names before other → found ≡ other
 kept_same names before found one other same is keeps = is (subst (KeepsTypes names before) (sym same) keeps) ∙ same
-
--- one pair more
-zip_push : {X Y : Type 0} (R : X → Y → Type 0) (xs : List X) (ys : List Y) (x : X) (y : Y) → AllZip R xs ys → R x y → AllZip R (xs ++ x ∷ []) (ys ++ y ∷ [])
-zip_push R [] [] x y all last = (last, tt)
-zip_push R [] (b ∷ bs) x y all last = absurd all
-zip_push R (a ∷ more) [] x y all last = absurd all
-zip_push R (a ∷ more) (b ∷ bs) x y all last = (all.0, zip_push R more bs x y all.1 last)
-
-pub zip_step : {X Y : Type 0} (R : X → Y → Type 0) (xs new_xs : List X) (ys new_ys : List Y) (x : X) (y : Y) → new_xs ≡ xs ++ x ∷ [] → new_ys ≡ ys ++ y ∷ []
-    → AllZip R xs ys → R x y → AllZip R new_xs new_ys
-zip_step R xs new_xs ys new_ys x y is are all last =
-    subst (λ zs. AllZip R new_xs zs) (sym are) (subst (λ zs. AllZip R zs (ys ++ y ∷ [])) (sym is) (zip_push R xs ys x y all last))

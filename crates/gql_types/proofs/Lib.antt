@@ -2,6 +2,7 @@ pub mod Declaring
 pub mod EachOnce
 pub mod EachPossible
 pub mod EditedTypes
+pub mod Filling
 pub mod Filtering
 pub mod Firsts
 pub mod Groups

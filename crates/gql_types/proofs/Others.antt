@@ -97,7 +97,7 @@ all_left n (d ∷ ds) lacks = elim (either (bytes_eq n d.node.name.text)) [
   | inr h ↦ rw h (ap (λ es. d ∷ es) (all_left n ds (rw h at lacks)))
 ]
 
-all_first : (ds : List (Sited TypeDefinition)) → AreOnce (map name_in ds) → first_definitions ds ≡ ds
+pub all_first : (ds : List (Sited TypeDefinition)) → AreOnce (map name_in ds) → first_definitions ds ≡ ds
 all_first [] once = refl
 all_first (d ∷ ds) once = ap (λ es. d ∷ filter (λ (e : Sited TypeDefinition). not (bytes_eq d.node.name.text e.node.name.text)) es) (all_first ds once.1)
     ∙ ap (λ es. d ∷ es) (all_left d.node.name.text ds once.0)

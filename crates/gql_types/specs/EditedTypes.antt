@@ -1,16 +1,23 @@
 -- Helper definitions for private contracts: the types of definitions, by the extensions of each name,
 -- and the schema before an edit.
-use Rattle.std.specs.Prelude.{◌≡◌, ℕ, List, filter, map}
+use Rattle.std.specs.Prelude.{◌≡◌, ℕ, List, [], Option, None, bytes_eq, filter, if◌then◌else◌, map}
+use Rattle.std.specs.HashMap as hash
+use Rattle.std.specs.List.{AllZip}
+use Rattle.std.specs.Option.{option_map_or}
 use Rattle.gql_ast.specs.declared.type_system.TypeDefinition.{TypeDefinition}
 use Rattle.gql_ast.specs.declared.type_system.TypeExtension.{TypeExtension}
 use Rattle.gql_built_in.specs.declared.sited.Sited.{Sited}
-use Rattle.gql_types.specs.Kinds.{same_kind}
+use Rattle.gql_types.specs.Edits.{KeepsTypes}
+use Rattle.gql_types.specs.Kinds.{is_abstract, same_kind}
+use Rattle.gql_types.specs.KeptTypes.{IsConcreteAt}
 use Rattle.gql_types.specs.Names.{are_among}
 use Rattle.gql_types.specs.Parts.{kind_of}
 use Rattle.gql_types.specs.Possible.{name_of}
+use Rattle.gql_types.specs.Prints.{print_of}
 use Rattle.gql_types.specs.Types.{assembled}
-use Rattle.gql_types.specs.declared.edited_types.Before.{Before}
+use Rattle.gql_types.specs.declared.edited_types.TypeEdit.{TypeEdit}
 use Rattle.gql_types.specs.declared.schema_type.SchemaType.{SchemaType}
+use Rattle.gql_types.specs.declared.type_list.TypeList.{TypeList}
 
 -- the type of a definition, by the extensions of each name
 abbrev pub type_by : (List ℕ → List (Sited TypeExtension)) → Sited TypeDefinition → SchemaType
@@ -18,7 +25,35 @@ type_by at d = assembled d (filter
     (λ (e : Sited TypeExtension). same_kind (kind_of d.node.parts) (kind_of e.node.parts))
     (at d.node.name.text))
 
+-- where a type stood, if it is neither an interface nor a union
+abbrev pub concrete_place : SchemaType → Option ℕ → Option ℕ
+concrete_place t stood = if is_abstract t.kind then None else stood
+
+-- the name of the type that a definition defines
+abbrev pub defined_name : Sited TypeDefinition → List ℕ
+defined_name d = d.node.name.text
+
 -- it is told of each type before the edit whether its name is among the edited ones
-abbrev pub AreEdited : Before → Type 0
-AreEdited before =
-    before.are_edited.items ≡ are_among before.edited.now (map name_of before.schema.now.types)
+abbrev pub AreEdited : TypeEdit → Type 0
+AreEdited edit =
+    edit.are_edited.items ≡ are_among edit.edited.now (map name_of edit.schema.now.types)
+
+-- the extensions of a name after the edit
+abbrev pub extensions_at : TypeEdit → List ℕ → List (Sited TypeExtension)
+extensions_at edit q =
+    option_map_or (λ group. map (λ x. x.now) group.items) (hash.get_by_text edit.extensions q) []
+
+-- the extensions of each name are those among these
+abbrev pub AreExtensions : TypeEdit → List (Sited TypeExtension) → Type 0
+AreExtensions edit extensions = (q : List ℕ) → extensions_at edit q
+    ≡ filter (λ (e : Sited TypeExtension). bytes_eq q e.node.name.text) extensions
+
+-- The types of these definitions after the edit, if it changes no types but those of edited names;
+-- with their names, the prints of these, and where types stood that are kept.
+pub record AreMade (edit : TypeEdit) (sites : List (Sited TypeDefinition)) (list : TypeList) : Type 0
+    where
+  pub types : KeepsTypes edit.edited.now edit.schema.now (map (type_by (extensions_at edit)) sites)
+      → list.types ≡ map (type_by (extensions_at edit)) sites
+  pub names : map name_of list.types ≡ map defined_name sites
+  pub prints : list.prints.items ≡ map print_of (map defined_name sites)
+  pub places : AllZip (IsConcreteAt edit.schema.now.types) list.places.items list.types

@@ -1,5 +1,5 @@
 -- Which types of a schema are those of the schema before an edit of a schema file.
-use Rattle.std.specs.Prelude.{◌≡◌, ℕ, List, Bool, false, Option, None, Some, slice_get}
+use Rattle.std.specs.Prelude.{◌≡◌, ℕ, List, false, Option, None, Some, slice_get}
 use Rattle.std.specs.List.{AllZip}
 use Rattle.gql_types.specs.Kinds.{is_abstract}
 use Rattle.gql_types.specs.Possible.{name_of}

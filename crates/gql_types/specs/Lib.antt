@@ -1,5 +1,6 @@
 pub mod Abstracts
 pub mod Applied
+pub mod Batches
 pub mod Covariance
 pub mod Declarations
 pub mod Definitions

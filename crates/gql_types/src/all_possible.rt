@@ -4,11 +4,12 @@ ghost use Rattle.std.specs.Option.{option_copied};
 ghost use Rattle.gql_types.specs.Names.{AreOnce};
 ghost use Rattle.gql_types.specs.Possible as spec;
 
+use crate::batched::Batched;
 use crate::kind::TypeKind;
 use crate::named::Named;
 use crate::possible::{PossibleTypes, all_abstract};
 use crate::schema_type::SchemaType;
-use gql_ast::{Shared, Text};
+use gql_ast::Text;
 use std::alloc::{AllocError, Global};
 use std::marker::Model;
 use std::slice;
@@ -17,7 +18,7 @@ use std::slice;
 /// its possible types; here those of interfaces and unions alone are held, as an object stands for
 /// itself.
 pub struct AllPossible {
-    types: Named<Shared<SchemaType>>,
+    types: Named<Batched<SchemaType>>,
     abstracts: Named<PossibleTypes>,
 }
 
@@ -51,7 +52,7 @@ impl Model for AllPossible {
 
 impl AllPossible {
     /// The possible types of the composite types among these.
-    pub fn new(alloc: Global, types: &Named<Shared<SchemaType>>) -> Result<AllPossible, AllocError>
+    pub fn new(alloc: Global, types: &Named<Batched<SchemaType>>) -> Result<AllPossible, AllocError>
         requires { AreOnce (map spec.name_of types.now) }
         ensures { IfOk result (λ possible. possible ≡ spec.all_possible types.now) }
     {

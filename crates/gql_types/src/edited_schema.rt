@@ -10,7 +10,7 @@ ghost use Rattle.gql_types.specs.Sites.{site};
 ghost use Rattle.gql_types.specs.Types.{types_of};
 
 use crate::definitions::type_extensions;
-use crate::edited_types::{EditedTypes, types_after_edit};
+use crate::edited_types::{EditedTypes, TypeEdit, types_after_edit};
 use crate::gathered::{Gathered, gather};
 use crate::named::Named;
 use crate::schema::{Schema, schema_with};
@@ -41,8 +41,8 @@ fn types_after(
         AllZip (IsConcreteAt before.now.types) after.places.items after.types) }
 {
     let extensions = type_extensions(alloc, definitions.others.as_slice())?;
-    let sites = definitions.types.as_slice();
-    let types = types_after_edit(alloc, sites, extensions.as_slice(), before, edited)?;
+    let edit = TypeEdit::new(alloc, before, edited, extensions.as_slice())?;
+    let types = types_after_edit(alloc, definitions.types.as_slice(), &edit)?;
     Ok(types)
 }
 

@@ -4,6 +4,7 @@
 mod all_possible;
 mod among;
 mod applied;
+mod batched;
 mod by_name;
 mod covariance;
 mod defined_inputs;
@@ -26,11 +27,13 @@ mod same_name;
 mod schema;
 mod schema_type;
 mod sorted_names;
+mod type_list;
 mod type_site;
 mod written_type;
 
 pub use all_possible::AllPossible;
 pub use applied::{append_in, argument_of, directive_of, string_of};
+pub use batched::{BatchList, Batched};
 pub use defined_inputs::{DefinedInput, DefinedInputs};
 pub use edited::edited_names;
 pub use edited_schema::{EditedSchema, assemble_after_edit};

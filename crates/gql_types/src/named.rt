@@ -6,6 +6,7 @@ ghost use Rattle.std.specs.List.{position_from};
 ghost use Rattle.gql_types.specs.Names.{AreOnce, are_among};
 ghost use Rattle.gql_types.specs.Prints.{HaveOwnPrints, print_of};
 
+use crate::batched::Batched;
 use crate::named_list::{NamedList, have_same_names};
 use gql_ast::{Shared, Text};
 use std::alloc::{AllocError, Global};
@@ -29,6 +30,14 @@ impl HasName for Text {
 }
 
 impl<T: HasName> HasName for Shared<T> {
+    ghost name = { T.name };
+
+    fn name(&self) -> &str {
+        self.get().name()
+    }
+}
+
+impl<T: HasName> HasName for Batched<T> {
     ghost name = { T.name };
 
     fn name(&self) -> &str {

@@ -7,12 +7,13 @@ ghost use Rattle.gql_types.specs.Possible as spec;
 ghost use Rattle.gql_types.specs.Abstracts.{abstract_by, abstract_types, all_abstract};
 ghost use Rattle.gql_types.specs.Declarations.{declarations, declared_by, pair};
 
+use crate::batched::Batched;
 use crate::by_name::{ByName, by_name};
 use crate::kind::TypeKind;
 use crate::named::HasName;
 use crate::schema_type::SchemaType;
 use crate::sorted_names::in_order;
-use gql_ast::{Items, Name, Shared, Text};
+use gql_ast::{Items, Name, Text};
 use gql_built_in::Sited;
 use std::alloc::{AllocError, Global};
 
@@ -101,7 +102,7 @@ fn add_type<'t>(of_type: &'t SchemaType, found: &mut Gathering<'t>) -> Result<()
 }
 
 /// What the possible types of these types are made of.
-fn gathering_of(alloc: Global, types: &[Shared<SchemaType>]) -> Result<Gathering<'_>, AllocError>
+fn gathering_of(alloc: Global, types: &[Batched<SchemaType>]) -> Result<Gathering<'_>, AllocError>
     ensures declarations { IfOk result (λ found.
         map pair found.declarations.items ≡ declarations types.now) }
     ensures abstracts { IfOk result (λ found.
@@ -218,7 +219,7 @@ fn all_by(
 /// The interfaces and unions, each with its possible types.
 pub fn all_abstract(
     alloc: Global,
-    types: &[Shared<SchemaType>],
+    types: &[Batched<SchemaType>],
 ) -> Result<Vec<PossibleTypes>, AllocError>
     ensures { IfOk result (λ found. found.items ≡ all_abstract types.now) }
 {

@@ -2,6 +2,7 @@
 ghost use Rattle.std.specs.Prelude.{◌≡◌, ◌++◌, OnOk, IfOk};
 ghost use Rattle.gql_types.specs.Roots as spec;
 
+use crate::batched::Batched;
 use crate::named::Named;
 use crate::schema_type::SchemaType;
 use gql_ast::{
@@ -53,7 +54,7 @@ fn add_entries(
 
 fn add_implied(
     alloc: Global,
-    types: &Named<Shared<SchemaType>>,
+    types: &Named<Batched<SchemaType>>,
     kind: OperationKind,
     name: &str,
     roots: &mut Items<Root>,
@@ -79,7 +80,7 @@ fn add_implied(
 
 fn add_all_implied(
     alloc: Global,
-    types: &Named<Shared<SchemaType>>,
+    types: &Named<Batched<SchemaType>>,
     roots: &mut Items<Root>,
 ) -> Result<(), AllocError>
     ensures { OnOk result (roots.new ≡ roots.old ++ spec.all_implied types.now) }
@@ -98,7 +99,7 @@ fn add_all_implied(
 
 fn add_defined(
     alloc: Global,
-    types: &Named<Shared<SchemaType>>,
+    types: &Named<Batched<SchemaType>>,
     definitions: &[Sited<Shared<SchemaDefinition>>],
     roots: &mut Items<Root>,
 ) -> Result<(), AllocError>
@@ -119,7 +120,7 @@ fn add_defined(
 /// implied, then those of the extensions.
 pub fn roots_of(
     alloc: Global,
-    types: &Named<Shared<SchemaType>>,
+    types: &Named<Batched<SchemaType>>,
     definitions: &[Sited<Shared<SchemaDefinition>>],
     extensions: &[Sited<Shared<SchemaExtension>>],
 ) -> Result<Items<Root>, AllocError>

@@ -11,6 +11,7 @@ ghost use Rattle.gql_types.specs.Types.{types_of};
 
 use crate::all_possible::AllPossible;
 use crate::applied::append_in;
+use crate::batched::Batched;
 use crate::defined_inputs::DefinedInputs;
 use crate::definitions::{
     directive_definitions, schema_definitions, schema_extensions, type_extensions,
@@ -29,7 +30,7 @@ use std::alloc::{AllocError, Global};
 
 /// All schema files as one schema. Look-ups borrow what `assemble` made, and allocate nothing.
 pub struct Schema {
-    types: Named<Shared<SchemaType>>,
+    types: Named<Batched<SchemaType>>,
     directives: Named<Sited<Shared<DirectiveDefinition>>>,
     roots: Items<Root>,
     possible: AllPossible,
@@ -55,7 +56,7 @@ impl HasName for Sited<Shared<DirectiveDefinition>> {
 }
 
 /// The types of gathered definitions.
-fn types(alloc: Global, definitions: &Gathered<'_>) -> Result<Named<Shared<SchemaType>>, AllocError>
+fn types(alloc: Global, definitions: &Gathered<'_>) -> Result<Named<Batched<SchemaType>>, AllocError>
     ensures { IfOk result (λ types. types ≡ types_of
         (map site definitions.now.types.items) (type_extensions definitions.now.others)) }
 {
@@ -67,7 +68,7 @@ fn types(alloc: Global, definitions: &Gathered<'_>) -> Result<Named<Shared<Schem
 fn roots(
     alloc: Global,
     others: &[Sited<Tree>],
-    types: &Named<Shared<SchemaType>>,
+    types: &Named<Batched<SchemaType>>,
 ) -> Result<Items<Root>, AllocError>
     ensures { IfOk result (λ roots. roots ≡ spec.roots_in others.now types.now) }
 {
@@ -79,7 +80,7 @@ fn roots(
 /// The schema with these types, by the definitions that are not of types.
 pub fn schema_with(
     alloc: Global,
-    types: Named<Shared<SchemaType>>,
+    types: Named<Batched<SchemaType>>,
     others: &[Sited<Tree>],
 ) -> Result<Schema, AllocError>
     requires { AreOnce (map name_of types) }
@@ -111,14 +112,14 @@ pub fn assemble(alloc: Global, files: &Files) -> Result<Schema, AllocError>
 
 impl Schema {
     /// The types, in the order of their first definitions.
-    pub fn types(&self) -> &[Shared<SchemaType>]
+    pub fn types(&self) -> &[Batched<SchemaType>]
         ensures { result.now ≡ self.now.types }
     {
         self.types.as_slice()
     }
 
     /// The types, with a look-up by their names.
-    pub fn named_types(&self) -> &Named<Shared<SchemaType>>
+    pub fn named_types(&self) -> &Named<Batched<SchemaType>>
         ensures { result.now ≡ self.now.types }
     {
         &self.types
@@ -139,7 +140,7 @@ impl Schema {
     }
 
     /// The type of that name, which can be shared.
-    pub fn shared(&self, name: &str) -> Option<&Shared<SchemaType>>
+    pub fn shared(&self, name: &str) -> Option<&Batched<SchemaType>>
         ensures { option_copied result ≡ spec.type_named self.now name.now }
     {
         self.types.get(name)

@@ -9,6 +9,7 @@ ghost use Rattle.gql_types.specs.RequiredInputs.{is_required_input};
 ghost use Rattle.gql_types.specs.Sites.{site};
 ghost use Rattle.gql_types.specs.Types as spec;
 
+use crate::batched::{BatchList, Batched};
 use crate::by_name::{ByName, by_name};
 use crate::defined_inputs::{DefinedInput, DefinedInputs};
 use crate::first_definitions::first_definitions;
@@ -203,7 +204,7 @@ pub(crate) fn made_type(
     definition: &TypeSite<'_>,
     extensions: &ByName<'_, Sited<Shared<TypeExtension>>>,
     source: &mut SourceFile,
-) -> Result<Shared<SchemaType>, AllocError>
+) -> Result<SchemaType, AllocError>
     ensures { IfOk result (λ t.
         t ≡ type_by (λ q. option_map_or (λ group. map (λ x. x.now) group.items)
         (hash.get_by_text extensions.now q) []) (site definition.now)) }
@@ -211,25 +212,25 @@ pub(crate) fn made_type(
     let definition = definition.shared(alloc, source)?;
     let of_type = with_extensions(alloc, &definition, extensions)?;
     *source = same_source(&definition.file)?;
-    let made = Shared::new(alloc, of_type)?;
-    Ok(made)
+    Ok(of_type)
 }
 
 fn all_with_extensions(
     alloc: Global,
     definitions: &[TypeSite<'_>],
     extensions: &ByName<'_, Sited<Shared<TypeExtension>>>,
-) -> Result<Vec<Shared<SchemaType>>, AllocError>
+) -> Result<Vec<Batched<SchemaType>>, AllocError>
     ensures { IfOk result (λ types.
         types.items ≡ map (type_by (λ q. option_map_or (λ group. map (λ x. x.now) group.items)
         (hash.get_by_text extensions.now q) [])) (map site definitions.now)) }
 {
-    let mut types = Vec::with_capacity(alloc, definitions.len())?;
+    let mut types = BatchList::with_capacity(alloc, definitions.len())?;
     let mut source = None;
     for definition in definitions {
         let of_type = made_type(alloc, definition, extensions, &mut source)?;
-        types.push(of_type)?;
+        types.add(of_type)?;
     }
+    let types = types.finish(alloc)?;
     Ok(types)
 }
 
@@ -238,7 +239,7 @@ pub fn types_of(
     alloc: Global,
     definitions: &[TypeSite<'_>],
     extensions: &[Sited<Shared<TypeExtension>>],
-) -> Result<Vec<Shared<SchemaType>>, AllocError>
+) -> Result<Vec<Batched<SchemaType>>, AllocError>
     ensures { IfOk result (λ types.
         types.items ≡ spec.types_of (map site definitions.now) extensions.now) }
 {

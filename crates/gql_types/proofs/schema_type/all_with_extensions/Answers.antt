@@ -8,5 +8,5 @@ use Rattle.gql_types.proofs.schema_type.all_with_extensions.Goals as goal
 
 pub loop-definition-preserved : goal.loop-definition-preserved
 loop-definition-preserved c = made_step (type_by (λ q. option_map_or (λ group. map (λ x. x.now) group.items) (hash.get_by_text c.args.extensions.now q) [])) site
-    c.args.definitions.now c.loop-definition.definition-index c.definition-item.result c.loop-definition.types.items c.push.new.self.items
+    c.args.definitions.now c.loop-definition.definition-index c.definition-item.result c.loop-definition.types c.add.new.self
     (search rules) (search rules) c.loop-definition.invariant (search rules)

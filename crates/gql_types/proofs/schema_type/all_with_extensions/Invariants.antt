@@ -6,5 +6,5 @@ use Rattle.gql_types.specs.Sites.{site}
 use Rattle.gql_types.proofs.schema_type.all_with_extensions.Given as goal
 
 abbrev pub invariant-loop-definition : goal.invariant-loop-definition
-invariant-loop-definition l = l.types.items ≡ map (type_by (λ q. option_map_or (λ group. map (λ x. x.now) group.items) (hash.get_by_text l.extensions q) []))
+invariant-loop-definition l = l.types ≡ map (type_by (λ q. option_map_or (λ group. map (λ x. x.now) group.items) (hash.get_by_text l.extensions q) []))
     (map site (take l.definition-index l.definitions))

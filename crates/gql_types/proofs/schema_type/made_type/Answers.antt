@@ -5,5 +5,5 @@ use Rattle.gql_types.specs.EditedTypes.{type_by}
 use Rattle.gql_types.proofs.schema_type.made_type.Goals as goal
 
 pub returns : goal.returns
-returns c = c.in_ok-made.ensures ∙ c.in_ok-of_type.ensures
+returns c = c.in_ok-of_type.ensures
     ∙ ap (type_by (λ q. option_map_or (λ group. map (λ x. x.now) group.items) (hash.get_by_text c.args.extensions.now q) [])) c.in_ok-definition.ensures
