@@ -12,6 +12,7 @@ pub mod Kinds
 pub mod Marks
 pub mod NamePlaces
 pub mod Names
+pub mod Outlines
 pub mod Parts
 pub mod Possible
 pub mod Prints
