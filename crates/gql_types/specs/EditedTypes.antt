@@ -51,9 +51,9 @@ AreExtensions edit extensions = (q : List ℕ) → extensions_at edit q
 -- The types of these definitions after the edit, if it changes no types but those of edited names;
 -- with their names, the prints of these, and where types stood that are kept.
 pub record AreMade (edit : TypeEdit) (sites : List (Sited TypeDefinition)) (list : TypeList) : Type 0
-    where
-  pub types : KeepsTypes edit.edited.now edit.schema.now (map (type_by (extensions_at edit)) sites)
-      → list.types ≡ map (type_by (extensions_at edit)) sites
-  pub names : map name_of list.types ≡ map defined_name sites
-  pub prints : list.prints.items ≡ map print_of (map defined_name sites)
-  pub places : AllZip (IsConcreteAt edit.schema.now.types) list.places.items list.types
+  where
+    pub types : KeepsTypes edit.edited.now edit.schema.now (map (type_by (extensions_at edit)) sites)
+        → list.types ≡ map (type_by (extensions_at edit)) sites
+    pub names : map name_of list.types ≡ map defined_name sites
+    pub prints : list.prints.items ≡ map print_of (map defined_name sites)
+    pub places : AllZip (IsConcreteAt edit.schema.now.types) list.places.items list.types

@@ -56,7 +56,10 @@ impl HasName for Sited<Shared<DirectiveDefinition>> {
 }
 
 /// The types of gathered definitions.
-fn types(alloc: Global, definitions: &Gathered<'_>) -> Result<Named<Batched<SchemaType>>, AllocError>
+fn types(
+    alloc: Global,
+    definitions: &Gathered<'_>,
+) -> Result<Named<Batched<SchemaType>>, AllocError>
     ensures { IfOk result (λ types. types ≡ types_of
         (map site definitions.now.types.items) (type_extensions definitions.now.others)) }
 {
