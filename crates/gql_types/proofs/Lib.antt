@@ -14,4 +14,5 @@ pub mod Others
 pub mod OtherTypes
 pub mod OwnPrints
 pub mod Places
+pub mod TypesAround
 pub mod Wrapping

@@ -29,6 +29,10 @@ type_by at d = assembled d (filter
 abbrev pub concrete_place : SchemaType → Option ℕ → Option ℕ
 concrete_place t stood = if is_abstract t.kind then None else stood
 
+-- the first definition of a type
+abbrev pub definition_of : SchemaType → Sited TypeDefinition
+definition_of t = t.definition
+
 -- the name of the type that a definition defines
 abbrev pub defined_name : Sited TypeDefinition → List ℕ
 defined_name d = d.node.name.text

@@ -21,5 +21,6 @@ pub mod Roots
 pub mod Schemas
 pub mod Sites
 pub mod Types
+pub mod TypesAround
 pub mod Written
 pub mod WrittenTypes

@@ -1,10 +1,10 @@
 -- Helper definitions for private contracts: where the first of each name is in a list of names.
-use Rattle.std.specs.Prelude.{◌≡◌, ℕ, List, IsTrue, bytes_eq, nat_eq}
+use Rattle.std.specs.Prelude.{◌≡◌, ℕ, List, IsTrue, bytes_eq, map, nat_eq}
 use Rattle.std.specs.HashMap as hash
 use Rattle.std.specs.HashMap.{HashMap}
 use Rattle.std.specs.List.{position_from}
 use Rattle.gql_types.specs.Names.{AreOnce}
-use Rattle.gql_types.specs.Prints.{HaveOwnPrints, has_print}
+use Rattle.gql_types.specs.Prints.{HaveOwnPrints, has_print, print_of}
 use Rattle.gql_types.specs.declared.name_places.PlacesByName.{PlacesByName}
 use Rattle.gql_types.specs.declared.name_places.Places.{Places}
 use Rattle.gql_types.specs.declared.name_places.Places.TheVariants.{ByName, ByPrint}
@@ -25,5 +25,6 @@ HasNames places names =
 
 -- these are the places of these names: by their prints, if no two of them have one print
 abbrev pub ArePlaces : Places → List (List ℕ) → Type 0
-ArePlaces (ByPrint first) names = HasPrints first names × HaveOwnPrints names
+ArePlaces (ByPrint places) names = HasPrints places.first names × HaveOwnPrints names
+    × (places.prints.items ≡ map print_of names)
 ArePlaces (ByName places) names = HasNames places names × (HaveOwnPrints names → ⊥)

@@ -36,7 +36,7 @@ pub struct TypeEdit<'e> {
     pub schema: &'e Schema,
     edited: &'e Named<Text>,
     are_edited: Vec<bool>,
-    extensions: ByName<'e, Sited<Shared<TypeExtension>>>,
+    pub extensions: ByName<'e, Sited<Shared<TypeExtension>>>,
 }
 
 /// The types after an edit. For each of them, where it stood before the edit, if the edit leaves it
@@ -58,7 +58,7 @@ fn is_kept_at(are_edited: &[bool], place: usize) -> bool
 }
 
 /// The type that stood at this place before the edit, if the edit does not change types of its name.
-fn kept_type<'e>(edit: &'e TypeEdit<'_>, stood: Option<usize>) -> Option<&'e Batched<SchemaType>>
+pub fn kept_type<'e>(edit: &'e TypeEdit<'_>, stood: Option<usize>) -> Option<&'e Batched<SchemaType>>
     requires { AreEdited edit.now }
     ensures there { IfSome (option_copied result) (λ t.
         option_and_then (λ i. slice_get edit.entry.now.schema.now.types i) stood ≡ Some t) }
@@ -150,7 +150,7 @@ impl EditedTypes {
             source: _,
         } = list;
         let types = types.finish(alloc)?;
-        match Named::of_prints(alloc, types, prints.as_slice())? {
+        match Named::of_prints(alloc, types, prints)? {
             Some(types) => Ok(Some(EditedTypes { types, places })),
             None => Ok(None),
         }

@@ -30,6 +30,7 @@ mod schema_type;
 mod sorted_names;
 mod type_list;
 mod type_site;
+mod types_around;
 mod written_type;
 
 pub use all_possible::AllPossible;

@@ -22,11 +22,18 @@ pub struct PlacesByName {
     are_once: bool,
 }
 
+/// Where the first of each name is, by the prints of the names, and these prints in their order.
+#[derive(Drop)]
+pub struct PlacesByPrint {
+    first: HashMap<u64, usize>,
+    prints: Vec<u64>,
+}
+
 /// Where the first of each name is in a list.
 #[derive(Drop)]
 pub enum Places {
     /// By the print of the name. No two names of the list have one print.
-    ByPrint(HashMap<u64, usize>),
+    ByPrint(PlacesByPrint),
     /// By the name. A name of the list occurs twice, or two have one print.
     ByName(PlacesByName),
 }
@@ -135,7 +142,7 @@ impl Places {
         ensures { IfOk result (λ places. ArePlaces places (map T.name things.now)) }
     {
         let prints = prints_of(alloc, things)?;
-        match Places::of_prints(alloc, prints.as_slice())? {
+        match Places::of_prints(alloc, prints)? {
             Some(places) => Ok(places),
             None => {
                 let places = places_by_name(alloc, things)?;
@@ -145,16 +152,29 @@ impl Places {
     }
 
     /// The places of names by their prints; none if two names have one print.
-    pub fn of_prints(alloc: Global, prints: &[u64]) -> Result<Option<Places>, AllocError>
-        ensures some { (names : List (List ℕ)) → prints.now ≡ map spec.print_of names
+    pub fn of_prints(alloc: Global, prints: Vec<u64>) -> Result<Option<Places>, AllocError>
+        ensures some { (names : List (List ℕ)) → prints.items ≡ map spec.print_of names
             → IfOk result (λ found. IfSome found (λ places.
             ArePlaces places names × HaveOwnPrints names)) }
-        ensures none { (names : List (List ℕ)) → prints.now ≡ map spec.print_of names
+        ensures none { (names : List (List ℕ)) → prints.items ≡ map spec.print_of names
             → IfOk result (λ found. IfNone found (HaveOwnPrints names → ⊥)) }
     {
-        match places_of_prints(alloc, prints)? {
-            Some(first) => Ok(Some(Places::ByPrint(first))),
+        match places_of_prints(alloc, prints.as_slice())? {
+            Some(first) => Ok(Some(Places::ByPrint(PlacesByPrint { first, prints }))),
             None => Ok(None),
+        }
+    }
+
+    /// The prints of the names, in their order; none if two names have one print.
+    pub fn prints(&self) -> Option<&[u64]>
+        ensures some { (names : List (List ℕ)) → ArePlaces self.now names
+            → IfSome result (λ prints. prints.now ≡ map spec.print_of names) }
+        ensures none { (names : List (List ℕ)) → ArePlaces self.now names
+            → IfNone result (HaveOwnPrints names → ⊥) }
+    {
+        match self {
+            Places::ByPrint(places) => Some(places.prints.as_slice()),
+            Places::ByName(_) => None,
         }
     }
 
@@ -164,7 +184,7 @@ impl Places {
         ensures { result ≡ position_from (λ x. bytes_eq name.now (T.name x)) 0 things.now }
     {
         match self {
-            Places::ByPrint(first) => place_by_print(first, things, name),
+            Places::ByPrint(places) => place_by_print(&places.first, things, name),
             Places::ByName(places) => place_by_name(&places.first, name),
         }
     }

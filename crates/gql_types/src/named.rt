@@ -98,9 +98,9 @@ impl<T: HasName + Drop> Named<T> {
     pub(crate) fn of_prints(
         alloc: Global,
         things: Vec<T>,
-        prints: &[u64],
+        prints: Vec<u64>,
     ) -> Result<Option<Named<T>>, AllocError>
-        requires { prints.now ≡ map print_of (map T.name things.items) }
+        requires { prints.items ≡ map print_of (map T.name things.items) }
         ensures some { IfOk result (λ found. IfSome found (λ named.
             (named ≡ things.items) × HaveOwnPrints (map T.name things.items))) }
         ensures none { IfOk result (λ found. IfNone found (
@@ -171,6 +171,16 @@ impl<T: HasName> Named<T> {
         match &self.list {
             Some(list) => list.get().as_slice(),
             None => &[],
+        }
+    }
+
+    /// The prints of the names, in their order, if they are at hand.
+    pub(crate) fn prints(&self) -> Option<&[u64]>
+        ensures { IfSome result (λ prints. prints.now ≡ map print_of (map T.name self.now)) }
+    {
+        match &self.list {
+            Some(list) => list.get().prints(),
+            None => None,
         }
     }
 

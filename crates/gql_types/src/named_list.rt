@@ -137,9 +137,9 @@ impl<T: HasName + Drop> NamedList<T> {
     pub fn of_prints(
         alloc: Global,
         things: Vec<T>,
-        prints: &[u64],
+        prints: Vec<u64>,
     ) -> Result<Option<NamedList<T>>, AllocError>
-        requires { prints.now ≡ map print_of (map T.name things.items) }
+        requires { prints.items ≡ map print_of (map T.name things.items) }
         ensures some { IfOk result (λ found. IfSome found (λ named.
             (named ≡ things.items) × HaveOwnPrints (map T.name things.items))) }
         ensures none { IfOk result (λ found. IfNone found (
@@ -187,6 +187,17 @@ impl<T: HasName> NamedList<T> {
         ensures { result.now ≡ self.now }
     {
         self.things.as_slice()
+    }
+
+    /// The prints of the names, in their order; none if two names have one print, or if the things are
+    /// few.
+    pub fn prints(&self) -> Option<&[u64]>
+        ensures { IfSome result (λ prints. prints.now ≡ map print_of (map T.name self.now)) }
+    {
+        match &self.places {
+            Some(places) => places.get().prints(),
+            None => None,
+        }
     }
 
     /// Whether it is known that each name occurs once.
