@@ -1,6 +1,6 @@
 -- Helper definitions for private contracts: the types of definitions, by the extensions of each name,
 -- and the schema before an edit.
-use Rattle.std.specs.Prelude.{◌≡◌, ℕ, List, [], Option, None, bytes_eq, filter, if◌then◌else◌, map}
+use Rattle.std.specs.Prelude.{◌≡◌, ℕ, List, [], Option, None, IsTrue, bytes_eq, filter, if◌then◌else◌, map}
 use Rattle.std.specs.HashMap as hash
 use Rattle.std.specs.List.{AllZip}
 use Rattle.std.specs.Option.{option_map_or}
@@ -10,11 +10,12 @@ use Rattle.gql_built_in.specs.declared.sited.Sited.{Sited}
 use Rattle.gql_types.specs.Edits.{KeepsTypes}
 use Rattle.gql_types.specs.Kinds.{is_abstract, same_kind}
 use Rattle.gql_types.specs.KeptTypes.{IsConcreteAt}
-use Rattle.gql_types.specs.Names.{are_among}
+use Rattle.gql_types.specs.Names.{AreOnce, are_among}
 use Rattle.gql_types.specs.Parts.{kind_of}
 use Rattle.gql_types.specs.Possible.{name_of}
 use Rattle.gql_types.specs.Prints.{print_of}
-use Rattle.gql_types.specs.Types.{assembled}
+use Rattle.gql_types.specs.Types.{assembled, types_of}
+use Rattle.gql_types.specs.declared.edited_types.EditedTypes.{EditedTypes}
 use Rattle.gql_types.specs.declared.edited_types.TypeEdit.{TypeEdit}
 use Rattle.gql_types.specs.declared.schema_type.SchemaType.{SchemaType}
 use Rattle.gql_types.specs.declared.type_list.TypeList.{TypeList}
@@ -61,3 +62,14 @@ pub record AreMade (edit : TypeEdit) (sites : List (Sited TypeDefinition)) (list
     pub names : map name_of list.types ≡ map defined_name sites
     pub prints : list.prints.items ≡ map print_of (map defined_name sites)
     pub places : AllZip (IsConcreteAt edit.schema.now.types) list.places.items list.types
+
+-- The types of these definitions after the edit, each taken for the first of its name, if it changes
+-- no types but those of edited names; with where types stood that are kept. And where it is said that
+-- each type is defined once, it is.
+pub record AreTypesAfter (edit : TypeEdit) (sites : List (Sited TypeDefinition))
+    (after : EditedTypes) : Type 0 where
+  pub types : (extensions : List (Sited TypeExtension)) → AreExtensions edit extensions
+      → KeepsTypes edit.edited.now edit.schema.now (types_of sites extensions)
+      → after.types ≡ types_of sites extensions
+  pub places : AllZip (IsConcreteAt edit.schema.now.types) after.places.items after.types
+  pub once : IsTrue after.are_once → AreOnce (map defined_name sites)

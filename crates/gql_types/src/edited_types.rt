@@ -1,12 +1,12 @@
 //! The types of a schema after an edit of a schema file. A type that the edit leaves as it is is
 //! shared with the schema before the edit.
-ghost use Rattle.std.specs.Prelude.{◌≡◌, ◌++◌, ◌∷◌, [], List, IfNone, IfOk, IfSome, IsTrue, OnOk, Some, bytes_eq, false, find, is_some, map, option_and_then, slice_get};
+ghost use Rattle.std.specs.Prelude.{◌≡◌, ◌↔◌, ◌++◌, ◌∷◌, [], List, IfNone, IfOk, IfSome, IsTrue, OnOk, Some, bytes_eq, false, find, is_some, map, option_and_then, slice_get};
 ghost use Rattle.std.specs.Option.{option_copied};
 ghost use Rattle.std.specs.List.{AllZip, position_from};
 ghost use Rattle.gql_ast.specs.declared.type_system.TypeDefinition.{TypeDefinition};
 ghost use Rattle.gql_ast.specs.declared.type_system.TypeExtension.{TypeExtension as TheExtension};
 ghost use Rattle.gql_built_in.specs.declared.sited.Sited.{Sited as TheSited};
-ghost use Rattle.gql_types.specs.EditedTypes.{AreEdited, AreExtensions, AreMade};
+ghost use Rattle.gql_types.specs.EditedTypes.{AreEdited, AreExtensions, AreMade, AreTypesAfter, defined_name};
 ghost use Rattle.gql_types.specs.Edits.{KeepsTypes};
 ghost use Rattle.gql_types.specs.KeptTypes.{IsConcreteAt};
 ghost use Rattle.gql_types.specs.Possible.{name_of};
@@ -45,6 +45,8 @@ pub struct TypeEdit<'e> {
 pub struct EditedTypes {
     pub types: Named<Batched<SchemaType>>,
     pub places: Vec<Option<usize>>,
+    /// Whether it is known that each type is defined once.
+    pub are_once: bool,
 }
 
 /// Whether the type at a place is not edited.
@@ -139,7 +141,7 @@ impl EditedTypes {
         requires { list.prints.items ≡ map prints.print_of (map name_of list.types) }
         ensures some { IfOk result (λ found. IfSome found (λ after.
             (after.types ≡ list.types) × (after.places.items ≡ list.places.items)
-            × HaveOwnPrints (map name_of list.types))) }
+            × HaveOwnPrints (map name_of list.types) × IsTrue after.are_once)) }
         ensures none { IfOk result (λ found. IfNone found (
             HaveOwnPrints (map name_of list.types) → ⊥)) }
     {
@@ -151,13 +153,44 @@ impl EditedTypes {
         } = list;
         let types = types.finish(alloc)?;
         match Named::of_prints(alloc, types, prints)? {
-            Some(types) => Ok(Some(EditedTypes { types, places })),
+            Some(types) => Ok(Some(EditedTypes {
+                types,
+                places,
+                are_once: true,
+            })),
             None => Ok(None),
         }
     }
 
-    /// These types, with a look-up by their names.
+    /// These types, with a look-up by their names. It is not known whether each is defined once.
     fn with_names(alloc: Global, list: TypeList) -> Result<EditedTypes, AllocError>
+        ensures types { IfOk result (λ after. after.types ≡ list.types) }
+        ensures places { IfOk result (λ after. after.places.items ≡ list.places.items) }
+        ensures once { IfOk result (λ after. after.are_once ≡ false) }
+    {
+        let TypeList {
+            types,
+            places,
+            prints: _,
+            source: _,
+        } = list;
+        let types = types.finish(alloc)?;
+        let types = Named::new(alloc, types)?;
+        Ok(EditedTypes {
+            types,
+            places,
+            are_once: false,
+        })
+    }
+
+    /// These types, which have the names of others in the same order, each once. They share the look-up
+    /// of those.
+    pub fn with_names_of(
+        alloc: Global,
+        list: TypeList,
+        others: &Named<Batched<SchemaType>>,
+    ) -> Result<EditedTypes, AllocError>
+        requires { map name_of list.types ≡ map name_of others.now }
         ensures types { IfOk result (λ after. after.types ≡ list.types) }
         ensures places { IfOk result (λ after. after.places.items ≡ list.places.items) }
     {
@@ -168,8 +201,12 @@ impl EditedTypes {
             source: _,
         } = list;
         let types = types.finish(alloc)?;
-        let types = Named::new(alloc, types)?;
-        Ok(EditedTypes { types, places })
+        let types = Named::of_names(alloc, types, others)?;
+        Ok(EditedTypes {
+            types,
+            places,
+            are_once: true,
+        })
     }
 }
 
@@ -204,13 +241,9 @@ pub fn types_after_edit(
     edit: &TypeEdit<'_>,
 ) -> Result<EditedTypes, AllocError>
     requires { AreEdited edit.now }
-    ensures types { IfOk result (λ after. (extensions : List (TheSited TheExtension))
-        → AreExtensions edit.now extensions
-        → KeepsTypes edit.now.edited.now edit.now.schema.now
-        (spec.types_of (map site definitions.now) extensions)
-        → after.types ≡ spec.types_of (map site definitions.now) extensions) }
-    ensures places { IfOk result (λ after.
-        AllZip (IsConcreteAt edit.now.schema.now.types) after.places.items after.types) }
+    ensures types { IfOk result (AreTypesAfter edit.now (map site definitions.now)) }
+    ensures once { IfOk result (λ after. IsTrue after.are_once
+        ↔ HaveOwnPrints (map defined_name (map site definitions.now))) }
 {
     let list = all_types(alloc, edit, definitions)?;
     if let Some(after) = EditedTypes::with_own_prints(alloc, list)? {
