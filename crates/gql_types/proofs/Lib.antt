@@ -4,6 +4,7 @@ pub mod EachPossible
 pub mod EditedTypes
 pub mod Filling
 pub mod Filtering
+pub mod FirstOutlines
 pub mod Firsts
 pub mod Groups
 pub mod KeptTypes

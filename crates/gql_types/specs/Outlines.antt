@@ -29,10 +29,10 @@ outline_at file = (file.0, outline_of file.1)
 
 -- this is what each schema file gives to the schema; and where it is said that each type is defined
 -- once, it is
-pub record IsOutline (files : Files) (outline : Outline) : Type 0 where
-  pub files : outline.files ≡ map outline_at files.schema
+pub record IsOutline (all : Files) (outline : Outline) : Type 0 where
+  pub files : outline.files ≡ map outline_at all.schema
   pub once : IsTrue outline.are_once
-      → AreOnce (map defined_name (type_definitions (definitions files)))
+      → AreOnce (map defined_name (type_definitions (definitions all)))
 
 module _ {T : Type 0} where
   -- the files with this one in place of any of its name; or without the file of that name, if there is

@@ -73,8 +73,8 @@ fn add_all(
 impl FileOutline {
     /// What a file gives, of which these are the definitions.
     pub fn of(definitions: Gathered<'_>) -> FileOutline
-        ensures types { result.types ≡ length definitions.types.items }
-        ensures others { result.others ≡ definitions.others }
+        ensures types { result.types ≡ length definitions.entry.types.items }
+        ensures others { result.others ≡ definitions.entry.others }
     {
         let Gathered {
             types,
