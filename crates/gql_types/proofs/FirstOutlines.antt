@@ -1,6 +1,6 @@
 -- The outlines of the files that come first, and that of one file more.
 use Rattle.std.proofs.Common.{◌≡◌, ◌++◌, ℕ, List, [], ◌∷◌, map, refl, sym, ap, ◌∙◌, subst}
-use Rattle.std.proofs.lemmas.List.{append_assoc, append-nil}
+use Rattle.std.proofs.lemmas.List.{append_assoc, append-nil, map-append}
 use Rattle.std.specs.List.{AllByRecursion}
 use Rattle.std.specs.List.Sorted.{IsStrictlySortedBy}
 use Rattle.std.specs.Map.{keys_of}
@@ -53,5 +53,5 @@ one_more files rest left outlines more k a b sorted first next is put =
       are = put ∙ ap (λ es. with_file es k b) first.are
           ∙ put_last outline_of k a b first.done left (subst (λ es. IsStrictlySortedBy name_order (keys_of es)) split sorted)
           ∙ ap (λ o. map outline_at first.done ++ (k, o) ∷ []) is
-          ∙ ?;
+          ∙ sym (map-append outline_at first.done ((k, a) ∷ []));
     }

@@ -1,3 +1,4 @@
+pub mod CountedOutlines
 pub mod Declaring
 pub mod EachOnce
 pub mod EachPossible

@@ -3,5 +3,5 @@ use Rattle.gql_types.specs.Outlines.{all_others}
 use Rattle.gql_types.specs.Sites.{others_in}
 use Rattle.gql_types.proofs.outline.Outline.others.Given as goal
 
-abbrev pub invariant-loop-_name : goal.invariant-loop-_name
-invariant-loop-_name l = l.found ++ all_others l._name-iterator ≡ others_in l.built_in ++ all_others l.self.files
+abbrev pub invariant-loop-name : goal.invariant-loop-name
+invariant-loop-name l = l.found ++ all_others l._name-iterator ≡ others_in l.built_in ++ all_others l.self.files
