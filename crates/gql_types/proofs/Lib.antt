@@ -1,9 +1,11 @@
+pub mod CountedOutlines
 pub mod Declaring
 pub mod EachOnce
 pub mod EachPossible
 pub mod EditedTypes
 pub mod Filling
 pub mod Filtering
+pub mod FirstOutlines
 pub mod Firsts
 pub mod Groups
 pub mod KeptTypes

@@ -29,17 +29,17 @@ outline_at file = (file.0, outline_of file.1)
 
 -- this is what each schema file gives to the schema; and where it is said that each type is defined
 -- once, it is
-pub record IsOutline (files : Files) (outline : Outline) : Type 0 where
-  pub files : outline.files ≡ map outline_at files.schema
+pub record IsOutline (all : Files) (outline : Outline) : Type 0 where
+  pub files : outline.files ≡ map outline_at all.schema
   pub once : IsTrue outline.are_once
-      → AreOnce (map defined_name (type_definitions (definitions files)))
+      → AreOnce (map defined_name (type_definitions (definitions all)))
 
--- the files with this file in place of any of its name; or without the file of that name, if there is
--- none to put
-abbrev pub edited_files : List (List ℕ × Document) → List ℕ → Option Document
-    → List (List ℕ × Document)
-edited_files files name (Some document) = with_file files name document
-edited_files files name None = without_file files name
+module _ {T : Type 0} where
+  -- the files with this one in place of any of its name; or without the file of that name, if there is
+  -- none to put
+  abbrev pub edited_files : List (List ℕ × T) → List ℕ → Option T → List (List ℕ × T)
+  edited_files files name (Some file) = with_file files name file
+  edited_files files name None = without_file files name
 
 -- The schema and the outline are those of files before an edit that makes these files: it puts this
 -- file under its name, or removes the file of that name if there is none to put.

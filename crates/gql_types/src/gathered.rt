@@ -6,7 +6,7 @@ ghost use Rattle.gql_types.specs.Definitions as spec;
 ghost use Rattle.gql_types.specs.Sites.{others_in, site};
 
 use crate::type_site::{TypeSite, source_like};
-use gql_ast::{Definition, FileName, Files, Items, Shared, Tree, TypeDefinition};
+use gql_ast::{Definition, Document, FileName, Files, Items, Shared, Tree, TypeDefinition};
 use gql_built_in::{Sited, SourceFile, name_of_source};
 use std::alloc::{AllocError, Global};
 
@@ -17,7 +17,7 @@ pub struct Gathered<'d> {
     pub types: Vec<TypeSite<'d>>,
     pub others: Items<Sited<Tree>>,
     /// The file of the last of the others, whose name is shared.
-    source: SourceFile,
+    pub source: SourceFile,
 }
 
 fn names_a_type(name: &str) -> bool
@@ -109,6 +109,30 @@ impl<'d> Gathered<'d> {
         }
         Ok(())
     }
+
+    /// No definitions.
+    fn none(alloc: Global) -> Gathered<'d>
+        ensures types { result.types.items ≡ [] }
+        ensures others { result.others ≡ [] }
+    {
+        Gathered {
+            types: Vec::new(alloc),
+            others: Items::new(alloc),
+            source: None,
+        }
+    }
+
+    /// The definitions of a file.
+    pub fn of_file(alloc: Global, document: &'d Document) -> Result<Gathered<'d>, AllocError>
+        ensures types { IfOk result (λ found. map site found.types.items
+            ≡ spec.type_definitions (spec.in_order_of document.now.definitions)) }
+        ensures others { IfOk result (λ found. found.others
+            ≡ others_in (spec.in_order_of document.now.definitions)) }
+    {
+        let mut found = Gathered::none(alloc);
+        found.add_file(alloc, document.definitions.as_slice())?;
+        Ok(found)
+    }
 }
 
 /// The definitions of the schema files, after the built-in ones.
@@ -122,11 +146,7 @@ pub fn gather<'d>(
     ensures others { IfOk result (λ found. found.others
         ≡ others_in (built_in.now ++ spec.of_files files.now.schema)) }
 {
-    let mut found = Gathered {
-        types: Vec::new(alloc),
-        others: Items::new(alloc),
-        source: None,
-    };
+    let mut found = Gathered::none(alloc);
     found.add_built_in(alloc, built_in)?;
     for (_name, document) in files.schema.entries().iter() {
         found.add_file(alloc, document.get().definitions.as_slice())?;
