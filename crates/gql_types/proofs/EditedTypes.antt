@@ -9,7 +9,7 @@ use Rattle.std.proofs.lemmas.Slice.Eq.{bytes_eq-Decides}
 use Rattle.gql_ast.specs.declared.type_system.TypeDefinition.{TypeDefinition}
 use Rattle.gql_ast.specs.declared.type_system.TypeExtension.{TypeExtension}
 use Rattle.gql_built_in.specs.declared.sited.Sited.{Sited}
-use Rattle.gql_types.specs.EditedTypes.{AreExtensions, AreMade, concrete_place, defined_name, extensions_at, type_by}
+use Rattle.gql_types.specs.EditedTypes.{AreExtensions, AreMade, AreTypesAfter, concrete_place, defined_name, extensions_at, type_by}
 use Rattle.gql_types.specs.Edits.{KeepsType, KeepsTypes}
 use Rattle.gql_types.specs.Kinds.{is_abstract}
 use Rattle.gql_types.specs.KeptTypes.{IsConcreteAt}
@@ -19,6 +19,7 @@ use Rattle.gql_types.specs.Prints.{print_of}
 use Rattle.gql_types.specs.Types.{first_definitions, types_of}
 use Rattle.gql_types.specs.declared.schema.Schema.{Schema}
 use Rattle.gql_types.specs.declared.schema_type.SchemaType.{SchemaType}
+use Rattle.gql_types.specs.declared.edited_types.EditedTypes.{EditedTypes}
 use Rattle.gql_types.specs.declared.edited_types.TypeEdit.{TypeEdit}
 use Rattle.gql_types.specs.declared.type_list.TypeList.{TypeList}
 use Rattle.gql_types.proofs.Filtering.{either}
@@ -109,6 +110,23 @@ pub made_once : (edit : TypeEdit) (ds : List (Sited TypeDefinition)) (extensions
     → map (type_by (extensions_at edit)) ds ≡ types_of ds extensions
 made_once edit ds extensions are once = ap (map (type_by (extensions_at edit))) (sym (all_first ds once)) ∙ made_firsts edit ds extensions are
 
+-- the same, of types that are made in two ways
+pub kept_same : (names : List (List ℕ)) (before : Schema) (found one other : List SchemaType) → one ≡ other
+    → (KeepsTypes names before one → found ≡ one) → KeepsTypes names before other → found ≡ other
+kept_same names before found one other same is keeps = is (subst (KeepsTypes names before) (sym same) keeps) ∙ same
+
+-- what is said of types that are made of definitions of different names
+pub types_after_once : (edit : TypeEdit) (sites : List (Sited TypeDefinition)) (list : TypeList) (after : EditedTypes) → AreOnce (map defined_name sites) → AreMade edit sites list
+    → after.types ≡ list.types → after.places.items ≡ list.places.items → AreTypesAfter edit sites after
+types_after_once edit sites list after once made types places = record {
+  types = λ extensions are keeps.
+      types ∙ kept_same edit.edited.now edit.schema.now list.types (map (type_by (extensions_at edit)) sites) (types_of sites extensions)
+      (made_once edit sites extensions are once) made.types keeps;
+  places = subst (AllZip (IsConcreteAt edit.schema.now.types) after.places.items) (sym types)
+      (subst (λ ps. AllZip (IsConcreteAt edit.schema.now.types) ps list.types) (sym places) made.places);
+  once = λ said. once;
+}
+
 -- what follows from three facts about a success
 pub three_ok : {T E : Type 0} {A B C D : Type 0} (r : Result T E) → (A → B → C → D) → OnOk r A → OnOk r B → OnOk r C → OnOk r D
 three_ok (Ok x) gives a b c = gives a b c
@@ -151,8 +169,3 @@ unedited_there names types marks i (Some t) are mark is =
     sym mark ∙ ap (λ ms. slice_get ms i) are ∙ slice_get-map (λ n. is_some (find (bytes_eq n) names)) (map name_of types) i
     ∙ ap (option_map (λ n. is_some (find (bytes_eq n) names))) (slice_get-map name_of types i ∙ ap (option_map name_of) (sym is)) in
     cc (sym both)
-
--- the same, of types that are made in two ways
-pub kept_same : (names : List (List ℕ)) (before : Schema) (found one other : List SchemaType) → one ≡ other
-    → (KeepsTypes names before one → found ≡ one) → KeepsTypes names before other → found ≡ other
-kept_same names before found one other same is keeps = is (subst (KeepsTypes names before) (sym same) keeps) ∙ same

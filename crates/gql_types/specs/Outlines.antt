@@ -6,6 +6,7 @@ use Rattle.gql_ast.specs.FileMaps.{name_order, with_file, without_file}
 use Rattle.gql_ast.specs.declared.definition.Document.{Document}
 use Rattle.gql_ast.specs.declared.definition.Tree.{Tree}
 use Rattle.gql_ast.specs.declared.files.Files.{Files}
+use Rattle.gql_ast.specs.declared.type_system.TypeDefinition.{TypeDefinition}
 use Rattle.gql_built_in.specs.declared.sited.Sited.{Sited}
 use Rattle.gql_types.specs.Definitions.{definitions, in_order_of, type_definitions}
 use Rattle.gql_types.specs.EditedTypes.{defined_name}
@@ -15,6 +16,11 @@ use Rattle.gql_types.specs.Sites.{others_in}
 use Rattle.gql_types.specs.declared.outline.FileOutline.{FileOutline}
 use Rattle.gql_types.specs.declared.outline.Outline.{Outline}
 use Rattle.gql_types.specs.declared.schema.Schema.{Schema}
+
+-- the definitions of types in a file; none if there is no file
+abbrev pub types_in : Option Document → List (Sited TypeDefinition)
+types_in (Some document) = type_definitions (in_order_of document.definitions)
+types_in None = []
 
 -- what a file gives to the schema
 abbrev pub outline_of : Document → FileOutline

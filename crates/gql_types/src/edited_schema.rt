@@ -1,67 +1,197 @@
 //! The schema of all schema files after an edit of one of them.
-ghost use Rattle.std.specs.Prelude.{◌≡◌, IfOk, map};
-ghost use Rattle.std.specs.List.{AllZip};
-ghost use Rattle.gql_ast.specs.declared.files.Files.{Files as TheFiles};
-ghost use Rattle.gql_types.specs.Definitions.{type_extensions};
-ghost use Rattle.gql_types.specs.Edits.{KeepsOthers, KeepsTypes};
-ghost use Rattle.gql_types.specs.KeptTypes.{AreKeptAt, IsConcreteAt};
-ghost use Rattle.gql_types.specs.Schemas as spec;
+ghost use Rattle.std.specs.Prelude.{◌≡◌, IfOk, IsTrue, length, map, option_map};
+ghost use Rattle.std.specs.Option.{option_copied};
+ghost use Rattle.gql_ast.specs.declared.type_system.TypeDefinition.{TypeDefinition};
+ghost use Rattle.gql_built_in.specs.BuiltIn.{built_in as all_built_in};
+ghost use Rattle.gql_built_in.specs.declared.sited.Sited.{Sited as TheSited};
+ghost use Rattle.gql_types.specs.Definitions.{definitions, type_definitions};
+ghost use Rattle.gql_types.specs.EditedTypes.{AreEdited, AreTypesAfter, definition_of};
+ghost use Rattle.gql_types.specs.Edits.{KeepsOthers};
+ghost use Rattle.gql_types.specs.KeptTypes.{AreKeptAt};
+ghost use Rattle.gql_types.specs.Outlines as spec;
+ghost use Rattle.gql_types.specs.Schemas.{schema_of};
 ghost use Rattle.gql_types.specs.Sites.{site};
-ghost use Rattle.gql_types.specs.Types.{types_of};
+ghost use Rattle.gql_types.specs.TypesAround.{ArePlaced, others_around};
 
 use crate::definitions::type_extensions;
 use crate::edited_types::{EditedTypes, TypeEdit, types_after_edit};
 use crate::gathered::{Gathered, gather};
 use crate::named::Named;
-use crate::schema::{Schema, schema_with};
-use gql_ast::{Files, Text};
-use gql_built_in::built_in_definitions;
+use crate::outline::{FileOutline, Outline};
+use crate::schema::{Schema, assemble, schema_with};
+use crate::type_site::TypeSite;
+use crate::types_around::taken_over;
+use gql_ast::{Document, FileName, Files, Text, Tree};
+use gql_built_in::{Sited, built_in_definitions};
 use std::alloc::{AllocError, Global};
 
-/// The schema after an edit. For each of its types, where it stood among those before the edit, if it
-/// is known to be the same and to have the same possible types.
+/// A schema, and the outline of its files.
+#[derive(Drop)]
+pub struct Assembled {
+    pub schema: Schema,
+    pub outline: Outline,
+}
+
+/// The schema after an edit, and the outline of its files. For each of its types, where it stood among
+/// those before the edit, if it is known to be the same and to have the same possible types.
 #[derive(Drop)]
 pub struct EditedSchema {
     pub schema: Schema,
+    pub outline: Outline,
     pub places: Vec<Option<usize>>,
 }
 
-/// The types of gathered definitions after an edit, by the schema before it.
-fn types_after(
-    alloc: Global,
-    definitions: &Gathered<'_>,
-    before: &Schema,
-    edited: &Named<Text>,
-) -> Result<EditedTypes, AllocError>
-    ensures types { IfOk result (λ after. KeepsTypes edited.now before.now (types_of
-        (map site definitions.now.types.items) (type_extensions definitions.now.others))
-        → after.types ≡ types_of (map site definitions.now.types.items)
-        (type_extensions definitions.now.others)) }
-    ensures places { IfOk result (λ after.
-        AllZip (IsConcreteAt before.now.types) after.places.items after.types) }
+/// The schema of all schema files, as `assemble` makes it, and the outline of the files, by which an
+/// edit of one of them takes over what the others give.
+pub fn assemble_outlined(alloc: Global, files: &Files) -> Result<Assembled, AllocError>
+    ensures schema { IfOk result (λ all. all.schema ≡ schema_of files.now) }
+    ensures outline { IfOk result (λ all. spec.IsOutline files.now all.outline) }
 {
-    let extensions = type_extensions(alloc, definitions.others.as_slice())?;
-    let edit = TypeEdit::new(alloc, before, edited, extensions.as_slice())?;
-    let types = types_after_edit(alloc, definitions.types.as_slice(), &edit)?;
+    let schema = assemble(alloc, files)?;
+    let outline = Outline::of_files(alloc, files)?;
+    Ok(Assembled { schema, outline })
+}
+
+/// How many types the built-in definitions define.
+fn count_built_in(alloc: Global, built_in: &[Sited<Tree>]) -> Result<usize, AllocError>
+    ensures { IfOk result (λ count. count ≡ length (type_definitions built_in.now)) }
+{
+    let found = Gathered::of_built_in(alloc, built_in)?;
+    Ok(found.types.len())
+}
+
+/// The definitions of types in a file; none if there is no file.
+fn types_in(alloc: Global, document: Option<&Document>) -> Result<Vec<TypeSite<'_>>, AllocError>
+    ensures { IfOk result (λ found.
+        map site found.items ≡ spec.types_in (option_copied document.entry)) }
+{
+    match document {
+        Some(document) => {
+            let Gathered {
+                types,
+                others: _,
+                source: _,
+            } = Gathered::of_file(alloc, document)?;
+            Ok(types)
+        }
+        None => Ok(Vec::new(alloc)),
+    }
+}
+
+/// What a file gives to the schema, if there is one.
+fn outline_in(alloc: Global, document: Option<&Document>) -> Result<Option<FileOutline>, AllocError>
+    ensures { IfOk result (λ outline.
+        outline ≡ option_map spec.outline_of (option_copied document.entry)) }
+{
+    match document {
+        Some(document) => {
+            let outline = FileOutline::of_file(alloc, document)?;
+            Ok(Some(outline))
+        }
+        None => Ok(None),
+    }
+}
+
+/// The types of all definitions of the schema files, each read again.
+fn types_of_all(
+    alloc: Global,
+    edit: &TypeEdit<'_>,
+    built_in: &[Sited<Tree>],
+    files: &Files,
+) -> Result<EditedTypes, AllocError>
+    requires edited { AreEdited edit.now }
+    requires built_in { built_in.now ≡ all_built_in }
+    ensures { IfOk result (AreTypesAfter edit.now (type_definitions (definitions files.now))) }
+{
+    let found = gather(alloc, built_in, files)?;
+    let after = types_after_edit(alloc, found.types.as_slice(), edit)?;
+    Ok(after)
+}
+
+/// The outline that has the other files: the one after an edit that puts a file, or the one before it.
+fn others_of<'o>(
+    document: Option<&Document>,
+    before: &'o Outline,
+    after: &'o Outline,
+) -> &'o Outline
+    ensures { result.now.files
+        ≡ others_around (option_copied document.entry) before.entry.now after.entry.now }
+{
+    match document {
+        Some(_) => after,
+        None => before,
+    }
+}
+
+/// The types after an edit that leaves this file under this name. Those of the other files are taken
+/// over as they stood, if each type was defined once and no two names have one print; or else all
+/// definitions are read again.
+fn edited_types(
+    alloc: Global,
+    edit: &TypeEdit<'_>,
+    built_in: &[Sited<Tree>],
+    files: &Files,
+    name: &FileName,
+    document: Option<&Document>,
+    before: &Outline,
+    after: &Outline,
+) -> Result<EditedTypes, AllocError>
+    requires edited { AreEdited edit.now }
+    requires built_in { built_in.now ≡ all_built_in }
+    requires placed { IsTrue before.now.are_once → ArePlaced name.now (option_copied document)
+        files.now before.now after.now edit.now.schema.now }
+    ensures { IfOk result (AreTypesAfter edit.now (type_definitions (definitions files.now))) }
+{
+    if before.are_once {
+        let count = count_built_in(alloc, built_in)?;
+        let here = types_in(alloc, document)?;
+        let others = others_of(document, before, after);
+        let taken = taken_over(alloc, edit, here.as_slice(), name, others, count)?;
+        if let Some(types) = taken {
+            return Ok(types);
+        }
+    }
+    let types = types_of_all(alloc, edit, built_in, files)?;
     Ok(types)
 }
 
-/// The schema of all schema files after an edit, by the schema before it. The edit changed types of
-/// these names alone. The others are shared with the schema before.
+/// The schema of all schema files after an edit, by the schema and the outline before it. The edit put
+/// this file under its name, or removed the file of that name, and changed types of these names alone.
+/// The other types are shared with the schema before.
 pub fn assemble_after_edit(
     alloc: Global,
     files: &Files,
+    name: &FileName,
+    document: Option<&Document>,
     before: &Schema,
+    outline: &Outline,
     edited: &Named<Text>,
 ) -> Result<EditedSchema, AllocError>
-    requires { KeepsOthers edited.now before.now (spec.schema_of files.now) }
-    ensures schema { IfOk result (λ after. after.schema ≡ spec.schema_of files.now) }
-    ensures places { IfOk result (λ after. (old : TheFiles) → before.now ≡ spec.schema_of old
-        → AreKeptAt before.now after.schema after.places.items) }
+    requires others { KeepsOthers edited.now before.now (schema_of files.now) }
+    requires before { spec.IsEditedFrom name.now (option_copied document) files.now
+        before.now outline.now }
+    ensures schema { IfOk result (λ after. after.schema ≡ schema_of files.now) }
+    ensures outline { IfOk result (λ after. spec.IsOutline files.now after.outline) }
+    ensures places { IfOk result (λ after.
+        AreKeptAt before.now after.schema after.places.items) }
 {
     let built_in = built_in_definitions(alloc)?;
-    let definitions = gather(alloc, built_in.as_slice(), files)?;
-    let EditedTypes { types, places } = types_after(alloc, &definitions, before, edited)?;
-    let schema = schema_with(alloc, types, definitions.others.as_slice())?;
-    Ok(EditedSchema { schema, places })
+    let built_in = built_in.as_slice();
+    let file = outline_in(alloc, document)?;
+    let after = outline.after_edit(alloc, name, file, false)?;
+    let others = after.others(alloc, built_in)?;
+    let extensions = type_extensions(alloc, others.as_slice())?;
+    let edit = TypeEdit::new(alloc, before, edited, extensions.as_slice())?;
+    let found = edited_types(alloc, &edit, built_in, files, name, document, outline, &after)?;
+    let EditedTypes {
+        types,
+        places,
+        are_once,
+    } = found;
+    let schema = schema_with(alloc, types, others.as_slice())?;
+    Ok(EditedSchema {
+        schema,
+        outline: after.known(are_once),
+        places,
+    })
 }

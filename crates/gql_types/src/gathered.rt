@@ -122,6 +122,20 @@ impl<'d> Gathered<'d> {
         }
     }
 
+    /// The built-in definitions.
+    pub fn of_built_in(
+        alloc: Global,
+        definitions: &'d [Sited<Tree>],
+    ) -> Result<Gathered<'d>, AllocError>
+        ensures types { IfOk result (λ found. map site found.types.items
+            ≡ spec.type_definitions definitions.now) }
+        ensures others { IfOk result (λ found. found.others ≡ others_in definitions.now) }
+    {
+        let mut found = Gathered::none(alloc);
+        found.add_built_in(alloc, definitions)?;
+        Ok(found)
+    }
+
     /// The definitions of a file.
     pub fn of_file(alloc: Global, document: &'d Document) -> Result<Gathered<'d>, AllocError>
         ensures types { IfOk result (λ found. map site found.types.items

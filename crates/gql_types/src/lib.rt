@@ -38,7 +38,7 @@ pub use applied::{append_in, argument_of, directive_of, string_of};
 pub use batched::{BatchList, Batched};
 pub use defined_inputs::{DefinedInput, DefinedInputs};
 pub use edited::edited_names;
-pub use edited_schema::{EditedSchema, assemble_after_edit};
+pub use edited_schema::{Assembled, EditedSchema, assemble_after_edit, assemble_outlined};
 pub use gql_built_in::Sited;
 pub use kind::TypeKind;
 pub use named::{HasName, Named, next_place};

@@ -88,7 +88,7 @@ impl FileOutline {
     }
 
     /// What a file gives.
-    fn of_file(alloc: Global, document: &Document) -> Result<FileOutline, AllocError>
+    pub fn of_file(alloc: Global, document: &Document) -> Result<FileOutline, AllocError>
         ensures { IfOk result (λ outline. outline ≡ spec.outline_of document.now) }
     {
         let definitions = Gathered::of_file(alloc, document)?;
@@ -133,6 +133,15 @@ impl Outline {
             }
         }
         Ok(Outline { files, are_once })
+    }
+
+    /// The same outline, of which it is known whether each type is defined once.
+    pub fn known(self, are_once: bool) -> Outline
+        ensures files { result.files ≡ self.files }
+        ensures once { result.are_once ≡ are_once }
+    {
+        let Outline { files, are_once: _ } = self;
+        Outline { files, are_once }
     }
 
     /// How many types the files before the one of this name define.

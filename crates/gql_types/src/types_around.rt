@@ -1,9 +1,9 @@
 //! The types of a schema after an edit of one file, if each name is defined once: the types of the
 //! other files are taken over as they stood.
-ghost use Rattle.std.specs.Prelude.{◌≡◌, ◌++◌, ◌+◌, ◌-◌, ◌∷◌, [], ◌<◌, ◌≤◌, List, IfOk, IsTrue, OnOk, Some, drop, length, map, slice_get, take};
+ghost use Rattle.std.specs.Prelude.{◌≡◌, ◌++◌, ◌+◌, ◌-◌, ◌∷◌, [], ◌<◌, ◌≤◌, List, IfOk, IfSome, IsTrue, OnOk, Some, drop, length, map, slice_get, take};
 ghost use Rattle.gql_ast.specs.declared.type_system.TypeDefinition.{TypeDefinition};
 ghost use Rattle.gql_built_in.specs.declared.sited.Sited.{Sited as TheSited};
-ghost use Rattle.gql_types.specs.EditedTypes.{AreEdited, AreMade, definition_of};
+ghost use Rattle.gql_types.specs.EditedTypes.{AreEdited, AreMade, AreTypesAfter, defined_name, definition_of};
 ghost use Rattle.gql_types.specs.Names.{AreOnce};
 ghost use Rattle.gql_types.specs.Possible.{name_of};
 ghost use Rattle.gql_types.specs.Prints.{print_of};
@@ -11,10 +11,14 @@ ghost use Rattle.gql_types.specs.Sites.{site};
 ghost use Rattle.gql_types.specs.TypesAround as spec;
 ghost use Rattle.gql_types.specs.declared.schema_type.SchemaType.{SchemaType as TheType};
 
-use crate::edited_types::{TypeEdit, add_types, kept_type};
+use crate::batched::Batched;
+use crate::edited_types::{EditedTypes, TypeEdit, add_types, kept_type};
+use crate::named_list::have_same_names;
+use crate::outline::Outline;
 use crate::schema_type::SchemaType;
 use crate::type_list::TypeList;
 use crate::type_site::TypeSite;
+use gql_ast::FileName;
 use gql_built_in::name_of_source;
 use std::alloc::{AllocError, Global};
 
@@ -104,4 +108,55 @@ pub fn types_around(
     add_types(alloc, edit, definitions, &mut list)?;
     add_kept(alloc, edit, count - past, count, prints, &mut list)?;
     Ok(list)
+}
+
+/// Whether these definitions have the names of the types between the first and the last ones, so many
+/// of each.
+fn have_names_between(
+    definitions: &[TypeSite<'_>],
+    types: &[Batched<SchemaType>],
+    until: usize,
+    past: usize,
+) -> bool
+    requires { until + past ≤ length types.now }
+    ensures { IsTrue result → map defined_name (map site definitions.now)
+        ≡ map name_of (take (length types.now - past - until) (drop until types.now)) }
+{
+    let count = types.len() - past - until;
+    if definitions.len() != count {
+        return false;
+    }
+    let rest = &types[until..];
+    have_same_names(definitions, &rest[..count])
+}
+
+/// The types after an edit that leaves these definitions in a file, with the types of the other files
+/// as they stood: `others` says how many these are before the file of this name and after it. None if
+/// two names have one print.
+pub fn taken_over(
+    alloc: Global,
+    edit: &TypeEdit<'_>,
+    definitions: &[TypeSite<'_>],
+    name: &FileName,
+    others: &Outline,
+    built_in: usize,
+) -> Result<Option<EditedTypes>, AllocError>
+    requires edited { AreEdited edit.now }
+    requires around { spec.AreAround built_in name.now others.now.files edit.now.schema.now.types }
+    ensures { IfOk result (λ found. IfSome found (AreTypesAfter edit.now
+        (spec.sites_in_place built_in name.now others.now.files
+        (map definition_of edit.now.schema.now.types) (map site definitions.now)))) }
+{
+    let types = edit.schema.named_types();
+    let Some(prints) = types.prints() else {
+        return Ok(None);
+    };
+    let until = built_in + others.count_until(name);
+    let past = others.count_past(name);
+    let list = types_around(alloc, edit, definitions, until, past, prints)?;
+    if have_names_between(definitions, types.as_slice(), until, past) {
+        let after = EditedTypes::with_names_of(alloc, list, types)?;
+        return Ok(Some(after));
+    }
+    EditedTypes::with_own_prints(alloc, list)
 }
