@@ -1,5 +1,5 @@
 -- What files before or after one define, counted file by file.
-use Rattle.std.proofs.Common.{◌≡◌, ◌+◌, ℕ, List, ◌∷◌, Bool, true, false, bytes_eq, if◌then◌else◌, arith}
+use Rattle.std.proofs.Common.{◌≡◌, ◌+◌, ℕ, List, ◌∷◌, true, false, bytes_eq, if◌then◌else◌, arith}
 use Rattle.std.specs.Cmp.Lexicographic.{texts_ties}
 use Rattle.gql_types.specs.Outlines.{count_types, files_past, files_until}
 use Rattle.gql_types.specs.declared.outline.FileOutline.{FileOutline}

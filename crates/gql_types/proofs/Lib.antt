@@ -14,6 +14,7 @@ pub mod Once
 pub mod Ordering
 pub mod Others
 pub mod OtherTypes
+pub mod Outlines
 pub mod OwnPrints
 pub mod Places
 pub mod TypesAround

@@ -1,6 +1,6 @@
 -- What schema files give to the schema: how many types each defines, and its other definitions. An
 -- edit of a file takes over what the other files give.
-use Rattle.std.specs.Prelude.{◌≡◌, ℕ, ◌+◌, List, [], ◌∷◌, Option, Some, None, IsTrue, flat_map, if◌then◌else◌, length, map}
+use Rattle.std.specs.Prelude.{◌≡◌, ℕ, ◌+◌, List, [], ◌∷◌, Option, Some, None, IsTrue, codes, flat_map, if◌then◌else◌, length, map, refl}
 use Rattle.std.specs.BTreeMap.{is_at}
 use Rattle.gql_ast.specs.FileMaps.{name_order, with_file, without_file}
 use Rattle.gql_ast.specs.declared.definition.Document.{Document}
@@ -75,3 +75,29 @@ module _ {T : Type 0} where
   files_past name [] = []
   files_past name (file ∷ files) =
       if is_at (name_order name) file.0 then files else files_past name files
+
+-- three files, for the examples below
+abbrev three : FileOutline → FileOutline → FileOutline → List (List ℕ × FileOutline)
+three a b c = (codes "a", a) ∷ (codes "b", b) ∷ (codes "c", c) ∷ []
+
+-- before `b` is `a`
+example_until : (a b c : FileOutline)
+    → files_until (codes "b") (three a b c) ≡ (codes "a", a) ∷ []
+example_until a b c = refl
+
+-- after it is `c`
+example_past : (a b c : FileOutline)
+    → files_past (codes "b") (three a b c) ≡ (codes "c", c) ∷ []
+example_past a b c = refl
+
+-- where there is no file of the name, all are before it, and none is after it
+example_all_until : (a b c : FileOutline) → files_until (codes "d") (three a b c) ≡ three a b c
+example_all_until a b c = refl
+
+example_none_past : (a b c : FileOutline) → files_past (codes "d") (three a b c) ≡ []
+example_none_past a b c = refl
+
+-- the counts of all files are added
+example_count : (b : FileOutline) → count_types (three (record { types = 2; others = [] }) b
+    (record { types = 3; others = [] })) ≡ 2 + (b.types + 3)
+example_count b = refl

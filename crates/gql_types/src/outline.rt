@@ -1,6 +1,6 @@
 //! What schema files give to the schema. An edit of a file takes over what the other files give,
 //! without a look at their definitions.
-ghost use Rattle.std.specs.Prelude.{◌≡◌, ◌++◌, ◌<◌, ◌^◌, ◌∷◌, [], IfOk, OnOk, length, map};
+ghost use Rattle.std.specs.Prelude.{◌≡◌, ◌++◌, ◌<◌, ◌^◌, ◌∷◌, [], IfOk, OnOk, length};
 ghost use Rattle.gql_types.specs.Outlines as spec;
 ghost use Rattle.gql_types.specs.Sites.{is_other, others_in};
 
@@ -43,10 +43,7 @@ fn add(definition: &Sited<Tree>, found: &mut Items<Sited<Tree>>) -> Result<(), A
 }
 
 /// Adds those of these definitions that are not of types.
-fn add_others(
-    definitions: &[Sited<Tree>],
-    found: &mut Items<Sited<Tree>>,
-) -> Result<(), AllocError>
+fn add_others(definitions: &[Sited<Tree>], found: &mut Items<Sited<Tree>>) -> Result<(), AllocError>
     ensures { OnOk result (found.new ≡ found.old ++ others_in definitions.now) }
 {
     for definition in definitions {
@@ -58,10 +55,7 @@ fn add_others(
 }
 
 /// Adds these definitions.
-fn add_all(
-    definitions: &[Sited<Tree>],
-    found: &mut Items<Sited<Tree>>,
-) -> Result<(), AllocError>
+fn add_all(definitions: &[Sited<Tree>], found: &mut Items<Sited<Tree>>) -> Result<(), AllocError>
     ensures { OnOk result (found.new ≡ found.old ++ definitions.now) }
 {
     for definition in definitions {

@@ -1,4 +1,4 @@
-use Rattle.std.proofs.Common.{◌≡◌, ◌+◌, ◌∷◌, bytes_eq, if◌then◌else◌, rules, sym, subst}
+use Rattle.std.proofs.Common.{◌≡◌, ◌+◌, ◌∷◌, if◌then◌else◌, rules, sym, subst}
 use Rattle.gql_types.specs.Outlines.{count_types, files_past}
 use Rattle.gql_types.proofs.CountedOutlines.{past_passed}
 use Rattle.gql_types.proofs.outline.Outline.count_past.Goals as goal
