@@ -17,5 +17,6 @@ pub mod OtherTypes
 pub mod Outlines
 pub mod OwnPrints
 pub mod Places
+pub mod Taken
 pub mod TypesAround
 pub mod Wrapping

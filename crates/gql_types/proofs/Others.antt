@@ -102,7 +102,7 @@ all_first [] once = refl
 all_first (d ∷ ds) once = ap (λ es. d ∷ filter (λ (e : Sited TypeDefinition). not (bytes_eq d.node.name.text e.node.name.text)) es) (all_first ds once.1)
     ∙ ap (λ es. d ∷ es) (all_left d.node.name.text ds once.0)
 
-map_twice : {X Y Z : Type 0} (f : X → Y) (g : Y → Z) (xs : List X) → map g (map f xs) ≡ map (λ x. g (f x)) xs
+pub map_twice : {X Y Z : Type 0} (f : X → Y) (g : Y → Z) (xs : List X) → map g (map f xs) ≡ map (λ x. g (f x)) xs
 map_twice f g [] = refl
 map_twice f g (x ∷ xs) = ap (λ ys. g (f x) ∷ ys) (map_twice f g xs)
 

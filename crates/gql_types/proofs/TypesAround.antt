@@ -1,12 +1,12 @@
 -- The types before and after those of a file, as they stood before an edit of it.
 use Rattle.std.proofs.Common.{◌≡◌, ◌+◌, ◌-◌, ◌++◌, ◌<◌, ◌≤◌, ℕ, zero, suc, List, [], ◌∷◌, Option, Some, None, bytes_eq, drop, find, get_or, length, map, option_and_then, slice_get, take, ap, ap₂, arith, refl, subst, sym, ◌∙◌}
-use Rattle.std.specs.Prelude.{IfSome, is_some, false, option_map, unwrap_or}
+use Rattle.std.specs.Prelude.{Err, IfOk, IfSome, Ok, Result, is_some, false, option_map}
 use Rattle.std.specs.List.{drop-map, take-map}
-use Rattle.std.proofs.lemmas.List.{length-map, take_rest}
+use Rattle.std.proofs.lemmas.List.{length-map, map-append, take-append-drop, take_rest}
 use Rattle.std.proofs.lemmas.Option.{get_or_from_slice_get, slice_get-map, slice_get_within}
 use Rattle.gql_ast.specs.declared.type_system.TypeDefinition.{TypeDefinition}
 use Rattle.gql_built_in.specs.declared.sited.Sited.{Sited}
-use Rattle.gql_types.specs.EditedTypes.{AreMade, concrete_place, definition_of, extensions_at, type_by}
+use Rattle.gql_types.specs.EditedTypes.{AreMade, concrete_place, defined_name, definition_of, extensions_at, type_by}
 use Rattle.gql_types.specs.Edits.{KeepsType}
 use Rattle.gql_types.specs.KeptTypes.{IsConcreteAt}
 use Rattle.gql_types.specs.Names.{AreOnce}
@@ -17,6 +17,7 @@ use Rattle.gql_types.specs.declared.edited_types.TypeEdit.{TypeEdit}
 use Rattle.gql_types.specs.declared.schema_type.SchemaType.{SchemaType}
 use Rattle.gql_types.specs.declared.type_list.TypeList.{TypeList}
 use Rattle.gql_types.proofs.EditedTypes.{found_in_place, kept_found, kept_there, made_next}
+use Rattle.gql_types.proofs.Others.{map_twice}
 
 -- the element at a place within a list
 pub there_is : {X : Type 0} (xs : List X) (i : ℕ) → i < length xs → (x : X) × (slice_get xs i ≡ Some x)
@@ -80,3 +81,41 @@ around_same types these until past count is =
     let last : map definition_of (take (count - (count - past)) (drop (count - past) types)) ≡ drop (length (map definition_of types) - past) (map definition_of types)
     = ap (map definition_of) rest ∙ sym (drop-map definition_of (count - past) types) ∙ ap (λ n. drop (n - past) (map definition_of types)) (is ∙ sym (length-map types definition_of)) in
     ap₂ (λ xs ys. xs ++ these ++ ys) first last
+
+take_none : {X : Type 0} (k : ℕ) → take {A = X} k [] ≡ []
+take_none zero = refl
+take_none (suc k) = refl
+
+-- the first of a list, and the next
+taken_twice : {X : Type 0} (u k : ℕ) (xs : List X) → take u xs ++ take k (drop u xs) ≡ take (u + k) xs
+taken_twice zero k xs = let none : 0 + k ≡ k = omega arith in ap (λ n. take n xs) (sym none)
+taken_twice (suc u) k [] = take_none k ∙ sym (take_none (suc u + k))
+taken_twice (suc u) k (x ∷ xs) =
+    let next : suc u + k ≡ suc (u + k) = omega arith in
+    ap (λ ys. x ∷ ys) (taken_twice u k xs) ∙ ap (λ n. take n (x ∷ xs)) (sym next)
+
+-- definitions of the names of types, in their place
+pub names_around : (types : List SchemaType) (these : List (Sited TypeDefinition)) (until past : ℕ) → until + past ≤ length types
+    → map defined_name these ≡ map name_of (take (length types - past - until) (drop until types))
+    → map defined_name (sites_around until past (map definition_of types) these) ≡ map name_of types
+names_around types these until past fits same =
+    let named : (xs : List SchemaType) → map defined_name (map definition_of xs) ≡ map name_of xs = λ xs. map_twice definition_of defined_name xs in
+    let size : length (map definition_of types) - past ≡ length types - past = ap (λ n. n - past) (length-map types definition_of) in
+    let sum : until + (length types - past - until) ≡ length types - past = omega (arith, fits) in
+    let first : map defined_name (take until (map definition_of types)) ≡ map name_of (take until types)
+    = ap (map defined_name) (take-map definition_of until types) ∙ named (take until types) in
+    let last : map defined_name (drop (length (map definition_of types) - past) (map definition_of types)) ≡ map name_of (drop (length types - past) types)
+    = ap (λ n. map defined_name (drop n (map definition_of types))) size ∙ ap (map defined_name) (drop-map definition_of (length types - past) types) ∙ named (drop (length types - past) types) in
+    map-append defined_name (take until (map definition_of types) ++ these) (drop (length (map definition_of types) - past) (map definition_of types))
+    ∙ ap (λ xs. xs ++ map defined_name (drop (length (map definition_of types) - past) (map definition_of types))) (map-append defined_name (take until (map definition_of types)) these)
+    ∙ ap₂ (λ xs ys. xs ++ ys) (ap₂ (λ xs ys. xs ++ ys) first same) last
+    ∙ ap (λ xs. xs ++ map name_of (drop (length types - past) types)) (sym (map-append name_of (take until types) (take (length types - past - until) (drop until types))))
+    ∙ sym (map-append name_of (take until types ++ take (length types - past - until) (drop until types)) (drop (length types - past) types))
+    ∙ ap (λ xs. map name_of (xs ++ drop (length types - past) types)) (taken_twice until (length types - past - until) types ∙ ap (λ n. take n types) sum)
+    ∙ ap (map name_of) (take-append-drop (length types - past) types)
+
+-- what holds of all that may be found
+pub ok_some : {T E : Type 0} {P Q : T → Type 0} (r : Result (Option T) E) → ((x : T) → P x → Q x) → IfOk r (λ found. IfSome found P) → IfOk r (λ found. IfSome found Q)
+ok_some (Ok (Some x)) gives is = gives x is
+ok_some (Ok None) gives is = tt
+ok_some (Err e) gives is = tt

@@ -182,7 +182,9 @@ pub fn assemble_after_edit(
     let others = after.others(alloc, built_in)?;
     let extensions = type_extensions(alloc, others.as_slice())?;
     let edit = TypeEdit::new(alloc, before, edited, extensions.as_slice())?;
-    let found = edited_types(alloc, &edit, built_in, files, name, document, outline, &after)?;
+    let found = edited_types(
+        alloc, &edit, built_in, files, name, document, outline, &after,
+    )?;
     let EditedTypes {
         types,
         places,

@@ -60,7 +60,10 @@ fn is_kept_at(are_edited: &[bool], place: usize) -> bool
 }
 
 /// The type that stood at this place before the edit, if the edit does not change types of its name.
-pub fn kept_type<'e>(edit: &'e TypeEdit<'_>, stood: Option<usize>) -> Option<&'e Batched<SchemaType>>
+pub fn kept_type<'e>(
+    edit: &'e TypeEdit<'_>,
+    stood: Option<usize>,
+) -> Option<&'e Batched<SchemaType>>
     requires { AreEdited edit.now }
     ensures there { IfSome (option_copied result) (λ t.
         option_and_then (λ i. slice_get edit.entry.now.schema.now.types i) stood ≡ Some t) }

@@ -148,13 +148,14 @@ pub fn taken_over(
         (map definition_of edit.now.schema.now.types) (map site definitions.now)))) }
 {
     let types = edit.schema.named_types();
+    let all = types.as_slice();
     let Some(prints) = types.prints() else {
         return Ok(None);
     };
     let until = built_in + others.count_until(name);
     let past = others.count_past(name);
     let list = types_around(alloc, edit, definitions, until, past, prints)?;
-    if have_names_between(definitions, types.as_slice(), until, past) {
+    if have_names_between(definitions, all, until, past) {
         let after = EditedTypes::with_names_of(alloc, list, types)?;
         return Ok(Some(after));
     }

@@ -1,7 +1,7 @@
-use Rattle.std.proofs.Common.{◌≡◌, ◌∙◌, ap, false, map, rules, subst, sym}
+use Rattle.std.proofs.Common.{◌≡◌, ◌∙◌, ap, map, rules, subst, sym}
 use Rattle.std.specs.List.{AllZip}
 use Rattle.std.specs.Prelude.{IsTrue}
-use Rattle.gql_types.specs.EditedTypes.{defined_name, extensions_at, type_by}
+use Rattle.gql_types.specs.EditedTypes.{extensions_at, type_by}
 use Rattle.gql_types.specs.KeptTypes.{IsConcreteAt}
 use Rattle.gql_types.specs.Names.{AreOnce}
 use Rattle.gql_types.specs.Possible.{name_of}
@@ -43,7 +43,8 @@ returns-clause-types c =
     }
 
 pub returns-clause-once : goal.returns-clause-once
-returns-clause-once c = (
-  λ once. absurd (cc (sym once ∙ c.in_ok-after-2.ensures.once)),
-  λ own. ?,
-)
+returns-clause-once c =
+    let not : HaveOwnPrints (map name_of c.in_ok-list.list.types) → ⊥ = search rules in (
+      λ once. absurd (cc (sym once ∙ c.in_ok-after-2.ensures.once)),
+      λ own. absurd (not (subst HaveOwnPrints (sym c.in_ok-list.ensures.names) own)),
+    )

@@ -1,4 +1,4 @@
-use Rattle.std.proofs.Common.{◌≡◌, arith, rules}
+use Rattle.std.proofs.Common.{arith, rules}
 use Rattle.gql_types.proofs.TypesAround.{kept_next, print_there}
 use Rattle.gql_types.proofs.types_around.add_kept.Goals as goal
 

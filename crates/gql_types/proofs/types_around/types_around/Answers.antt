@@ -1,4 +1,4 @@
-use Rattle.std.proofs.Common.{◌≡◌, [], ap, length, map, subst}
+use Rattle.std.proofs.Common.{[], ap, length, map, subst}
 use Rattle.gql_types.specs.EditedTypes.{AreMade}
 use Rattle.gql_types.specs.Sites.{site}
 use Rattle.gql_types.proofs.EditedTypes.{made_none}
