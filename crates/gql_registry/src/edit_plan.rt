@@ -133,7 +133,7 @@ fn edited_schema(
     edited: &Named<Text>,
 ) -> Result<Option<Shared<SchemaSide>>, AllocError>
     requires { IfSome known.now
-        (IsSideBeforeEdit edited.now name.now (option_copied document.entry) files.now) }
+        (IsSideBeforeEdit edited.now name.now (option_copied document) files.now) }
     ensures { IfOk result (λ schema. IfSome schema (IsSideOf files.now)) }
 {
     let Some(known) = known else {

@@ -138,7 +138,7 @@ pub fn side_after_edit(
     document: Option<&Document>,
     edited: &Named<Text>,
 ) -> Result<SchemaSide, AllocError>
-    requires { IsSideBefore edited.now name.now (option_copied document.entry) files.now before.now }
+    requires { IsSideBefore edited.now name.now (option_copied document) files.now before.now }
     ensures { IfOk result (IsSideOf files.now) }
 {
     let EditedSchema {
