@@ -22,7 +22,7 @@ edited_schema-requires c =
     let new = c.in_ok-edit_file.ensures ∙ ap (edited_files c.in_ok-changed.changed.schema c.args.name) c.in_ok-shared.ensures in
     let is = schema_edited c.args.files.now c.in_ok-changed.changed c.args.name c.args.document _ c.in_ok-changed.ensures new in
     let files = c.in_ok-edit_file.ensures ∙ ap (λ (f : Files). edited_files f.schema c.args.name c.in_ok-shared.shared) c.in_ok-changed.ensures
-            ∙ ap (edited_files c.args.files.now.schema c.args.name) (sym c.document_in-put.ensures) in
+    ∙ ap (edited_files c.args.files.now.schema c.args.name) (sym c.document_in-put.ensures) in
     known_before c.in_ok-edited.edited c.args.name (option_copied c.document_in-put.result) c.args.files.now made c.args.known.now c.requires
     (subst (λ (f : Files). IsSchemaEdit c.in_ok-edited.edited c.args.files.now f)
     (ap (with_file Schema c.args.files.now c.args.name) c.as_ref.ensures.value ∙ is)
