@@ -4,8 +4,9 @@ use Rattle.gql_ast.specs.FileMaps.{file_named}
 use Rattle.gql_ast.specs.declared.definition.Document.{Document}
 use Rattle.gql_ast.specs.declared.fault.FileSide.TheVariants.{Schema, Documents}
 use Rattle.gql_ast.specs.declared.files.Files.{Files}
-use Rattle.gql_registry.specs.Sides.{edited, with_file}
+use Rattle.gql_registry.specs.Sides.{with_file}
 use Rattle.gql_types.specs.Edits.{KeepsOthers, edited_names, with_schema, without_schema}
+use Rattle.gql_types.specs.Outlines.{edited_files}
 use Rattle.gql_types.specs.Schemas.{schema_of}
 use Rattle.gql_verdict.specs.DocumentEdits.{ChangesOnly, touched_by, with_document, without_document}
 
@@ -17,23 +18,23 @@ abbrev pub with_document_side : Files → List (List ℕ × Document) → Files
 with_document_side files documents = record { schema = files.schema; documents = documents }
 
 pub schema_files : (files : Files) (name : List ℕ) (document : Option Document)
-    → with_file Schema files name document ≡ record { schema = edited files.schema name document; documents = files.documents }
+    → with_file Schema files name document ≡ record { schema = edited_files files.schema name document; documents = files.documents }
 schema_files files name None = refl
 schema_files files name (Some document) = refl
 
 pub document_files : (files : Files) (name : List ℕ) (document : Option Document)
-    → with_file Documents files name document ≡ record { schema = files.schema; documents = edited files.documents name document }
+    → with_file Documents files name document ≡ record { schema = files.schema; documents = edited_files files.documents name document }
 document_files files name None = refl
 document_files files name (Some document) = refl
 
 -- the files with one side edited, in the form that the code makes
-pub schema_edited : (files copy : Files) (name : List ℕ) (document : Option Document) (new : List (List ℕ × Document)) → copy ≡ files → new ≡ edited copy.schema name document
+pub schema_edited : (files copy : Files) (name : List ℕ) (document : Option Document) (new : List (List ℕ × Document)) → copy ≡ files → new ≡ edited_files copy.schema name document
     → with_file Schema files name document ≡ record { schema = new; documents = copy.documents }
-schema_edited files copy name document new same is = schema_files files name document ∙ sym (ap (with_schema_side copy) is ∙ ap (λ (f : Files). with_schema_side f (edited f.schema name document)) same)
+schema_edited files copy name document new same is = schema_files files name document ∙ sym (ap (with_schema_side copy) is ∙ ap (λ (f : Files). with_schema_side f (edited_files f.schema name document)) same)
 
-pub document_edited : (files copy : Files) (name : List ℕ) (document : Option Document) (new : List (List ℕ × Document)) → copy ≡ files → new ≡ edited copy.documents name document
+pub document_edited : (files copy : Files) (name : List ℕ) (document : Option Document) (new : List (List ℕ × Document)) → copy ≡ files → new ≡ edited_files copy.documents name document
     → with_file Documents files name document ≡ record { schema = copy.schema; documents = new }
-document_edited files copy name document new same is = document_files files name document ∙ sym (ap (with_document_side copy) is ∙ ap (λ (f : Files). with_document_side f (edited f.documents name document)) same)
+document_edited files copy name document new same is = document_files files name document ∙ sym (ap (with_document_side copy) is ∙ ap (λ (f : Files). with_document_side f (edited_files f.documents name document)) same)
 
 -- which types an edit of a schema file changes, by the laws of a put and of a removal
 pub types_kept : ((files : Files) (name : List ℕ) (document : Document)

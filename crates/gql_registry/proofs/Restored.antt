@@ -13,7 +13,7 @@ use Rattle.std.proofs.lemmas.Map.Lookups.{exact_bytes}
 use Rattle.gql_ast.specs.FileMaps.{name_order}
 use Rattle.gql_ast.specs.declared.definition.Document.{Document}
 use Rattle.gql_registry.proofs.FilesByName.{put_found, removed_none}
-use Rattle.gql_registry.specs.Sides.{edited}
+use Rattle.gql_types.specs.Outlines.{edited_files}
 
 none_is_some : {T : Type 0} (v : T) → None ≡ Some v → ⊥
 none_is_some v e = cc e
@@ -114,10 +114,10 @@ module _ {T : Type 0} where
 
 -- the files of a side after an edit of one file, and the edit that puts back what was there
 pub put_back : (es : List (List ℕ × Document)) (k : List ℕ) (o : Option Document) → IsStrictlySortedBy name_order (keys_of es)
-    → edited (edited es k o) k (found k es) ≡ es
+    → edited_files (edited_files es k o) k (found k es) ≡ es
 put_back es k o sorted = by (found k es) refl o
   where
-    by : (f : Option Document) → found k es ≡ f → (o : Option Document) → edited (edited es k o) k f ≡ es
+    by : (f : Option Document) → found k es ≡ f → (o : Option Document) → edited_files (edited_files es k o) k f ≡ es
     by (Some old) is (Some v) = put_over k v old es sorted is
     by (Some old) is None = put_again k old es sorted is
     by None is (Some v) = removed_again k v es is
@@ -127,6 +127,6 @@ put_back es k o sorted = by (found k es) refl o
 
 -- what is found under the name of the edited file
 pub edited_found : (es : List (List ℕ × Document)) (k : List ℕ) (o : Option Document) → IsStrictlySortedBy name_order (keys_of es)
-    → found k (edited es k o) ≡ o
+    → found k (edited_files es k o) ≡ o
 edited_found es k (Some v) sorted = put_found k v es
 edited_found es k None sorted = removed_none k es sorted

@@ -6,6 +6,7 @@ use Rattle.gql_ast.specs.declared.files.Files.{Files}
 use Rattle.gql_schema_rules.specs.SchemaFaults.{FaultsBy, by_s01, by_s02, by_s03, by_s04, by_s05, by_s06, by_s07, by_s08, by_s09, by_s10, by_s11, by_s12, by_s13, by_s14, by_s15, by_s16, by_s17, by_s18, by_s19, by_s20, by_s21, by_s22, by_s23, by_s24, by_s25, by_s26, by_s27, by_s28, by_s29, by_s30, by_s31, by_s32, by_s33, by_s34, by_s35, by_s36, by_p01, by_p02}
 use Rattle.gql_registry.specs.EditPlans.{IsSchemaEdit, IsSideAfterDocuments, IsSideBeforeEdit}
 use Rattle.gql_schema_rules.specs.ChecksOfFiles.{DiffersAt}
+use Rattle.gql_types.specs.Outlines.{edited_files}
 use Rattle.gql_types.specs.Schemas.{schema_of}
 use Rattle.gql_types.specs.declared.schema.Schema.{Schema}
 use Rattle.gql_registry.specs.Keeping.{IsKnownOf, IsSideOf}
@@ -106,6 +107,7 @@ same_side : (files : Files) (documents : FileList) (side : SchemaSide) → IsSid
     → IsSideOf (with_documents files documents) side
 same_side files documents side is = record {
   schema = is.schema;
+  outline = record { files = is.outline.files; once = is.outline.once };
   facts = is.facts;
   made = is.made;
   kept = record {
@@ -129,12 +131,14 @@ pub kept_side : (known : Known) → IsSideAfterDocuments (Some known) (Some know
 kept_side known before after is e = same_schema before after known.schema e is.schema
 
 -- what is known before an edit has the schema before it
-pub known_before : (names : List (List ℕ)) (name : List ℕ) (before after : Files) (known : Option Known) → IfSome known (IsKnownOf before)
-    → IsSchemaEdit names before after → DiffersAt name before after → IfSome known (IsSideBeforeEdit names name after)
-known_before names name before after None is edit elsewhere = is
-known_before names name before after (Some known) is edit elsewhere = record {
+pub known_before : (names : List (List ℕ)) (name : List ℕ) (document : Option Document) (before after : Files) (known : Option Known) → IfSome known (IsKnownOf before)
+    → IsSchemaEdit names before after → after.schema ≡ edited_files before.schema name document → DiffersAt name before after
+    → IfSome known (IsSideBeforeEdit names name document after)
+known_before names name document before after None is edit files elsewhere = is
+known_before names name document before after (Some known) is edit files elsewhere = record {
   before = before;
   side_of = is.schema;
   edit = edit;
+  files = files;
   elsewhere = elsewhere;
 }

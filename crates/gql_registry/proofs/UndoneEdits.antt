@@ -18,9 +18,10 @@ use Rattle.gql_registry.proofs.FilesByName.{put_other, removed_other}
 use Rattle.gql_registry.proofs.PlannedFiles.{schema_files, with_schema_side}
 use Rattle.gql_registry.proofs.Restored.{edited_found, put_back}
 use Rattle.gql_registry.specs.EditPlans.{IsSchemaEdit}
-use Rattle.gql_registry.specs.Sides.{edited, with_file}
+use Rattle.gql_registry.specs.Sides.{with_file}
 use Rattle.gql_schema_rules.specs.ChecksOfFiles.{DiffersAt}
 use Rattle.gql_types.specs.Edits.{KeepsOthers, edited_names, type_names}
+use Rattle.gql_types.specs.Outlines.{edited_files}
 use Rattle.gql_types.specs.Schemas.{schema_of}
 use Rattle.gql_types.specs.declared.schema.Schema.{Schema as TheSchema}
 
@@ -47,7 +48,7 @@ pub types_undone : ((files : Files) (name : List ℕ) (after : Option Document)
     → KeepsOthers (edited_names (file_named files.schema name) after) (schema_of (with_file Schema files name after)) (schema_of files)
 types_undone law files name after sorted =
     let old = file_named files.schema name in
-    let new = edited files.schema name after in
+    let new = edited_files files.schema name after in
     let later : Files = with_schema_side files new in
     let back : with_file Schema later name old ≡ files = schema_files later name old ∙ ap (with_schema_side files) (put_back files.schema name after sorted) in
     let forth : with_file Schema files name after ≡ later = schema_files files name after in

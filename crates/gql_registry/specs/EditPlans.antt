@@ -16,6 +16,7 @@ use Rattle.gql_registry.specs.declared.report.Known.{Known}
 use Rattle.gql_registry.specs.declared.report.SchemaSide.{SchemaSide}
 use Rattle.gql_schema_rules.specs.ChecksOfFiles.{DiffersAt}
 use Rattle.gql_types.specs.Edits.{KeepsOthers}
+use Rattle.gql_types.specs.Outlines.{edited_files}
 use Rattle.gql_types.specs.Schemas.{schema_of}
 use Rattle.gql_verdict.specs.DocumentEdits.{ChangesOnly}
 use Rattle.gql_verdict.specs.FileOrder.{AreFilesPlaced}
@@ -31,13 +32,15 @@ pub record IsSchemaEdit (names : List (List ℕ)) (before after : Files) : Type 
   -- and those before it are those after it
   pub undone : KeepsOthers names (schema_of after) (schema_of before)
 
--- the schema is that of files before an edit of the schema file of this name, which changes types of
--- these names alone and makes these files
-pub record IsSideBefore (names : List (List ℕ)) (name : List ℕ) (after : Files) (side : SchemaSide)
-    : Type 0 where
+-- The schema is that of files before an edit of the schema file of this name, which changes types of
+-- these names alone and makes these files. The edit puts this file, or removes the file of that name
+-- if there is none to put.
+pub record IsSideBefore (names : List (List ℕ)) (name : List ℕ) (document : Option Document)
+    (after : Files) (side : SchemaSide) : Type 0 where
   pub before : Files
   pub side_of : IsSideOf before side
   pub edit : IsSchemaEdit names before after
+  pub files : after.schema ≡ edited_files before.schema name document
   -- the other schema files are the same
   pub elsewhere : DiffersAt name before after
 
@@ -50,8 +53,9 @@ IsSchemaTouched (Some known) None edited t = t ≡ All
 IsSchemaTouched None side edited t = t ≡ All
 
 -- what is known has the schema of files before such an edit
-abbrev pub IsSideBeforeEdit : List (List ℕ) → List ℕ → Files → Known → Type 0
-IsSideBeforeEdit names name after known = IsSideBefore names name after known.schema
+abbrev pub IsSideBeforeEdit : List (List ℕ) → List ℕ → Option Document → Files → Known → Type 0
+IsSideBeforeEdit names name document after known =
+    IsSideBefore names name document after known.schema
 
 -- If this is known of files, the schema is that of all files with the same schema files.
 abbrev pub IsSideAfterDocuments : Option Known → Option SchemaSide → Type 0

@@ -19,6 +19,7 @@ use Rattle.gql_registry.specs.declared.report.Known.{Known}
 use Rattle.gql_registry.specs.declared.report.Reported.{Reported}
 use Rattle.gql_registry.specs.declared.report.SchemaSide.{SchemaSide}
 use Rattle.gql_serving.specs.Owners.{AreOwnersOf}
+use Rattle.gql_types.specs.Outlines.{IsOutline}
 use Rattle.gql_types.specs.Schemas.{schema_of}
 use Rattle.gql_verdict.specs.Definitions.{all_definitions}
 use Rattle.gql_verdict.specs.FileOrder.{AreFilesPlaced}
@@ -80,10 +81,11 @@ AreFactsOf files facts = facts ≡ tables_of (schema_of files)
 abbrev pub AreSchemaFaults : Files → List Fault → Type 0
 AreSchemaFaults files faults = Lists faults (IsSchemaFault files)
 
--- the schema of the files, its facts, what introspection makes of it, its faults, and what an edit
--- can keep of them
+-- the schema of the files, what each file gives to it, its facts, what introspection makes of it, its
+-- faults, and what an edit can keep of them
 pub record IsSideOf (files : Files) (side : SchemaSide) : Type 0 where
   pub schema : side.schema ≡ schema_of files
+  pub outline : IsOutline files side.outline
   pub facts : AreFactsOf files side.facts
   pub made : side.made ≡ made_of files (schema_of files)
   pub kept : AreFaultsOf files side.kept

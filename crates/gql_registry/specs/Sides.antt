@@ -1,7 +1,6 @@
 -- The two sides of files: schema files, which are one schema together, and document files.
 use Rattle.std.specs.Prelude.{ℕ, List, Option, Some, None}
 use Rattle.gql_grammar.specs.declared.fault.SyntaxFault.{SyntaxFault}
-use Rattle.gql_ast.specs.FileMaps.{with_file as map_with, without_file as map_without}
 use Rattle.gql_ast.specs.declared.definition.Document.{Document}
 use Rattle.gql_ast.specs.declared.fault.FileSide.{FileSide}
 use Rattle.gql_ast.specs.declared.fault.FileSide.TheVariants.{Schema, Documents}
@@ -31,11 +30,6 @@ with_removed Documents = without_document
 abbrev pub with_file : FileSide → Files → List ℕ → Option Document → Files
 with_file side files name (Some document) = with_put side files name document
 with_file side files name None = with_removed side files name
-
--- the files of one side, with this file or without that of its name
-abbrev pub edited : List (List ℕ × Document) → List ℕ → Option Document → List (List ℕ × Document)
-edited files name (Some document) = map_with files name document
-edited files name None = map_without files name
 
 -- the text is a file of this side and of that name, with this tree
 abbrev pub IsFileOn : FileSide → List ℕ → List ℕ → Document → Type 0

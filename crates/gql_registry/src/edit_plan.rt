@@ -10,6 +10,7 @@ ghost use Rattle.gql_registry.specs.EditPlans.{IsSeenAsBefore, KeepsFragments};
 ghost use Rattle.gql_registry.specs.Keeping.{IsIndexOf, IsKnownOf, IsSideOf};
 ghost use Rattle.gql_registry.specs.Sides as spec;
 ghost use Rattle.gql_types.specs.Edits.{KeepsOthers};
+ghost use Rattle.gql_types.specs.Outlines.{edited_files};
 ghost use Rattle.gql_types.specs.Schemas.{schema_of};
 ghost use Rattle.gql_verdict.specs.DocumentEdits.{ChangesOnly};
 ghost use Rattle.gql_verdict.specs.NameViews.{KeepsNamesSound};
@@ -76,18 +77,43 @@ fn touched_by(
     }
 }
 
+/// The file to put, if there is one, so that it can have several owners.
+fn shared_document(
+    alloc: Global,
+    document: Option<Document>,
+) -> Result<Option<Shared<Document>>, AllocError>
+    ensures { IfOk result (λ shared. shared ≡ document) }
+{
+    match document {
+        Some(document) => {
+            let document = Shared::new(alloc, document)?;
+            Ok(Some(document))
+        }
+        None => Ok(None),
+    }
+}
+
+/// The file to put, if there is one.
+fn document_in(shared: &Option<Shared<Document>>) -> Option<&Document>
+    ensures { option_copied result ≡ shared.now }
+{
+    match shared {
+        Some(document) => Some(document.get()),
+        None => None,
+    }
+}
+
 /// Puts a file in place of any of its name, or removes the file of that name if there is none to
 /// put.
 fn edit_file(
-    alloc: Global,
     files: &mut FileMap<Shared<Document>>,
     name: &FileName,
-    document: Option<Document>,
+    document: &Option<Shared<Document>>,
 ) -> Result<(), AllocError>
-    ensures { OnOk result (files.new ≡ spec.edited files.old name.now document) }
+    ensures { OnOk result (files.new ≡ edited_files files.old name.now document.now) }
 {
     match document {
-        Some(document) => files.put(name.copy(), Shared::new(alloc, document)?),
+        Some(document) => files.put(name.copy(), document.clone()?),
         None => {
             files.remove(name);
             Ok(())
@@ -96,21 +122,24 @@ fn edit_file(
 }
 
 /// The schema after an edit of the schema file of this name that changed types of these names alone,
-/// if the schema before it is known.
+/// if the schema before it is known. `document` is the file that was put, or none if the file was
+/// removed.
 fn edited_schema(
     alloc: Global,
     files: &Files,
     known: &Option<Known>,
     name: &FileName,
+    document: Option<&Document>,
     edited: &Named<Text>,
 ) -> Result<Option<Shared<SchemaSide>>, AllocError>
-    requires { IfSome known.now (IsSideBeforeEdit edited.now name.now files.now) }
+    requires { IfSome known.now
+        (IsSideBeforeEdit edited.now name.now (option_copied document) files.now) }
     ensures { IfOk result (λ schema. IfSome schema (IsSideOf files.now)) }
 {
     let Some(known) = known else {
         return Ok(None);
     };
-    let schema = side_after_edit(alloc, files, known.schema.get(), name, edited)?;
+    let schema = side_after_edit(alloc, files, known.schema.get(), name, document, edited)?;
     let schema = Shared::new(alloc, schema)?;
     Ok(Some(schema))
 }
@@ -241,8 +270,10 @@ fn schema_plan(
     laws::edit_schema();
     let edited = edited_types(alloc, files, &name, document.as_ref())?;
     let mut changed = files.copy()?;
-    edit_file(alloc, &mut changed.schema, &name, document)?;
-    let schema = edited_schema(alloc, &changed, known, &name, &edited)?;
+    let shared = shared_document(alloc, document)?;
+    edit_file(&mut changed.schema, &name, &shared)?;
+    let put = document_in(&shared);
+    let schema = edited_schema(alloc, &changed, known, &name, put, &edited)?;
     let touched = schema_touched(alloc, files, known, &schema, &edited)?;
     let index = kept_index(known)?;
     Ok(EditPlan {
@@ -270,7 +301,8 @@ fn document_plan(
     let keeps_names = edit_keeps_names(alloc, files, &name, document.as_ref())?;
     let are_same = keeps_fragments(alloc, files, &name, document.as_ref())?;
     let mut changed = files.copy()?;
-    edit_file(alloc, &mut changed.documents, &name, document)?;
+    let shared = shared_document(alloc, document)?;
+    edit_file(&mut changed.documents, &name, &shared)?;
     let schema = kept_schema(known)?;
     let index = edited_index(alloc, &changed, known, are_same)?;
     Ok(EditPlan {

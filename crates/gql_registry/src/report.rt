@@ -1,9 +1,12 @@
 //! The report of files, from the faults of their parts.
-ghost use Rattle.std.specs.Prelude.{◌≡◌, ◌≢◌, ◌++◌, [], IfOk, IsTrue, OnOk};
+ghost use Rattle.std.specs.Prelude.{◌≡◌, ◌≢◌, ◌++◌, [], Option, IfOk, IsTrue, OnOk};
+ghost use Rattle.std.specs.Option.{option_copied};
+ghost use Rattle.gql_ast.specs.declared.definition.Document.{Document as TheDocument};
 ghost use Rattle.gql_ast.specs.declared.files.Files.{Files as TheFiles};
 ghost use Rattle.gql_facts.specs.Members.{Lists};
 ghost use Rattle.gql_registry.specs.EditPlans.{IsSideBefore};
 ghost use Rattle.gql_intro.specs.Made.{made_of};
+ghost use Rattle.gql_types.specs.Outlines.{IsOutline};
 ghost use Rattle.gql_types.specs.Schemas.{schema_of};
 ghost use Rattle.gql_registry.specs.Keeping.{AreFactsOf, AreSchemaFaults, IsDefinitionFault};
 ghost use Rattle.gql_registry.specs.Keeping.{IsIndexOf, IsKnownOf, IsReportOf, IsSideOf};
@@ -13,22 +16,26 @@ ghost use Rattle.gql_verdict.specs.NameFaults.{name_faults as faults_of_names};
 ghost use Rattle.gql_verdict.specs.NameViews.{AreNamesSound};
 
 use crate::index::DocumentIndex;
-use gql_ast::{Fault, FileName, Files, Shared, Text};
+use gql_ast::{Document, Fault, FileName, Files, Shared, Text};
 use gql_facts::SchemaFacts;
 use gql_intro::{IntroSchema, intro_schema, intro_schema_after_edit};
 use gql_node_rules::SchemaChange;
 use gql_report::in_order;
 use gql_schema_rules::SchemaFaults;
 use gql_serving::Owners;
-use gql_types::{EditedSchema, Named, Schema, assemble, assemble_after_edit};
+use gql_types::{
+    Assembled, EditedSchema, Named, Outline, Schema, assemble_after_edit, assemble_outlined,
+};
 use gql_verdict::{name_faults, shared_faults};
 use std::alloc::{AllocError, Global};
 
-/// The schema files as one schema, with its facts, what introspection makes of it, and its faults:
-/// as a list, and with what an edit can keep of them.
+/// The schema files as one schema, with what each file gives to it, its facts, what introspection
+/// makes of it, and its faults: as a list, and with what an edit can keep of them.
 #[derive(Drop)]
 pub struct SchemaSide {
     pub schema: Schema,
+    /// What each schema file gives to the schema.
+    pub outline: Outline,
     pub facts: SchemaFacts,
     pub made: IntroSchema,
     pub kept: SchemaFaults,
@@ -54,21 +61,24 @@ pub struct Reported {
     pub has_sound_names: bool,
 }
 
-/// This schema, with these facts, what introspection makes of it, and these faults.
+/// This schema, with this outline of its files, these facts, what introspection makes of it, and these
+/// faults.
 fn side_of(
     alloc: Global,
     schema: Schema,
+    outline: Outline,
     facts: SchemaFacts,
     made: IntroSchema,
     kept: SchemaFaults,
 ) -> Result<SchemaSide, AllocError>
     ensures { IfOk result (λ side. (files : TheFiles) → schema ≡ schema_of files
-        → AreFactsOf files facts → made ≡ made_of files schema → AreFaultsOf files kept
-        → IsSideOf files side) }
+        → IsOutline files outline → AreFactsOf files facts → made ≡ made_of files schema
+        → AreFaultsOf files kept → IsSideOf files side) }
 {
     let faults = sharing(alloc, kept.all())?;
     Ok(SchemaSide {
         schema,
+        outline,
         facts,
         made,
         kept,
@@ -80,11 +90,11 @@ fn side_of(
 pub fn schema_side(alloc: Global, files: &Files) -> Result<SchemaSide, AllocError>
     ensures { IfOk result (IsSideOf files.now) }
 {
-    let schema = assemble(alloc, files)?;
+    let Assembled { schema, outline } = assemble_outlined(alloc, files)?;
     let facts = SchemaFacts::new(alloc, &schema)?;
     let kept = SchemaFaults::new(alloc, files, &schema)?;
     let made = intro_schema(alloc, files, &schema)?;
-    let side = side_of(alloc, schema, facts, made, kept)?;
+    let side = side_of(alloc, schema, outline, facts, made, kept)?;
     Ok(side)
 }
 
@@ -99,7 +109,8 @@ fn faults_after_edit(
     edited: &Named<Text>,
 ) -> Result<SchemaFaults, AllocError>
     requires schema { schema.now ≡ schema_of files.now }
-    requires before { IsSideBefore edited.now name.now files.now before.now }
+    requires before { (document : Option TheDocument)
+        × IsSideBefore edited.now name.now document files.now before.now }
     ensures { IfOk result (AreFaultsOf files.now) }
 {
     let change = SchemaChange::between(alloc, &before.schema, schema, edited)?;
@@ -117,22 +128,30 @@ fn faults_after_edit(
 }
 
 /// Puts the schema of the schema files together after an edit of the schema file of this name, which
-/// changed types of these names alone. What the edit did not change is shared with the schema before
-/// it.
+/// changed types of these names alone. `document` is the file that was put, or none if the file was
+/// removed. What the edit did not change is shared with the schema before it.
 pub fn side_after_edit(
     alloc: Global,
     files: &Files,
     before: &SchemaSide,
     name: &FileName,
+    document: Option<&Document>,
     edited: &Named<Text>,
 ) -> Result<SchemaSide, AllocError>
-    requires { IsSideBefore edited.now name.now files.now before.now }
+    requires { IsSideBefore edited.now name.now (option_copied document) files.now before.now }
     ensures { IfOk result (IsSideOf files.now) }
 {
-    let EditedSchema { schema, places } = assemble_after_edit(
+    let EditedSchema {
+        schema,
+        outline,
+        places,
+    } = assemble_after_edit(
         alloc,
         files,
+        name,
+        document,
         &before.schema,
+        &before.outline,
         edited,
     )?;
     let facts = SchemaFacts::after_edit(alloc, &schema, &before.facts, edited, places.as_slice())?;
@@ -140,7 +159,7 @@ pub fn side_after_edit(
     let schema_before = &before.schema;
     let made_before = &before.made;
     let made = intro_schema_after_edit(alloc, files, &schema, edited, schema_before, made_before)?;
-    let side = side_of(alloc, schema, facts, made, kept)?;
+    let side = side_of(alloc, schema, outline, facts, made, kept)?;
     Ok(side)
 }
 

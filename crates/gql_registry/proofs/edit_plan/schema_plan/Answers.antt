@@ -1,4 +1,5 @@
 use Rattle.std.proofs.Common.{◌∙◌, ap, subst, sym}
+use Rattle.std.specs.Option.{option_copied}
 use Rattle.std.specs.Prelude.{IfSome}
 use Rattle.gql_ast.specs.declared.fault.FileSide.TheVariants.{Schema}
 use Rattle.gql_ast.specs.declared.files.Files.{Files}
@@ -13,22 +14,28 @@ use Rattle.gql_registry.proofs.SameSchema.{known_before}
 use Rattle.gql_registry.proofs.UndoneEdits.{differs_at}
 use Rattle.gql_registry.proofs.edit_plan.schema_plan.Goals as goal
 use Rattle.gql_schema_rules.specs.ChecksOfFiles.{DiffersAt}
+use Rattle.gql_types.specs.Outlines.{edited_files}
 
 pub edited_schema-requires : goal.edited_schema-requires
 edited_schema-requires c =
     let made : Files = record { schema = c.edit_file.new.files; documents = c.in_ok-changed.changed.documents } in
-    let is = schema_edited c.args.files.now c.in_ok-changed.changed c.args.name c.args.document _ c.in_ok-changed.ensures c.in_ok-edit_file.ensures in
-    known_before c.in_ok-edited.edited c.args.name c.args.files.now made c.args.known.now c.requires
+    let new = c.in_ok-edit_file.ensures ∙ ap (edited_files c.in_ok-changed.changed.schema c.args.name) c.in_ok-shared.ensures in
+    let is = schema_edited c.args.files.now c.in_ok-changed.changed c.args.name c.args.document _ c.in_ok-changed.ensures new in
+    let files = c.in_ok-edit_file.ensures ∙ ap (λ (f : Files). edited_files f.schema c.args.name c.in_ok-shared.shared) c.in_ok-changed.ensures
+    ∙ ap (edited_files c.args.files.now.schema c.args.name) (sym c.document_in-put.ensures) in
+    known_before c.in_ok-edited.edited c.args.name (option_copied c.document_in-put.result) c.args.files.now made c.args.known.now c.requires
     (subst (λ (f : Files). IsSchemaEdit c.in_ok-edited.edited c.args.files.now f)
     (ap (with_file Schema c.args.files.now c.args.name) c.as_ref.ensures.value ∙ is)
     c.in_ok-edited.ensures)
+    files
     (subst (λ (f : Files). DiffersAt c.args.name c.args.files.now f) is (differs_at c.args.files.now c.args.name c.args.document))
 
 pub returns : goal.returns
 returns c =
     let before = c.args.files.now in
     let made : Files = record { schema = c.edit_file.new.files; documents = c.in_ok-changed.changed.documents } in
-    let is = schema_edited before c.in_ok-changed.changed c.args.name c.args.document _ c.in_ok-changed.ensures c.in_ok-edit_file.ensures in
+    let new = c.in_ok-edit_file.ensures ∙ ap (edited_files c.in_ok-changed.changed.schema c.args.name) c.in_ok-shared.ensures in
+    let is = schema_edited before c.in_ok-changed.changed c.args.name c.args.document _ c.in_ok-changed.ensures new in
     let edit : IsSchemaEdit c.in_ok-edited.edited before made = subst (λ (f : Files). IsSchemaEdit c.in_ok-edited.edited before f) (ap (with_file Schema before c.args.name) c.as_ref.ensures.value ∙ is) c.in_ok-edited.ensures in
     record {
       files = sym is;

@@ -15,7 +15,7 @@ returns-in_err-kept c = search rules
 
 pub returns : goal.returns
 returns c =
-    let b = c.requires.before in
+    let b = c.requires.before.1 in
     let names = c.args.edited.now in
     let after = c.args.schema.now in
     let keeps : KeepsOthers names (schema_of b.before) after = subst (KeepsOthers names (schema_of b.before)) (sym c.requires.schema) b.edit.keeps in

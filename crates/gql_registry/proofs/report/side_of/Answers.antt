@@ -8,8 +8,9 @@ pub returns-in_err-faults : goal.returns-in_err-faults
 returns-in_err-faults c = search rules
 
 pub returns : goal.returns
-returns c = λ files schema facts made kept. record {
+returns c = λ files schema outline facts made kept. record {
   schema = schema;
+  outline = outline;
   facts = facts;
   made = made ∙ ap (made_of files) schema;
   kept = kept;
