@@ -128,13 +128,15 @@ fn add_entry_here(
         → entries.new ≡ entries.old ++ tables.type_entry schema.now t ∷ []) }
 {
     if let Some(entry) = given_entry(before, places, place) {
-        return entries.keep(entry);
+        entries.keep(entry)?;
+        return Ok(());
     }
     let of_type = schema.types()[place].get();
     let stood = before.types.place_near(place, of_type.name());
     let is_edited = edited.get(of_type.name()).is_some();
     let kept = kept_entry(schema, before, stood, place, of_type, is_edited);
-    add_entry(alloc, schema, of_type, kept, entries)
+    add_entry(alloc, schema, of_type, kept, entries)?;
+    Ok(())
 }
 
 /// The entries of the types after the edit. The new ones are one batch.
