@@ -9,7 +9,7 @@ use Rattle.gql_facts.proofs.EditedFacts.{given, kept_or_made, looked_for}
 use Rattle.gql_facts.proofs.edited_facts.add_entry_here.Goals as goal
 
 pub returns-in-Some : goal.returns-in-Some
-returns-in-Some c = λ t is. c.keep.ensures
+returns-in-Some c = λ t is. c.in_ok-keep.ensures
     ∙ ap (λ e. c.args.entries.now ++ e ∷ []) (given c.args.before.now c.args.edited.now c.args.places.now c.args.schema.now c.args.place c.in-Some.entry.now c.requires.before c.in-Some.ensures t is)
 
 pub returns : goal.returns
@@ -21,8 +21,8 @@ returns c = λ t is.
     let both : Some c.index-types-place.result ≡ Some t = sym at ∙ is in
     let same : c.get-of_type.result.now ≡ t = c.get-of_type.ensures ∙ cc both in
     let marked : c.is_some-is_edited.result ≡ is_some (find (bytes_eq (name_of c.get-of_type.result.now)) c.args.edited.now) = search rules in
-    let entry = unwrap_or (option_copied c.kept_entry.result) (type_entry c.args.schema.now c.get-of_type.result.now) in
+    let entry = unwrap_or (option_copied c.kept_entry-kept.result) (type_entry c.args.schema.now c.get-of_type.result.now) in
     let after : IsEntryAfter c.args.before.now c.args.edited.now c.args.schema.now c.get-of_type.result.now entry =
-    kept_or_made c.args.before.now c.args.edited.now c.args.schema.now c.get-of_type.result.now (option_copied c.kept_entry.result) (c.kept_entry.ensures.entry c.args.edited.now marked) in
-    c.add_entry.ensures ∙ ap (λ e. c.args.entries.now ++ e ∷ []) (looked_for c.args.before.now c.args.edited.now c.args.places.now c.args.schema.now c.args.place t entry c.requires.before c.requires.within is
+    kept_or_made c.args.before.now c.args.edited.now c.args.schema.now c.get-of_type.result.now (option_copied c.kept_entry-kept.result) (c.kept_entry-kept.ensures.entry c.args.edited.now marked) in
+    c.in_ok-add_entry.ensures ∙ ap (λ e. c.args.entries.now ++ e ∷ []) (looked_for c.args.before.now c.args.edited.now c.args.places.now c.args.schema.now c.args.place t entry c.requires.before c.requires.within is
     (subst (λ u. IsEntryAfter c.args.before.now c.args.edited.now c.args.schema.now u entry) same after))
