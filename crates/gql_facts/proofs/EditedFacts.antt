@@ -1,8 +1,8 @@
 -- The entry of a type that an edit leaves as it is.
-use Rattle.std.proofs.Common.{◌≡◌, ◌+◌, ◌++◌, ◌<◌, ℕ, zero, suc, List, [], ◌∷◌, Bool, true, false, Option, Some, get_or, slice_get, refl, length, map, find, bytes_eq, take, sym, ap, ap₂, ◌∙◌, subst, arith}
+use Rattle.std.proofs.Common.{◌≡◌, ◌+◌, ◌++◌, ◌<◌, ℕ, zero, suc, List, [], ◌∷◌, Bool, true, false, Option, None, Some, get_or, slice_get, refl, length, map, find, bytes_eq, take, sym, ap, ◌∙◌, subst, arith}
 use Rattle.std.proofs.lemmas.List.{map-append, take_more}
 use Rattle.std.specs.List.{AllZip}
-use Rattle.std.specs.Prelude.{is_some, option_map}
+use Rattle.std.specs.Prelude.{IfSome, is_some, option_map, unwrap_or}
 use Rattle.std.proofs.lemmas.Option.{slice_get-get_or, slice_get-map}
 use Rattle.std.proofs.lemmas.Slice.Eq.{bytes_eq-Decides}
 use Rattle.gql_types.specs.KeptTypes.{IsKeptAt}
@@ -51,13 +51,19 @@ item_there : {X : Type 0} (xs : List X) (i : ℕ) (x : X) → i < length xs → 
 item_there xs i x within is = let both : Some (get_or xs i x) ≡ Some x = sym (slice_get-get_or xs i x within) ∙ is in cc both
 
 -- the entry of one type more
-pub entries_step : (after : Schema) (i : ℕ) (e : TypeEntry) (sofar more : List TypeEntry) → i < length after.types → sofar ≡ map (type_entry after) (take i after.types)
-    → ((t : SchemaType) → slice_get after.types i ≡ Some t → e ≡ type_entry after t) → more ≡ sofar ++ e ∷ [] → more ≡ map (type_entry after) (take (i + 1) after.types)
-entries_step after i e sofar more within earlier its pushed =
+pub entries_step : (after : Schema) (i : ℕ) (sofar more : List TypeEntry) → i < length after.types → sofar ≡ map (type_entry after) (take i after.types)
+    → ((t : SchemaType) → slice_get after.types i ≡ Some t → more ≡ sofar ++ type_entry after t ∷ []) → more ≡ map (type_entry after) (take (i + 1) after.types)
+entries_step after i sofar more within earlier added =
     let t = (there after.types i within).0 in
     let is : slice_get after.types i ≡ Some t = (there after.types i within).1 in
     rw (take_more after.types i t within, item_there after.types i t within is, map-append (type_entry after) (take i after.types) (t ∷ []))
-    (pushed ∙ ap₂ (λ es x. es ++ x ∷ []) earlier (its t is))
+    (added t is ∙ ap (λ es. es ++ type_entry after t ∷ []) earlier)
+
+-- the entry that is kept, if there is one, or else that of the type
+pub kept_or_made : (before : SchemaFacts) (names : List (List ℕ)) (after : Schema) (t : SchemaType) (kept : Option TypeEntry)
+    → IfSome kept (IsEntryAfter before names after t) → IsEntryAfter before names after t (unwrap_or kept (type_entry after t))
+kept_or_made before names after t None its = λ old is keeps. refl
+kept_or_made before names after t (Some e) its = its
 
 -- what two lists have at one place
 zip_get : {X Y : Type 0} (R : X → Y → Type 0) (xs : List X) (ys : List Y) (i : ℕ) (x : X) (y : Y) → AllZip R xs ys → slice_get xs i ≡ Some x → slice_get ys i ≡ Some y → R x y

@@ -1,6 +1,6 @@
 //! The facts of a schema after an edit of a schema file. The facts of a type that the edit leaves as
 //! it is are shared with those before the edit.
-ghost use Rattle.std.specs.Prelude.{◌≡◌, ◌↔◌, ◌<◌, ℕ, List, IfOk, IfSome, IsTrue, Some, bytes_eq, find, is_some, length, map, slice_get};
+ghost use Rattle.std.specs.Prelude.{◌≡◌, ◌↔◌, ◌<◌, ◌++◌, ◌∷◌, [], ℕ, List, IfOk, IfSome, IsTrue, OnOk, Some, bytes_eq, find, is_some, length, map, slice_get, unwrap_or};
 ghost use Rattle.std.specs.List.{position_from};
 ghost use Rattle.std.specs.Option.{option_copied};
 ghost use Rattle.gql_types.specs.Possible.{name_of};
@@ -12,8 +12,8 @@ ghost use Rattle.gql_facts.specs.Tables.{tables_of, type_in};
 use crate::meta_fields::MetaFields;
 use crate::possible_names::PossibleNames;
 use crate::schema_facts::{SchemaFacts, TypeEntry, directive_entries, root_entries, type_entry};
-use gql_ast::{Shared, Text};
-use gql_types::{HasName, Named, Schema, SchemaType};
+use gql_ast::Text;
+use gql_types::{BatchList, Batched, HasName, Named, Schema, SchemaType};
 use std::alloc::{AllocError, Global};
 
 /// Whether both are absent, or both are there with the same names.
@@ -30,14 +30,14 @@ fn are_same_names(names: &Option<PossibleNames>, others: Option<&[Text]>) -> boo
 }
 
 /// The entry at a place.
-fn entry_at(entries: &[Shared<TypeEntry>], place: usize) -> Option<&Shared<TypeEntry>>
+fn entry_at(entries: &[Batched<TypeEntry>], place: usize) -> Option<&Batched<TypeEntry>>
     ensures { option_copied result ≡ slice_get entries.now place }
 {
     entries.get(place)
 }
 
 /// The entry that stood here before the edit, if there was one.
-fn entry_before<'b>(before: &'b SchemaFacts, stood: Option<usize>) -> Option<&'b Shared<TypeEntry>>
+fn entry_before<'b>(before: &'b SchemaFacts, stood: Option<usize>) -> Option<&'b Batched<TypeEntry>>
     ensures { (name : List ℕ)
         → stood ≡ position_from (λ e. bytes_eq name e.name) 0 before.entry.now.types
         → option_copied result ≡ type_in before.entry.now name }
@@ -57,7 +57,7 @@ fn kept_entry<'b>(
     place: usize,
     of_type: &SchemaType,
     is_edited: bool,
-) -> Option<&'b Shared<TypeEntry>>
+) -> Option<&'b Batched<TypeEntry>>
     requires { stood ≡ position_from (λ e. bytes_eq (name_of of_type.now) e.name) 0 before.now.types }
     ensures entry { (edited : List (List ℕ))
         → is_edited ≡ is_some (find (bytes_eq (name_of of_type.now)) edited)
@@ -79,31 +79,20 @@ fn kept_entry<'b>(
     }
 }
 
-/// The entry of the type at a place after the edit, which stood here before it.
-fn entry_after(
+/// Adds the entry that is kept, if there is one, or else the entry of this type.
+fn add_entry(
     alloc: Global,
     schema: &Schema,
-    before: &SchemaFacts,
-    stood: Option<usize>,
-    place: usize,
     of_type: &SchemaType,
-    is_edited: bool,
-) -> Result<Shared<TypeEntry>, AllocError>
-    requires { stood ≡ position_from (λ e. bytes_eq (name_of of_type.now) e.name) 0 before.now.types }
-    ensures entry { IfOk result (λ entry. (edited : List (List ℕ))
-        → is_edited ≡ is_some (find (bytes_eq (name_of of_type.now)) edited)
-        → spec.IsEntryAfter before.now edited schema.now of_type.now entry) }
-    ensures name { IfOk result (λ entry. entry.name ≡ name_of of_type.now) }
+    kept: Option<&Batched<TypeEntry>>,
+    entries: &mut BatchList<TypeEntry>,
+) -> Result<(), AllocError>
+    ensures { OnOk result (entries.new ≡ entries.old
+        ++ unwrap_or (option_copied kept.entry) (tables.type_entry schema.now of_type.now) ∷ []) }
 {
-    match kept_entry(schema, before, stood, place, of_type, is_edited) {
-        Some(entry) => {
-            let kept = entry.clone()?;
-            Ok(kept)
-        }
-        None => {
-            let made = type_entry(alloc, schema, of_type)?;
-            Shared::new(alloc, made)
-        }
+    match kept {
+        Some(entry) => entries.keep(entry),
+        None => entries.add(type_entry(alloc, schema, of_type)?),
     }
 }
 
@@ -112,7 +101,7 @@ fn given_entry<'b>(
     before: &'b SchemaFacts,
     places: &[Option<usize>],
     place: usize,
-) -> Option<&'b Shared<TypeEntry>>
+) -> Option<&'b Batched<TypeEntry>>
     ensures { IfSome (option_copied result) (λ e. (stood : ℕ)
         × (slice_get places.now place ≡ Some (Some stood))
         × (slice_get before.entry.now.types stood ≡ Some e)) }
@@ -123,49 +112,51 @@ fn given_entry<'b>(
     }
 }
 
-/// The entry of the type at a place after the edit.
-fn entry_here(
+/// Adds the entry of the type at a place after the edit.
+fn add_entry_here(
     alloc: Global,
     schema: &Schema,
     before: &SchemaFacts,
     edited: &Named<Text>,
     places: &[Option<usize>],
     place: usize,
-) -> Result<Shared<TypeEntry>, AllocError>
+    entries: &mut BatchList<TypeEntry>,
+) -> Result<(), AllocError>
     requires before { spec.AreFactsBefore before.now edited.now places.now schema.now }
     requires within { place < length schema.now.types }
-    ensures { IfOk result (λ entry. (t : TheType) → slice_get schema.now.types place ≡ Some t
-        → entry ≡ tables.type_entry schema.now t) }
+    ensures { OnOk result ((t : TheType) → slice_get schema.now.types place ≡ Some t
+        → entries.new ≡ entries.old ++ tables.type_entry schema.now t ∷ []) }
 {
     if let Some(entry) = given_entry(before, places, place) {
-        let kept = entry.clone()?;
-        return Ok(kept);
+        entries.keep(entry)?;
+        return Ok(());
     }
     let of_type = schema.types()[place].get();
     let stood = before.types.place_near(place, of_type.name());
     let is_edited = edited.get(of_type.name()).is_some();
-    let entry = entry_after(alloc, schema, before, stood, place, of_type, is_edited)?;
-    Ok(entry)
+    let kept = kept_entry(schema, before, stood, place, of_type, is_edited);
+    add_entry(alloc, schema, of_type, kept, entries)?;
+    Ok(())
 }
 
-/// The entries of the types after the edit.
+/// The entries of the types after the edit. The new ones are one batch.
 fn entries_after(
     alloc: Global,
     schema: &Schema,
     before: &SchemaFacts,
     edited: &Named<Text>,
     places: &[Option<usize>],
-) -> Result<Vec<Shared<TypeEntry>>, AllocError>
+) -> Result<Vec<Batched<TypeEntry>>, AllocError>
     requires { spec.AreFactsBefore before.now edited.now places.now schema.now }
     ensures { IfOk result (λ entries. entries.items
         ≡ map (tables.type_entry schema.now) schema.now.types) }
 {
     let count = schema.types().len();
-    let mut entries = Vec::with_capacity(alloc, count)?;
+    let mut entries = BatchList::with_capacity(alloc, count)?;
     for place in 0..count {
-        entries.push(entry_here(alloc, schema, before, edited, places, place)?)?;
+        add_entry_here(alloc, schema, before, edited, places, place, &mut entries)?;
     }
-    Ok(entries)
+    entries.finish(alloc)
 }
 
 impl SchemaFacts {

@@ -14,7 +14,8 @@ use gql_ast::{
     InputValueDefinition, Items, OperationKind, Shared, Text,
 };
 use gql_types::{
-    DefinedInputs, HasName, Named, Root, Schema, SchemaType, Sited, TypeKind, WrittenType,
+    BatchList, Batched, DefinedInputs, HasName, Named, Root, Schema, SchemaType, Sited, TypeKind,
+    WrittenType,
 };
 use std::alloc::{AllocError, Global};
 
@@ -77,7 +78,7 @@ impl HasName for DirectiveEntry {
 /// The facts of a schema. They are made once; an answer is a look-up, and shares the fact. The entry
 /// of a type is shared with the facts after an edit that leaves the type as it is.
 pub struct SchemaFacts {
-    pub types: Named<Shared<TypeEntry>>,
+    pub types: Named<Batched<TypeEntry>>,
     pub directives: Named<DirectiveEntry>,
     pub roots: Items<RootEntry>,
     pub meta: MetaFields,
@@ -251,16 +252,16 @@ pub fn type_entry(
     })
 }
 
-fn type_entries(alloc: Global, schema: &Schema) -> Result<Vec<Shared<TypeEntry>>, AllocError>
+/// The entries of the types, as one batch.
+fn type_entries(alloc: Global, schema: &Schema) -> Result<Vec<Batched<TypeEntry>>, AllocError>
     ensures { IfOk result (λ entries. entries.items
         ≡ map (tables.type_entry schema.now) schema.now.types) }
 {
-    let mut entries = Vec::with_capacity(alloc, schema.types().len())?;
+    let mut entries = BatchList::with_capacity(alloc, schema.types().len())?;
     for of_type in schema.types() {
-        let entry = type_entry(alloc, schema, of_type.get())?;
-        entries.push(Shared::new(alloc, entry)?)?;
+        entries.add(type_entry(alloc, schema, of_type.get())?)?;
     }
-    Ok(entries)
+    entries.finish(alloc)
 }
 
 fn directive_entry(

@@ -1,7 +1,7 @@
 //! Which rules of this crate find nothing, and what they check.
 
-use gql_ast::{Fault, Shared};
-use gql_types::SchemaType;
+use gql_ast::Fault;
+use gql_types::{Batched, SchemaType};
 
 /// Which rules find nothing in a schema, and whether the rules on interfaces ask about names that
 /// have types. An edit keeps that for what it leaves as it is.
@@ -30,13 +30,13 @@ pub struct Found {
 #[derive(Clone, Copy)]
 pub struct Checked<'t> {
     /// By S09 to S15.
-    pub interfaces: &'t [Shared<SchemaType>],
+    pub interfaces: &'t [Batched<SchemaType>],
     /// Whether S09 to S15 ask about no name without a type, of the types that are not among these.
     pub others_known: bool,
     /// Whether no input object can lead back to itself, so that S17 finds nothing.
     pub skips_inputs: bool,
     /// By S19, whether they need it.
-    pub defaults: &'t [Shared<SchemaType>],
+    pub defaults: &'t [Batched<SchemaType>],
     /// By S26, whether they lead on.
-    pub directives: &'t [Shared<SchemaType>],
+    pub directives: &'t [Batched<SchemaType>],
 }

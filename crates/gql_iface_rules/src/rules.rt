@@ -25,8 +25,8 @@ use crate::{
     s15_incompatible_field_types, s17_input_object_cycles, s19_default_value_cycles,
     s26_directive_cycles,
 };
-use gql_ast::{Fault, Shared, Text};
-use gql_types::{Named, Schema, SchemaType};
+use gql_ast::{Fault, Text};
+use gql_types::{Batched, Named, Schema, SchemaType};
 use std::alloc::{AllocError, Global};
 
 /// Whether both are so.
@@ -64,7 +64,7 @@ fn check_pairs_of(
 fn check_pairs(
     alloc: Global,
     schema: &Schema,
-    types: &[Shared<SchemaType>],
+    types: &[Batched<SchemaType>],
     faults: &mut Vec<Fault>,
 ) -> Result<bool, AllocError>
     ensures faults { OnOk result ((f : TheFault) → Contains faults.new.items f
@@ -83,7 +83,7 @@ fn check_pairs(
 fn listed_faults(
     alloc: Global,
     schema: &Schema,
-    types: &[Shared<SchemaType>],
+    types: &[Batched<SchemaType>],
 ) -> Result<Vec<Fault>, AllocError>
     ensures { IfOk result (λ found. found.items ≡ listed_on schema.now types.now) }
 {
@@ -179,9 +179,9 @@ pub fn iface_faults(alloc: Global, schema: &Schema) -> Result<Vec<Fault>, AllocE
 /// These types, if they are enough, or all types.
 fn enough<'t>(
     are_enough: bool,
-    types: &'t [Shared<SchemaType>],
-    all: &'t [Shared<SchemaType>],
-) -> &'t [Shared<SchemaType>]
+    types: &'t [Batched<SchemaType>],
+    all: &'t [Batched<SchemaType>],
+) -> &'t [Batched<SchemaType>]
     ensures { result.now ≡ (if are_enough then types.now else all.now) }
 {
     if are_enough { types } else { all }
@@ -221,7 +221,7 @@ pub fn iface_faults_after_edit(
     before: &Schema,
     schema: &Schema,
     edited: &Named<Text>,
-    types: &[Shared<SchemaType>],
+    types: &[Batched<SchemaType>],
     has_same_directives: bool,
     were: Quiet,
 ) -> Result<Found, AllocError>

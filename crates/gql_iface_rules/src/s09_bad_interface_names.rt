@@ -7,10 +7,10 @@
 ghost use Rattle.std.specs.Prelude.{◌≡◌, ◌++◌, OnOk, flat_map};
 ghost use Rattle.gql_iface_rules.specs.S09BadInterfaceNames as spec;
 
-use gql_ast::{Fault, Name, Rule, Shared};
+use gql_ast::{Fault, Name, Rule};
 use gql_built_in::Sited;
 use gql_faults::{NamePlace, add_fault_of, add_repeated_names};
-use gql_types::{Schema, SchemaType, TypeKind};
+use gql_types::{Batched, Schema, SchemaType, TypeKind};
 use std::alloc::{AllocError, Global};
 
 /// Adds the fault at a name that is known and not that of an interface.
@@ -69,7 +69,7 @@ fn check_type(
 pub fn check(
     alloc: Global,
     schema: &Schema,
-    types: &[Shared<SchemaType>],
+    types: &[Batched<SchemaType>],
     faults: &mut Vec<Fault>,
 ) -> Result<(), AllocError>
     ensures { OnOk result (faults.new.items

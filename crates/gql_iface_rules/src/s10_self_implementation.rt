@@ -6,10 +6,10 @@
 ghost use Rattle.std.specs.Prelude.{◌≡◌, ◌++◌, OnOk, flat_map};
 ghost use Rattle.gql_iface_rules.specs.S10SelfImplementation as spec;
 
-use gql_ast::{Fault, Name, Rule, Shared};
+use gql_ast::{Fault, Name, Rule};
 use gql_built_in::Sited;
 use gql_faults::{NamePlace, add_fault_of};
-use gql_types::{HasName, SchemaType, TypeKind};
+use gql_types::{Batched, HasName, SchemaType, TypeKind};
 use std::alloc::{AllocError, Global};
 
 /// Adds the fault at a name, if the type has that name.
@@ -60,7 +60,7 @@ fn check_type(
 /// Adds the faults of these types by S10.
 pub fn check(
     alloc: Global,
-    types: &[Shared<SchemaType>],
+    types: &[Batched<SchemaType>],
     faults: &mut Vec<Fault>,
 ) -> Result<(), AllocError>
     ensures { OnOk result (faults.new.items

@@ -13,10 +13,10 @@ ghost use Rattle.gql_iface_rules.specs.S11UndeclaredInterfaces as spec;
 
 use crate::implementing::{Implementation, interface_named};
 use crate::name_set::NameSet;
-use gql_ast::{Fault, Name, Rule, Shared};
+use gql_ast::{Fault, Name, Rule};
 use gql_built_in::Sited;
 use gql_faults::{NamePlace, add_fault};
-use gql_types::{Schema, SchemaType};
+use gql_types::{Batched, Schema, SchemaType};
 use std::alloc::{AllocError, Global};
 
 /// Adds the fault for an interface, unless it is among these names.
@@ -106,7 +106,7 @@ fn check_type(
 pub fn check(
     alloc: Global,
     schema: &Schema,
-    types: &[Shared<SchemaType>],
+    types: &[Batched<SchemaType>],
     faults: &mut Vec<Fault>,
 ) -> Result<(), AllocError>
     ensures { OnOk result (faults.new.items

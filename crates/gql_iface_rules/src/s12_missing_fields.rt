@@ -17,7 +17,7 @@ use crate::implementing::{Implementation, field_in, interface_named};
 use gql_ast::{Fault, FieldDefinition, Name, Rule, Shared};
 use gql_built_in::Sited;
 use gql_faults::{NamePlace, add_fault};
-use gql_types::{HasName, Schema, SchemaType};
+use gql_types::{Batched, HasName, Schema, SchemaType};
 use std::alloc::{AllocError, Global};
 use std::collections::HashMap;
 
@@ -123,7 +123,7 @@ fn check_type(
 pub fn check(
     alloc: Global,
     schema: &Schema,
-    types: &[Shared<SchemaType>],
+    types: &[Batched<SchemaType>],
     faults: &mut Vec<Fault>,
 ) -> Result<(), AllocError>
     ensures { OnOk result (faults.new.items ≡ faults.old.items

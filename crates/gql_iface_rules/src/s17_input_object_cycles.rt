@@ -15,7 +15,7 @@ use gql_ast::{Fault, InputValueDefinition, Rule, Shared, TypeRef};
 use gql_built_in::Sited;
 use gql_cycles::{Row, names_on_cycles};
 use gql_faults::{NamePlace, add_fault_of};
-use gql_types::{HasName, Schema, SchemaType, TypeKind, is_same_name};
+use gql_types::{Batched, HasName, Schema, SchemaType, TypeKind, is_same_name};
 use std::alloc::{AllocError, Global};
 
 /// The name of a type, unless it is a list or Non-Null.
@@ -210,7 +210,7 @@ fn has_kept_row(alloc: Global, before: &Schema, of_type: &SchemaType) -> Result<
 pub fn keeps_rows(
     alloc: Global,
     before: &Schema,
-    types: &[Shared<SchemaType>],
+    types: &[Batched<SchemaType>],
 ) -> Result<bool, AllocError>
     ensures { IfOk result (λ keeps. IsTrue keeps → HasRowsOf before.now types.now) }
 {

@@ -13,10 +13,10 @@ use crate::s19_ends::{all_ends, end_rows};
 use crate::s19_inputs::{Input, all_inputs};
 use crate::s19_plain::may_types_need;
 use crate::s19_ranges::all_ranges;
-use gql_ast::{Fault, Rule, Shared};
+use gql_ast::{Fault, Rule};
 use gql_cycles::nodes_on_cycles_over_ranges;
 use gql_faults::{NamePlace, add_fault_of};
-use gql_types::{Schema, SchemaType};
+use gql_types::{Batched, Schema, SchemaType};
 use std::alloc::{AllocError, Global};
 
 /// Adds a fault at the input field of a number.
@@ -71,7 +71,7 @@ fn check_all(alloc: Global, schema: &Schema, faults: &mut Vec<Fault>) -> Result<
 pub fn check(
     alloc: Global,
     schema: &Schema,
-    types: &[Shared<SchemaType>],
+    types: &[Batched<SchemaType>],
     faults: &mut Vec<Fault>,
 ) -> Result<bool, AllocError>
     ensures faults { OnOk result ((All TypeNeedsNone types.now → All TypeNeedsNone schema.now.types)

@@ -4,8 +4,8 @@ ghost use Rattle.std.specs.List.{All};
 ghost use Rattle.gql_iface_rules.specs.S19Plain as spec;
 
 use crate::s19_inputs::Input;
-use gql_ast::{Literal, Shared};
-use gql_types::SchemaType;
+use gql_ast::Literal;
+use gql_types::{Batched, SchemaType};
 
 /// Whether a value is a list or an object.
 #[tactic(auto, using(crate::proofs::S19Equations::object_values_variable, crate::proofs::S19Equations::object_values_int, crate::proofs::S19Equations::object_values_float, crate::proofs::S19Equations::object_values_string, crate::proofs::S19Equations::object_values_boolean, crate::proofs::S19Equations::object_values_null, crate::proofs::S19Equations::object_values_enum))]
@@ -76,7 +76,7 @@ fn may_any_need(fields: &[Input]) -> bool
 }
 
 /// Whether a default value of one of these types may hold an object.
-pub fn may_types_need(types: &[Shared<SchemaType>]) -> bool
+pub fn may_types_need(types: &[Batched<SchemaType>]) -> bool
     ensures { result ≡ false → All spec.TypeNeedsNone types.now }
 {
     for of_type in types {

@@ -15,10 +15,10 @@ ghost use Rattle.gql_iface_rules.specs.S26Leads.{LeadsNowhere, directive_leads};
 
 use crate::s26_leads::may_cycle;
 use crate::s26_rows::{OwnedRow, definition_rows};
-use gql_ast::{Fault, Rule, Shared, Text};
+use gql_ast::{Fault, Rule, Text};
 use gql_cycles::{Row, names_on_cycles};
 use gql_faults::{NamePlace, add_fault_of};
-use gql_types::{Schema, SchemaType};
+use gql_types::{Batched, Schema, SchemaType};
 use std::alloc::{AllocError, Global};
 
 /// These names, borrowed.
@@ -136,7 +136,7 @@ fn check_all(alloc: Global, schema: &Schema, faults: &mut Vec<Fault>) -> Result<
 pub fn check(
     alloc: Global,
     schema: &Schema,
-    types: &[Shared<SchemaType>],
+    types: &[Batched<SchemaType>],
     faults: &mut Vec<Fault>,
 ) -> Result<bool, AllocError>
     ensures faults { OnOk result ((All (LeadsNowhere (directive_leads schema.now)) types.now

@@ -8,9 +8,9 @@ ghost use Rattle.gql_iface_rules.specs.S26Leads as spec;
 
 use crate::s26_directive_cycles::without_sign;
 use crate::s26_rows::{OwnedRow, add_directive_rows, type_row};
-use gql_ast::{Shared, Text};
+use gql_ast::Text;
 use gql_faults::first_directives;
-use gql_types::{HasName, Named, Schema, SchemaType};
+use gql_types::{Batched, HasName, Named, Schema, SchemaType};
 use std::alloc::{AllocError, Global};
 
 /// Adds these names.
@@ -72,7 +72,7 @@ fn is_led_on(alloc: Global, of_type: &SchemaType, names: &Named<Text>) -> Result
 /// The same for one of these types.
 fn is_any_led_on(
     alloc: Global,
-    types: &[Shared<SchemaType>],
+    types: &[Batched<SchemaType>],
     names: &Named<Text>,
 ) -> Result<bool, AllocError>
     ensures { IfOk result (λ on. on ≡ false → All (spec.LeadsNowhere names.now) types.now) }
@@ -99,7 +99,7 @@ fn directive_leads(alloc: Global, schema: &Schema) -> Result<Named<Text>, AllocE
 pub fn may_cycle(
     alloc: Global,
     schema: &Schema,
-    types: &[Shared<SchemaType>],
+    types: &[Batched<SchemaType>],
 ) -> Result<bool, AllocError>
     ensures unsigned { IfOk result (λ may. may ≡ false
         → list_any (λ n. is_some (without_sign n)) (spec.directive_leads schema.now) ≡ false) }

@@ -10,7 +10,7 @@ use crate::s26_parts::{
 use gql_ast::{DirectiveDefinition, Items, Shared, Text};
 use gql_built_in::Sited;
 use gql_faults::first_directives;
-use gql_types::{Schema, SchemaType};
+use gql_types::{Batched, Schema, SchemaType};
 use std::alloc::{AllocError, Global};
 
 /// A type or a directive, and the names to which it leads.
@@ -52,7 +52,7 @@ fn directive_row(
 /// Adds the rows of types.
 fn add_type_rows(
     alloc: Global,
-    types: &[Shared<SchemaType>],
+    types: &[Batched<SchemaType>],
     rows: &mut Vec<OwnedRow>,
 ) -> Result<(), AllocError>
     ensures { OnOk result (map steps rows.new.items ≡ map steps rows.old.items

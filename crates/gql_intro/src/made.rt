@@ -14,7 +14,7 @@ use gql_ast::{
     Definition, Document, FieldDefinition, FileMap, Files, Items, SchemaDefinition, Shared, Text,
     Tree,
 };
-use gql_types::{HasName, Named, Schema, SchemaType, in_order};
+use gql_types::{Batched, HasName, Named, Schema, SchemaType, in_order};
 use std::alloc::{AllocError, Global};
 
 /// The schema as introspection shows it. It is made once for a schema, and is valid as long as the
@@ -57,7 +57,7 @@ pub(crate) fn is_shown(has_int: bool, has_id: bool, name: &str) -> bool
 /// The names of the types that introspection shows.
 fn shown_names(
     alloc: Global,
-    types: &[Shared<SchemaType>],
+    types: &[Batched<SchemaType>],
     has_int: bool,
     has_id: bool,
 ) -> Result<Vec<&str>, AllocError>

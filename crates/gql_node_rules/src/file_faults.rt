@@ -19,8 +19,8 @@ use crate::{
     s29_unknown_directives, s30_bad_locations, s31_repeated_directives, s32_bad_arguments,
     s33_bad_argument_values,
 };
-use gql_ast::{Fault, Shared, Text};
-use gql_types::{Schema, SchemaType};
+use gql_ast::{Fault, Text};
+use gql_types::{Batched, Schema, SchemaType};
 use std::alloc::{AllocError, Global};
 use std::collections::HashSet;
 
@@ -122,7 +122,7 @@ pub fn check_directives(
 pub fn joint_type_faults(
     alloc: Global,
     schema: &Schema,
-    types: &[Shared<SchemaType>],
+    types: &[Batched<SchemaType>],
 ) -> Result<Vec<Fault>, AllocError>
     ensures { IfOk result (λ found. found.items ≡ spec.joint_on_types schema.now types.now) }
 {

@@ -13,9 +13,9 @@ ghost use Rattle.gql_node_rules.specs.S31RepeatedDirectives as spec;
 
 use crate::applied::{Annotated, Applied, all_applied, schema_and_extensions, type_and_extensions};
 use crate::nodes::Nodes;
-use gql_ast::{Fault, Rule, Shared};
+use gql_ast::{Fault, Rule};
 use gql_faults::{NamePlace, add_fault, counts};
-use gql_types::{Schema, SchemaType};
+use gql_types::{Batched, Schema, SchemaType};
 use std::alloc::{AllocError, Global};
 use std::collections::HashMap;
 
@@ -173,7 +173,7 @@ fn check_type(
 pub fn check_types(
     alloc: Global,
     schema: &Schema,
-    types: &[Shared<SchemaType>],
+    types: &[Batched<SchemaType>],
     faults: &mut Vec<Fault>,
 ) -> Result<(), AllocError>
     ensures { OnOk result (faults.new.items

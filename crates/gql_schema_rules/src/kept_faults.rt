@@ -22,7 +22,7 @@ use crate::types_among::types_among;
 use gql_ast::{Fault, FileMap, FileName, Files, Shared, Text};
 use gql_iface_rules::{Found, Quiet, iface_faults_after_edit, iface_faults_of};
 use gql_node_rules::{FileCheck, SchemaChange, laws};
-use gql_types::{Named, Schema, SchemaType};
+use gql_types::{Batched, Named, Schema, SchemaType};
 use std::alloc::{AllocError, Global};
 
 /// All faults of a schema, and the checks of its files.
@@ -110,7 +110,7 @@ fn all_faults(
 /// for S18 only if the input types are.
 fn types_after_edit<'t>(
     schema: &'t Schema,
-    edited: &'t [Shared<SchemaType>],
+    edited: &'t [Batched<SchemaType>],
     change: &SchemaChange,
     before: &SchemaFaults,
 ) -> TypesToCheck<'t>

@@ -9,20 +9,20 @@ ghost use Rattle.gql_types.specs.Schemas.{schema_of};
 
 use crate::nodes_to_check::nodes_to_check;
 use crate::rules::{add_all, add_definition_faults, add_root_faults, type_faults};
-use gql_ast::{Fault, Files, Shared};
+use gql_ast::{Fault, Files};
 use gql_node_rules::{SchemaChange, joint_schema_faults, joint_type_faults};
-use gql_types::{Schema, SchemaType};
+use gql_types::{Batched, Schema, SchemaType};
 use std::alloc::{AllocError, Global};
 
 /// The types that rules on types check: those that may be at fault.
 #[derive(Clone, Copy)]
 pub struct TypesToCheck<'t> {
     /// By S31, each with its extensions.
-    pub joint: &'t [Shared<SchemaType>],
+    pub joint: &'t [Batched<SchemaType>],
     /// By S05 to S08.
-    pub own: &'t [Shared<SchemaType>],
+    pub own: &'t [Batched<SchemaType>],
     /// By S18.
-    pub defaulted: &'t [Shared<SchemaType>],
+    pub defaulted: &'t [Batched<SchemaType>],
 }
 
 /// The faults by the rules that are checked for all files together.
@@ -56,9 +56,9 @@ pub fn keeps_defaults(were_sound: bool, change: &SchemaChange) -> bool
 /// The edited types, if they are enough, or all types.
 pub fn types_to_check<'t>(
     are_enough: bool,
-    edited: &'t [Shared<SchemaType>],
-    all: &'t [Shared<SchemaType>],
-) -> &'t [Shared<SchemaType>]
+    edited: &'t [Batched<SchemaType>],
+    all: &'t [Batched<SchemaType>],
+) -> &'t [Batched<SchemaType>]
     ensures { result.now ≡ (if are_enough then edited.now else all.now) }
 {
     if are_enough { edited } else { all }

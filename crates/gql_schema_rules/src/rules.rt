@@ -9,9 +9,9 @@ use crate::{
     s18_bad_default_values, s23_missing_query_root, s24_non_object_roots, s25_shared_root_types,
     s27_extensions_of_unknown_types, s28_extensions_of_another_kind, s34_duplicate_schemas,
 };
-use gql_ast::{Fault, Shared};
+use gql_ast::Fault;
 use gql_node_rules::Nodes;
-use gql_types::{Schema, SchemaType};
+use gql_types::{Batched, Schema, SchemaType};
 use std::alloc::{AllocError, Global};
 
 /// S01, S02, S04, S27 and S28.
@@ -36,8 +36,8 @@ pub fn add_definition_faults(
 pub fn type_faults(
     alloc: Global,
     schema: &Schema,
-    types: &[Shared<SchemaType>],
-    defaulted: &[Shared<SchemaType>],
+    types: &[Batched<SchemaType>],
+    defaulted: &[Batched<SchemaType>],
 ) -> Result<Vec<Fault>, AllocError>
     ensures { IfOk result (λ found. found.items
         ≡ spec.type_faults_on schema.now types.now defaulted.now) }

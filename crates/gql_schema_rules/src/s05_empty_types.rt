@@ -10,9 +10,9 @@
 ghost use Rattle.std.specs.Prelude.{◌≡◌, ◌++◌, OnOk, flat_map};
 ghost use Rattle.gql_schema_rules.specs.S05EmptyTypes as spec;
 
-use gql_ast::{Fault, Rule, Shared};
+use gql_ast::{Fault, Rule};
 use gql_faults::{NamePlace, add_fault_of};
-use gql_types::{SchemaType, TypeKind};
+use gql_types::{Batched, SchemaType, TypeKind};
 use std::alloc::{AllocError, Global};
 
 /// Whether a type has none of the parts that its kind needs.
@@ -50,7 +50,7 @@ fn check_type(
 /// Adds the faults of these types by S05.
 pub fn check(
     alloc: Global,
-    types: &[Shared<SchemaType>],
+    types: &[Batched<SchemaType>],
     faults: &mut Vec<Fault>,
 ) -> Result<(), AllocError>
     ensures { OnOk result (faults.new.items

@@ -8,9 +8,9 @@
 ghost use Rattle.std.specs.Prelude.{◌≡◌, ◌++◌, OnOk, flat_map};
 ghost use Rattle.gql_schema_rules.specs.S06DuplicateFields as spec;
 
-use gql_ast::{Fault, Rule, Shared};
+use gql_ast::{Fault, Rule};
 use gql_faults::add_repeated_nodes;
-use gql_types::SchemaType;
+use gql_types::{Batched, SchemaType};
 use std::alloc::{AllocError, Global};
 
 /// Adds the faults of a type.
@@ -29,7 +29,7 @@ fn check_type(
 /// Adds the faults of these types by S06.
 pub fn check(
     alloc: Global,
-    types: &[Shared<SchemaType>],
+    types: &[Batched<SchemaType>],
     faults: &mut Vec<Fault>,
 ) -> Result<(), AllocError>
     ensures { OnOk result (faults.new.items

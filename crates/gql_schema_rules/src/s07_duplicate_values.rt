@@ -7,9 +7,9 @@
 ghost use Rattle.std.specs.Prelude.{◌≡◌, ◌++◌, OnOk, flat_map};
 ghost use Rattle.gql_schema_rules.specs.S07DuplicateValues as spec;
 
-use gql_ast::{Fault, Rule, Shared};
+use gql_ast::{Fault, Rule};
 use gql_faults::{add_repeated_names, add_repeated_nodes};
-use gql_types::SchemaType;
+use gql_types::{Batched, SchemaType};
 use std::alloc::{AllocError, Global};
 
 /// Adds the faults of a type.
@@ -28,7 +28,7 @@ fn check_type(
 /// Adds the faults of these types by S07.
 pub fn check(
     alloc: Global,
-    types: &[Shared<SchemaType>],
+    types: &[Batched<SchemaType>],
     faults: &mut Vec<Fault>,
 ) -> Result<(), AllocError>
     ensures { OnOk result (faults.new.items

@@ -12,7 +12,7 @@ ghost use Rattle.gql_schema_rules.specs.S08DuplicateArguments as spec;
 use gql_ast::{DirectiveDefinition, Fault, FieldDefinition, InputValueDefinition, Rule, Shared};
 use gql_built_in::{Sited, SourceFile, name_of_source};
 use gql_faults::{NamePlace, add_repeated, first_directives};
-use gql_types::{Schema, SchemaType};
+use gql_types::{Batched, Schema, SchemaType};
 use std::alloc::{AllocError, Global};
 
 /// The names of arguments.
@@ -71,7 +71,7 @@ fn check_fields(
 /// Adds the faults of the fields of types.
 fn check_types(
     alloc: Global,
-    types: &[Shared<SchemaType>],
+    types: &[Batched<SchemaType>],
     faults: &mut Vec<Fault>,
 ) -> Result<(), AllocError>
     ensures { OnOk result (faults.new.items
@@ -103,7 +103,7 @@ fn check_directives(
 pub fn check(
     alloc: Global,
     schema: &Schema,
-    types: &[Shared<SchemaType>],
+    types: &[Batched<SchemaType>],
     faults: &mut Vec<Fault>,
 ) -> Result<(), AllocError>
     ensures { OnOk result (faults.new.items

@@ -11,7 +11,7 @@ use gql_ast::{DirectiveDefinition, Fault, FieldDefinition, InputValueDefinition,
 use gql_built_in::{Sited, SourceFile, name_of_source};
 use gql_faults::first_directives;
 use gql_node_rules::{ValuePlace, add_unless_fits};
-use gql_types::{Schema, SchemaType};
+use gql_types::{Batched, Schema, SchemaType};
 use std::alloc::{AllocError, Global};
 
 /// Adds the fault of the default value of an argument or an input field, if it has one.
@@ -104,7 +104,7 @@ fn check_type(
 fn check_types(
     alloc: Global,
     schema: &Schema,
-    types: &[Shared<SchemaType>],
+    types: &[Batched<SchemaType>],
     faults: &mut Vec<Fault>,
 ) -> Result<(), AllocError>
     ensures { OnOk result (faults.new.items ≡ faults.old.items
@@ -137,7 +137,7 @@ fn check_directives(
 pub fn check(
     alloc: Global,
     schema: &Schema,
-    types: &[Shared<SchemaType>],
+    types: &[Batched<SchemaType>],
     faults: &mut Vec<Fault>,
 ) -> Result<(), AllocError>
     ensures { OnOk result (faults.new.items

@@ -3,8 +3,8 @@ ghost use Rattle.std.specs.Prelude.{◌≡◌, ◌++◌, ◌∷◌, [], Bool, If
 ghost use Rattle.gql_node_rules.specs.SchemaChanges.{is_among};
 ghost use Rattle.gql_types.specs.Possible.{name_of};
 
-use gql_ast::{Shared, Text};
-use gql_types::{Named, Schema, SchemaType};
+use gql_ast::Text;
+use gql_types::{Batched, Named, Schema, SchemaType};
 use std::alloc::{AllocError, Global};
 
 /// Whether the type at a place is marked.
@@ -20,8 +20,8 @@ fn is_marked(marks: &[bool], place: usize) -> bool
 /// Adds a type, if it is marked.
 fn add_if(
     is_marked: bool,
-    of_type: &Shared<SchemaType>,
-    found: &mut Vec<Shared<SchemaType>>,
+    of_type: &Batched<SchemaType>,
+    found: &mut Vec<Batched<SchemaType>>,
 ) -> Result<(), AllocError>
     ensures { OnOk result (found.new.items ≡ found.old.items
         ++ (if is_marked then of_type.now ∷ [] else [])) }
@@ -37,7 +37,7 @@ pub fn types_among(
     alloc: Global,
     schema: &Schema,
     names: &Named<Text>,
-) -> Result<Vec<Shared<SchemaType>>, AllocError>
+) -> Result<Vec<Batched<SchemaType>>, AllocError>
     ensures { IfOk result (λ found. found.items
         ≡ filter (λ t. is_among names.now (name_of t)) schema.now.types) }
 {
