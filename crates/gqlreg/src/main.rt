@@ -19,6 +19,7 @@ use gql_http::{Hub, pipe, status_of};
 use gql_registry::Registry;
 use gql_server::{NetListener, ServeFault, serve_on, serve_together};
 use gql_wire::DevicePeer;
+use std::mem::forget;
 use std::net::{Ipv4Addr, SocketAddr};
 use std::process::ExitCode;
 use std::{env, io, net};
@@ -36,7 +37,10 @@ fn words(rt: &HostRuntime) -> io::Result<Vec<String>> {
 fn run_pipe(rt: &HostRuntime) -> u8 {
     let mut hub = Hub::new(rt.alloc(), Registry::new(rt.alloc()));
     let mut peer = DevicePeer::new(rt.stdin(), rt.stdout());
-    status_of(&pipe(&mut hub, &mut peer))
+    let status = status_of(&pipe(&mut hub, &mut peer));
+    // The process ends, and its memory goes to the system at once: nothing is freed piece by piece.
+    forget(hub);
+    status
 }
 
 /// Reports that connections are accepted from now on, and returns whether that succeeded.
@@ -91,6 +95,7 @@ fn run_serve(rt: &HostRuntime, port: u16, connections: u32, at_once: u8) -> u8
     } else {
         serve_at_once(rt, &mut hub, address, connections, at_once)
     };
+    forget(hub);
     match served {
         Some(Ok(())) => 0,
         Some(Err(ServeFault::Memory)) => 4,
