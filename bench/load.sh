@@ -1,9 +1,9 @@
 #!/bin/sh
 # What it costs to put schema files one by one, as a push of a folder does: bench/load.sh [PROGRAM..].
-# It prints for 16, 32, 64 and 100 files of 60 KB, for 48 files of 20 KB with and without 40 edits of
+# It prints for 16, 32, 64, 100 and 256 files of 60 KB, for 48 files of 20 KB with and without 40 edits of
 # one of them, the same where the files have enums and input objects with default values, and where
 # all types implement an interface, and for 200 edits among 12 files of 2 KB, the processor seconds
-# and the most memory in MB of each program; and what `gqlreg check` needs for the same 100 files. It
+# and the most memory in MB of each program; and what `gqlreg check` needs for 100 of these files. It
 # takes a minute or two for each program. It needs python3 and GNU time.
 # By default the program is that of this repository, which is built without proof if it is not there
 # (tools/program.sh).
@@ -37,6 +37,8 @@ for n, part in enumerate(re.split(rb'PUT /schema/f\d+ HTTP/1.1\r\nContent-Length
     open(f'{sys.argv[1]}/folder/schema/f{n}.graphql', 'wb').write(part)
 PY
     measure 'gqlreg check of the 100 files' "$program" check "$work/folder"
+    python3 "$here/load.py" 256 60000 > "$work/requests"
+    measure '256 files of 60 KB, one by one' sh -c "exec '$program' pipe < '$work/requests'"
     python3 "$here/load.py" 48 20000 > "$work/requests"
     measure '48 files of 20 KB, one by one' sh -c "exec '$program' pipe < '$work/requests'"
     python3 "$here/load.py" 48 20000 40 > "$work/requests"
