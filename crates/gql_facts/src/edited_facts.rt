@@ -79,12 +79,28 @@ fn kept_entry<'b>(
     }
 }
 
-/// Adds the entry that is kept, if there is one, or else the entry of this type.
+/// Adds an entry as a batch of its own.
+fn add_alone(
+    alloc: Global,
+    entry: TypeEntry,
+    entries: &mut BatchList<TypeEntry>,
+) -> Result<(), AllocError>
+    ensures { OnOk result (entries.new ≡ entries.old ++ entry ∷ []) }
+{
+    let alone = Batched::new(alloc, entry)?;
+    entries.keep(&alone)?;
+    Ok(())
+}
+
+/// Adds the entry that is kept, if there is one, or else the entry of this type: as one of a batch, if
+/// it is said that the types beside it are edited too, so that the next edit of their file replaces them
+/// together; or else as a batch of its own, which is freed when an edit of any file replaces it.
 fn add_entry(
     alloc: Global,
     schema: &Schema,
     of_type: &SchemaType,
     kept: Option<&Batched<TypeEntry>>,
+    is_beside: bool,
     entries: &mut BatchList<TypeEntry>,
 ) -> Result<(), AllocError>
     ensures { OnOk result (entries.new ≡ entries.old
@@ -92,7 +108,14 @@ fn add_entry(
 {
     match kept {
         Some(entry) => entries.keep(entry),
-        None => entries.add(type_entry(alloc, schema, of_type)?),
+        None => {
+            let made = type_entry(alloc, schema, of_type)?;
+            if is_beside {
+                entries.add(made)
+            } else {
+                add_alone(alloc, made, entries)
+            }
+        }
     }
 }
 
@@ -110,6 +133,21 @@ fn given_entry<'b>(
         Some(Some(stood)) => entry_at(before.types.as_slice(), *stood),
         _ => None,
     }
+}
+
+/// Whether there is a type at this place, and the edit changes types of its name.
+fn is_edited_at(types: &[Batched<SchemaType>], place: usize, edited: &Named<Text>) -> bool {
+    match types.get(place) {
+        Some(of_type) => edited.get(of_type.name()).is_some(),
+        None => false,
+    }
+}
+
+/// Whether the type before this place or the one after it is edited: then they may be of one file.
+/// Nothing rests on it but which entries share a count of owners.
+fn is_beside_edited(types: &[Batched<SchemaType>], place: usize, edited: &Named<Text>) -> bool {
+    (place > 0 && is_edited_at(types, place - 1, edited))
+        || is_edited_at(types, place.saturating_add(1), edited)
 }
 
 /// Adds the entry of the type at a place after the edit.
@@ -135,11 +173,12 @@ fn add_entry_here(
     let stood = before.types.place_near(place, of_type.name());
     let is_edited = edited.get(of_type.name()).is_some();
     let kept = kept_entry(schema, before, stood, place, of_type, is_edited);
-    add_entry(alloc, schema, of_type, kept, entries)?;
+    let is_beside = is_edited && is_beside_edited(schema.types(), place, edited);
+    add_entry(alloc, schema, of_type, kept, is_beside, entries)?;
     Ok(())
 }
 
-/// The entries of the types after the edit. The new ones are one batch.
+/// The entries of the types after the edit. Those of types that the edit changes are one batch.
 fn entries_after(
     alloc: Global,
     schema: &Schema,
