@@ -93,28 +93,4 @@ impl TypeList {
         self.prints.push(print)?;
         Ok(())
     }
-
-    /// Makes the type of a definition and adds it, as `make` does, but as a batch of its own: it is of
-    /// another file than the edited one, whose types the next edit replaces together.
-    pub fn make_alone(
-        &mut self,
-        alloc: Global,
-        definition: &TypeSite<'_>,
-        extensions: &ByName<'_, Sited<Shared<TypeExtension>>>,
-        print: u64,
-    ) -> Result<(), AllocError>
-        ensures types { OnOk result (self.new.types ≡ self.old.types ++ type_by
-            (λ q. option_map_or (λ group. map (λ x. x.now) group.items)
-            (hash.get_by_text extensions.now q) []) (site definition.now) ∷ []) }
-        ensures places { OnOk result (self.new.places.items ≡ self.old.places.items ++ None ∷ []) }
-        ensures prints { OnOk result (self.new.prints.items
-            ≡ self.old.prints.items ++ print ∷ []) }
-    {
-        let of_type = made_type(alloc, definition, extensions, &mut self.source)?;
-        let alone = Batched::new(alloc, of_type)?;
-        self.types.keep(&alone)?;
-        self.places.push(None)?;
-        self.prints.push(print)?;
-        Ok(())
-    }
 }

@@ -56,7 +56,7 @@ fn add_kept_at(
         Some(of_type) => list.keep(of_type, stood, print),
         None => {
             let definition = site_of(edit.schema.types()[place].get());
-            list.make_alone(alloc, &definition, &edit.extensions, print)
+            list.make(alloc, &definition, &edit.extensions, print)
         }
     }
 }

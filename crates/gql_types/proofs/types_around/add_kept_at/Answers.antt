@@ -20,13 +20,13 @@ returns-in-Some c =
 pub returns-in-None : goal.returns-in-None
 returns-in-None c =
     let d = site c.site_of-definition.result in
-    three_ok c.make_alone.result
+    three_ok c.make.result
     (λ types places prints t there sites before.
     let same : c.get.result.now ≡ t = c.get.ensures ∙ c.index-types-place.is
     ∙ ap (λ ts. get_or ts c.args.place c.index-types-place.result) c.types.ensures
     ∙ get_or_from_slice_get c.args.edit.now.schema.now.types c.args.place t c.index-types-place.result there in
     let is : d ≡ t.definition = c.site_of-definition.ensures ∙ ap definition_of same in
-    subst (λ e. AreMade c.args.edit.now (sites ++ e ∷ []) c.make_alone.new.self) is
-    (made_more c.args.edit.now sites d c.args.list.now c.make_alone.new.self (type_by (extensions_at c.args.edit.now) d) None c.args.print
+    subst (λ e. AreMade c.args.edit.now (sites ++ e ∷ []) c.make.new.self) is
+    (made_more c.args.edit.now sites d c.args.list.now c.make.new.self (type_by (extensions_at c.args.edit.now) d) None c.args.print
     (λ keeps. refl) refl (c.requires.print t there ∙ ap (λ e. print_of (defined_name e)) (sym is)) tt types places prints before))
-    c.make_alone.ensures.types c.make_alone.ensures.places c.make_alone.ensures.prints
+    c.make.ensures.types c.make.ensures.places c.make.ensures.prints
