@@ -20,7 +20,7 @@ pub struct FileOutline {
 /// What each schema file gives to the schema, under the name of the file.
 #[derive(Drop)]
 pub struct Outline {
-    pub(crate) files: FileMap<Shared<FileOutline>>,
+    pub files: FileMap<Shared<FileOutline>>,
     /// Whether it is known that each type is defined once.
     pub(crate) are_once: bool,
 }
