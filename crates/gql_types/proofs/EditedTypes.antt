@@ -1,24 +1,28 @@
 -- The types of definitions after an edit, one after the other.
-use Rattle.std.proofs.Common.{◌≡◌, ◌+◌, ◌++◌, ◌<◌, ℕ, List, [], ◌∷◌, Bool, Option, Some, None, true, false, inl, inr, bytes_eq, find, slice_get, option_and_then, map, length, get_or, take, ap, ap₂, ◌∙◌, sym, subst}
+use Rattle.std.proofs.Common.{◌≡◌, ◌+◌, ◌++◌, ◌<◌, ℕ, List, [], ◌∷◌, Bool, Option, Some, None, true, false, inl, inr, bytes_eq, find, slice_get, option_and_then, map, length, get_or, take, ap, ap₂, ◌∙◌, refl, sym, subst}
 use Rattle.std.specs.Prelude.{IfSome, OnOk, Result, Ok, Err, is_some, option_map, unwrap_or}
 use Rattle.std.specs.List.{AllZip, position_from}
 use Rattle.std.proofs.lemmas.List.{append_assoc, map-append, take_more}
 use Rattle.std.proofs.lemmas.List.Elements.{Contains-append_left, Contains-append_right}
 use Rattle.std.proofs.lemmas.Option.{slice_get-get_or, slice_get-map}
 use Rattle.std.proofs.lemmas.Slice.Eq.{bytes_eq-Decides}
+use Rattle.gql_ast.specs.declared.text.Name.{Name}
 use Rattle.gql_ast.specs.declared.type_system.TypeDefinition.{TypeDefinition}
 use Rattle.gql_ast.specs.declared.type_system.TypeExtension.{TypeExtension}
 use Rattle.gql_built_in.specs.declared.sited.Sited.{Sited}
-use Rattle.gql_types.specs.EditedTypes.{AreExtensions, AreMade, AreTypesAfter, concrete_place, defined_name, extensions_at, type_by}
+use Rattle.gql_types.specs.EditedTypes.{AreExtensions, AreMade, AreTypesAfter, defined_name, extensions_at, type_by}
 use Rattle.gql_types.specs.Edits.{KeepsType, KeepsTypes}
 use Rattle.gql_types.specs.Kinds.{is_abstract}
 use Rattle.gql_types.specs.KeptTypes.{IsConcreteAt}
 use Rattle.gql_types.specs.Names.{AreOnce, are_among}
 use Rattle.gql_types.specs.Possible.{name_of}
 use Rattle.gql_types.specs.Prints.{print_of}
+use Rattle.gql_types.specs.Roles.{concrete_place, role_by, role_of}
 use Rattle.gql_types.specs.Types.{first_definitions, types_of}
 use Rattle.gql_types.specs.declared.schema.Schema.{Schema}
 use Rattle.gql_types.specs.declared.schema_type.SchemaType.{SchemaType}
+use Rattle.gql_types.specs.declared.kind.TypeKind.{TypeKind}
+use Rattle.gql_types.specs.declared.kind.TypeKind.TheVariants as kind
 use Rattle.gql_types.specs.declared.edited_types.EditedTypes.{EditedTypes}
 use Rattle.gql_types.specs.declared.edited_types.TypeEdit.{TypeEdit}
 use Rattle.gql_types.specs.declared.type_list.TypeList.{TypeList}
@@ -70,14 +74,27 @@ kept_found names before q stood (Some s) made t place there unedited named is =
       ap name_of is ∙ sym name,
     )
 
+-- where a type stood that is neither an interface nor a union
+stood_there : (types : List SchemaType) (t : SchemaType) (stood : Option ℕ) → option_and_then (λ i. slice_get types i) stood ≡ Some t
+    → is_abstract t.kind ≡ false → IsConcreteAt types stood t
+stood_there types t None there concrete = absurd (cc there)
+stood_there types t (Some i) there concrete = (there, concrete)
+
+-- the same, by its kind and the interfaces that it declares
+role_there : (types : List SchemaType) (t : SchemaType) (k : TypeKind) (interfaces : List (Sited Name)) (stood : Option ℕ) → t.kind ≡ k
+    → option_and_then (λ i. slice_get types i) stood ≡ Some t → IsConcreteAt types (concrete_place (role_by k interfaces) stood) t
+role_there types t kind.Object [] stood is there = stood_there types t stood there (ap is_abstract is)
+role_there types t kind.Object (i ∷ more) stood is there = stood_there types t stood there (ap is_abstract is)
+role_there types t kind.Interface interfaces stood is there = tt
+role_there types t kind.Union interfaces stood is there = tt
+role_there types t kind.Scalar interfaces stood is there = stood_there types t stood there (ap is_abstract is)
+role_there types t kind.Enum interfaces stood is there = stood_there types t stood there (ap is_abstract is)
+role_there types t kind.InputObject interfaces stood is there = stood_there types t stood there (ap is_abstract is)
+
 -- where a type that is kept stood
 pub kept_there : (types : List SchemaType) (t : SchemaType) (stood : Option ℕ) → option_and_then (λ i. slice_get types i) stood ≡ Some t
-    → IsConcreteAt types (concrete_place t stood) t
-kept_there types t None there = absurd (cc there)
-kept_there types t (Some i) there = elim (either (is_abstract t.kind)) [
-  | inl h ↦ rw h tt
-  | inr h ↦ rw h (there, h)
-]
+    → IsConcreteAt types (concrete_place (role_of t) stood) t
+kept_there types t stood there = role_there types t t.kind t.interfaces stood refl there
 
 -- one type more
 module _ (edit : TypeEdit) (sites : List (Sited TypeDefinition)) (d : Sited TypeDefinition) (old new : TypeList) (t : SchemaType) (place : Option ℕ) (print : ℕ) where
@@ -86,9 +103,9 @@ module _ (edit : TypeEdit) (sites : List (Sited TypeDefinition)) (d : Sited Type
 
   pub made_more : (KeepsType edit.edited.now edit.schema.now (made d) → t ≡ made d) → name_of t ≡ defined_name d → print ≡ print_of (defined_name d)
       → IsConcreteAt edit.schema.now.types place t
-      → new.types ≡ old.types ++ t ∷ [] → new.places.items ≡ old.places.items ++ place ∷ [] → new.prints.items ≡ old.prints.items ++ print ∷ []
+      → new.types ≡ old.types ++ t ∷ [] → new.roles.items ≡ old.roles.items ++ role_of t ∷ [] → new.places.items ≡ old.places.items ++ place ∷ [] → new.prints.items ≡ old.prints.items ++ print ∷ []
       → AreMade edit sites old → AreMade edit (sites ++ d ∷ []) new
-  made_more its named printed there types places prints before = record {
+  made_more its named printed there types roles places prints before = record {
     types = λ keeps.
         let both = subst (KeepsTypes edit.edited.now edit.schema.now) (map-append made sites (d ∷ [])) keeps in
         let earlier : old.types ≡ map made sites = before.types (λ u h. both u (Contains-append_left (map made sites) (made d ∷ []) u h)) in
@@ -97,6 +114,7 @@ module _ (edit : TypeEdit) (sites : List (Sited TypeDefinition)) (d : Sited Type
     names = ap (map name_of) types ∙ map-append name_of old.types (t ∷ []) ∙ ap₂ (λ ns n. ns ++ n ∷ []) before.names named ∙ sym (map-append defined_name sites (d ∷ []));
     prints = prints ∙ ap₂ (λ ps p. ps ++ p ∷ []) before.prints printed
         ∙ sym (ap (map print_of) (map-append defined_name sites (d ∷ [])) ∙ map-append print_of (map defined_name sites) (defined_name d ∷ []));
+    roles = roles ∙ ap (λ rs. rs ++ role_of t ∷ []) before.roles ∙ sym (ap (map role_of) types ∙ map-append role_of old.types (t ∷ []));
     places = zip_step (IsConcreteAt edit.schema.now.types) old.places.items new.places.items old.types new.types place t places types before.places there;
   }
 
@@ -127,17 +145,18 @@ types_after_once edit sites list after once made types places = record {
   once = λ said. once;
 }
 
--- what follows from three facts about a success
-pub three_ok : {T E : Type 0} {A B C D : Type 0} (r : Result T E) → (A → B → C → D) → OnOk r A → OnOk r B → OnOk r C → OnOk r D
-three_ok (Ok x) gives a b c = gives a b c
-three_ok (Err e) gives a b c = tt
+-- what follows from four facts about a success
+pub four_ok : {T E : Type 0} {A B C D F : Type 0} (r : Result T E) → (A → B → C → D → F) → OnOk r A → OnOk r B → OnOk r C → OnOk r D → OnOk r F
+four_ok (Ok x) gives a b c d = gives a b c d
+four_ok (Err e) gives a b c d = tt
 
 -- no types
-pub made_none : (edit : TypeEdit) (list : TypeList) → list.types ≡ [] → list.places.items ≡ [] → list.prints.items ≡ [] → AreMade edit [] list
-made_none edit list types places prints = record {
+pub made_none : (edit : TypeEdit) (list : TypeList) → list.types ≡ [] → list.roles.items ≡ [] → list.places.items ≡ [] → list.prints.items ≡ [] → AreMade edit [] list
+made_none edit list types roles places prints = record {
   types = λ keeps. types;
   names = ap (map name_of) types;
   prints = prints;
+  roles = roles ∙ sym (ap (map role_of) types);
   places = subst (λ ts. AllZip (IsConcreteAt edit.schema.now.types) list.places.items ts) (sym types)
       (subst (λ ps. AllZip (IsConcreteAt edit.schema.now.types) ps []) (sym places) tt);
 }

@@ -6,12 +6,13 @@ use Rattle.std.proofs.lemmas.List.{length-map, map-append, take-append-drop, tak
 use Rattle.std.proofs.lemmas.Option.{get_or_from_slice_get, slice_get-map, slice_get_within}
 use Rattle.gql_ast.specs.declared.type_system.TypeDefinition.{TypeDefinition}
 use Rattle.gql_built_in.specs.declared.sited.Sited.{Sited}
-use Rattle.gql_types.specs.EditedTypes.{AreMade, concrete_place, defined_name, definition_of, extensions_at, type_by}
+use Rattle.gql_types.specs.EditedTypes.{AreMade, defined_name, definition_of, extensions_at, type_by}
 use Rattle.gql_types.specs.Edits.{KeepsType}
 use Rattle.gql_types.specs.KeptTypes.{IsConcreteAt}
 use Rattle.gql_types.specs.Names.{AreOnce}
 use Rattle.gql_types.specs.Possible.{name_of}
 use Rattle.gql_types.specs.Prints.{print_of}
+use Rattle.gql_types.specs.Roles.{concrete_place, role_of}
 use Rattle.gql_types.specs.TypesAround.{sites_around}
 use Rattle.gql_types.specs.declared.edited_types.TypeEdit.{TypeEdit}
 use Rattle.gql_types.specs.declared.schema_type.SchemaType.{SchemaType}
@@ -31,7 +32,7 @@ pub kept_as_it_stood : (edit : TypeEdit) (place : ℕ) (t kept : SchemaType) →
     → option_and_then (λ i. slice_get edit.schema.now.types i) (Some place) ≡ Some kept
     → is_some (find (bytes_eq (name_of kept)) edit.edited.now) ≡ false
     → (KeepsType edit.edited.now edit.schema.now (type_by (extensions_at edit) t.definition) → kept ≡ type_by (extensions_at edit) t.definition)
-    × (name_of kept ≡ name_of t) × IsConcreteAt edit.schema.now.types (concrete_place kept (Some place)) kept
+    × (name_of kept ≡ name_of t) × IsConcreteAt edit.schema.now.types (concrete_place (role_of kept) (Some place)) kept
 kept_as_it_stood edit place t kept once there stood unedited =
     let within : place < length edit.schema.now.types = slice_get_within edit.schema.now.types place t there in
     let item : get_or edit.schema.now.types place t ≡ t = get_or_from_slice_get edit.schema.now.types place t t there in

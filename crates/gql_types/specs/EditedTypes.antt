@@ -1,6 +1,6 @@
 -- Helper definitions for private contracts: the types of definitions, by the extensions of each name,
 -- and the schema before an edit.
-use Rattle.std.specs.Prelude.{◌≡◌, ℕ, List, [], Option, None, IsTrue, bytes_eq, filter, if◌then◌else◌, map}
+use Rattle.std.specs.Prelude.{◌≡◌, ℕ, List, [], IsTrue, bytes_eq, filter, map}
 use Rattle.std.specs.HashMap as hash
 use Rattle.std.specs.List.{AllZip}
 use Rattle.std.specs.Option.{option_map_or}
@@ -8,12 +8,13 @@ use Rattle.gql_ast.specs.declared.type_system.TypeDefinition.{TypeDefinition}
 use Rattle.gql_ast.specs.declared.type_system.TypeExtension.{TypeExtension}
 use Rattle.gql_built_in.specs.declared.sited.Sited.{Sited}
 use Rattle.gql_types.specs.Edits.{KeepsTypes}
-use Rattle.gql_types.specs.Kinds.{is_abstract, same_kind}
+use Rattle.gql_types.specs.Kinds.{same_kind}
 use Rattle.gql_types.specs.KeptTypes.{IsConcreteAt}
 use Rattle.gql_types.specs.Names.{AreOnce, are_among}
 use Rattle.gql_types.specs.Parts.{kind_of}
 use Rattle.gql_types.specs.Possible.{name_of}
 use Rattle.gql_types.specs.Prints.{print_of}
+use Rattle.gql_types.specs.Roles.{role_of}
 use Rattle.gql_types.specs.Types.{assembled, types_of}
 use Rattle.gql_types.specs.declared.edited_types.EditedTypes.{EditedTypes}
 use Rattle.gql_types.specs.declared.edited_types.TypeEdit.{TypeEdit}
@@ -25,10 +26,6 @@ abbrev pub type_by : (List ℕ → List (Sited TypeExtension)) → Sited TypeDef
 type_by at d = assembled d (filter
     (λ (e : Sited TypeExtension). same_kind (kind_of d.node.parts) (kind_of e.node.parts))
     (at d.node.name.text))
-
--- where a type stood, if it is neither an interface nor a union
-abbrev pub concrete_place : SchemaType → Option ℕ → Option ℕ
-concrete_place t stood = if is_abstract t.kind then None else stood
 
 -- the first definition of a type
 abbrev pub definition_of : SchemaType → Sited TypeDefinition
@@ -54,13 +51,14 @@ AreExtensions edit extensions = (q : List ℕ) → extensions_at edit q
     ≡ filter (λ (e : Sited TypeExtension). bytes_eq q e.node.name.text) extensions
 
 -- The types of these definitions after the edit, if it changes no types but those of edited names;
--- with their names, the prints of these, and where types stood that are kept.
+-- with their names, the prints of these, the roles, and where types stood that are kept.
 pub record AreMade (edit : TypeEdit) (sites : List (Sited TypeDefinition)) (list : TypeList) : Type 0
   where
     pub types : KeepsTypes edit.edited.now edit.schema.now (map (type_by (extensions_at edit)) sites)
         → list.types ≡ map (type_by (extensions_at edit)) sites
     pub names : map name_of list.types ≡ map defined_name sites
     pub prints : list.prints.items ≡ map print_of (map defined_name sites)
+    pub roles : list.roles.items ≡ map role_of list.types
     pub places : AllZip (IsConcreteAt edit.schema.now.types) list.places.items list.types
 
 -- The types of these definitions after the edit, each taken for the first of its name, if it changes

@@ -17,6 +17,7 @@ pub mod Parts
 pub mod Possible
 pub mod Prints
 pub mod RequiredInputs
+pub mod Roles
 pub mod Roots
 pub mod Schemas
 pub mod Sites

@@ -9,6 +9,7 @@ use crate::kind::TypeKind;
 use crate::named::Named;
 use crate::possible::{PossibleTypes, all_abstract};
 use crate::schema_type::SchemaType;
+use crate::types::Types;
 use gql_ast::Text;
 use std::alloc::{AllocError, Global};
 use std::marker::Model;
@@ -52,13 +53,13 @@ impl Model for AllPossible {
 
 impl AllPossible {
     /// The possible types of the composite types among these.
-    pub fn new(alloc: Global, types: &Named<Batched<SchemaType>>) -> Result<AllPossible, AllocError>
+    pub fn new(alloc: Global, types: &Types) -> Result<AllPossible, AllocError>
         requires { AreOnce (map spec.name_of types.now) }
         ensures { IfOk result (λ possible. possible ≡ spec.all_possible types.now) }
     {
-        let abstracts = Named::new(alloc, all_abstract(alloc, types.as_slice())?)?;
+        let abstracts = Named::new(alloc, all_abstract(alloc, types)?)?;
         Ok(AllPossible {
-            types: types.copy()?,
+            types: types.named().copy()?,
             abstracts,
         })
     }

@@ -12,6 +12,7 @@ ghost use Rattle.gql_types.specs.KeptTypes.{IsConcreteAt};
 ghost use Rattle.gql_types.specs.Possible.{name_of};
 ghost use Rattle.gql_types.specs.Prints as prints;
 ghost use Rattle.gql_types.specs.Prints.{HaveOwnPrints};
+ghost use Rattle.gql_types.specs.Roles.{role_of};
 ghost use Rattle.gql_types.specs.Sites.{site};
 ghost use Rattle.gql_types.specs.Types as spec;
 
@@ -25,6 +26,7 @@ use crate::schema::Schema;
 use crate::schema_type::SchemaType;
 use crate::type_list::TypeList;
 use crate::type_site::TypeSite;
+use crate::types::Types;
 use gql_ast::{Shared, Text, TypeExtension};
 use gql_built_in::Sited;
 use std::alloc::{AllocError, Global};
@@ -43,7 +45,7 @@ pub struct TypeEdit<'e> {
 /// as it is and it is neither an interface nor a union: possible types of these change with others.
 #[derive(Drop)]
 pub struct EditedTypes {
-    pub types: Named<Batched<SchemaType>>,
+    pub types: Types,
     pub places: Vec<Option<usize>>,
     /// Whether it is known that each type is defined once.
     pub are_once: bool,
@@ -96,7 +98,7 @@ fn add_type(
 {
     let print = print_of(definition.name());
     match kept_type(edit, stood) {
-        Some(of_type) => list.keep(of_type, stood, print),
+        Some(of_type) => list.keep(of_type, edit.schema.role_at(stood), stood, print),
         None => list.make(alloc, definition, &edit.extensions, print),
     }
 }
@@ -141,7 +143,8 @@ fn all_types(
 impl EditedTypes {
     /// These types, with a look-up by the prints of their names; none if two names have one print.
     pub fn with_own_prints(alloc: Global, list: TypeList) -> Result<Option<EditedTypes>, AllocError>
-        requires { list.prints.items ≡ map prints.print_of (map name_of list.types) }
+        requires prints { list.prints.items ≡ map prints.print_of (map name_of list.types) }
+        requires roles { list.roles.items ≡ map role_of list.types }
         ensures some { IfOk result (λ found. IfSome found (λ after.
             (after.types ≡ list.types) × (after.places.items ≡ list.places.items)
             × HaveOwnPrints (map name_of list.types) × IsTrue after.are_once)) }
@@ -150,6 +153,7 @@ impl EditedTypes {
     {
         let TypeList {
             types,
+            roles,
             places,
             prints,
             source: _,
@@ -157,7 +161,7 @@ impl EditedTypes {
         let types = types.finish(alloc)?;
         match Named::of_prints(alloc, types, prints)? {
             Some(types) => Ok(Some(EditedTypes {
-                types,
+                types: Types::of(types, roles),
                 places,
                 are_once: true,
             })),
@@ -167,12 +171,14 @@ impl EditedTypes {
 
     /// These types, with a look-up by their names. It is not known whether each is defined once.
     fn with_names(alloc: Global, list: TypeList) -> Result<EditedTypes, AllocError>
+        requires { list.roles.items ≡ map role_of list.types }
         ensures types { IfOk result (λ after. after.types ≡ list.types) }
         ensures places { IfOk result (λ after. after.places.items ≡ list.places.items) }
         ensures once { IfOk result (λ after. after.are_once ≡ false) }
     {
         let TypeList {
             types,
+            roles,
             places,
             prints: _,
             source: _,
@@ -180,7 +186,7 @@ impl EditedTypes {
         let types = types.finish(alloc)?;
         let types = Named::new(alloc, types)?;
         Ok(EditedTypes {
-            types,
+            types: Types::of(types, roles),
             places,
             are_once: false,
         })
@@ -193,12 +199,14 @@ impl EditedTypes {
         list: TypeList,
         others: &Named<Batched<SchemaType>>,
     ) -> Result<EditedTypes, AllocError>
-        requires { map name_of list.types ≡ map name_of others.now }
+        requires names { map name_of list.types ≡ map name_of others.now }
+        requires roles { list.roles.items ≡ map role_of list.types }
         ensures types { IfOk result (λ after. after.types ≡ list.types) }
         ensures places { IfOk result (λ after. after.places.items ≡ list.places.items) }
     {
         let TypeList {
             types,
+            roles,
             places,
             prints: _,
             source: _,
@@ -206,7 +214,7 @@ impl EditedTypes {
         let types = types.finish(alloc)?;
         let types = Named::of_names(alloc, types, others)?;
         Ok(EditedTypes {
-            types,
+            types: Types::of(types, roles),
             places,
             are_once: true,
         })

@@ -6,13 +6,16 @@ ghost use Rattle.std.specs.HashMap as hash;
 ghost use Rattle.gql_types.specs.Possible as spec;
 ghost use Rattle.gql_types.specs.Abstracts.{abstract_by, abstract_types, all_abstract};
 ghost use Rattle.gql_types.specs.Declarations.{declarations, declared_by, pair};
+ghost use Rattle.gql_types.specs.Roles.{role_of};
 
 use crate::batched::Batched;
 use crate::by_name::{ByName, by_name};
 use crate::kind::TypeKind;
 use crate::named::HasName;
+use crate::role::Role;
 use crate::schema_type::SchemaType;
 use crate::sorted_names::in_order;
+use crate::types::Types;
 use gql_ast::{Items, Name, Text};
 use gql_built_in::Sited;
 use std::alloc::{AllocError, Global};
@@ -101,8 +104,28 @@ fn add_type<'t>(of_type: &'t SchemaType, found: &mut Gathering<'t>) -> Result<()
     }
 }
 
+/// Adds what a type of this role declares, if it is an object, or an interface or a union. A type
+/// that plays no part in possible types is not looked at.
+fn add_by_role<'t>(
+    role: Role,
+    of_type: &'t Batched<SchemaType>,
+    found: &mut Gathering<'t>,
+) -> Result<(), AllocError>
+    requires { role ≡ role_of of_type.now }
+    ensures declarations { OnOk result (map pair found.new.declarations.items
+        ≡ map pair found.old.declarations.items
+        ++ declared_by of_type.now.kind (spec.name_of of_type.now) of_type.now.interfaces) }
+    ensures abstracts { OnOk result (map (λ t. t.now) found.new.abstracts.items
+        ≡ map (λ t. t.now) found.old.abstracts.items ++ abstract_types (of_type.now ∷ [])) }
+{
+    match role {
+        Role::Abstract | Role::Declaring => add_type(of_type.get(), found),
+        Role::Other => Ok(()),
+    }
+}
+
 /// What the possible types of these types are made of.
-fn gathering_of(alloc: Global, types: &[Batched<SchemaType>]) -> Result<Gathering<'_>, AllocError>
+fn gathering_of(alloc: Global, types: &Types) -> Result<Gathering<'_>, AllocError>
     ensures declarations { IfOk result (λ found.
         map pair found.declarations.items ≡ declarations types.now) }
     ensures abstracts { IfOk result (λ found.
@@ -112,8 +135,10 @@ fn gathering_of(alloc: Global, types: &[Batched<SchemaType>]) -> Result<Gatherin
         declarations: Vec::new(alloc),
         abstracts: Vec::new(alloc),
     };
-    for of_type in types {
-        add_type(of_type.get(), &mut found)?;
+    let roles = types.roles();
+    let all = types.named().as_slice();
+    for place in 0..all.len() {
+        add_by_role(roles[place], &all[place], &mut found)?;
     }
     Ok(found)
 }
@@ -217,10 +242,7 @@ fn all_by(
 }
 
 /// The interfaces and unions, each with its possible types.
-pub fn all_abstract(
-    alloc: Global,
-    types: &[Batched<SchemaType>],
-) -> Result<Vec<PossibleTypes>, AllocError>
+pub fn all_abstract(alloc: Global, types: &Types) -> Result<Vec<PossibleTypes>, AllocError>
     ensures { IfOk result (λ found. found.items ≡ all_abstract types.now) }
 {
     let gathering = gathering_of(alloc, types)?;

@@ -1,13 +1,15 @@
 //! The schema of all schema files (GraphQL specification, 3.3).
-ghost use Rattle.std.specs.Prelude.{◌≡◌, IfOk, map};
+ghost use Rattle.std.specs.Prelude.{◌≡◌, IfOk, Some, map, option_and_then, slice_get};
 ghost use Rattle.std.specs.Option.{option_copied};
 ghost use Rattle.gql_types.specs.Definitions.{type_extensions};
 ghost use Rattle.gql_types.specs.Names.{AreOnce};
 ghost use Rattle.gql_types.specs.Possible.{name_of};
+ghost use Rattle.gql_types.specs.Roles.{role_of};
 ghost use Rattle.gql_types.specs.Schemas as spec;
 ghost use Rattle.gql_types.specs.Sites as sites;
 ghost use Rattle.gql_types.specs.Sites.{site};
 ghost use Rattle.gql_types.specs.Types.{types_of};
+ghost use Rattle.gql_types.specs.declared.schema_type.SchemaType.{SchemaType as TheType};
 
 use crate::all_possible::AllPossible;
 use crate::applied::append_in;
@@ -18,9 +20,12 @@ use crate::definitions::{
 };
 use crate::gathered::{Gathered, gather};
 use crate::kind::{TypeKind, is_operation};
+use crate::made_types::types_of;
 use crate::named::{HasName, Named};
+use crate::role::Role;
 use crate::roots::{Root, roots_of};
-use crate::schema_type::{SchemaType, types_of};
+use crate::schema_type::SchemaType;
+use crate::types::Types;
 use gql_ast::{
     DirectiveDefinition, EnumValueDefinition, FieldDefinition, Files, InputValueDefinition, Items,
     OperationKind, Shared, Text, Tree,
@@ -30,7 +35,7 @@ use std::alloc::{AllocError, Global};
 
 /// All schema files as one schema. Look-ups borrow what `assemble` made, and allocate nothing.
 pub struct Schema {
-    types: Named<Batched<SchemaType>>,
+    types: Types,
     directives: Named<Sited<Shared<DirectiveDefinition>>>,
     roots: Items<Root>,
     possible: AllPossible,
@@ -56,16 +61,13 @@ impl HasName for Sited<Shared<DirectiveDefinition>> {
 }
 
 /// The types of gathered definitions.
-fn types(
-    alloc: Global,
-    definitions: &Gathered<'_>,
-) -> Result<Named<Batched<SchemaType>>, AllocError>
+fn types(alloc: Global, definitions: &Gathered<'_>) -> Result<Types, AllocError>
     ensures { IfOk result (λ types. types ≡ types_of
         (map site definitions.now.types.items) (type_extensions definitions.now.others)) }
 {
     let extensions = type_extensions(alloc, definitions.others.as_slice())?;
     let types = types_of(alloc, definitions.types.as_slice(), extensions.as_slice())?;
-    Named::new(alloc, types)
+    Types::new(alloc, types)
 }
 
 fn roots(
@@ -83,13 +85,13 @@ fn roots(
 /// The schema with these types, by the definitions that are not of types.
 pub fn schema_with(
     alloc: Global,
-    types: Named<Batched<SchemaType>>,
+    types: Types,
     others: &[Sited<Tree>],
 ) -> Result<Schema, AllocError>
     requires { AreOnce (map name_of types) }
     ensures { IfOk result (λ schema. schema ≡ sites.schema_with types others.now) }
 {
-    let roots = roots(alloc, others, &types)?;
+    let roots = roots(alloc, others, types.named())?;
     let directives = Named::new(alloc, directive_definitions(alloc, others)?)?;
     let possible = AllPossible::new(alloc, &types)?;
     Ok(Schema {
@@ -118,14 +120,22 @@ impl Schema {
     pub fn types(&self) -> &[Batched<SchemaType>]
         ensures { result.now ≡ self.now.types }
     {
-        self.types.as_slice()
+        self.types.named().as_slice()
     }
 
     /// The types, with a look-up by their names.
     pub fn named_types(&self) -> &Named<Batched<SchemaType>>
         ensures { result.now ≡ self.now.types }
     {
-        &self.types
+        self.types.named()
+    }
+
+    /// The role of the type at this place.
+    pub(crate) fn role_at(&self, place: Option<usize>) -> Role
+        ensures { (t : TheType) → option_and_then (λ i. slice_get self.now.types i) place ≡ Some t
+            → result ≡ role_of t }
+    {
+        self.types.role_at(place)
     }
 
     /// The directives, in their order. The first of each name counts.
@@ -146,7 +156,7 @@ impl Schema {
     pub fn shared(&self, name: &str) -> Option<&Batched<SchemaType>>
         ensures { option_copied result ≡ spec.type_named self.now name.now }
     {
-        self.types.get(name)
+        self.types.named().get(name)
     }
 
     /// The type of that name.

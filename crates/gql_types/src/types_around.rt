@@ -53,10 +53,10 @@ fn add_kept_at(
 {
     let stood = Some(place);
     match kept_type(edit, stood) {
-        Some(of_type) => list.keep(of_type, stood, print),
+        Some(of_type) => list.keep(of_type, edit.schema.role_at(stood), stood, print),
         None => {
             let definition = site_of(edit.schema.types()[place].get());
-            list.make(alloc, &definition, &edit.extensions, print)
+            list.make_alone(alloc, &definition, &edit.extensions, print)
         }
     }
 }

@@ -11,8 +11,8 @@ use Rattle.gql_types.proofs.EditedTypes.{kept_same, made_firsts, types_after_onc
 use Rattle.gql_types.proofs.OwnPrints.{own_once}
 use Rattle.gql_types.proofs.edited_types.types_after_edit.Goals as goal
 
-pub with_own_prints-requires : goal.with_own_prints-requires
-with_own_prints-requires c = c.in_ok-list.ensures.prints ∙ ap (map print_of) (sym c.in_ok-list.ensures.names)
+pub with_own_prints-requires-clause-prints : goal.with_own_prints-requires-clause-prints
+with_own_prints-requires-clause-prints c = c.in_ok-list.ensures.prints ∙ ap (map print_of) (sym c.in_ok-list.ensures.names)
 
 pub returns-in-Some-clause-types : goal.returns-in-Some-clause-types
 returns-in-Some-clause-types c =

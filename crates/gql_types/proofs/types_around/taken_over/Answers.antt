@@ -9,8 +9,8 @@ use Rattle.gql_types.proofs.OwnPrints.{own_once}
 use Rattle.gql_types.proofs.TypesAround.{names_around, ok_some}
 use Rattle.gql_types.proofs.types_around.taken_over.Goals as goal
 
-pub with_names_of-requires : goal.with_names_of-requires
-with_names_of-requires c =
+pub with_names_of-requires-clause-names : goal.with_names_of-requires-clause-names
+with_names_of-requires-clause-names c =
     let types = c.args.edit.now.schema.now.types in
     let until = c.args.built_in + c.count_until.result in
     let past = c.count_past-past.result in

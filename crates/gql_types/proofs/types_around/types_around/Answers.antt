@@ -8,7 +8,7 @@ use Rattle.gql_types.proofs.types_around.types_around.Goals as goal
 pub returns : goal.returns
 returns c =
     let edit = c.args.edit.now in
-    let none = made_none edit c.in_ok-list.list c.in_ok-list.ensures.types c.in_ok-list.ensures.places c.in_ok-list.ensures.prints in
+    let none = made_none edit c.in_ok-list.list c.in_ok-list.ensures.types c.in_ok-list.ensures.roles c.in_ok-list.ensures.places c.in_ok-list.ensures.prints in
     let first = c.in_ok-add_kept.ensures [] none in
     let second = c.in_ok-add_types.ensures _ first in
     subst (λ ds. AreMade edit ds c.add_kept-2.new.list)

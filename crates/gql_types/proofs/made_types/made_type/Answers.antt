@@ -2,7 +2,7 @@ use Rattle.std.proofs.Common.{[], map, ap, ◌∙◌}
 use Rattle.std.specs.Option.{option_map_or}
 use Rattle.std.specs.HashMap as hash
 use Rattle.gql_types.specs.EditedTypes.{type_by}
-use Rattle.gql_types.proofs.schema_type.made_type.Goals as goal
+use Rattle.gql_types.proofs.made_types.made_type.Goals as goal
 
 pub returns : goal.returns
 returns c = c.in_ok-of_type.ensures

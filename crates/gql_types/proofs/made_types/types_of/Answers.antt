@@ -5,7 +5,7 @@ use Rattle.gql_types.specs.EditedTypes.{type_by}
 use Rattle.gql_types.specs.Sites.{site}
 use Rattle.gql_types.specs.Types.{first_definitions}
 use Rattle.gql_types.proofs.Groups.{types_by_groups}
-use Rattle.gql_types.proofs.schema_type.types_of.Goals as goal
+use Rattle.gql_types.proofs.made_types.types_of.Goals as goal
 
 pub returns : goal.returns
 returns c = c.in_ok-types.ensures

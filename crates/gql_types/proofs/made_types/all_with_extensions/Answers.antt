@@ -4,7 +4,7 @@ use Rattle.std.specs.HashMap as hash
 use Rattle.gql_types.specs.EditedTypes.{type_by}
 use Rattle.gql_types.specs.Sites.{site}
 use Rattle.gql_types.proofs.Groups.{made_step}
-use Rattle.gql_types.proofs.schema_type.all_with_extensions.Goals as goal
+use Rattle.gql_types.proofs.made_types.all_with_extensions.Goals as goal
 
 pub loop-definition-preserved : goal.loop-definition-preserved
 loop-definition-preserved c = made_step (type_by (λ q. option_map_or (λ group. map (λ x. x.now) group.items) (hash.get_by_text c.args.extensions.now q) [])) site
