@@ -1,6 +1,6 @@
 -- The types of definitions after an edit, one after the other.
 use Rattle.std.proofs.Common.{◌≡◌, ◌+◌, ◌++◌, ◌<◌, ℕ, List, [], ◌∷◌, Bool, Option, Some, None, true, false, inl, inr, bytes_eq, find, slice_get, option_and_then, map, length, get_or, take, ap, ap₂, ◌∙◌, refl, sym, subst}
-use Rattle.std.specs.Prelude.{IfSome, OnOk, Result, Ok, Err, is_some, option_map, unwrap_or}
+use Rattle.std.specs.Prelude.{◌↔◌, IfSome, IsTrue, OnOk, Result, Ok, Err, is_some, option_map, unwrap_or}
 use Rattle.std.specs.List.{AllZip, position_from}
 use Rattle.std.proofs.lemmas.List.{append_assoc, map-append, take_more}
 use Rattle.std.proofs.lemmas.List.Elements.{Contains-append_left, Contains-append_right}
@@ -13,7 +13,7 @@ use Rattle.gql_built_in.specs.declared.sited.Sited.{Sited}
 use Rattle.gql_types.specs.EditedTypes.{AreExtensions, AreMade, AreTypesAfter, defined_name, extensions_at, type_by}
 use Rattle.gql_types.specs.Edits.{KeepsType, KeepsTypes}
 use Rattle.gql_types.specs.Kinds.{is_abstract}
-use Rattle.gql_types.specs.KeptTypes.{IsConcreteAt}
+use Rattle.gql_types.specs.KeptTypes.{IsConcreteAt, known_place}
 use Rattle.gql_types.specs.Names.{AreOnce, are_among}
 use Rattle.gql_types.specs.Possible.{name_of}
 use Rattle.gql_types.specs.Prints.{print_of}
@@ -28,6 +28,7 @@ use Rattle.gql_types.specs.declared.edited_types.TypeEdit.{TypeEdit}
 use Rattle.gql_types.specs.declared.type_list.TypeList.{TypeList}
 use Rattle.gql_types.proofs.Filtering.{either}
 use Rattle.gql_types.proofs.Groups.{types_by_groups}
+use Rattle.gql_types.proofs.KnownPlaces.{found_passes}
 use Rattle.gql_types.proofs.Members.{here}
 use Rattle.gql_types.proofs.Once.{once_placed}
 use Rattle.gql_types.proofs.Others.{all_first}
@@ -44,13 +45,6 @@ pub zip_step : {X Y : Type 0} (R : X → Y → Type 0) (xs new_xs : List X) (ys 
     → AllZip R xs ys → R x y → AllZip R new_xs new_ys
 zip_step R xs new_xs ys new_ys x y is are all last =
     subst (λ zs. AllZip R new_xs zs) (sym are) (subst (λ zs. AllZip R zs (ys ++ y ∷ [])) (sym is) (zip_push R xs ys x y all last))
-
-found_passes : {A : Type 0} (p : A → Bool) (xs : List A) (x : A) → find p xs ≡ Some x → p x ≡ true
-found_passes p [] x is = absurd (cc is)
-found_passes p (y ∷ ys) x is = elim (either (p y)) [
-  | inl h ↦ let e : Some y ≡ Some x = rw h at is in let same : y ≡ x = cc e in subst (λ z. p z ≡ true) same h
-  | inr h ↦ found_passes p ys x (rw h at is)
-]
 
 -- a type that stood where its name was found, and is not edited, or else the type that is made
 pub kept_found : (names : List (List ℕ)) (before : Schema) (q : List ℕ) (stood : Option ℕ) (found : Option SchemaType) (made t : SchemaType)
@@ -102,10 +96,10 @@ module _ (edit : TypeEdit) (sites : List (Sited TypeDefinition)) (d : Sited Type
   made = type_by (extensions_at edit)
 
   pub made_more : (KeepsType edit.edited.now edit.schema.now (made d) → t ≡ made d) → name_of t ≡ defined_name d → print ≡ print_of (defined_name d)
-      → IsConcreteAt edit.schema.now.types place t
+      → IsConcreteAt edit.schema.now.types place t → place ≡ known_place edit.edited.now edit.schema.now.types t
       → new.types ≡ old.types ++ t ∷ [] → new.roles.items ≡ old.roles.items ++ role_of t ∷ [] → new.places.items ≡ old.places.items ++ place ∷ [] → new.prints.items ≡ old.prints.items ++ print ∷ []
       → AreMade edit sites old → AreMade edit (sites ++ d ∷ []) new
-  made_more its named printed there types roles places prints before = record {
+  made_more its named printed there known types roles places prints before = record {
     types = λ keeps.
         let both = subst (KeepsTypes edit.edited.now edit.schema.now) (map-append made sites (d ∷ [])) keeps in
         let earlier : old.types ≡ map made sites = before.types (λ u h. both u (Contains-append_left (map made sites) (made d ∷ []) u h)) in
@@ -114,6 +108,8 @@ module _ (edit : TypeEdit) (sites : List (Sited TypeDefinition)) (d : Sited Type
     names = ap (map name_of) types ∙ map-append name_of old.types (t ∷ []) ∙ ap₂ (λ ns n. ns ++ n ∷ []) before.names named ∙ sym (map-append defined_name sites (d ∷ []));
     prints = prints ∙ ap₂ (λ ps p. ps ++ p ∷ []) before.prints printed
         ∙ sym (ap (map print_of) (map-append defined_name sites (d ∷ [])) ∙ map-append print_of (map defined_name sites) (defined_name d ∷ []));
+    exact = places ∙ ap₂ (λ ps p. ps ++ p ∷ []) before.exact known
+        ∙ sym (ap (map (known_place edit.edited.now edit.schema.now.types)) types ∙ map-append (known_place edit.edited.now edit.schema.now.types) old.types (t ∷ []));
     roles = roles ∙ ap (λ rs. rs ++ role_of t ∷ []) before.roles ∙ sym (ap (map role_of) types ∙ map-append role_of old.types (t ∷ []));
     places = zip_step (IsConcreteAt edit.schema.now.types) old.places.items new.places.items old.types new.types place t places types before.places there;
   }
@@ -142,6 +138,7 @@ types_after_once edit sites list after once made types places = record {
       (made_once edit sites extensions are once) made.types keeps;
   places = subst (AllZip (IsConcreteAt edit.schema.now.types) after.places.items) (sym types)
       (subst (λ ps. AllZip (IsConcreteAt edit.schema.now.types) ps list.types) (sym places) made.places);
+  exact = places ∙ made.exact ∙ ap (map (known_place edit.edited.now edit.schema.now.types)) (sym types);
   once = λ said. once;
 }
 
@@ -157,6 +154,7 @@ made_none edit list types roles places prints = record {
   names = ap (map name_of) types;
   prints = prints;
   roles = roles ∙ sym (ap (map role_of) types);
+  exact = places ∙ sym (ap (map (known_place edit.edited.now edit.schema.now.types)) types);
   places = subst (λ ts. AllZip (IsConcreteAt edit.schema.now.types) list.places.items ts) (sym types)
       (subst (λ ps. AllZip (IsConcreteAt edit.schema.now.types) ps []) (sym places) tt);
 }
@@ -188,3 +186,17 @@ unedited_there names types marks i (Some t) are mark is =
     sym mark ∙ ap (λ ms. slice_get ms i) are ∙ slice_get-map (λ n. is_some (find (bytes_eq n) names)) (map name_of types) i
     ∙ ap (option_map (λ n. is_some (find (bytes_eq n) names))) (slice_get-map name_of types i ∙ ap (option_map name_of) (sym is)) in
     cc (sym both)
+
+-- the type at a place whose name is not marked as one that is not edited
+pub edited_there : (names : List (List ℕ)) (types : List SchemaType) (marks : List Bool) (i : ℕ) (t : SchemaType) (is_kept : Bool)
+    → marks ≡ are_among names (map name_of types) → IsTrue is_kept ↔ (slice_get marks i ≡ Some false) → is_kept ≡ false
+    → slice_get types i ≡ Some t → is_some (find (bytes_eq (name_of t)) names) ≡ true
+edited_there names types marks i t is_kept are exact not there = elim (either (is_some (find (bytes_eq (name_of t)) names))) [
+  | inl h ↦ h
+  | inr h ↦
+      let mark : slice_get marks i ≡ Some (is_some (find (bytes_eq (name_of t)) names)) =
+      ap (λ ms. slice_get ms i) are ∙ slice_get-map (λ n. is_some (find (bytes_eq n) names)) (map name_of types) i
+      ∙ ap (option_map (λ n. is_some (find (bytes_eq n) names))) (slice_get-map name_of types i ∙ ap (option_map name_of) there) in
+      let kept : IsTrue is_kept = exact.1 (mark ∙ ap Some h) in
+      let both : false ≡ true = sym not ∙ kept in absurd (cc both)
+]

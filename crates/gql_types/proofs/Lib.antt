@@ -9,6 +9,7 @@ pub mod FirstOutlines
 pub mod Firsts
 pub mod Groups
 pub mod KeptTypes
+pub mod KnownPlaces
 pub mod Members
 pub mod Once
 pub mod Ordering

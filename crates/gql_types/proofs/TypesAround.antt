@@ -1,14 +1,14 @@
 -- The types before and after those of a file, as they stood before an edit of it.
 use Rattle.std.proofs.Common.{◌≡◌, ◌+◌, ◌-◌, ◌++◌, ◌<◌, ◌≤◌, ℕ, zero, suc, List, [], ◌∷◌, Option, Some, None, bytes_eq, drop, find, get_or, length, map, option_and_then, slice_get, take, ap, ap₂, arith, refl, subst, sym, ◌∙◌}
 use Rattle.std.specs.Prelude.{Err, IfOk, IfSome, Ok, Result, is_some, false, option_map}
-use Rattle.std.specs.List.{drop-map, take-map}
+use Rattle.std.specs.List.{drop-map, position_from, take-map}
 use Rattle.std.proofs.lemmas.List.{length-map, map-append, take-append-drop, take_rest}
 use Rattle.std.proofs.lemmas.Option.{get_or_from_slice_get, slice_get-map, slice_get_within}
 use Rattle.gql_ast.specs.declared.type_system.TypeDefinition.{TypeDefinition}
 use Rattle.gql_built_in.specs.declared.sited.Sited.{Sited}
 use Rattle.gql_types.specs.EditedTypes.{AreMade, defined_name, definition_of, extensions_at, type_by}
 use Rattle.gql_types.specs.Edits.{KeepsType}
-use Rattle.gql_types.specs.KeptTypes.{IsConcreteAt}
+use Rattle.gql_types.specs.KeptTypes.{IsConcreteAt, known_place}
 use Rattle.gql_types.specs.Names.{AreOnce}
 use Rattle.gql_types.specs.Possible.{name_of}
 use Rattle.gql_types.specs.Prints.{print_of}
@@ -18,6 +18,7 @@ use Rattle.gql_types.specs.declared.edited_types.TypeEdit.{TypeEdit}
 use Rattle.gql_types.specs.declared.schema_type.SchemaType.{SchemaType}
 use Rattle.gql_types.specs.declared.type_list.TypeList.{TypeList}
 use Rattle.gql_types.proofs.EditedTypes.{found_in_place, kept_found, kept_there, made_next}
+use Rattle.gql_types.proofs.KnownPlaces.{known_kept}
 use Rattle.gql_types.proofs.Others.{map_twice}
 
 -- the element at a place within a list
@@ -26,6 +27,14 @@ there_is [] i within = absurd (omega (arith, within))
 there_is (x ∷ xs) zero within = (x, refl)
 there_is (x ∷ xs) (suc i) within = there_is xs i (omega (arith, within))
 
+-- types of different names are where they are found by their names
+pub stood_in_place : (types : List SchemaType) (place : ℕ) (t : SchemaType) → AreOnce (map name_of types) → slice_get types place ≡ Some t
+    → Some place ≡ position_from (λ (u : SchemaType). bytes_eq (name_of t) (name_of u)) 0 types
+stood_in_place types place t once there =
+    let within : place < length types = slice_get_within types place t there in
+    let item : get_or types place t ≡ t = get_or_from_slice_get types place t t there in
+    found_in_place name_of types types place t refl once within item
+
 -- a type that is kept is the one that is made of its definition, where types of its name stay
 pub kept_as_it_stood : (edit : TypeEdit) (place : ℕ) (t kept : SchemaType) → AreOnce (map name_of edit.schema.now.types)
     → slice_get edit.schema.now.types place ≡ Some t
@@ -33,12 +42,15 @@ pub kept_as_it_stood : (edit : TypeEdit) (place : ℕ) (t kept : SchemaType) →
     → is_some (find (bytes_eq (name_of kept)) edit.edited.now) ≡ false
     → (KeepsType edit.edited.now edit.schema.now (type_by (extensions_at edit) t.definition) → kept ≡ type_by (extensions_at edit) t.definition)
     × (name_of kept ≡ name_of t) × IsConcreteAt edit.schema.now.types (concrete_place (role_of kept) (Some place)) kept
+    × (concrete_place (role_of kept) (Some place) ≡ known_place edit.edited.now edit.schema.now.types kept)
 kept_as_it_stood edit place t kept once there stood unedited =
-    let within : place < length edit.schema.now.types = slice_get_within edit.schema.now.types place t there in
-    let item : get_or edit.schema.now.types place t ≡ t = get_or_from_slice_get edit.schema.now.types place t t there in
     let both = kept_found edit.edited.now edit.schema.now (name_of t) (Some place) (Some kept) (type_by (extensions_at edit) t.definition) kept
-    (found_in_place name_of edit.schema.now.types edit.schema.now.types place t refl once within item) stood unedited refl refl in
-    (both.0, both.1, kept_there edit.schema.now.types kept (Some place) stood)
+    (stood_in_place edit.schema.now.types place t once there) stood unedited refl refl in (
+      both.0,
+      both.1,
+      kept_there edit.schema.now.types kept (Some place) stood,
+      known_kept edit.edited.now edit.schema.now.types kept (Some place) (stood_in_place edit.schema.now.types place kept once stood) unedited,
+    )
 
 -- an element past the first so many
 drop_there : {X : Type 0} (xs : List X) (from i : ℕ) (x : X) → slice_get xs (from + i) ≡ Some x → slice_get (drop from xs) i ≡ Some x

@@ -9,7 +9,7 @@ use Rattle.gql_ast.specs.declared.type_system.TypeExtension.{TypeExtension}
 use Rattle.gql_built_in.specs.declared.sited.Sited.{Sited}
 use Rattle.gql_types.specs.Edits.{KeepsTypes}
 use Rattle.gql_types.specs.Kinds.{same_kind}
-use Rattle.gql_types.specs.KeptTypes.{IsConcreteAt}
+use Rattle.gql_types.specs.KeptTypes.{IsConcreteAt, known_place}
 use Rattle.gql_types.specs.Names.{AreOnce, are_among}
 use Rattle.gql_types.specs.Parts.{kind_of}
 use Rattle.gql_types.specs.Possible.{name_of}
@@ -60,6 +60,8 @@ pub record AreMade (edit : TypeEdit) (sites : List (Sited TypeDefinition)) (list
     pub prints : list.prints.items ≡ map print_of (map defined_name sites)
     pub roles : list.roles.items ≡ map role_of list.types
     pub places : AllZip (IsConcreteAt edit.schema.now.types) list.places.items list.types
+    pub exact : list.places.items
+        ≡ map (known_place edit.edited.now edit.schema.now.types) list.types
 
 -- The types of these definitions after the edit, each taken for the first of its name, if it changes
 -- no types but those of edited names; with where types stood that are kept. And where it is said that
@@ -70,4 +72,6 @@ pub record AreTypesAfter (edit : TypeEdit) (sites : List (Sited TypeDefinition))
       → KeepsTypes edit.edited.now edit.schema.now (types_of sites extensions)
       → after.types ≡ types_of sites extensions
   pub places : AllZip (IsConcreteAt edit.schema.now.types) after.places.items after.types
+  pub exact : after.places.items
+      ≡ map (known_place edit.edited.now edit.schema.now.types) after.types
   pub once : IsTrue after.are_once → AreOnce (map defined_name sites)

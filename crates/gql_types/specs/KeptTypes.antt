@@ -1,11 +1,19 @@
 -- Which types of a schema are those of the schema before an edit of a schema file.
-use Rattle.std.specs.Prelude.{◌≡◌, ℕ, List, false, Option, None, Some, slice_get}
-use Rattle.std.specs.List.{AllZip}
+use Rattle.std.specs.Prelude.{◌≡◌, ℕ, List, ◌||◌, false, Option, None, Some, bytes_eq, find, if◌then◌else◌, is_some, slice_get}
+use Rattle.std.specs.List.{AllZip, position_from}
 use Rattle.gql_types.specs.Kinds.{is_abstract}
 use Rattle.gql_types.specs.Possible.{name_of}
 use Rattle.gql_types.specs.Schemas.{possible_named}
 use Rattle.gql_types.specs.declared.schema.Schema.{Schema}
 use Rattle.gql_types.specs.declared.schema_type.SchemaType.{SchemaType}
+
+-- Where a type stood before an edit that changed types of these names alone, if that is known to be
+-- the same type, with the same possible types: the edit does not change types of its name, and it is
+-- neither an interface nor a union, whose possible types change with other types.
+abbrev pub known_place : List (List ℕ) → List SchemaType → SchemaType → Option ℕ
+known_place edited before t =
+    if is_some (find (bytes_eq (name_of t)) edited) || is_abstract t.kind then None
+    else position_from (λ (u : SchemaType). bytes_eq (name_of t) (name_of u)) 0 before
 
 -- If a place is given, the type stood there before the edit, and it is neither an interface nor a
 -- union.

@@ -11,6 +11,7 @@ use Rattle.gql_built_in.specs.declared.sited.Sited.{Sited}
 use Rattle.gql_types.specs.Definitions.{definitions, in_order_of, type_definitions}
 use Rattle.gql_types.specs.EditedTypes.{defined_name}
 use Rattle.gql_types.specs.Names.{AreOnce}
+use Rattle.gql_types.specs.Prints.{HaveOwnPrints}
 use Rattle.gql_types.specs.Schemas.{schema_of}
 use Rattle.gql_types.specs.Sites.{others_in}
 use Rattle.gql_types.specs.declared.outline.FileOutline.{FileOutline}
@@ -39,6 +40,11 @@ pub record IsOutline (all : Files) (outline : Outline) : Type 0 where
   pub files : outline.files ≡ map outline_at all.schema
   pub once : IsTrue outline.are_once
       → AreOnce (map defined_name (type_definitions (definitions all)))
+
+-- no two definitions of types have names of one print, so that each name is that of one definition
+abbrev pub HaveOwnNamePrints : Files → Type 0
+HaveOwnNamePrints files =
+    HaveOwnPrints (map defined_name (type_definitions (definitions files)))
 
 module _ {T : Type 0} where
   -- the files with this one in place of any of its name; or without the file of that name, if there is

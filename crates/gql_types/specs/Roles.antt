@@ -1,5 +1,5 @@
 -- Helper definitions for private contracts: what part a type plays in possible types.
-use Rattle.std.specs.Prelude.{ℕ, List, [], ◌∷◌, Option, None}
+use Rattle.std.specs.Prelude.{◌≡◌, ℕ, List, [], ◌∷◌, Option, None, refl}
 use Rattle.gql_ast.specs.declared.text.Name.{Name}
 use Rattle.gql_built_in.specs.declared.sited.Sited.{Sited}
 use Rattle.gql_types.specs.declared.kind.TypeKind.{TypeKind}
@@ -27,3 +27,15 @@ abbrev pub concrete_place : Role → Option ℕ → Option ℕ
 concrete_place Abstract stood = None
 concrete_place Declaring stood = stood
 concrete_place Other stood = stood
+
+-- an object that declares an interface
+example_declaring : (i : Sited Name) → role_by kind.Object (i ∷ []) ≡ Declaring
+example_declaring i = refl
+
+-- an object that declares none
+example_other : role_by kind.Object [] ≡ Other
+example_other = refl
+
+-- an interface that declares another one
+example_abstract : (i : Sited Name) → role_by kind.Interface (i ∷ []) ≡ Abstract
+example_abstract i = refl

@@ -7,7 +7,7 @@ ghost use Rattle.gql_built_in.specs.declared.sited.Sited.{Sited as TheSited};
 ghost use Rattle.gql_types.specs.Definitions.{definitions, type_definitions};
 ghost use Rattle.gql_types.specs.EditedTypes.{AreEdited, AreTypesAfter, definition_of};
 ghost use Rattle.gql_types.specs.Edits.{KeepsOthers};
-ghost use Rattle.gql_types.specs.KeptTypes.{AreKeptAt};
+ghost use Rattle.gql_types.specs.KeptTypes.{AreKeptAt, known_place};
 ghost use Rattle.gql_types.specs.Outlines as spec;
 ghost use Rattle.gql_types.specs.Schemas.{schema_of};
 ghost use Rattle.gql_types.specs.Sites.{site};
@@ -101,7 +101,10 @@ fn types_of_all(
 ) -> Result<EditedTypes, AllocError>
     requires edited { AreEdited edit.now }
     requires built_in { built_in.now ≡ all_built_in }
-    ensures { IfOk result (AreTypesAfter edit.now (type_definitions (definitions files.now))) }
+    ensures types { IfOk result (AreTypesAfter edit.now
+        (type_definitions (definitions files.now))) }
+    ensures once { IfOk result (λ found. spec.HaveOwnNamePrints files.now
+        → IsTrue found.are_once) }
 {
     let found = gather(alloc, built_in, files)?;
     let after = types_after_edit(alloc, found.types.as_slice(), edit)?;
@@ -140,7 +143,10 @@ fn edited_types(
     requires built_in { built_in.now ≡ all_built_in }
     requires placed { IsTrue before.now.are_once → ArePlaced name.now (option_copied document)
         files.now before.now after.now edit.now.schema.now }
-    ensures { IfOk result (AreTypesAfter edit.now (type_definitions (definitions files.now))) }
+    ensures types { IfOk result (AreTypesAfter edit.now
+        (type_definitions (definitions files.now))) }
+    ensures once { IfOk result (λ found. spec.HaveOwnNamePrints files.now
+        → IsTrue found.are_once) }
 {
     if before.are_once {
         let count = count_built_in(alloc, built_in)?;
@@ -157,7 +163,8 @@ fn edited_types(
 
 /// The schema of all schema files after an edit, by the schema and the outline before it. The edit put
 /// this file under its name, or removed the file of that name, and changed types of these names alone.
-/// The other types are shared with the schema before.
+/// The other types are shared with the schema before. If no two names of types have one print, the
+/// outline says that each type is defined once, and the next edit takes over what other files give.
 pub fn assemble_after_edit(
     alloc: Global,
     files: &Files,
@@ -172,8 +179,12 @@ pub fn assemble_after_edit(
         before.now outline.now }
     ensures schema { IfOk result (λ after. after.schema ≡ schema_of files.now) }
     ensures outline { IfOk result (λ after. spec.IsOutline files.now after.outline) }
+    ensures once { IfOk result (λ after. spec.HaveOwnNamePrints files.now
+        → IsTrue after.outline.are_once) }
     ensures places { IfOk result (λ after.
         AreKeptAt before.now after.schema after.places.items) }
+    ensures exact { IfOk result (λ after. after.places.items
+        ≡ map (known_place edited.now before.now.types) after.schema.types) }
 {
     let built_in = built_in_definitions(alloc)?;
     let built_in = built_in.as_slice();

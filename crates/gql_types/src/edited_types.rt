@@ -1,6 +1,6 @@
 //! The types of a schema after an edit of a schema file. A type that the edit leaves as it is is
 //! shared with the schema before the edit.
-ghost use Rattle.std.specs.Prelude.{◌≡◌, ◌↔◌, ◌++◌, ◌∷◌, [], List, IfNone, IfOk, IfSome, IsTrue, OnOk, Some, bytes_eq, false, find, is_some, map, option_and_then, slice_get};
+ghost use Rattle.std.specs.Prelude.{◌≡◌, ◌↔◌, ◌++◌, ◌∷◌, [], List, IfNone, IfOk, IfSome, IsTrue, OnOk, Some, bytes_eq, false, find, is_some, map, option_and_then, slice_get, true};
 ghost use Rattle.std.specs.Option.{option_copied};
 ghost use Rattle.std.specs.List.{AllZip, position_from};
 ghost use Rattle.gql_ast.specs.declared.type_system.TypeDefinition.{TypeDefinition};
@@ -15,6 +15,7 @@ ghost use Rattle.gql_types.specs.Prints.{HaveOwnPrints};
 ghost use Rattle.gql_types.specs.Roles.{role_of};
 ghost use Rattle.gql_types.specs.Sites.{site};
 ghost use Rattle.gql_types.specs.Types as spec;
+ghost use Rattle.gql_types.specs.declared.schema_type.SchemaType.{SchemaType as TheType};
 
 use crate::batched::Batched;
 use crate::by_name::{ByName, by_name};
@@ -51,9 +52,9 @@ pub struct EditedTypes {
     pub are_once: bool,
 }
 
-/// Whether the type at a place is not edited.
+/// Whether there is a type at a place, and it is not edited.
 fn is_kept_at(are_edited: &[bool], place: usize) -> bool
-    ensures { IsTrue result → slice_get are_edited.now place ≡ Some false }
+    ensures { IsTrue result ↔ (slice_get are_edited.now place ≡ Some false) }
 {
     match are_edited.get(place) {
         Some(is_edited) => !*is_edited,
@@ -71,12 +72,17 @@ pub fn kept_type<'e>(
         option_and_then (λ i. slice_get edit.entry.now.schema.now.types i) stood ≡ Some t) }
     ensures unedited { IfSome (option_copied result) (λ t.
         is_some (find (bytes_eq (name_of t)) edit.entry.now.edited.now) ≡ false) }
+    ensures none { IfNone (option_copied result) ((t : TheType)
+        → option_and_then (λ i. slice_get edit.entry.now.schema.now.types i) stood ≡ Some t
+        → is_some (find (bytes_eq (name_of t)) edit.entry.now.edited.now) ≡ true) }
 {
-    match stood {
-        Some(place) if is_kept_at(edit.are_edited.as_slice(), place) => {
-            thing_at(edit.schema.types(), place)
-        }
-        _ => None,
+    let Some(place) = stood else {
+        return None;
+    };
+    if is_kept_at(edit.are_edited.as_slice(), place) {
+        thing_at(edit.schema.types(), place)
+    } else {
+        None
     }
 }
 
@@ -203,6 +209,7 @@ impl EditedTypes {
         requires roles { list.roles.items ≡ map role_of list.types }
         ensures types { IfOk result (λ after. after.types ≡ list.types) }
         ensures places { IfOk result (λ after. after.places.items ≡ list.places.items) }
+        ensures once { IfOk result (λ after. IsTrue after.are_once) }
     {
         let TypeList {
             types,

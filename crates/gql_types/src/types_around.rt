@@ -143,9 +143,10 @@ pub fn taken_over(
 ) -> Result<Option<EditedTypes>, AllocError>
     requires edited { AreEdited edit.now }
     requires around { spec.AreAround built_in name.now others.now.files edit.now.schema.now.types }
-    ensures { IfOk result (λ found. IfSome found (AreTypesAfter edit.now
+    ensures types { IfOk result (λ found. IfSome found (AreTypesAfter edit.now
         (spec.sites_in_place built_in name.now others.now.files
         (map definition_of edit.now.schema.now.types) (map site definitions.now)))) }
+    ensures once { IfOk result (λ found. IfSome found (λ after. IsTrue after.are_once)) }
 {
     let types = edit.schema.named_types();
     let all = types.as_slice();

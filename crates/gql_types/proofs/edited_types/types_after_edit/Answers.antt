@@ -2,7 +2,7 @@ use Rattle.std.proofs.Common.{◌≡◌, ◌∙◌, ap, map, rules, subst, sym}
 use Rattle.std.specs.List.{AllZip}
 use Rattle.std.specs.Prelude.{IsTrue}
 use Rattle.gql_types.specs.EditedTypes.{extensions_at, type_by}
-use Rattle.gql_types.specs.KeptTypes.{IsConcreteAt}
+use Rattle.gql_types.specs.KeptTypes.{IsConcreteAt, known_place}
 use Rattle.gql_types.specs.Names.{AreOnce}
 use Rattle.gql_types.specs.Possible.{name_of}
 use Rattle.gql_types.specs.Prints.{HaveOwnPrints, print_of}
@@ -39,6 +39,7 @@ returns-clause-types c =
           (ap (map (type_by (extensions_at edit))) firsts ∙ made_firsts edit (map site c.args.definitions.now) extensions are) c.in_ok-list-2.ensures.types keeps;
       places = subst (AllZip (IsConcreteAt edit.schema.now.types) c.in_ok-after-2.after.places.items) (sym c.in_ok-after-2.ensures.types)
           (subst (λ ps. AllZip (IsConcreteAt edit.schema.now.types) ps list.types) (sym c.in_ok-after-2.ensures.places) c.in_ok-list-2.ensures.places);
+      exact = c.in_ok-after-2.ensures.places ∙ c.in_ok-list-2.ensures.exact ∙ ap (map (known_place edit.edited.now edit.schema.now.types)) (sym c.in_ok-after-2.ensures.types);
       once = λ once. absurd (cc (sym once ∙ c.in_ok-after-2.ensures.once));
     }
 

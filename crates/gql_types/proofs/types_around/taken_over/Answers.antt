@@ -21,8 +21,8 @@ with_names_of-requires-clause-names c =
     ∙ names_around types (map site c.args.definitions.now) until past (omega (arith, c.requires.around.within, c.count_until.ensures, c.count_past-past.ensures)) same
     ∙ ap (map name_of) (sym c.named_types-types.ensures)
 
-pub returns-then-have_names_between : goal.returns-then-have_names_between
-returns-then-have_names_between c =
+pub returns-then-have_names_between-clause-types : goal.returns-then-have_names_between-clause-types
+returns-then-have_names_between-clause-types c =
     let edit = c.args.edit.now in
     let types = edit.schema.now.types in
     let list = c.in_ok-list.list in
@@ -37,8 +37,8 @@ returns-then-have_names_between c =
     (subst (λ ds. AreOnce (map defined_name ds)) same (subst AreOnce (sym named) c.requires.around.once))
     (subst (λ ds. AreMade edit ds list) same c.in_ok-list.ensures) c.in_ok-after.ensures.types c.in_ok-after.ensures.places
 
-pub returns : goal.returns
-returns c =
+pub returns-clause-types : goal.returns-clause-types
+returns-clause-types c =
     let edit = c.args.edit.now in
     let list = c.in_ok-list.list in
     let same = ap₂ (λ u p. sites_around (c.args.built_in + u) p (map definition_of edit.schema.now.types) (map site c.args.definitions.now)) c.count_until.ensures c.count_past-past.ensures in
