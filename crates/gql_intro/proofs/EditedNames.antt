@@ -15,7 +15,7 @@ use Rattle.gql_intro.proofs.InOrder.{from_order, same_order, to_order}
 
 -- ---- lists
 
-either : (b : Bool) → (b ≡ true) ⊎ (b ≡ false)
+pub either : (b : Bool) → (b ≡ true) ⊎ (b ≡ false)
 either true = inl refl
 either false = inr refl
 
@@ -23,7 +23,7 @@ no : (b : Bool) → b ≡ true → b ≡ false → ⊥
 no b is not_so = let bad : true ≡ false = sym is ∙ not_so in cc
 
 module _ {A : Type 0} (p : A → Bool) where
-  to_filter : (xs : List A) (x : A) → Contains xs x → p x ≡ true → Contains (filter p xs) x
+  pub to_filter : (xs : List A) (x : A) → Contains xs x → p x ≡ true → Contains (filter p xs) x
   to_filter [] x h is = absurd (none x h)
   to_filter (y ∷ ys) x h is = by (p y) refl (to_filter ys x)
     where
@@ -75,7 +75,7 @@ is_among names q = is_some (find (bytes_eq q) names)
 to_among : (names : List (List ℕ)) (q : List ℕ) → Contains names q → is_some (find (bytes_eq q) names) ≡ true
 to_among names q h = is_found (bytes_eq q) names q h (itself q)
 
-from_among : (names : List (List ℕ)) (q : List ℕ) → is_some (find (bytes_eq q) names) ≡ true → Contains names q
+pub from_among : (names : List (List ℕ)) (q : List ℕ) → is_some (find (bytes_eq q) names) ≡ true → Contains names q
 from_among names q is = let r = found (bytes_eq q) names is in subst (λ z. Contains names z) (sym (same q r.0 r.2)) r.1
 
 -- the names of the types of a schema

@@ -10,4 +10,6 @@ pub mod Made
 pub mod MetaFields
 pub mod Nodes
 pub mod References
+pub mod Runs
 pub mod SchemaNodes
+pub mod SortedNames

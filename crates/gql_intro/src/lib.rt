@@ -5,6 +5,7 @@
 mod answer;
 mod applied;
 mod edited_names;
+mod edited_runs;
 pub mod laws;
 mod made;
 mod meta_fields;
@@ -15,6 +16,8 @@ mod nodes;
 mod parts;
 mod references;
 mod resolve;
+mod runs;
+mod sorted_names;
 
 pub use answer::{IntroAnswer, IntroArguments};
 pub use made::{IntroSchema, intro_schema, intro_schema_after_edit};
@@ -22,3 +25,4 @@ pub use names::location_name;
 pub use node::IntroNode;
 pub use nodes::IntroNodes;
 pub use resolve::intro_resolve;
+pub use sorted_names::SortedNames;
