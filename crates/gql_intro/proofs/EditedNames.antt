@@ -1,5 +1,5 @@
 -- The names of types after an edit, by those before it.
-use Rattle.std.proofs.Common.{◌≡◌, ◌∙◌, ◌++◌, ◌↔◌, ◌⊎◌, inl, inr, ◌&&◌, ℕ, List, [], ◌∷◌, Bool, true, false, not, Option, Some, None, map, filter, find, bytes_eq, Contains, refl, sym, ap, subst}
+use Rattle.std.proofs.Common.{◌≡◌, ◌∙◌, ◌++◌, ◌⊎◌, inl, inr, ◌&&◌, ℕ, List, [], ◌∷◌, Bool, true, false, not, map, filter, find, bytes_eq, Contains, refl, sym, ap, subst}
 use Rattle.std.specs.Prelude.{is_some}
 use Rattle.std.proofs.lemmas.List.Elements.{Contains-append_left, Contains-append_right, Contains-append_cases}
 use Rattle.std.proofs.lemmas.Slice.Eq.{bytes_eq-Decides}
@@ -10,7 +10,6 @@ use Rattle.gql_types.specs.declared.schema.Schema.{Schema}
 use Rattle.gql_types.specs.declared.schema_type.SchemaType.{SchemaType}
 use Rattle.gql_types.proofs.Members.{none, here, there, cases, Contains-from_filter, Contains-to_map, Contains-from_map}
 use Rattle.gql_intro.specs.EditedNames.{is_kept, is_only_in}
-use Rattle.gql_intro.specs.Made.{is_shown, shown_types}
 use Rattle.gql_intro.proofs.InOrder.{from_order, same_order, to_order}
 
 -- ---- lists

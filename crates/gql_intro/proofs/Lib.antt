@@ -7,6 +7,7 @@ pub mod EveryNode
 pub mod Finding
 pub mod InOrder
 pub mod Listed
+pub mod OutlinedSchemas
 pub mod Sorting
 pub mod Typed
 pub mod Walking

@@ -13,6 +13,7 @@ mod named_type;
 mod names;
 mod node;
 mod nodes;
+mod outlined;
 mod parts;
 mod references;
 mod resolve;

@@ -3,18 +3,20 @@ ghost use Rattle.std.specs.Prelude.{◌≡◌, ◌++◌, map, filter, IfOk};
 ghost use Rattle.std.specs.Option.{option_copied};
 ghost use Rattle.gql_ast.specs.declared.files.Files.{Files as TheFiles};
 ghost use Rattle.gql_types.specs.Edits.{KeepsOthers};
+ghost use Rattle.gql_types.specs.Outlines.{IsOutline};
 ghost use Rattle.gql_types.specs.Possible.{name_of};
 ghost use Rattle.gql_intro.specs.Made as spec;
 ghost use Rattle.gql_intro.specs.MetaFields.{meta_field};
 
 use crate::edited_names::{are_none, names_only_in};
 use crate::meta_fields::MetaFields;
+use crate::outlined::outlined_description;
 use crate::references::refer;
 use crate::sorted_names::SortedNames;
 use gql_ast::{
     Definition, Document, FieldDefinition, FileMap, Files, SchemaDefinition, Shared, Text, Tree,
 };
-use gql_types::{Batched, HasName, Named, Schema, SchemaType};
+use gql_types::{Batched, HasName, Named, Outline, Schema, SchemaType};
 use std::alloc::{AllocError, Global};
 
 /// The schema as introspection shows it. It is made once for a schema, and is valid as long as the
@@ -111,7 +113,8 @@ fn first_schema(files: &FileMap<Shared<Document>>) -> Option<&SchemaDefinition>
     None
 }
 
-fn copied(text: &Option<Text>) -> Result<Option<Text>, AllocError>
+/// An equal text, if there is one.
+pub(crate) fn copied(text: &Option<Text>) -> Result<Option<Text>, AllocError>
     ensures { IfOk result (λ copy. copy ≡ text.now) }
 {
     match text {
@@ -187,16 +190,18 @@ fn types_after_edit(
 }
 
 /// The schema of these files as introspection shows it, after an edit of a schema file that changed
-/// types of these names alone. `made` is what was made of the schema before it. Names of types are
-/// sorted only where types came or went.
+/// types of these names alone, where `outline` is the outline of the files. `made` is what was made of
+/// the schema before it. Names of types are sorted only where types came or went.
 pub fn intro_schema_after_edit(
     alloc: Global,
     files: &Files,
     schema: &Schema,
+    outline: &Outline,
     edited: &Named<Text>,
     before: &Schema,
     made: &IntroSchema,
 ) -> Result<IntroSchema, AllocError>
+    requires { IsOutline files.now outline.now }
     ensures { IfOk result (λ after. (old : TheFiles) → KeepsOthers edited.now before.now schema.now
         → KeepsOthers edited.now schema.now before.now → made.now ≡ spec.made_of old before.now
         → after ≡ spec.made_of files.now schema.now) }
@@ -208,7 +213,7 @@ pub fn intro_schema_after_edit(
         types,
         has_int,
         has_id,
-        description: description(&files.schema)?,
+        description: outlined_description(outline)?,
         meta: MetaFields::new(alloc)?,
     })
 }

@@ -7,8 +7,8 @@ use gql_ast::{Items, Shared, Text};
 use std::alloc::{AllocError, Global};
 use std::marker::Model;
 
-/// A new run has fewer names.
-const LONG: usize = 512;
+/// A new run has at most so many names.
+const LONGEST: usize = 512;
 
 /// Names of a list that follow one another.
 #[derive(Drop)]
@@ -53,7 +53,7 @@ fn copies(alloc: Global, names: &[&str]) -> Result<Shared<Items<Text>>, AllocErr
 fn run_length(count: usize) -> usize
     ensures { 0 < result }
 {
-    count.div_ceil(count / LONG + 1).max(1)
+    count.div_ceil(count / LONGEST + 1).max(1)
 }
 
 /// The first run that ends after a place of the list; past the last if there is none.

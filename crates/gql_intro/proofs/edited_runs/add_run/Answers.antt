@@ -1,4 +1,4 @@
-use Rattle.std.proofs.Common.{◌≡◌, ◌∙◌, ◌++◌, [], List, ap, filter, rules, subst, sym, Contains}
+use Rattle.std.proofs.Common.{◌≡◌, ◌∙◌, ◌++◌, [], ap, filter, rules, subst, sym, Contains}
 use Rattle.std.specs.Prelude.{OnOk}
 use Rattle.gql_types.specs.Possible.{in_order}
 use Rattle.gql_types.proofs.Members.{none}

@@ -1,8 +1,8 @@
-use Rattle.std.proofs.Common.{◌≡◌, ◌∙◌, ◌++◌, ◌+◌, ◌-◌, ◌<◌, ◌≤◌, ℕ, List, Contains, ap, drop, filter, length, rules, subst, sym, take}
+use Rattle.std.proofs.Common.{◌≡◌, ◌∙◌, ◌++◌, ◌+◌, ◌-◌, ◌≤◌, Contains, ap, drop, filter, length, rules, subst, sym, take}
 use Rattle.gql_types.specs.Possible.{in_order}
 use Rattle.gql_intro.specs.EditedNames.{is_kept}
 use Rattle.gql_intro.specs.Runs.{names_of}
-use Rattle.gql_intro.specs.SortedNames.{AreBefore, AreSorted}
+use Rattle.gql_intro.specs.SortedNames.{AreSorted}
 use Rattle.gql_intro.proofs.Sorting.{drop_sorted, first_sorted}
 use Rattle.gql_intro.proofs.Walking.{gone_here, gone_later, in_turn, whole_at_end, whole_later}
 use Rattle.gql_intro.proofs.edited_runs.edited_runs.Goals as goal

@@ -1,6 +1,4 @@
-use Rattle.std.proofs.Common.{◌≡◌, ◌∙◌, ◌+◌, ◌-◌, ◌<◌, ◌≤◌, Some, None, get_or, length, slice_get, take, arith, rules, ap, subst, sym}
-use Rattle.std.specs.Option.{option_copied}
-use Rattle.gql_intro.specs.Runs.{names_of}
+use Rattle.std.proofs.Common.{◌≡◌, ◌∙◌, ◌<◌, ◌≤◌, get_or, length, rules, subst, sym}
 use Rattle.gql_intro.proofs.Counting.{is_counted, name_there, none_behind, starts}
 use Rattle.gql_intro.proofs.runs.name_at.Goals as goal
 

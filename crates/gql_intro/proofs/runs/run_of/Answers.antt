@@ -1,5 +1,4 @@
-use Rattle.std.proofs.Common.{◌≡◌, ◌+◌, ◌-◌, ◌/◌, ◌<◌, ◌≤◌, length, take, arith, rules, subst}
-use Rattle.gql_intro.specs.Runs.{names_of}
+use Rattle.std.proofs.Common.{◌+◌, ◌-◌, ◌/◌, ◌<◌, ◌≤◌, length, rules, subst}
 use Rattle.gql_intro.proofs.Counting.{ends_at}
 use Rattle.gql_intro.proofs.runs.run_of.Goals as goal
 

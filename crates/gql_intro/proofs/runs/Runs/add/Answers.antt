@@ -1,4 +1,4 @@
-use Rattle.std.proofs.Common.{◌≡◌, ◌∙◌, ◌++◌, ◌+◌, ◌≤◌, List, append_assoc, ap, length, map, slice_range, take, rules, sym}
+use Rattle.std.proofs.Common.{◌≡◌, ◌∙◌, ◌++◌, ◌+◌, append_assoc, ap, map, slice_range, take, rules, sym}
 use Rattle.gql_intro.proofs.Counting.{piece_more}
 use Rattle.gql_intro.proofs.runs.Runs.add.Goals as goal
 

@@ -1,6 +1,6 @@
-use Rattle.std.proofs.Common.{◌≡◌, ◌∙◌, ◌+◌, length, ap, arith, rules, subst, sym}
+use Rattle.std.proofs.Common.{◌≡◌, ◌+◌, length, ap, arith, rules}
 use Rattle.std.proofs.Math.ListN.{length-append}
-use Rattle.gql_intro.specs.Runs.{AreCounted, names_of}
+use Rattle.gql_intro.specs.Runs.{names_of}
 use Rattle.gql_intro.specs.declared.runs.Run.{Run}
 use Rattle.gql_intro.proofs.Counting.{counted_more, names_more}
 use Rattle.gql_intro.proofs.runs.Runs.push.Goals as goal

@@ -1,4 +1,4 @@
-use Rattle.std.proofs.Common.{◌≡◌, ◌∙◌, ◌++◌, ℕ, List, Contains, ap, filter, rules, subst, sym}
+use Rattle.std.proofs.Common.{◌≡◌, ◌∙◌, ◌++◌, Contains, ap, filter, rules, subst, sym}
 use Rattle.gql_types.specs.Possible.{in_order}
 use Rattle.gql_intro.specs.EditedNames.{is_kept}
 use Rattle.gql_intro.specs.Made.{is_shown}
