@@ -1,5 +1,5 @@
 -- The names of types after an edit, by those before it.
-use Rattle.std.proofs.Common.{◌≡◌, ◌∙◌, ◌++◌, ◌↔◌, ◌⊎◌, inl, inr, ◌&&◌, ℕ, List, [], ◌∷◌, Bool, true, false, not, Option, Some, None, map, filter, find, bytes_eq, Contains, refl, sym, ap, subst}
+use Rattle.std.proofs.Common.{◌≡◌, ◌∙◌, ◌++◌, ◌⊎◌, inl, inr, ◌&&◌, ℕ, List, [], ◌∷◌, Bool, true, false, not, map, filter, find, bytes_eq, Contains, refl, sym, ap, subst}
 use Rattle.std.specs.Prelude.{is_some}
 use Rattle.std.proofs.lemmas.List.Elements.{Contains-append_left, Contains-append_right, Contains-append_cases}
 use Rattle.std.proofs.lemmas.Slice.Eq.{bytes_eq-Decides}
@@ -10,12 +10,11 @@ use Rattle.gql_types.specs.declared.schema.Schema.{Schema}
 use Rattle.gql_types.specs.declared.schema_type.SchemaType.{SchemaType}
 use Rattle.gql_types.proofs.Members.{none, here, there, cases, Contains-from_filter, Contains-to_map, Contains-from_map}
 use Rattle.gql_intro.specs.EditedNames.{is_kept, is_only_in}
-use Rattle.gql_intro.specs.Made.{is_shown, shown_types}
 use Rattle.gql_intro.proofs.InOrder.{from_order, same_order, to_order}
 
 -- ---- lists
 
-either : (b : Bool) → (b ≡ true) ⊎ (b ≡ false)
+pub either : (b : Bool) → (b ≡ true) ⊎ (b ≡ false)
 either true = inl refl
 either false = inr refl
 
@@ -23,7 +22,7 @@ no : (b : Bool) → b ≡ true → b ≡ false → ⊥
 no b is not_so = let bad : true ≡ false = sym is ∙ not_so in cc
 
 module _ {A : Type 0} (p : A → Bool) where
-  to_filter : (xs : List A) (x : A) → Contains xs x → p x ≡ true → Contains (filter p xs) x
+  pub to_filter : (xs : List A) (x : A) → Contains xs x → p x ≡ true → Contains (filter p xs) x
   to_filter [] x h is = absurd (none x h)
   to_filter (y ∷ ys) x h is = by (p y) refl (to_filter ys x)
     where
@@ -75,7 +74,7 @@ is_among names q = is_some (find (bytes_eq q) names)
 to_among : (names : List (List ℕ)) (q : List ℕ) → Contains names q → is_some (find (bytes_eq q) names) ≡ true
 to_among names q h = is_found (bytes_eq q) names q h (itself q)
 
-from_among : (names : List (List ℕ)) (q : List ℕ) → is_some (find (bytes_eq q) names) ≡ true → Contains names q
+pub from_among : (names : List (List ℕ)) (q : List ℕ) → is_some (find (bytes_eq q) names) ≡ true → Contains names q
 from_among names q is = let r = found (bytes_eq q) names is in subst (λ z. Contains names z) (sym (same q r.0 r.2)) r.1
 
 -- the names of the types of a schema

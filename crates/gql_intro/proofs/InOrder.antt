@@ -17,7 +17,7 @@ use Rattle.gql_types.proofs.Ordering.{Entries, put}
 turned : (r s : Ordering) → r ≡ Less → s ≡ Less → r ≡ ordering_reverse s → ⊥
 turned r s p q e = let bad : Less ≡ Greater = sym p ∙ e ∙ ap ordering_reverse q in cc
 
-apart : (x y : List ℕ) → name_order x y ≡ Less → name_order y x ≡ Less → ⊥
+pub apart : (x y : List ℕ) → name_order x y ≡ Less → name_order y x ≡ Less → ⊥
 apart x y p q = turned (name_order x y) (name_order y x) p q (nat_list_cmp_total.antisymm x y)
 
 first : (x y : List ℕ) (xs ys : List (List ℕ)) → AllByRecursion (λ z. name_order x z ≡ Less) xs → AllByRecursion (λ z. name_order y z ≡ Less) ys
@@ -37,7 +37,7 @@ behind x y xs ys below same n to h = elim (cases n y ys (to (there n x xs h))) [
   | inr t ↦ t
 ]
 
-one_list : (xs ys : List (List ℕ)) → IsStrictlySortedBy name_order xs → IsStrictlySortedBy name_order ys
+pub one_list : (xs ys : List (List ℕ)) → IsStrictlySortedBy name_order xs → IsStrictlySortedBy name_order ys
     → ((n : List ℕ) → Contains xs n ↔ Contains ys n) → xs ≡ ys
 unfolding IsStrictlySortedBy
 one_list [] [] sorted_a sorted_b same = refl
@@ -55,7 +55,7 @@ one_list (x ∷ xs) (y ∷ ys) sorted_a sorted_b same =
 abbrev keys : Entries → List (List ℕ)
 keys entries = map (λ (e : List ℕ × Unit {0}). e.0) entries
 
-flipped : (x y : List ℕ) → name_order x y ≡ Greater → name_order y x ≡ Less
+pub flipped : (x y : List ℕ) → name_order x y ≡ Greater → name_order y x ≡ Less
 flipped x y h = nat_list_cmp_total.antisymm y x ∙ ap ordering_reverse h
 
 all_above : (x y : List ℕ) (ks : List (List ℕ)) → name_order x y ≡ Less → AllByRecursion (λ z. name_order y z ≡ Less) ks → AllByRecursion (λ z. name_order x z ≡ Less) ks
@@ -143,6 +143,9 @@ unfolding IsStrictlySortedBy
 none_sorted = tt
 
 -- ---- names in order
+
+pub sorted_in_order : (names : List (List ℕ)) → IsStrictlySortedBy name_order (in_order names)
+sorted_in_order names = all_sorted names [] none_sorted
 
 -- the names in order are the names
 pub from_order : (names : List (List ℕ)) (q : List ℕ) → Contains (in_order names) q → Contains names q

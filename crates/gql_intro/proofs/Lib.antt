@@ -1,9 +1,13 @@
 pub mod Answering
 pub mod Containing
+pub mod Counting
 pub mod Defined
 pub mod EditedNames
 pub mod EveryNode
 pub mod Finding
 pub mod InOrder
 pub mod Listed
+pub mod OutlinedSchemas
+pub mod Sorting
 pub mod Typed
+pub mod Walking

@@ -32,6 +32,7 @@ node_of (n.Directive d) = directive d.now
 -- the elements of a list of nodes; an element may have no node, where nothing is listed
 abbrev pub elements : Schema → IntroNodes → List (Option Node)
 elements s (ns.Types names) = map (named_node s) names.now
+elements s (ns.AllTypes names) = map (named_node s) names.now
 elements s (ns.Interfaces names) =
     map (λ (i : Sited Name). named_node s i.node.text) names.now
 elements s (ns.Fields fields deprecated) = map (shown_field deprecated) fields.now

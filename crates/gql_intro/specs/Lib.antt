@@ -9,5 +9,8 @@ pub mod Laws
 pub mod Made
 pub mod MetaFields
 pub mod Nodes
+pub mod Outlined
 pub mod References
+pub mod Runs
 pub mod SchemaNodes
+pub mod SortedNames

@@ -1,4 +1,4 @@
-//! The names of the types that introspection shows after an edit of a schema file, by those before it.
+//! The names of types that came or went with an edit of a schema file.
 ghost use Rattle.std.specs.Prelude.{◌≡◌, ◌++◌, [], IfOk, OnOk, IsTrue, map, filter};
 ghost use Rattle.gql_intro.specs.EditedNames as spec;
 ghost use Rattle.gql_intro.specs.Made.{is_shown};
@@ -50,7 +50,7 @@ fn is_kept(gone: &Named<Text>, name: &str) -> bool
 }
 
 /// Adds the names that are not among those that are gone.
-fn add_kept<'n>(
+pub fn add_kept<'n>(
     names: &'n [Text],
     gone: &Named<Text>,
     found: &mut Vec<&'n str>,
@@ -84,21 +84,36 @@ fn add_shown<'n>(
     Ok(())
 }
 
-/// The names in order after some are gone and others came, of which those are added that introspection
-/// shows. The names that stay are in order already, so that few are to be sorted.
-pub fn names_after(
+/// Adds all these names.
+pub fn add_all<'n>(names: &'n [Text], found: &mut Vec<&'n str>) -> Result<(), AllocError>
+    ensures { OnOk result (map (λ n. n.now) found.new.items
+        ≡ map (λ n. n.now) found.old.items ++ names.now) }
+{
+    for name in names {
+        found.push(name.as_str())?;
+    }
+    Ok(())
+}
+
+/// These names in the order of their bytes, each once.
+pub fn all_in_order(alloc: Global, names: &[Text]) -> Result<Items<Text>, AllocError>
+    ensures { IfOk result (λ found. found ≡ in_order names.now) }
+{
+    let mut found = Vec::with_capacity(alloc, names.len())?;
+    add_all(names, &mut found)?;
+    in_order(alloc, found)
+}
+
+/// Those of these names that introspection shows, in the order of their bytes, each once.
+pub fn shown_in_order(
     alloc: Global,
     names: &[Text],
-    gone: &Named<Text>,
-    came: &[Text],
     has_int: bool,
     has_id: bool,
 ) -> Result<Items<Text>, AllocError>
-    ensures { IfOk result (λ found. found ≡ in_order
-        (filter (spec.is_kept gone.now) names.now ++ filter (is_shown has_int has_id) came.now)) }
+    ensures { IfOk result (λ found. found ≡ in_order (filter (is_shown has_int has_id) names.now)) }
 {
-    let mut found = Vec::with_capacity(alloc, names.len())?;
-    add_kept(names, gone, &mut found)?;
-    add_shown(came, has_int, has_id, &mut found)?;
+    let mut found = Vec::new(alloc);
+    add_shown(names, has_int, has_id, &mut found)?;
     in_order(alloc, found)
 }

@@ -5,6 +5,7 @@
 mod answer;
 mod applied;
 mod edited_names;
+mod edited_runs;
 pub mod laws;
 mod made;
 mod meta_fields;
@@ -12,9 +13,12 @@ mod named_type;
 mod names;
 mod node;
 mod nodes;
+mod outlined;
 mod parts;
 mod references;
 mod resolve;
+mod runs;
+mod sorted_names;
 
 pub use answer::{IntroAnswer, IntroArguments};
 pub use made::{IntroSchema, intro_schema, intro_schema_after_edit};
@@ -22,3 +26,4 @@ pub use names::location_name;
 pub use node::IntroNode;
 pub use nodes::IntroNodes;
 pub use resolve::intro_resolve;
+pub use sorted_names::SortedNames;

@@ -3,25 +3,27 @@ ghost use Rattle.std.specs.Prelude.{◌≡◌, ◌++◌, map, filter, IfOk};
 ghost use Rattle.std.specs.Option.{option_copied};
 ghost use Rattle.gql_ast.specs.declared.files.Files.{Files as TheFiles};
 ghost use Rattle.gql_types.specs.Edits.{KeepsOthers};
+ghost use Rattle.gql_types.specs.Outlines.{IsOutline};
 ghost use Rattle.gql_types.specs.Possible.{name_of};
 ghost use Rattle.gql_intro.specs.Made as spec;
 ghost use Rattle.gql_intro.specs.MetaFields.{meta_field};
 
-use crate::edited_names::{are_none, names_after, names_only_in};
+use crate::edited_names::{are_none, names_only_in};
 use crate::meta_fields::MetaFields;
+use crate::outlined::outlined_description;
 use crate::references::refer;
+use crate::sorted_names::SortedNames;
 use gql_ast::{
-    Definition, Document, FieldDefinition, FileMap, Files, Items, SchemaDefinition, Shared, Text,
-    Tree,
+    Definition, Document, FieldDefinition, FileMap, Files, SchemaDefinition, Shared, Text, Tree,
 };
-use gql_types::{Batched, HasName, Named, Schema, SchemaType, in_order};
+use gql_types::{Batched, HasName, Named, Outline, Schema, SchemaType};
 use std::alloc::{AllocError, Global};
 
 /// The schema as introspection shows it. It is made once for a schema, and is valid as long as the
 /// schema is.
 pub struct IntroSchema {
     /// The names of the types, in the order of their bytes.
-    types: Shared<Items<Text>>,
+    types: Shared<SortedNames>,
     /// Whether the schema files refer to Int, and to ID.
     has_int: bool,
     has_id: bool,
@@ -80,11 +82,11 @@ fn shown_types(
     schema: &Schema,
     has_int: bool,
     has_id: bool,
-) -> Result<Items<Text>, AllocError>
+) -> Result<SortedNames, AllocError>
     ensures { IfOk result (λ names. names ≡ spec.shown_types schema.now has_int has_id) }
 {
     let names = shown_names(alloc, schema.types(), has_int, has_id)?;
-    in_order(alloc, names)
+    SortedNames::new(alloc, names)
 }
 
 /// The first schema definition in a file.
@@ -111,7 +113,8 @@ fn first_schema(files: &FileMap<Shared<Document>>) -> Option<&SchemaDefinition>
     None
 }
 
-fn copied(text: &Option<Text>) -> Result<Option<Text>, AllocError>
+/// An equal text, if there is one.
+pub(crate) fn copied(text: &Option<Text>) -> Result<Option<Text>, AllocError>
     ensures { IfOk result (λ copy. copy ≡ text.now) }
 {
     match text {
@@ -152,7 +155,7 @@ pub fn intro_schema(
 }
 
 /// The names of the types that introspection shows after an edit that changed types of these names
-/// alone, by what was made of the schema before it. If no type came or went, they are shared.
+/// alone, by what was made of the schema before it. If no type came or went, all are shared.
 fn types_after_edit(
     alloc: Global,
     schema: &Schema,
@@ -161,7 +164,7 @@ fn types_after_edit(
     edited: &Named<Text>,
     before: &Schema,
     made: &IntroSchema,
-) -> Result<Shared<Items<Text>>, AllocError>
+) -> Result<Shared<SortedNames>, AllocError>
     ensures { IfOk result (λ names. KeepsOthers edited.now before.now schema.now
         → KeepsOthers edited.now schema.now before.now
         → made.now.types ≡ spec.shown_types before.now made.now.has_int made.now.has_id
@@ -179,22 +182,26 @@ fn types_after_edit(
         return Ok(same);
     }
     let gone = Named::new(alloc, gone)?;
-    let names = names_after(alloc, made.types(), &gone, came.as_slice(), has_int, has_id)?;
+    let names = made
+        .types()
+        .after_edit(alloc, &gone, came.as_slice(), has_int, has_id)?;
     let names = Shared::new(alloc, names)?;
     Ok(names)
 }
 
 /// The schema of these files as introspection shows it, after an edit of a schema file that changed
-/// types of these names alone. `made` is what was made of the schema before it. Names of types are
-/// sorted only where types came or went.
+/// types of these names alone, where `outline` is the outline of the files. `made` is what was made of
+/// the schema before it. Names of types are sorted only where types came or went.
 pub fn intro_schema_after_edit(
     alloc: Global,
     files: &Files,
     schema: &Schema,
+    outline: &Outline,
     edited: &Named<Text>,
     before: &Schema,
     made: &IntroSchema,
 ) -> Result<IntroSchema, AllocError>
+    requires { IsOutline files.now outline.now }
     ensures { IfOk result (λ after. (old : TheFiles) → KeepsOthers edited.now before.now schema.now
         → KeepsOthers edited.now schema.now before.now → made.now ≡ spec.made_of old before.now
         → after ≡ spec.made_of files.now schema.now) }
@@ -206,7 +213,7 @@ pub fn intro_schema_after_edit(
         types,
         has_int,
         has_id,
-        description: description(&files.schema)?,
+        description: outlined_description(outline)?,
         meta: MetaFields::new(alloc)?,
     })
 }
@@ -221,10 +228,10 @@ impl IntroSchema {
     }
 
     /// The names of the types, in the order of their bytes.
-    pub(crate) fn types(&self) -> &[Text]
+    pub(crate) fn types(&self) -> &SortedNames
         ensures { result.now ≡ self.now.types }
     {
-        self.types.get().as_slice()
+        self.types.get()
     }
 
     /// The description of the schema.

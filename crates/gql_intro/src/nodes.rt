@@ -6,6 +6,7 @@ ghost use Rattle.gql_intro.specs.Introspection.{shown_field, shown_input, shown_
 
 use crate::applied::is_deprecated;
 use crate::node::{IntroNode, named_node};
+use crate::sorted_names::SortedNames;
 use gql_ast::{
     DirectiveDefinition, EnumValueDefinition, FieldDefinition, InputValueDefinition, Name, Shared,
     Text,
@@ -19,6 +20,8 @@ use gql_types::{Schema, Sited};
 pub enum IntroNodes<'s> {
     /// Types, by their names.
     Types(&'s [Text]),
+    /// All types that introspection shows, by their names.
+    AllTypes(&'s SortedNames),
     Interfaces(&'s [Sited<Name>]),
     Fields(&'s [Sited<Shared<FieldDefinition>>], bool),
     EnumValues(&'s [Sited<Shared<EnumValueDefinition>>], bool),
@@ -75,6 +78,7 @@ impl<'s> IntroNodes<'s> {
     {
         match self {
             IntroNodes::Types(names) => names.len(),
+            IntroNodes::AllTypes(names) => names.len(),
             IntroNodes::Interfaces(names) => names.len(),
             IntroNodes::Fields(fields, _) => fields.len(),
             IntroNodes::EnumValues(values, _) => values.len(),
@@ -91,6 +95,10 @@ impl<'s> IntroNodes<'s> {
     {
         match *self {
             IntroNodes::Types(names) => match names.get(index) {
+                Some(name) => named_node(schema, name.as_str()),
+                None => None,
+            },
+            IntroNodes::AllTypes(names) => match names.get(index) {
                 Some(name) => named_node(schema, name.as_str()),
                 None => None,
             },

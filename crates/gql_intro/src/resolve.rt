@@ -84,7 +84,7 @@ fn of_schema<'s>(schema: &'s Schema, made: &'s IntroSchema, field: &str) -> Opti
     Some(match field {
         "__typename" => IntroAnswer::Text("__Schema"),
         "description" => optional_text(made.description()),
-        "types" => IntroAnswer::Nodes(IntroNodes::Types(made.types())),
+        "types" => IntroAnswer::Nodes(IntroNodes::AllTypes(made.types())),
         "queryType" => node_or_null(root_node(schema, OperationKind::Query)),
         "mutationType" => node_or_null(root_node(schema, OperationKind::Mutation)),
         "subscriptionType" => node_or_null(root_node(schema, OperationKind::Subscription)),

@@ -156,9 +156,9 @@ pub fn side_after_edit(
     )?;
     let facts = SchemaFacts::after_edit(alloc, &schema, &before.facts, edited, places.as_slice())?;
     let kept = faults_after_edit(alloc, files, &schema, before, name, edited)?;
-    let schema_before = &before.schema;
-    let made_before = &before.made;
-    let made = intro_schema_after_edit(alloc, files, &schema, edited, schema_before, made_before)?;
+    let old = &before.schema;
+    let old_made = &before.made;
+    let made = intro_schema_after_edit(alloc, files, &schema, &outline, edited, old, old_made)?;
     let side = side_of(alloc, schema, outline, facts, made, kept)?;
     Ok(side)
 }

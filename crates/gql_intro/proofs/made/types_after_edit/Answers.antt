@@ -1,4 +1,4 @@
-use Rattle.std.proofs.Common.{◌≡◌, ◌∙◌, ◌++◌, [], List, Bool, ℕ, filter, map, ap, sym, subst, rules}
+use Rattle.std.proofs.Common.{◌≡◌, ◌∙◌, ◌++◌, [], filter, map, ap, rules}
 use Rattle.gql_types.specs.Possible.{in_order, name_of}
 use Rattle.gql_intro.specs.EditedNames.{is_kept, is_only_in}
 use Rattle.gql_intro.specs.Made.{is_shown}
