@@ -9,6 +9,7 @@ use Rattle.gql_built_in.specs.declared.sited.Sited.{Sited}
 use Rattle.gql_types.specs.declared.schema.Schema.{Schema}
 use Rattle.gql_node_rules.specs.DirectiveUses.{is_name_of, is_referred}
 use Rattle.gql_node_rules.specs.FileChecks.{IsCheckOf, IsUseBy, appends}
+use Rattle.gql_node_rules.specs.FileDefinitions.{AreDefinitionsOf}
 use Rattle.gql_node_rules.specs.FileFaults.{file_faults, nodes_of_file}
 use Rattle.gql_node_rules.specs.Nodes.{AllNodes}
 use Rattle.gql_node_rules.specs.References as references
@@ -35,14 +36,15 @@ referred n s q =
 
 pub checked : (s : Schema) (d : Document) (n : AllNodes) (c : FileCheck) → n ≡ nodes_of_file d → c.faults.items ≡ file_faults n s
     → ((q : List ℕ) → contains bytes_eq c.types q ≡ is_referred (roles_of n s) q) → IsUseBy s n c.directives
-    → (c.has_appends ≡ false → appends n ≡ []) → IsCheckOf s d c
-checked s d n c is faults types directives none = record {
+    → (c.has_appends ≡ false → appends n ≡ []) → AreDefinitionsOf d c.definitions → IsCheckOf s d c
+checked s d n c is faults types directives none definitions = record {
   faults = faults ∙ ap (λ m. file_faults m s) is;
   types = λ x h. types x.node.text ∙ referred n s x.node.text
       ∙ is_one (λ (y : Sited Name). bytes_eq x.node.text y.node.text) (references.references n) x
       (subst (λ m. Contains (references.references m) x) (sym is) h) (itself x.node.text);
   directives = subst (λ m. IsUseBy s m c.directives) is directives;
   none_appends = λ e. ap appends (sym is) ∙ none e;
+  definitions = definitions;
 }
 
 -- the faults of all rules were added

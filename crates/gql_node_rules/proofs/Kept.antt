@@ -277,6 +277,7 @@ module _ (d : Document) (s t : Schema) (c : FileCheck) (change : SchemaChange) (
           flat = λ no q h. ap is_object_form (sym (same_forms values q (before q h))) ∙ is.directives.flat no q (before q h);
         };
         none_appends = is.none_appends;
+        definitions = is.definitions;
       }
 
   pub kept_if : (directives root types values first second any : Bool)

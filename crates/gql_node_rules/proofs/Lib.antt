@@ -3,10 +3,11 @@ mod Changes
 mod Checked
 mod Few
 mod Found
+mod Held
 mod Kept
 mod Listed
 mod Looked
-pub mod OtherTrees
+mod OtherTrees
 mod Same
 mod SameInputs
 mod Sets

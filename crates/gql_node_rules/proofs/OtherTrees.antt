@@ -4,7 +4,8 @@ use Rattle.gql_ast.specs.declared.definition.Tree.{Tree}
 use Rattle.gql_ast.specs.declared.definition.Tree.TheVariants as tree
 use Rattle.gql_built_in.specs.declared.sited.Sited.{Sited}
 use Rattle.gql_types.specs.Parts.{sited}
-use Rattle.gql_node_rules.specs.Nodes.{directive_of, schema_extension_of, schema_of, type_extension_of, within}
+use Rattle.gql_node_rules.specs.FileFaults.{without_types}
+use Rattle.gql_node_rules.specs.Nodes.{directive_of, nodes_of, schema_extension_of, schema_of, type_extension_of, within}
 use Rattle.gql_node_rules.specs.OtherTrees.{defines_type, others}
 
 module _ {B : Type 0} (held : Tree → List B) (none : (t : Tree) → defines_type t ≡ true → held t ≡ []) where
@@ -56,14 +57,29 @@ no_schema_extension (tree.Directive definition) is = absurd (cc is)
 no_schema_extension (tree.SchemaExtension extension) is = absurd (cc is)
 no_schema_extension (tree.TypeExtension extension) is = absurd (cc is)
 
-pub of_extensions : (ds : List (Sited Tree)) → within type_extension_of (others ds) ≡ within type_extension_of ds
+of_extensions : (ds : List (Sited Tree)) → within type_extension_of (others ds) ≡ within type_extension_of ds
 of_extensions = within_others type_extension_of no_extension
 
-pub of_directives : (ds : List (Sited Tree)) → within directive_of (others ds) ≡ within directive_of ds
+of_directives : (ds : List (Sited Tree)) → within directive_of (others ds) ≡ within directive_of ds
 of_directives = within_others directive_of no_directive
 
-pub of_schemas : (ds : List (Sited Tree)) → within schema_of (others ds) ≡ within schema_of ds
+of_schemas : (ds : List (Sited Tree)) → within schema_of (others ds) ≡ within schema_of ds
 of_schemas = within_others schema_of no_schema
 
-pub of_schema_extensions : (ds : List (Sited Tree)) → within schema_extension_of (others ds) ≡ within schema_extension_of ds
+of_schema_extensions : (ds : List (Sited Tree)) → within schema_extension_of (others ds) ≡ within schema_extension_of ds
 of_schema_extensions = within_others schema_extension_of no_schema_extension
+
+-- all nodes but those of types are the nodes of the definitions that define no type
+pub same_nodes : (ds trees : List (Sited Tree)) → trees ≡ others ds → without_types (nodes_of trees) ≡ without_types (nodes_of ds)
+same_nodes ds trees e = ap (λ ts. without_types (nodes_of ts)) e ∙ (λ k. record {
+  types = [];
+  type_extensions = of_extensions ds k;
+  directives = of_directives ds k;
+  schemas = of_schemas ds k;
+  schema_extensions = of_schema_extensions ds k;
+  parts = [];
+  fields = [];
+  values = [];
+  input_fields = [];
+  arguments = [];
+})

@@ -7,6 +7,7 @@ use Rattle.gql_ast.specs.declared.text.Name.{Name}
 use Rattle.gql_built_in.specs.declared.sited.Sited.{Sited}
 use Rattle.gql_types.specs.declared.schema.Schema.{Schema}
 use Rattle.gql_node_rules.specs.Applied.{applied}
+use Rattle.gql_node_rules.specs.FileDefinitions.{AreDefinitionsOf}
 use Rattle.gql_node_rules.specs.FileFaults.{file_faults, nodes_of_file}
 use Rattle.gql_node_rules.specs.Nodes.{AllNodes}
 use Rattle.gql_node_rules.specs.References.{references}
@@ -42,3 +43,5 @@ pub record IsCheckOf (s : Schema) (d : Document) (c : FileCheck) : Type 0 where
   pub directives : IsUseBy s (nodes_of_file d) c.directives
   -- the file has no `@append` on a field, if it says so
   pub none_appends : c.has_appends ≡ false → appends (nodes_of_file d) ≡ []
+  -- it has what the file's definitions give to the rules for all files together
+  pub definitions : AreDefinitionsOf d c.definitions

@@ -3,6 +3,7 @@ pub mod Borrowed
 pub mod DefinedNames
 pub mod DirectiveUses
 pub mod FileChecks
+pub mod FileDefinitions
 pub mod FileFaults
 pub mod NodeFaults
 pub mod Nodes

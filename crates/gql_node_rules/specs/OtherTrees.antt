@@ -1,4 +1,4 @@
--- Helper definitions for private contracts: the definitions of schema files that define no type.
+-- The definitions of schema files that define no type.
 use Rattle.std.specs.Prelude.{List, Bool, true, false, filter, not}
 use Rattle.gql_ast.specs.declared.definition.Tree.{Tree}
 use Rattle.gql_ast.specs.declared.definition.Tree.TheVariants as tree

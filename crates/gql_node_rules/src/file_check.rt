@@ -10,6 +10,7 @@ ghost use Rattle.gql_node_rules.specs.FileChecks as spec;
 ghost use Rattle.gql_node_rules.specs.SchemaChanges.{IsChange};
 
 use crate::directive_use::DirectiveUse;
+use crate::file_definitions::FileDefinitions;
 use crate::file_faults::{check_directives, check_references};
 use crate::nodes::{Nodes, nodes_of_file};
 use crate::rules::{check_built_in_directives, check_names};
@@ -20,7 +21,8 @@ use gql_types::Schema;
 use std::alloc::{AllocError, Global};
 use std::collections::HashSet;
 
-/// The faults that a schema file has by itself, and what of the schema they depend on.
+/// The faults that a schema file has by itself, and what of the schema they depend on; and what the
+/// file gives to the rules that are checked for all files together.
 #[derive(Drop)]
 pub struct FileCheck {
     faults: Vec<Shared<Fault>>,
@@ -29,6 +31,7 @@ pub struct FileCheck {
     directives: DirectiveUse,
     /// Whether `@append` is on a field.
     has_appends: bool,
+    definitions: FileDefinitions,
 }
 
 /// These faults, so that they can be shared.
@@ -86,11 +89,13 @@ impl FileCheck {
         check_built_in_directives(alloc, schema, &nodes, &mut faults)?;
         let has_appends = has_appends(alloc, &nodes)?;
         let faults = shared_faults(alloc, faults)?;
+        let definitions = FileDefinitions::of(alloc, document)?;
         Ok(FileCheck {
             faults,
             types,
             directives,
             has_appends,
+            definitions,
         })
     }
 
@@ -99,6 +104,13 @@ impl FileCheck {
         ensures { result.now ≡ self.now.faults.items }
     {
         self.faults.as_slice()
+    }
+
+    /// What the file gives to the rules that are checked for all files together.
+    pub(crate) fn definitions(&self) -> &FileDefinitions
+        ensures { result.now ≡ self.now.definitions }
+    {
+        &self.definitions
     }
 
     /// Whether the values that the file's directives give may fit their types in another way.

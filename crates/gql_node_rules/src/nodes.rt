@@ -8,7 +8,6 @@ ghost use Rattle.gql_node_rules.specs.FileFaults.{definitions_alone, nodes_of_fi
 ghost use Rattle.gql_node_rules.specs.Nodes as spec;
 
 use crate::node::{Holds, Node, add_all};
-use crate::other_trees::other_trees;
 use crate::trees::{trees, trees_of};
 use gql_ast::{
     DirectiveDefinition, Document, EnumValueDefinition, FieldDefinition, FileName, Files,
@@ -252,14 +251,11 @@ pub fn definition_nodes(alloc: Global, files: &Files) -> Result<Nodes<'_>, Alloc
     })
 }
 
-/// The extensions of all schema files, and the definitions of directives and of the schema, without
-/// their parts. No type is visited.
-pub fn other_nodes(alloc: Global, files: &Files) -> Result<Nodes<'_>, AllocError>
+/// The nodes of these definitions, without their parts, and without those that define a type.
+pub fn nodes_of_others<'t>(alloc: Global, trees: &[Node<'t, Tree>]) -> Result<Nodes<'t>, AllocError>
     ensures { IfOk result (λ nodes. lists nodes
-        ≡ without_types (spec.nodes_of (of_files files.now.schema))) }
+        ≡ without_types (spec.nodes_of (map one trees.now))) }
 {
-    let trees = other_trees(alloc, files)?;
-    let trees = trees.as_slice();
     Ok(Nodes {
         types: Vec::new(alloc),
         type_extensions: all_in(alloc, trees)?,

@@ -11,8 +11,8 @@ use gql_ast::{
 };
 use std::alloc::{AllocError, Global};
 
-/// Adds the definitions of a file.
-fn add_file<'t>(
+/// Adds these definitions of a file.
+pub fn add_file<'t>(
     definitions: &'t [Definition],
     found: &mut Vec<Node<'t, Tree>>,
 ) -> Result<(), AllocError>

@@ -14,6 +14,7 @@ use Rattle.gql_ast.specs.declared.definition.Document.{Document}
 use Rattle.gql_ast.specs.declared.files.Files.{Files}
 use Rattle.gql_types.specs.declared.schema.Schema.{Schema}
 use Rattle.gql_node_rules.specs.FileChecks.{IsCheckOf}
+use Rattle.gql_node_rules.specs.FileDefinitions.{HoldDefinitionsOf}
 use Rattle.gql_node_rules.specs.declared.file_check.FileCheck.{FileCheck}
 use Rattle.gql_node_rules.specs.declared.schema_change.SchemaChange.{SchemaChange}
 use Rattle.gql_schema_rules.specs.ChecksOfFiles.{AreChecksOf, IsCheckUnder}
@@ -63,3 +64,10 @@ all_after before edited change files after checks sorted zipped old were changes
       of_file = its.of_file old were changes (λ other. sym (differs f.0 other) ∙ there files.schema f sorted h);
     })
     zipped
+
+-- the checks of files hold what the definitions of the files give
+pub hold : (s : Schema) (files : List (List ℕ × Document)) (checks : List (List ℕ × FileCheck)) → AreChecksOf s files checks → HoldDefinitionsOf files checks
+hold s [] [] are = tt
+hold s [] (c ∷ checks) are = absurd are
+hold s (f ∷ files) [] are = absurd are
+hold s (f ∷ files) (c ∷ checks) are = (are.0.of_file.definitions, hold s files checks are.1)

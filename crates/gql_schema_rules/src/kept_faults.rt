@@ -151,7 +151,7 @@ impl SchemaFaults {
             faults: interfaces,
             quiet,
         } = found;
-        let others = other_faults(alloc, files, schema, interfaces, types)?;
+        let others = other_faults(alloc, files, schema, &checks, interfaces, types)?;
         let OtherFaults {
             faults,
             are_joint_sound,

@@ -1,6 +1,7 @@
 //! The faults by the rules that are checked for all files together.
 ghost use Rattle.std.specs.Prelude.{◌≡◌, ◌↔◌, [], IfOk, IsTrue, false, if◌then◌else◌};
 ghost use Rattle.gql_node_rules.specs.FileFaults.{joint_on_types};
+ghost use Rattle.gql_schema_rules.specs.ChecksOfFiles.{AreChecksOf};
 ghost use Rattle.gql_schema_rules.specs.OtherFaults.{AreOthers, ListsInterfaces};
 ghost use Rattle.gql_schema_rules.specs.RuleGroups as groups;
 ghost use Rattle.gql_schema_rules.specs.SchemaFaults.{nodes_in};
@@ -9,8 +10,8 @@ ghost use Rattle.gql_types.specs.Schemas.{schema_of};
 
 use crate::nodes_to_check::nodes_to_check;
 use crate::rules::{add_all, add_definition_faults, add_root_faults, type_faults};
-use gql_ast::{Fault, Files};
-use gql_node_rules::{SchemaChange, joint_schema_faults, joint_type_faults};
+use gql_ast::{Fault, FileMap, Files, Shared};
+use gql_node_rules::{FileCheck, SchemaChange, joint_schema_faults, joint_type_faults};
 use gql_types::{Batched, Schema, SchemaType};
 use std::alloc::{AllocError, Global};
 
@@ -73,15 +74,18 @@ fn are_none(faults: &[Fault]) -> bool
 
 /// The faults by the rules that are checked for all files together. They visit definitions and
 /// extensions, directives, roots and types, but no other nodes of the files. Those by the rules on
-/// interfaces and on cycles are given, and the types that the rules on types check.
+/// interfaces and on cycles are given, the checks of the files, and the types that the rules on
+/// types check.
 pub fn other_faults(
     alloc: Global,
     files: &Files,
     schema: &Schema,
+    checks: &FileMap<Shared<FileCheck>>,
     interfaces: Vec<Fault>,
     types: &TypesToCheck<'_>,
 ) -> Result<OtherFaults, AllocError>
     ensures all { IfOk result (λ others. schema.now ≡ schema_of files.now
+        → AreChecksOf schema.now files.now.schema checks.now
         → ListsInterfaces schema.now interfaces.items → AreEnough schema.now types.now
         → AreOthers (nodes_in files.now) schema.now others.faults.items) }
     ensures joint { IfOk result (λ others. IsTrue others.are_joint_sound
@@ -89,7 +93,7 @@ pub fn other_faults(
     ensures sound { IfOk result (λ others. IsTrue others.are_types_sound ↔
         (groups.type_faults_on schema.now types.now.own.now types.now.defaulted.now ≡ [])) }
 {
-    let nodes = nodes_to_check(alloc, files, schema)?;
+    let nodes = nodes_to_check(alloc, files, checks, schema)?;
     let mut faults = interfaces;
     let of_joint = joint_type_faults(alloc, schema, types.joint)?;
     let are_joint_sound = are_none(of_joint.as_slice());

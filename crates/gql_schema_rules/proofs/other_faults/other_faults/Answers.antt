@@ -7,13 +7,13 @@ use Rattle.gql_schema_rules.specs.SchemaFaults.{nodes_in}
 use Rattle.gql_schema_rules.proofs.other_faults.other_faults.Goals as goal
 
 pub returns-clause-all : goal.returns-clause-all
-returns-clause-all c = λ is all_interfaces enough.
+returns-clause-all c = λ is checks all_interfaces enough.
     let s = c.args.schema.now in
     let n = lists c.in_ok-nodes.nodes in
     let all = nodes_in c.args.files.now in
     let types = c.args.types.now in
     let found = c.args.interfaces.items in
-    let same = c.in_ok-nodes.ensures is in
+    let same = c.in_ok-nodes.ensures is checks in
     let added : c.add_root_faults.new.faults.items ≡ ((((found ++ joint_on_types s types.joint.now) ++ joint_on_schema n s) ++ definition_faults n s) ++ type_faults_on s types.own.now types.defaulted.now) ++ root_faults n s = search rules in
     record {
       interfaces = found;

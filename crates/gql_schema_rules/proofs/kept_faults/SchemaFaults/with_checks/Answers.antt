@@ -12,7 +12,7 @@ returns c = λ checks ifaces enough.
     let files = c.args.files.now in record {
       checks = subst (λ s. AreChecksOf s files.schema c.args.checks) c.requires checks;
       all = subst (λ s. (f : Fault) → Contains c.in_ok-all.all.items f ↔ FaultsBy files s f) c.requires
-          (c.in_ok-all.ensures files c.args.schema.now checks (c.in_ok-others.ensures.all c.requires (λ f. (ifaces.sound f, ifaces.complete f)) enough));
+          (c.in_ok-all.ensures files c.args.schema.now checks (c.in_ok-others.ensures.all c.requires checks (λ f. (ifaces.sound f, ifaces.complete f)) enough));
       joint = subst (λ s. IsTrue c.in_ok-others.others.are_joint_sound ↔ (joint_on_types s s.types ≡ [])) c.requires
           (subst (λ fs. IsTrue c.in_ok-others.others.are_joint_sound ↔ (fs ≡ [])) enough.joint c.in_ok-others.ensures.joint);
       sound = subst (λ s. IsTrue c.in_ok-others.others.are_types_sound ↔ (type_faults s ≡ [])) c.requires
