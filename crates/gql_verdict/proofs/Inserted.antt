@@ -30,9 +30,7 @@ use Rattle.gql_verdict.specs.Naming.{IsEachOnce, Named, fault_if_repeated, fault
 use Rattle.gql_verdict.specs.NewNames.{HasNewName, HaveNewNames, IsNoneOf, names_of_fragments, names_of_operations}
 use Rattle.gql_verdict.specs.Spreads.{Names, spreads_in, tree_spreads}
 use Rattle.gql_verdict.specs.V01ExecutableDefinitions as v01
-use Rattle.gql_verdict.specs.V02OperationNameUniqueness as v02
 use Rattle.gql_verdict.specs.V03LoneAnonymousOperation as v03
-use Rattle.gql_verdict.specs.V11FragmentNameUniqueness as v11
 use Rattle.gql_verdict.specs.V14FragmentsMustBeUsed as v14
 use Rattle.gql_verdict.proofs.Adding.{none_repeated}
 use Rattle.gql_verdict.proofs.SameViews.{both_none, by_rules, first_none, if_none, none_if, none_unless, second_none, together, unless_none}

@@ -1,4 +1,4 @@
--- Document files that bring only new names, and that use the fragments that they bring (GraphQL 5.1.1,
+-- Document files that bring only new names, and use the fragments that they bring (GraphQL 5.1.1,
 -- 5.2.1.1, 5.2.2.1, 5.5.1.1, 5.5.1.4).
 use Rattle.std.specs.Prelude.{◌≡◌, ◌<◌, ℕ, List, [], map, length, All, Contains, Some, None}
 use Rattle.gql_ast.specs.FileMaps.{file_named}
@@ -22,7 +22,7 @@ names_of_fragments ds = map text_of (named_by fragment_name ds)
 abbrev pub IsNoneOf : Names → List ℕ → Type 0
 IsNoneOf names name = Contains names name → ⊥
 
--- an operation or a fragment, whose name no operation, or no fragment, of these names has
+-- an operation or a fragment with a name that none of its kind has, of which these are the names
 abbrev pub HasNewName : Names → Names → Titled → Type 0
 HasNewName operations fragments (operation (Some name)) = IsNoneOf operations name
 HasNewName operations fragments (operation None) = ⊥
@@ -44,5 +44,5 @@ pub record BringsNewNames (documents : List (List ℕ × Document)) (name : List
   -- the names in the file are not those of other files
   pub new : HaveNewNames (names_of_operations (all_definitions documents))
       (names_of_fragments (all_definitions documents)) document.definitions
-  -- no rule on names finds a fault in the file alone: its names differ, its fragments are spread in it
+  -- no rule on names finds a fault in the file alone: its names differ, and it spreads its fragments
   pub alone : faults_of document.definitions ≡ []

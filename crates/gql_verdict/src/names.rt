@@ -13,7 +13,8 @@ use std::alloc::{AllocError, Global};
 /// The faults of names of these definitions: exactly those by V01, V02, V03, V11 and V14, each with
 /// its definition as the owner.
 pub fn faults_of(alloc: Global, definitions: &[&Definition]) -> Result<Vec<Fault>, AllocError>
-    ensures { IfOk result (λ found. found.items ≡ spec.faults_of (map (λ d. d.now) definitions.now)) }
+    ensures { IfOk result (λ found.
+        found.items ≡ spec.faults_of (map (λ d. d.now) definitions.now)) }
 {
     let mut faults = Vec::new(alloc);
     v01_executable_definitions::check(alloc, definitions, &mut faults)?;

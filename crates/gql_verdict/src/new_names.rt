@@ -21,8 +21,8 @@ fn is_free<T: HasName>(all: &Named<T>, name: &str) -> bool
     all.get(name).is_none()
 }
 
-/// Whether a definition is an operation or a fragment with a name, and no operation, or no fragment,
-/// among these has it.
+/// Whether a definition is an operation or a fragment with a name, and none of its kind among these
+/// has it.
 fn has_new_name<O: HasName>(tree: &Tree, operations: &Named<O>, fragments: &Fragments) -> bool
     ensures { IsTrue result ↔ spec.HasNewName (map O.name operations.now)
         (map name_of fragments.now.all) (titled tree.now) }
@@ -63,10 +63,12 @@ fn are_sound_alone(alloc: Global, definitions: &[Definition]) -> Result<bool, Al
     Ok(faults.is_empty())
 }
 
-/// Whether a document file that is put is new, each of its definitions is an operation or a fragment
-/// with a name that is in no other file, and no rule on names finds a fault in it alone. There is an
-/// operation with a name in the other files. If these rules found no fault before such an edit, they
-/// find none after it. The names before the edit are looked up among these operations and fragments.
+/// Whether a document file that is put brings only new names, and uses the fragments that it brings.
+/// No file of its name is there; each of its definitions is an operation or a fragment with a name
+/// that none in the other files has; no rule on names finds a fault in the file alone; and an
+/// operation with a name is there before, so that none is without one. If these rules found no fault
+/// before such an edit, they find none after it. Names are looked up among the operations and the
+/// fragments before it.
 pub fn brings_new_names<O: HasName>(
     alloc: Global,
     files: &Files,
