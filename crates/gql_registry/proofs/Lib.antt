@@ -1,5 +1,6 @@
 pub mod Against
 pub mod Called
+pub mod NamedOperations
 pub mod OneCall
 pub mod FilesByName
 pub mod FirstRefusals

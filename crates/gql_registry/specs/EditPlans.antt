@@ -21,6 +21,7 @@ use Rattle.gql_types.specs.Schemas.{schema_of}
 use Rattle.gql_verdict.specs.DocumentEdits.{ChangesOnly}
 use Rattle.gql_verdict.specs.FileOrder.{AreFilesPlaced}
 use Rattle.gql_verdict.specs.NameViews.{KeepsNamesSound, SeesTheSame}
+use Rattle.gql_verdict.specs.NewNames.{BringsNewNames}
 use Rattle.gql_verdict.specs.SchemaEdits.{IsTouchedBySchema}
 use Rattle.gql_verdict.specs.declared.touched.Touched.{Touched}
 use Rattle.gql_verdict.specs.declared.touched.Touched.TheVariants.{All}
@@ -76,10 +77,18 @@ abbrev pub IsIndexBefore : Bool → Files → Known → Type 0
 IsIndexBefore are_same files known =
     IsTrue are_same → known.index.fragments.all ≡ fragments files.documents
 
--- a document file is put of which the rules on names see the same as of the file in its place
-abbrev pub IsSeenAsBefore : List (List ℕ × Document) → List ℕ → Option Document → Type 0
-IsSeenAsBefore documents name (Some document) = SeesTheSame documents name document
-IsSeenAsBefore documents name None = ⊥
+-- these files are known, and the document file brings only new names to them
+abbrev pub BringsToKnown : Option Known → List (List ℕ × Document) → List ℕ → Document → Type 0
+BringsToKnown (Some known) documents name document = BringsNewNames documents name document
+BringsToKnown None documents name document = ⊥
+
+-- a document file is put of which the rules on names see the same as of the one in its place, or one
+-- that brings only new names to files that are known
+abbrev pub IsToldToKeepNames : Option Known → List (List ℕ × Document) → List ℕ → Option Document
+    → Type 0
+IsToldToKeepNames known documents name (Some document) =
+    SeesTheSame documents name document ⊎ BringsToKnown known documents name document
+IsToldToKeepNames known documents name None = ⊥
 
 -- it is known that no rule on names finds a fault
 abbrev pub KnowsSoundNames : Option Known → Type 0

@@ -6,13 +6,13 @@ ghost use Rattle.gql_ast.specs.declared.fault.FileSide.TheVariants as on;
 ghost use Rattle.gql_facts.specs.FileFragments.{fragments_in};
 ghost use Rattle.gql_registry.specs.EditPlans.{IsEditPlanTo, IsSchemaEdit, IsSchemaTouched, IsSideAfterDocuments, IsSideBeforeEdit};
 ghost use Rattle.gql_registry.specs.EditPlans.{IsIndexAfterSchema, IsIndexBefore};
-ghost use Rattle.gql_registry.specs.EditPlans.{IsSeenAsBefore, KeepsFragments};
+ghost use Rattle.gql_registry.specs.EditPlans.{BringsToKnown, IsToldToKeepNames, KeepsFragments};
 ghost use Rattle.gql_registry.specs.Keeping.{IsIndexOf, IsKnownOf, IsSideOf};
 ghost use Rattle.gql_registry.specs.Sides as spec;
 ghost use Rattle.gql_types.specs.Edits.{KeepsOthers};
 ghost use Rattle.gql_types.specs.Outlines.{edited_files};
 ghost use Rattle.gql_types.specs.Schemas.{schema_of};
-ghost use Rattle.gql_verdict.specs.DocumentEdits.{ChangesOnly};
+ghost use Rattle.gql_verdict.specs.DocumentEdits.{ChangesOnly, with_document};
 ghost use Rattle.gql_verdict.specs.NameViews.{KeepsNamesSound};
 
 use crate::index::{DocumentIndex, index_after_edit};
@@ -20,7 +20,7 @@ use crate::report::{Known, SchemaSide, side_after_edit};
 use gql_ast::{Document, FileMap, FileName, FileSide, Files, Shared, Text};
 use gql_facts::have_same_fragments;
 use gql_types::{Named, edited_names, laws as type_laws};
-use gql_verdict::{Touched, keeps_names, laws};
+use gql_verdict::{Touched, brings_new_names, keeps_names, laws};
 use std::alloc::{AllocError, Global};
 
 /// The files that an edit leaves, what it touches, and the schema and the index of the files if they
@@ -234,24 +234,52 @@ fn schema_touched(
     Ok(touched)
 }
 
-/// Whether no rule on names finds a fault after an edit of a document file if none finds one before it.
-/// `after` is the file that is put, or none if the file is removed.
+/// Whether a document file that is put brings only new names, if the files before it are known.
+fn brings_to_known(
+    alloc: Global,
+    files: &Files,
+    known: &Option<Known>,
+    name: &FileName,
+    document: &Document,
+) -> Result<bool, AllocError>
+    requires { IfSome known.now (IsKnownOf files.now) }
+    ensures sound { IfOk result (λ brings. IsTrue brings → KeepsNamesSound files.now
+        (with_document files.now name.now document.now)) }
+    ensures exact { IfOk result (λ brings. IsTrue brings
+        ↔ BringsToKnown known.now files.now.documents name.now document.now) }
+{
+    let Some(known) = known else {
+        return Ok(false);
+    };
+    let (operations, fragments) = (&known.index.operations.named, &known.index.fragments);
+    let brings = brings_new_names(alloc, files, name, document, operations, fragments)?;
+    Ok(brings)
+}
+
+/// Whether it is told that no rule on names finds a fault after an edit of a document file if none
+/// finds one before it. `after` is the file that is put, or none if the file is removed.
 fn edit_keeps_names(
     alloc: Global,
     files: &Files,
+    known: &Option<Known>,
     name: &FileName,
     after: Option<&Document>,
 ) -> Result<bool, AllocError>
+    requires { IfSome known.now (IsKnownOf files.now) }
     ensures sound { IfOk result (λ keeps. IsTrue keeps → KeepsNamesSound files.now
         (spec.with_file on.Documents files.now name.now (option_copied after.entry))) }
     ensures exact { IfOk result (λ keeps. IsTrue keeps
-        ↔ IsSeenAsBefore files.now.documents name.now (option_copied after.entry)) }
+        ↔ IsToldToKeepNames known.now files.now.documents name.now (option_copied after.entry)) }
 {
     let Some(document) = after else {
         return Ok(false);
     };
     let keeps = keeps_names(alloc, files, name, document)?;
-    Ok(keeps)
+    if keeps {
+        return Ok(true);
+    }
+    let brings = brings_to_known(alloc, files, known, name, document)?;
+    Ok(brings)
 }
 
 /// The plan of an edit of a schema file. It changes no name in a document file.
@@ -298,7 +326,7 @@ fn document_plan(
         (spec.with_file on.Documents files.now name document)) }
 {
     let touched = touched_by(alloc, files, &name, document.as_ref())?;
-    let keeps_names = edit_keeps_names(alloc, files, &name, document.as_ref())?;
+    let keeps_names = edit_keeps_names(alloc, files, known, &name, document.as_ref())?;
     let are_same = keeps_fragments(alloc, files, &name, document.as_ref())?;
     let mut changed = files.copy()?;
     let shared = shared_document(alloc, document)?;

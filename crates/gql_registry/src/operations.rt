@@ -36,7 +36,8 @@ impl HasName for NamedOperation {
 /// The operations of all document files, in the order of the files' names. Of those of one name,
 /// the first counts. A copy shares those with names.
 pub struct Operations {
-    named: Named<NamedOperation>,
+    /// Those that have a name.
+    pub named: Named<NamedOperation>,
     /// The only operation, if there is one only.
     only: Option<Definition>,
 }

@@ -7,9 +7,11 @@ pub mod EditedSchema
 pub mod FileLists
 pub mod FilePut
 pub mod Filled
+pub mod Inserted
 pub mod LedTo
 pub mod Marking
 pub mod MovedTypes
+pub mod NewFiles
 pub mod Ordered
 pub mod PairsKnown
 pub mod Picked

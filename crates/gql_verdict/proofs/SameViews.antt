@@ -18,7 +18,7 @@ use Rattle.gql_verdict.specs.Definitions.{is_operation, operation_name, fragment
 use Rattle.gql_verdict.specs.NameFaults.{faults_of}
 use Rattle.gql_verdict.specs.NameViews.{NameView, Titled, operation, fragment, of_types, titled, view_of, views_of}
 use Rattle.gql_verdict.specs.Naming.{Named, fault_if_repeated, fault_of_name, named_by, repeated_faults, text_of, with_name}
-use Rattle.gql_verdict.specs.Spreads.{Names, spreads_in, tree_spreads}
+use Rattle.gql_verdict.specs.Spreads.{spreads_in, tree_spreads}
 use Rattle.gql_verdict.specs.V01ExecutableDefinitions as v01
 use Rattle.gql_verdict.specs.V02OperationNameUniqueness as v02
 use Rattle.gql_verdict.specs.V03LoneAnonymousOperation as v03
@@ -28,15 +28,15 @@ use Rattle.gql_verdict.proofs.Adding.{count_map}
 
 -- ---- lists
 
-first_none : {A : Type 0} (xs ys : List A) → xs ++ ys ≡ [] → xs ≡ []
+pub first_none : {A : Type 0} (xs ys : List A) → xs ++ ys ≡ [] → xs ≡ []
 first_none [] ys e = refl
 first_none (x ∷ xs) ys e = absurd (cc e)
 
-second_none : {A : Type 0} (xs ys : List A) → xs ++ ys ≡ [] → ys ≡ []
+pub second_none : {A : Type 0} (xs ys : List A) → xs ++ ys ≡ [] → ys ≡ []
 second_none [] ys e = e
 second_none (x ∷ xs) ys e = absurd (cc e)
 
-both_none : {A : Type 0} (xs ys : List A) → xs ≡ [] → ys ≡ [] → xs ++ ys ≡ []
+pub both_none : {A : Type 0} (xs ys : List A) → xs ≡ [] → ys ≡ [] → xs ++ ys ≡ []
 both_none xs ys e f = rw (e, f) refl
 
 abbrev head_or : {A : Type 0} → A → List A → A
@@ -64,18 +64,18 @@ count_alike p q all (x ∷ xs) n =
     ap (λ b. fold (λ a x. a + cond (p x) 1 0) (n + cond b 1 0) xs) (all x) ∙ count_alike p q all xs (n + cond (q x) 1 0)
 
 -- a fault or none
-if_none : (b : Bool) (f : Fault) → (if b then f ∷ [] else []) ≡ [] → b ≡ false
+pub if_none : (b : Bool) (f : Fault) → (if b then f ∷ [] else []) ≡ [] → b ≡ false
 if_none true f e = absurd (cc e)
 if_none false f e = refl
 
-none_if : (b : Bool) (f : Fault) → b ≡ false → (if b then f ∷ [] else []) ≡ []
+pub none_if : (b : Bool) (f : Fault) → b ≡ false → (if b then f ∷ [] else []) ≡ []
 none_if b f e = rw e refl
 
-unless_none : (b : Bool) (f : Fault) → (if b then [] else f ∷ []) ≡ [] → b ≡ true
+pub unless_none : (b : Bool) (f : Fault) → (if b then [] else f ∷ []) ≡ [] → b ≡ true
 unless_none true f e = refl
 unless_none false f e = absurd (cc e)
 
-none_unless : (b : Bool) (f : Fault) → b ≡ true → (if b then [] else f ∷ []) ≡ []
+pub none_unless : (b : Bool) (f : Fault) → b ≡ true → (if b then [] else f ∷ []) ≡ []
 none_unless b f e = rw e refl
 
 known_none : (o : Option (List ℕ)) (k : List ℕ → Fault) → where_known o (λ a. k a ∷ []) ≡ [] → is_some o ≡ false
@@ -218,6 +218,36 @@ module _ (of_rule : Rule) (all more : List Named) (same : map text_of all ≡ ma
   still_once : repeated_faults of_rule all ≡ [] → repeated_faults of_rule more ≡ []
   still_once = transfer text_of (fault_if_repeated of_rule all) (fault_if_repeated of_rule more) none_repeated_more all more same
 
+-- none of the rules finds a fault
+pub record AreSound (ds : List Definition) : Type 0 where
+  pub executable : v01.faults ds ≡ []
+  pub operations : v02.faults ds ≡ []
+  pub lone : v03.faults ds ≡ []
+  pub fragments : v11.faults ds ≡ []
+  pub used : v14.faults ds ≡ []
+
+pub by_rules : (ds : List Definition) → faults_of ds ≡ [] → AreSound ds
+by_rules ds none =
+    let a = v01.faults ds in
+    let b = v02.faults ds in
+    let c = v03.faults ds in
+    let d = v11.faults ds in
+    let e = v14.faults ds in
+    let after_a = second_none a (b ++ (c ++ (d ++ e))) none in
+    let after_b = second_none b (c ++ (d ++ e)) after_a in
+    let after_c = second_none c (d ++ e) after_b in
+    record {
+      executable = first_none a (b ++ (c ++ (d ++ e))) none;
+      operations = first_none b (c ++ (d ++ e)) after_a;
+      lone = first_none c (d ++ e) after_b;
+      fragments = first_none d e after_c;
+      used = second_none d e after_c;
+    }
+
+pub together : (ds : List Definition) → AreSound ds → faults_of ds ≡ []
+together ds s = both_none (v01.faults ds) _ s.executable (both_none (v02.faults ds) _ s.operations (both_none (v03.faults ds) _ s.lone
+    (both_none (v11.faults ds) (v14.faults ds) s.fragments s.used)))
+
 module _ (ds es : List Definition) (same : views_of ds ≡ views_of es) where
   executable : v01.faults ds ≡ [] → v01.faults es ≡ []
   executable = transfer view_of v01.fault_of_definition v01.fault_of_definition
@@ -256,15 +286,11 @@ module _ (ds es : List Definition) (same : views_of ds ≡ views_of es) where
   -- no rule on names finds a fault in the second if none finds one in the first
   pub still_sound : faults_of ds ≡ [] → faults_of es ≡ []
   still_sound none =
-      let a = v01.faults ds in
-      let b = v02.faults ds in
-      let c = v03.faults ds in
-      let d = v11.faults ds in
-      let e = v14.faults ds in
-      let after_a = second_none a (b ++ (c ++ (d ++ e))) none in
-      let after_b = second_none b (c ++ (d ++ e)) after_a in
-      let after_c = second_none c (d ++ e) after_b in
-      both_none (v01.faults es) _ (executable (first_none a (b ++ (c ++ (d ++ e))) none))
-      (both_none (v02.faults es) _ (operations_once (first_none b (c ++ (d ++ e)) after_a))
-      (both_none (v03.faults es) _ (alone (first_none c (d ++ e) after_b))
-      (both_none (v11.faults es) (v14.faults es) (fragments_once (first_none d e after_c)) (used (second_none d e after_c)))))
+      let s = by_rules ds none in
+      together es (record {
+        executable = executable s.executable;
+        operations = operations_once s.operations;
+        lone = alone s.lone;
+        fragments = fragments_once s.fragments;
+        used = used s.used;
+      })

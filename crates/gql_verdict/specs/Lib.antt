@@ -6,6 +6,7 @@ pub mod FileOrder
 pub mod NameFaults
 pub mod NameViews
 pub mod Naming
+pub mod NewNames
 pub mod Marks
 pub mod Plans
 pub mod Readings

@@ -20,6 +20,18 @@ fn add_definitions<'t>(
     Ok(())
 }
 
+/// The definitions of one file.
+pub fn definitions_in<'t>(
+    alloc: Global,
+    definitions: &'t [Definition],
+) -> Result<Vec<&'t Definition>, AllocError>
+    ensures { IfOk result (λ all. map (λ d. d.now) all.items ≡ definitions.now) }
+{
+    let mut all = Vec::new(alloc);
+    add_definitions(definitions, &mut all)?;
+    Ok(all)
+}
+
 /// The definitions of all document files, in the order of the files' names. That is file order, if
 /// each file has its own definitions at rising places.
 pub fn all_definitions<'t>(

@@ -12,6 +12,7 @@ mod marks;
 mod meter;
 mod names;
 mod naming;
+mod new_names;
 mod plan;
 mod same_names;
 mod schema_edit;
@@ -30,6 +31,7 @@ mod verdict;
 
 pub use meter::Meter;
 pub use names::name_faults;
+pub use new_names::brings_new_names;
 pub use same_names::keeps_names;
 pub use shared_work::SharedWork;
 pub use sharing::shared_faults;
