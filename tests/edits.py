@@ -264,4 +264,5 @@ def main():
           % (lists, tally.states, tally.sound, tally.served))
 
 
-main()
+if __name__ == "__main__":
+    main()
