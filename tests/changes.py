@@ -157,37 +157,53 @@ def token_at(text, line, column):
     return TOKEN.match(text, offset_of(text, line, column)).group()
 
 
-def definition_at(text, line, column):
-    """The kind and the name of the definition that begins at a place."""
-    words = [token for _, token in tokens_of(text[offset_of(text, line, column):])[:2]]
+OPERATIONS = ("query", "mutation", "subscription")
+WITHOUT_BRACES = ("scalar", "union", "directive")
+TYPES = ("scalar", "type", "interface", "union", "enum", "input")
+BEGINS = OPERATIONS + TYPES + ("fragment", "schema", "directive", "extend")
+
+
+def named(words):
+    """The kind and the name of the definition that begins with these tokens."""
+    if words[0].startswith('"'):
+        words = words[1:]
     if words[0] == "{":
         return ("query", None)
-    if words[0] == "fragment":
-        return ("fragment", words[1])
-    if words[0] in ("query", "mutation", "subscription"):
-        name = words[1] if re.match("[_A-Za-z]", words[1]) else None
-        return (words[0], name)
-    return ("other", None)
+    if words[0] in OPERATIONS:
+        return (words[0], words[1] if re.match("[_A-Za-z]", words[1]) else None)
+    if words[0] == "extend":
+        return ("extend schema", None) if words[1] == "schema" else ("extend", words[2])
+    if words[0] == "directive":
+        return ("directive", words[2])
+    if words[0] in TYPES:
+        return ("type", words[1])
+    return (words[0], words[1] if words[0] == "fragment" else None)
+
+
+def definitions_of(text):
+    """The definitions of a text: where each begins, its kind and its name."""
+    depth, found, before = 0, [], None
+    tokens = tokens_of(text)
+    for at, (offset, token) in enumerate(tokens):
+        if depth == 0 and before != "extend" and not (before or "").startswith('"'):
+            alone = token == "{" and (before in (None, "}") or found and found[-1][3] in WITHOUT_BRACES)
+            if alone or token in BEGINS or token.startswith('"'):
+                words = [word for _, word in tokens[at:at + 4]]
+                found.append((offset, *named(words), words[0]))
+        depth += (token in "{([") - (token in "})]")
+        before = token
+    return [definition[:3] for definition in found]
+
+
+def definition_at(text, line, column):
+    """The kind and the name of the definition that a place is in."""
+    offset = offset_of(text, line, column)
+    return [(kind, name) for start, kind, name in definitions_of(text) if start <= offset][-1]
 
 
 def operations_of(text):
     """The operations of a text: kind and name."""
-    depth, begins, found = 0, True, []
-    tokens = tokens_of(text)
-    for at, (_, token) in enumerate(tokens):
-        if depth == 0 and begins:
-            if token == "{":
-                found.append(("query", None))
-            elif token in ("query", "mutation", "subscription"):
-                follows = tokens[at + 1][1]
-                found.append((token, follows if re.match("[_A-Za-z]", follows) else None))
-            begins = False
-        if token in "{([":
-            depth += 1
-        elif token in "})]":
-            depth -= 1
-            begins = begins or (depth == 0 and token == "}")
-    return found
+    return [(kind, name) for _, kind, name in definitions_of(text) if kind in OPERATIONS]
 
 
 # ---- what a registry says of a folder
@@ -226,10 +242,12 @@ class State:
         return token_at(self.texts[place["file"]], place["line"], place["column"])
 
     def key_of(self, fault):
-        owner = fault["owner"]
-        if owner is not None:
-            owner = definition_at(self.texts[owner["file"]], owner["line"], owner["column"])
-        return (fault["rule"], fault["about"], owner, tuple(self.token(place) for place in fault["places"]))
+        """What a fault is known by: its rule, its text, its owner, or the definition that it is in, and what
+        stands at its places."""
+        places = fault["places"]
+        at = fault["owner"] or (places[0] if places else None)
+        owner = at and definition_at(self.texts[at["file"]], at["line"], at["column"])
+        return (fault["rule"], fault["about"], owner, tuple(self.token(place) for place in places))
 
     def is_served(self, name):
         return any(name == other for _, _, other in self.operations) and name not in self.refused
@@ -238,6 +256,9 @@ class State:
         if self.is_faulty:
             return []
         return [(kind, name, path) for path, kind, name in self.operations if name in self.refused]
+
+    def has_documents(self):
+        return any(path.startswith("documents/") for path in self.folder)
 
     def schema_files(self):
         return {path: text for path, text in self.folder.items() if path.startswith("schema/")}
@@ -269,7 +290,7 @@ def expected(before, after):
         "broken": sorted(newly(after, before), key=repr),
         "healed": sorted(newly(before, after), key=repr),
         "affected": sorted(after.unserved(), key=repr),
-        "hidden": after.is_faulty and after.schema_files() != before.schema_files(),
+        "hidden": after.is_faulty and after.has_documents() and after.schema_files() != before.schema_files(),
     }
     said["status"] = int(bool(said["brought"] or said["broken"] or said["hidden"]))
     return said
@@ -290,10 +311,10 @@ def key_in(folders, fault):
                 path, line, column = place_in(name, entry)
                 return folder[path], line, column
         raise KeyError(entry["path"])
-    owner = fault["owner"]
-    if owner is not None:
-        owner = definition_at(*text_at(owner))
-    return (fault["rule"], fault["about"], owner, tuple(token_at(*text_at(place)) for place in fault["places"]))
+    places = fault["places"]
+    at = fault["owner"] or (places[0] if places else None)
+    owner = at and definition_at(*text_at(at))
+    return (fault["rule"], fault["about"], owner, tuple(token_at(*text_at(place)) for place in places))
 
 
 def operation_in(entry):
