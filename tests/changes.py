@@ -32,7 +32,7 @@ def accepted_text(generator, file):
     """A text for a file that can be parsed."""
     while True:
         text = text_for(generator, file)
-        if text not in REFUSED and not any(text.endswith(part) for part in REFUSED) and text.strip():
+        if text not in REFUSED and text.strip():
             return text
 
 
