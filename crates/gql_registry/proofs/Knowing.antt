@@ -45,6 +45,6 @@ pub none_kept : (shelf : Shelved) → shelf ≡ nothing_shelved → IsKept (reco
 none_kept shelf is = rw is (record {
   placed = λ file h. absurd (Contains-nil file h);
   known = tt;
-  current = record { each = refl; holds = λ v h. absurd (Contains-nil v h) };
+  current = record { each = refl; holds = λ v h. absurd (Contains-nil v h); keys = λ v h. absurd (Contains-nil v h) };
   pairs = no_pairs (fact_of (record { schema = []; documents = [] }));
 })

@@ -25,7 +25,7 @@ use Rattle.gql_verdict.specs.Definitions.{all_definitions}
 use Rattle.gql_verdict.specs.FileOrder.{AreFilesPlaced}
 use Rattle.gql_verdict.specs.NameViews.{AreNamesSound}
 use Rattle.gql_verdict.specs.Plans.{IsPlanned, Preparation}
-use Rattle.gql_verdict.specs.Shelves.{IsCurrent, IsWork, IsFaultOfAny, Shelved}
+use Rattle.gql_verdict.specs.Shelves.{HasDuePairs, IsCurrent, IsFaultOfAny, IsWholeWork, IsWork, Shelved}
 use Rattle.gql_verdict.specs.TouchedFacts.{ArePairsKnown, IsKnown}
 use Rattle.gql_verdict.specs.Verdicts.{Judgement}
 use Rattle.gql_verdict.specs.declared.touched.Touched.{Touched}
@@ -41,7 +41,8 @@ abbrev pub nothing_kept : Keeping
 nothing_kept =
     record { files = record { schema = []; documents = [] }; shelf = []; pairs = [] }
 
--- one verdict for each definition of the document files; each holds
+-- one verdict for each definition of the document files; each holds, and observed exactly the keys
+-- that its definition reads
 abbrev pub IsShelfOf : Files → List Judgement → Type 0
 IsShelfOf files = IsCurrent (fact_of files) (all_definitions files.documents)
 
@@ -61,7 +62,15 @@ ArePairsBefore files = ArePairsKnown (fact_of files)
 abbrev pub IsKnownBefore : Files → List Judgement → Touched → Type 0
 IsKnownBefore files = IsKnown (fact_of files) (all_definitions files.documents)
 
--- what an edit that makes these files may examine
+-- an entry is kept for each two fragments that a set of a definition spreads which was due
+abbrev pub HasPairsDue : Files → List Judgement → List KeptGroup → Type 0
+HasPairsDue files shelf = HasDuePairs (fact_of files) shelf (all_definitions files.documents)
+
+-- what an edit that makes these files examines: exactly the definitions that are due
+abbrev pub IsWholeWorkOn : Files → List Judgement → List DefinitionId → List DefinitionId → Type 0
+IsWholeWorkOn files shelf = IsWholeWork (fact_of files) shelf (all_definitions files.documents)
+
+-- what it may have examined when an allocation fails: only definitions that are due
 abbrev pub IsWorkOn : Files → List Judgement → List DefinitionId → List DefinitionId → Type 0
 IsWorkOn files shelf = IsWork (fact_of files) shelf (all_definitions files.documents)
 

@@ -3,7 +3,7 @@
 use Rattle.std.specs.Prelude.{ℕ, ◌≡◌, ◌⊎◌, List, [], ◌∷◌, map, take, slice_get, Some, None, Result, Ok, Err}
 use Rattle.gql_ast.specs.declared.definition.DefinitionId.{DefinitionId}
 use Rattle.gql_registry.specs.Edits.{Edit, put, put_data, IsAccepted, IsFirstRefusal, Leaves, Reports}
-use Rattle.gql_registry.specs.Keeping.{IsWorkOn}
+use Rattle.gql_registry.specs.Keeping.{IsWholeWorkOn, IsWorkOn}
 use Rattle.gql_registry.specs.State.{State}
 use Rattle.gql_registry.specs.declared.loading.GivenPut.{GivenPut}
 use Rattle.gql_registry.specs.declared.loading.GivenPut.TheVariants as given
@@ -50,7 +50,7 @@ Loads s edits (Ok edited) t = MakesAll s edits t × Reports t edited
 Loads s edits (Err e) t = IsLoadRefusal s edits e.at e.refusal × (t ≡ s)
 
 -- what is examined if edits are refused: nothing; or, if an allocation fails and all of them are
--- accepted, what would have been examined
+-- accepted, some of what would have been examined
 abbrev pub LoadsInVain : State → List Judgement → List Edit → Refusal → List DefinitionId
     → List DefinitionId → Type 0
 LoadsInVain s shelf edits Memory old new = (new ≡ old)
@@ -58,8 +58,8 @@ LoadsInVain s shelf edits Memory old new = (new ≡ old)
 LoadsInVain s shelf edits r old new = new ≡ old
 
 -- What is examined, if the registry kept these verdicts and the edits leave the state t: once they
--- are all put, definitions that are due in the files that they leave.
+-- are all put, exactly the definitions that are due in the files that they leave, each once.
 abbrev pub LoadWorks : State → List Judgement → List Edit → Result Edited PutRefusal → State
     → List DefinitionId → List DefinitionId → Type 0
-LoadWorks s shelf edits (Ok edited) t old new = IsWorkOn t.files shelf old new
+LoadWorks s shelf edits (Ok edited) t old new = IsWholeWorkOn t.files shelf old new
 LoadWorks s shelf edits (Err e) t old new = LoadsInVain s shelf edits e.refusal old new

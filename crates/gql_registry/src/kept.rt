@@ -9,7 +9,8 @@ ghost use Rattle.gql_registry.specs.EditPlans.{KnowsSoundNames};
 ghost use Rattle.gql_registry.specs.Examining.{IsExaminedFor};
 ghost use Rattle.gql_registry.specs.Keeping.{ArePairsBefore, ArePairsOf, KeepsPairs};
 ghost use Rattle.gql_registry.specs.Keeping.{AreSchemaFaults, IsDefinitionFault, IsPlanFor, IsShelfOf};
-ghost use Rattle.gql_registry.specs.Keeping.{IsIndexOf, IsKnownBefore, IsKnownOf, IsSideOf, IsWorkOn};
+ghost use Rattle.gql_registry.specs.Keeping.{HasPairsDue, IsWholeWorkOn, IsWorkOn};
+ghost use Rattle.gql_registry.specs.Keeping.{IsIndexOf, IsKnownBefore, IsKnownOf, IsSideOf};
 ghost use Rattle.gql_registry.specs.Keeping.{nothing_kept};
 ghost use Rattle.gql_ast.specs.declared.files.Files.{Files as TheFiles};
 ghost use Rattle.gql_registry.specs.Report.{IsReport, IsSound};
@@ -129,7 +130,12 @@ fn verdicts_for(
     requires pairs { ArePairsBefore plan.now.files shelf.now.pairs plan.now.touched }
     ensures planned { IfOk result (IsPlanFor plan.now.files shelf.now.verdicts) }
     ensures pairs { IfOk result (λ p. KeepsPairs plan.now.files shelf.now.pairs p.pairs) }
-    ensures work { IsWorkOn plan.now.files shelf.now.verdicts meter.old meter.new }
+    ensures walked { IfOk result (λ p.
+        HasPairsDue plan.now.files shelf.now.verdicts p.pairs) }
+    ensures whole { OnOk result
+        (IsWholeWorkOn plan.now.files shelf.now.verdicts meter.old meter.new) }
+    ensures work { OnErr result
+        (IsWorkOn plan.now.files shelf.now.verdicts meter.old meter.new) }
 {
     let mut world = Present::new(&schema.facts, &index.fragments);
     let prepared = shelf.prepare(alloc, &mut world, &plan.files, &plan.touched, meter)?;
@@ -219,7 +225,12 @@ fn examine(
     ensures examined { IfOk result (IsExaminedFor plan.now.files shelf.now.verdicts) }
     ensures pairs { IfOk result (λ e.
         KeepsPairs plan.now.files shelf.now.pairs e.verdicts.pairs) }
-    ensures work { IsWorkOn plan.now.files shelf.now.verdicts meter.old meter.new }
+    ensures walked { IfOk result (λ e.
+        HasPairsDue plan.now.files shelf.now.verdicts e.verdicts.pairs) }
+    ensures whole { OnOk result
+        (IsWholeWorkOn plan.now.files shelf.now.verdicts meter.old meter.new) }
+    ensures work { OnErr result
+        (IsWorkOn plan.now.files shelf.now.verdicts meter.old meter.new) }
 {
     let schema = known_side(alloc, &plan.schema, &plan.files)?;
     let index = known_index(alloc, &plan.index, &plan.files)?;
@@ -343,8 +354,10 @@ impl Kept {
         ensures files { OnOk result (self.new.files ≡ plan.files) }
         ensures count { IfOk result (IsReportLength plan.files) }
         ensures pairs { OnOk result (KeepsPairs plan.files self.old.pairs self.new.pairs) }
+        ensures walked { OnOk result (HasPairsDue plan.files self.old.shelf self.new.pairs) }
         ensures err { OnErr result (self.new ≡ self.old) }
-        ensures work { IsWorkOn plan.files self.old.shelf meter.old meter.new }
+        ensures whole { OnOk result (IsWholeWorkOn plan.files self.old.shelf meter.old meter.new) }
+        ensures work { OnErr result (IsWorkOn plan.files self.old.shelf meter.old meter.new) }
     {
         let sound_names = keeps_sound_names(&self.known, &plan);
         let found = examine(alloc, &self.shelf, &plan, sound_names, meter)?;

@@ -213,7 +213,7 @@ fn load_all(
 impl Registry {
     ghost use Rattle.std.specs.Prelude.{◌≡◌, IfOk, OnErr, OnOk};
     ghost use Rattle.gql_registry.specs.Edits.{Reports};
-    ghost use Rattle.gql_registry.specs.Keeping.{IsWorkOn, KeepsPairs};
+    ghost use Rattle.gql_registry.specs.Keeping.{HasPairsDue, IsWholeWorkOn, IsWorkOn, KeepsPairs};
     ghost use Rattle.gql_registry.specs.Loading.{LoadWorks, Loads, edits_of};
     ghost use Rattle.gql_registry.specs.State.{pairs_of, shelf_of, state_of};
     ghost use Rattle.gql_registry.specs.Working.{state_in};
@@ -228,7 +228,12 @@ impl Registry {
         ensures err { OnErr result (state_of self.new ≡ state_of self.old) }
         ensures shelf { OnErr result (shelf_of self.new ≡ shelf_of self.old) }
         ensures pairs { KeepsPairs (state_of self.new).files (pairs_of self.old) (pairs_of self.new) }
-        ensures work { IsWorkOn loading.files (shelf_of self.old) meter.old meter.new }
+        ensures walked { OnOk result (HasPairsDue (state_of self.new).files (shelf_of self.old)
+            (pairs_of self.new)) }
+        ensures whole { OnOk result
+            (IsWholeWorkOn loading.files (shelf_of self.old) meter.old meter.new) }
+        ensures work { OnErr result
+            (IsWorkOn loading.files (shelf_of self.old) meter.old meter.new) }
     {
         let Loading {
             files,
@@ -261,6 +266,8 @@ impl Registry {
             (state_of self.new) }
         ensures shelf { OnErr result (shelf_of self.new ≡ shelf_of self.old) }
         ensures pairs { KeepsPairs (state_of self.new).files (pairs_of self.old) (pairs_of self.new) }
+        ensures walked { OnOk result (HasPairsDue (state_of self.new).files (shelf_of self.old)
+            (pairs_of self.new)) }
         ensures works { LoadWorks (state_of self.old) (shelf_of self.old) (edits_of puts.now)
             result (state_of self.new) meter.old meter.new }
     {

@@ -76,7 +76,7 @@ impl Registry {
     ghost use Rattle.gql_registry.specs.Calls.{Answers, CallResult, effects_in, text_of};
     ghost use Rattle.gql_registry.specs.Prepared.{IsPreparedFor, added_by, answer_of, body_of, prepared_of};
     ghost use Rattle.gql_registry.specs.EditPlans.{IsEditPlanBy, IsEditPlanOf, IsRefusedBy};
-    ghost use Rattle.gql_registry.specs.Keeping.{IsWorkOn, KeepsPairs};
+    ghost use Rattle.gql_registry.specs.Keeping.{HasPairsDue, IsWholeWorkOn, IsWorkOn, KeepsPairs};
     ghost use Rattle.gql_registry.specs.State.{empty, next, pairs_of, shelf_of, state_of, with_effects};
     ghost use Rattle.gql_registry.specs.Works.{Works};
     ghost use Rattle.std.specs.Prelude.{[]};
@@ -169,7 +169,11 @@ impl Registry {
         ensures err { OnErr result (state_of self.new ≡ state_of self.old) }
         ensures shelf { OnErr result (shelf_of self.new ≡ shelf_of self.old) }
         ensures pairs { KeepsPairs (state_of self.new).files (pairs_of self.old) (pairs_of self.new) }
-        ensures work { IsWorkOn plan.files (shelf_of self.old) meter.old meter.new }
+        ensures walked { OnOk result (HasPairsDue (state_of self.new).files (shelf_of self.old)
+            (pairs_of self.new)) }
+        ensures whole { OnOk result
+            (IsWholeWorkOn plan.files (shelf_of self.old) meter.old meter.new) }
+        ensures work { OnErr result (IsWorkOn plan.files (shelf_of self.old) meter.old meter.new) }
     {
         let faults = self.kept.commit(self.alloc, plan, meter)?;
         self.revision = revision;
@@ -190,6 +194,8 @@ impl Registry {
             (state_of self.new) }
         ensures shelf { OnErr result (shelf_of self.new ≡ shelf_of self.old) }
         ensures pairs { KeepsPairs (state_of self.new).files (pairs_of self.old) (pairs_of self.new) }
+        ensures walked { OnOk result (HasPairsDue (state_of self.new).files (shelf_of self.old)
+            (pairs_of self.new)) }
         ensures works { Works (state_of self.old) expected (shelf_of self.old)
             (edit.put side name bytes.now) result (state_of self.new) meter.old meter.new }
     {
@@ -212,6 +218,8 @@ impl Registry {
             (state_of self.new) }
         ensures shelf { OnErr result (shelf_of self.new ≡ shelf_of self.old) }
         ensures pairs { KeepsPairs (state_of self.new).files (pairs_of self.old) (pairs_of self.new) }
+        ensures walked { OnOk result (HasPairsDue (state_of self.new).files (shelf_of self.old)
+            (pairs_of self.new)) }
         ensures works { Works (state_of self.old) expected (shelf_of self.old)
             (edit.remove side name) result (state_of self.new) meter.old meter.new }
     {
@@ -237,6 +245,8 @@ impl Registry {
             (edit.put side.Schema name bytes.now) result (state_of self.new) }
         ensures shelf { OnErr result (shelf_of self.new ≡ shelf_of self.old) }
         ensures pairs { KeepsPairs (state_of self.new).files (pairs_of self.old) (pairs_of self.new) }
+        ensures walked { OnOk result (HasPairsDue (state_of self.new).files (shelf_of self.old)
+            (pairs_of self.new)) }
         ensures works { Works (state_of self.old) expected (shelf_of self.old)
             (edit.put side.Schema name bytes.now) result (state_of self.new)
             meter.old meter.new }
@@ -260,6 +270,8 @@ impl Registry {
             (edit.put side.Documents name bytes.now) result (state_of self.new) }
         ensures shelf { OnErr result (shelf_of self.new ≡ shelf_of self.old) }
         ensures pairs { KeepsPairs (state_of self.new).files (pairs_of self.old) (pairs_of self.new) }
+        ensures walked { OnOk result (HasPairsDue (state_of self.new).files (shelf_of self.old)
+            (pairs_of self.new)) }
         ensures works { Works (state_of self.old) expected (shelf_of self.old)
             (edit.put side.Documents name bytes.now) result (state_of self.new)
             meter.old meter.new }
@@ -280,6 +292,8 @@ impl Registry {
             result (state_of self.new) }
         ensures shelf { OnErr result (shelf_of self.new ≡ shelf_of self.old) }
         ensures pairs { KeepsPairs (state_of self.new).files (pairs_of self.old) (pairs_of self.new) }
+        ensures walked { OnOk result (HasPairsDue (state_of self.new).files (shelf_of self.old)
+            (pairs_of self.new)) }
         ensures works { Works (state_of self.old) expected (shelf_of self.old)
             (edit.remove side.Schema name) result (state_of self.new)
             meter.old meter.new }
@@ -300,6 +314,8 @@ impl Registry {
             result (state_of self.new) }
         ensures shelf { OnErr result (shelf_of self.new ≡ shelf_of self.old) }
         ensures pairs { KeepsPairs (state_of self.new).files (pairs_of self.old) (pairs_of self.new) }
+        ensures walked { OnOk result (HasPairsDue (state_of self.new).files (shelf_of self.old)
+            (pairs_of self.new)) }
         ensures works { Works (state_of self.old) expected (shelf_of self.old)
             (edit.remove side.Documents name) result (state_of self.new)
             meter.old meter.new }

@@ -7,6 +7,7 @@ use Rattle.gql_ast.specs.declared.definition.DefinitionId.{DefinitionId}
 use Rattle.gql_ast.specs.declared.fault.Fault.{Fault}
 use Rattle.gql_facts.specs.ListMembers.{Contains-nil, Contains-here, Contains-there, Contains-cases, Contains-map, Contains-flat_map, Contains-flat_map_from}
 use Rattle.gql_facts.specs.Members.{Lists}
+use Rattle.gql_facts.specs.Reads.{Reads}
 use Rattle.gql_facts.specs.Worlds.{Facts}
 use Rattle.gql_verdict.specs.Faults.{IsFaultIn}
 use Rattle.gql_verdict.specs.FileOrder.{InFileOrder}
@@ -17,6 +18,7 @@ use Rattle.gql_verdict.specs.Verdicts.{Judgement, IsCertificate}
 use Rattle.gql_verdict.specs.declared.slot.Slot.{Slot}
 use Rattle.gql_verdict.specs.declared.slot.Slot.TheVariants.{Here, At}
 use Rattle.gql_reads.proofs.Members.{Contains-map_from}
+use Rattle.gql_reads.specs.Observations.{keys_of}
 use Rattle.gql_verdict.proofs.Ordered.{same_verdict, kept_at}
 use Rattle.gql_verdict.proofs.Refreshed.{planned_served, served_current}
 
@@ -46,8 +48,15 @@ answers slots vs id o order is found facts definitions current =
     let up : InFileOrder (defs vs) = subst (λ (ws : List Judgement). InFileOrder (defs ws)) is order.order in
     record {
       present = λ d c p.
-          let r = Contains-map_from (λ (v : Judgement). v.def) vs d (subst (λ ds. Contains ds d) (sym current.each) c) in
-          (r.0, answer_of vs id o up found r.0 r.1 (ap id_of r.2 ∙ p), record { def = r.2; holds = current.holds r.0 r.1 });
+          let r = Contains-map_from (λ (v : Judgement). v.def) vs d (subst (λ ds. Contains ds d) (sym current.each) c) in (
+            r.0,
+            answer_of vs id o up found r.0 r.1 (ap id_of r.2 ∙ p),
+            record {
+              def = r.2;
+              holds = current.holds r.0 r.1;
+              keys = subst (λ e. Lists (keys_of r.0.observations) (Reads facts e)) r.2 (current.keys r.0 r.1);
+            },
+          );
       absent = λ lacks. no_answer vs id o found (λ v c p. lacks v.def (subst (λ ds. Contains ds v.def) current.each (Contains-map (λ (v : Judgement). v.def) vs v c)) p);
     }
 

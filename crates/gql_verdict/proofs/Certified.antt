@@ -7,6 +7,7 @@ use Rattle.gql_ast.specs.declared.fault.Fault.{Fault}
 use Rattle.gql_facts.specs.Members.{Lists}
 use Rattle.gql_facts.specs.Reads.{Agree, Reads}
 use Rattle.gql_facts.specs.Worlds.{Facts}
+use Rattle.gql_facts.proofs.Agreement.{reads_back, reads_there}
 use Rattle.gql_merge.proofs.View as merging
 use Rattle.gql_merge.specs.MergeFaults.{IsMergeFault}
 use Rattle.gql_rules.specs.LocalFaults.{IsFault}
@@ -22,7 +23,7 @@ use Rattle.gql_reads.specs.declared.observation.Answer.{Answer}
 use Rattle.gql_reads.specs.declared.reading.Reading.{Reading}
 use Rattle.gql_reads.specs.declared.observation.Observation.{Observation}
 use Rattle.gql_reads.proofs.Members.{Contains-map_from}
-use Rattle.gql_verdict.specs.Verdicts.{IsCertificate, Judges}
+use Rattle.gql_verdict.specs.Verdicts.{AreReadsOf, IsCertificate, IsFounded, Judges}
 
 -- ---- faults by all rules
 
@@ -76,15 +77,25 @@ module _ (F : Facts) (d : Definition) (os : List Observation) (holds : Hold F os
       let m = Contains-map_from (λ (o : Observation). o.key) os k (keys.complete k r) in
       subst (λ j. u j ≡ F j) m.2 (h m.0 m.1 ∙ sym (holds m.0 m.1))
 
-  pub certificate : (e : Definition) (faults : List Fault) → e ≡ d → Lists faults (IsFaultIn F d) → IsCertificate e faults os
+  certificate : (e : Definition) (faults : List Fault) → e ≡ d → Lists faults (IsFaultIn F d) → IsCertificate e faults os
   certificate e faults is l = rw is (λ u h. record {
     sound = λ f c. faults_there F u d (agrees u h) f (l.sound f c);
     complete = λ f q. l.complete f (faults_back F u d (agrees u h) f q);
   })
 
+  -- wherever the observations hold, their keys are those that the definition reads
+  reads : (e : Definition) → e ≡ d → AreReadsOf e os
+  reads e is = rw is (λ u h. record {
+    sound = λ k c. reads_there F u d (agrees u h) (keys.sound k c);
+    complete = λ k r. keys.complete k (reads_back F u d (agrees u h) r);
+  })
+
+  pub founded : (e : Definition) (faults : List Fault) → e ≡ d → Lists faults (IsFaultIn F d) → IsFounded e faults os
+  founded e faults is l = record { certificate = certificate e faults is l; keys = reads e is }
+
   pub judged : (e : Definition) (faults : List Fault) (xs : List Answer) → e ≡ d → Lists faults (IsFaultIn F d) → os ≡ observed_in xs → AreLed xs
       → Judges F d (record { def = e; faults = faults; observations = os; answers = xs })
-  judged e faults xs is l flat led = record { def = is; certificate = certificate e faults is l; holds = holds; keys = keys; read = record { flat = flat; led = led } }
+  judged e faults xs is l flat led = record { def = is; certificate = certificate e faults is l; holds = holds; keys = keys; read = record { flat = flat; led = led; keys = reads e is } }
 
 -- all observations of a reading are those of its answers
 pub flat_is : (r : Reading) → flat r ≡ observed_in (answers_in r)

@@ -1,19 +1,18 @@
 -- An edit of a schema file changes no answers but those about the types that it may change, about
 -- types that have other possible types after it, and about directives and root operation types.
-use Rattle.std.specs.Prelude.{◌≡◌, ◌⊎◌, ◌||◌, ℕ, List, [], ◌∷◌, ◌++◌, find, map, refl, bytes_eq, codes, is_some, Bool, true, false, Option, Some, None, option_map, option_and_then, Contains}
+use Rattle.std.specs.Prelude.{◌≡◌, ◌||◌, ℕ, List, [], ◌∷◌, ◌++◌, find, map, refl, bytes_eq, codes, is_some, Bool, true, false, Option, Some, None, option_map, option_and_then, Contains}
 use Rattle.std.specs.Cmp.Lexicographic.{same_text}
 use Rattle.std.specs.Option.{option_map_or, option_or}
 use Rattle.std.proofs.Common.{ap, sym, ◌∙◌, subst, inl, inr}
 use Rattle.std.proofs.lemmas.List.Folds.{find-append}
 use Rattle.std.proofs.lemmas.Slice.Eq.{bytes_eq-Decides}
-use Rattle.gql_ast.specs.declared.definition.Definition.{Definition}
 use Rattle.gql_ast.specs.declared.definition.Document.{Document}
 use Rattle.gql_ast.specs.declared.files.Files.{Files}
 use Rattle.gql_built_in.specs.declared.sited.Sited.{Sited}
 use Rattle.gql_ast.specs.declared.type_system.FieldDefinition.{FieldDefinition}
 use Rattle.gql_facts.specs.Facts.{answer, fact_of, field_answer, field_by, field_fact, fragment_named, input_facts, is_composite_type, is_query_root, meta_fields, possible_answer, value_names}
 use Rattle.gql_facts.specs.ListMembers.{Contains-nil, Contains-cases, Contains-map, find_map, found_in}
-use Rattle.gql_facts.specs.Tables.{tables_of, type_entry, type_in}
+use Rattle.gql_facts.specs.Tables.{tables_of, type_entry}
 use Rattle.gql_facts.specs.declared.fact.Fact.{Fact}
 use Rattle.gql_facts.specs.declared.fact.Fact.TheVariants as fact
 use Rattle.gql_facts.specs.declared.key.Key.{Key}
@@ -23,7 +22,7 @@ use Rattle.gql_pairs.specs.Doubts.{is_root_field}
 use Rattle.gql_types.specs.Edits.{KeepsOthers}
 use Rattle.gql_types.specs.Possible.{name_of}
 use Rattle.gql_types.specs.Kinds.{is_composite}
-use Rattle.gql_types.specs.Schemas.{enum_named, field_named, input_named, inputs_by, kind_named, possible_named, schema_of, type_named, values_by}
+use Rattle.gql_types.specs.Schemas.{field_named, inputs_by, possible_named, schema_of, type_named, values_by}
 use Rattle.gql_types.specs.declared.schema.Schema.{Schema}
 use Rattle.gql_types.specs.declared.schema_type.SchemaType.{SchemaType}
 use Rattle.gql_verdict.specs.Definitions.{all_definitions}

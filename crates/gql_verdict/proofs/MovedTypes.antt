@@ -1,5 +1,5 @@
 -- The types that have other possible types after an edit than before, one type after the other.
-use Rattle.std.specs.Prelude.{◌≡◌, ◌<◌, ◌+◌, ◌⊎◌, ℕ, zero, suc, refl, List, [], ◌∷◌, ◌++◌, Bool, true, None, Some, length, option_and_then, Contains}
+use Rattle.std.specs.Prelude.{◌≡◌, ◌<◌, ◌+◌, ℕ, zero, suc, refl, List, [], ◌∷◌, ◌++◌, Bool, true, None, Some, length, option_and_then, Contains}
 use Rattle.std.proofs.Common.{sym, ap, ◌∙◌, subst, inl, inr, get_or, take, arith}
 use Rattle.std.proofs.lemmas.List.Elements.{Contains-append_left, Contains-push, Contains-push_cases}
 use Rattle.gql_facts.specs.ListMembers.{Contains-nil}

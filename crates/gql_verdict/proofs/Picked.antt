@@ -9,7 +9,7 @@ use Rattle.gql_facts.specs.ListMembers.{Contains-nil}
 use Rattle.gql_ast.specs.declared.definition.DefinitionId.{DefinitionId}
 use Rattle.gql_facts.specs.Worlds.{Facts}
 use Rattle.gql_verdict.specs.FileOrder.{InFileOrder, IsBefore}
-use Rattle.gql_verdict.specs.Shelves.{Picks, pick_none, skip, pick, IsDueWork, IsWork}
+use Rattle.gql_verdict.specs.Shelves.{Picks, pick_none, skip, pick, IsDueWork, IsWholeDueWork, IsWholeWork, IsWork}
 use Rattle.gql_verdict.specs.Verdicts.{Judgement}
 use Rattle.gql_verdict.proofs.FileLists.{pairs_append}
 use Rattle.gql_verdict.proofs.Ordered.{apart}
@@ -58,6 +58,10 @@ work_once F kept ds old new up w = record {
   does = w;
   once = λ i j d lt within. apart (get_or w.work i d) (get_or w.work j d) (picked_pairs IsBefore w.work ds w.picks up i j d lt within);
 }
+
+pub whole_once : (F : Facts) (kept : List Judgement) (ds : List Definition) (old new : List DefinitionId) → InFileOrder ds → IsWholeDueWork F kept ds old new → IsWholeWork F kept ds old new
+unfolding work_once
+whole_once F kept ds old new up w = record { works = work_once F kept ds old new up w.0; all = w.1 }
 
 -- nothing was examined
 pub no_entries : (F : Facts) (kept : List Judgement) (ds : List Definition) (m : List DefinitionId) → IsWork F kept ds m m

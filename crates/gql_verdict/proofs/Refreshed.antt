@@ -66,7 +66,7 @@ pub served_in_order : (F : Facts) (ds : List Definition) (slots : List Slot) →
 served_in_order F ds slots up s = record { all_here = s.all_here; order = subst (λ (es : List Definition). InFileOrder es) (sym s.each) up; reads = s.reads }
 
 pub served_current : (F : Facts) (ds : List Definition) (slots : List Slot) → IsServed F ds slots → IsCurrent F ds (verdicts slots)
-served_current F ds slots s = record { each = s.each; holds = s.holds }
+served_current F ds slots s = record { each = s.each; holds = s.holds; keys = λ v c. (s.reads v c).keys F (s.holds v c) }
 
 -- what is prepared for a shelf fetches no verdict twice, and serves the definitions once all are
 -- fetched

@@ -1,8 +1,7 @@
 -- Which keys a verdict observes: by its own nodes, or by those of a fragment.
-use Rattle.std.proofs.Common.{◌≡◌, ◌∙◌, ◌⊎◌, inl, inr, List, [], ◌∷◌, ◌++◌, Bool, true, false, ap, cond, filter, map, refl, subst, Contains}
+use Rattle.std.proofs.Common.{◌≡◌, ◌∙◌, ◌⊎◌, inl, inr, List, [], ◌∷◌, ◌++◌, Bool, true, false, ap, cond, filter, refl, subst, Contains}
 use Rattle.std.proofs.lemmas.Bool.{false_from_ne_true}
 use Rattle.gql_ast.specs.Trees.{id_of}
-use Rattle.gql_ast.specs.declared.definition.DefinitionId.{DefinitionId}
 use Rattle.gql_facts.specs.Keys.{is_key, is_key_decides}
 use Rattle.gql_facts.specs.ListMembers.{Contains-map, Contains-flat_map, Contains-flat_map_from}
 use Rattle.gql_facts.specs.declared.key.Key.{Key}
@@ -14,7 +13,7 @@ use Rattle.gql_reads.specs.declared.observation.Observation.{Observation}
 use Rattle.gql_readers.proofs.Reading.{any_from, any_has}
 use Rattle.gql_verdict.proofs.LedTo.{verdicts_append}
 use Rattle.gql_verdict.specs.Shelves.{observes, readers_of}
-use Rattle.gql_verdict.specs.Slots.{verdicts}
+use Rattle.gql_verdict.specs.Slots.{ids_of, verdicts}
 use Rattle.gql_verdict.specs.declared.slot.Slot.{Slot}
 use Rattle.gql_verdict.specs.declared.slot.Slot.TheVariants.{Here}
 use Rattle.gql_verdict.specs.Verdicts.{Judgement}
@@ -66,9 +65,6 @@ pub from_test : (k : Key) (v : Judgement) → observes k v ≡ true → Contains
 from_test k v e = let a = any_from (λ (x : Observation). is_key x.key k) v.observations e in key_seen v.observations a.0 k a.1 ((is_key_decides a.0.key k).0 a.2)
 
 -- ---- who observes a key, verdict after verdict
-
-abbrev ids_of : List Judgement → List DefinitionId
-ids_of vs = map (λ (v : Judgement). id_of v.def) vs
 
 pub reader_itself : (k : Key) (v : Judgement) → Contains (keys_of v.observations) k → readers_of k (v ∷ []) ≡ id_of v.def ∷ []
 reader_itself k v c = ap (λ b. ids_of (cond b (v ∷ []) [])) (tested k v c)

@@ -6,12 +6,18 @@ use Rattle.gql_ast.specs.declared.definition.Definition.{Definition}
 use Rattle.gql_ast.specs.declared.definition.DefinitionId.{DefinitionId}
 use Rattle.gql_ast.specs.declared.fault.Fault.{Fault}
 use Rattle.gql_facts.specs.Keys.{is_key}
+use Rattle.gql_facts.specs.Members.{Lists}
+use Rattle.gql_facts.specs.Reads.{Reads}
 use Rattle.gql_facts.specs.Worlds.{Facts}
+use Rattle.gql_facts.specs.declared.fact.FragmentFact.{FragmentFact}
 use Rattle.gql_facts.specs.declared.key.Key.{Key}
+use Rattle.gql_merge.specs.Between.{name_of}
+use Rattle.gql_merge.specs.ByFragments.{IsPairOf}
 use Rattle.gql_pairs.specs.Groups.{KeptGroup}
+use Rattle.gql_pairs.specs.Tables.{HasPair}
 use Rattle.gql_verdict.specs.Faults.{IsFaultIn}
 use Rattle.gql_verdict.specs.Verdicts.{Judgement}
-use Rattle.gql_reads.specs.Observations.{Hold, IsBroken}
+use Rattle.gql_reads.specs.Observations.{Hold, IsBroken, keys_of}
 use Rattle.gql_reads.specs.declared.observation.Observation.{Observation}
 
 -- what is on a shelf: verdicts, and what is kept of pairs of fragments
@@ -29,16 +35,20 @@ nothing_shelved = record { verdicts = []; pairs = [] }
 abbrev pub defs : List Judgement → List Definition
 defs shelf = map (λ (v : Judgement). v.def) shelf
 
--- one verdict for each definition, in the order of the definitions; each holds
+-- One verdict for each definition, in the order of the definitions. Each holds, and observed exactly
+-- the keys that its definition reads.
 pub record IsCurrent (facts : Facts) (definitions : List Definition) (shelf : List Judgement)
     : Type 0 where
   pub each : defs shelf ≡ definitions
   pub holds : (v : Judgement) → Contains shelf v → Hold facts v.observations
+  pub keys : (v : Judgement) → Contains shelf v
+      → Lists (keys_of v.observations) (Reads facts v.def)
 
--- a verdict on d that holds
+-- a verdict on d that holds, and that observed exactly the keys that d reads
 pub record Serves (facts : Facts) (d : Definition) (v : Judgement) : Type 0 where
   pub def : v.def ≡ d
   pub holds : Hold facts v.observations
+  pub keys : Lists (keys_of v.observations) (Reads facts d)
 
 -- the verdict on the definition of that name, or none if there is no verdict on such a definition
 abbrev pub IsVerdictAt : List Judgement → DefinitionId → Option Judgement → Type 0
@@ -46,8 +56,8 @@ IsVerdictAt shelf id found = MatchOption found
     ((v : Judgement) → Contains shelf v → id_of v.def ≡ id → ⊥)
     (λ v. Contains shelf v × (id_of v.def ≡ id))
 
--- For a definition that is present, the answer is its verdict, which holds. If there is no such
--- definition, the answer is none.
+-- For a definition that is present, the answer is its verdict, which holds and observed exactly what
+-- the definition reads. If there is no such definition, the answer is none.
 pub record Answers (facts : Facts) (definitions : List Definition) (id : DefinitionId)
     (answer : Option Judgement) : Type 0 where
   pub present : (d : Definition) → Contains definitions d → id_of d ≡ id
@@ -71,8 +81,8 @@ readers_of k shelf = map (λ (v : Judgement). id_of v.def) (filter (observes k) 
 
 -- ---- what an edit examines
 
--- a definition is examined only if no verdict on it is kept, place included, or if one is kept with
--- an observation that does not hold
+-- a definition is due if no verdict on it is kept, place included, or if one is kept with an
+-- observation that does not hold
 abbrev pub IsDue : Facts → List Judgement → Definition → Type 0
 IsDue facts kept d = ((v : Judgement) → Contains kept v → v.def ≡ d → ⊥)
     ⊎ ((v : Judgement) × Contains kept v × (v.def ≡ d) × IsBroken facts v.observations)
@@ -99,8 +109,37 @@ pub record IsWork (facts : Facts) (kept : List Judgement) (definitions : List De
   pub does : IsDueWork facts kept definitions old new
   pub once : AllPairs (λ (d e : Definition). id_of d ≢ id_of e) does.work
 
--- the meter has gained at most an entry for this definition, and that only if it was due
+-- each definition that is due is among those that were examined
+abbrev pub IsAllDue : Facts → List Judgement → List Definition → List Definition → Type 0
+IsAllDue facts kept definitions work = (d : Definition) → Contains definitions d
+    → IsDue facts kept d → Contains work d
+
+-- the meter has gained entries for exactly the definitions that were due
+abbrev pub IsWholeDueWork : Facts → List Judgement → List Definition → List DefinitionId
+    → List DefinitionId → Type 0
+IsWholeDueWork facts kept definitions old new = (does : IsDueWork facts kept definitions old new)
+    × IsAllDue facts kept definitions does.work
+
+-- the meter has only gained entries at its end: for exactly the definitions that were due, each once
+pub record IsWholeWork (facts : Facts) (kept : List Judgement) (definitions : List Definition)
+    (old new : List DefinitionId) : Type 0 where
+  pub works : IsWork facts kept definitions old new
+  pub all : IsAllDue facts kept definitions works.does.work
+
+-- a definition that is due gives the meter its entry; another one gives it none
 abbrev pub IsStepWork : Facts → List Judgement → Definition → List DefinitionId → List DefinitionId
     → Type 0
-IsStepWork facts kept d old new =
-    (new ≡ old) ⊎ (IsDue facts kept d × (new ≡ old ++ id_of d ∷ []))
+IsStepWork facts kept d old new = ((IsDue facts kept d → ⊥) × (new ≡ old))
+    ⊎ (IsDue facts kept d × (new ≡ old ++ id_of d ∷ []))
+
+-- ---- what is kept of pairs of fragments
+
+-- an entry is kept for each two fragments that a set of the definition spreads
+abbrev pub HasPairsOf : Facts → List KeptGroup → Definition → Type 0
+HasPairsOf facts pairs d = (g h : FragmentFact) → IsPairOf facts d g h
+    → HasPair pairs (name_of g) (name_of h)
+
+-- an entry is kept for each two fragments that a set of a definition spreads which was due
+abbrev pub HasDuePairs : Facts → List Judgement → List Definition → List KeptGroup → Type 0
+HasDuePairs facts kept definitions pairs = (d : Definition) → Contains definitions d
+    → IsDue facts kept d → HasPairsOf facts pairs d

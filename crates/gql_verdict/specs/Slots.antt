@@ -32,6 +32,10 @@ verdicts [] = []
 verdicts (Here v ∷ slots) = v ∷ verdicts slots
 verdicts (At j ∷ slots) = verdicts slots
 
+-- the names of the definitions of these verdicts
+abbrev pub ids_of : List Judgement → List DefinitionId
+ids_of vs = map (λ (v : Judgement). id_of v.def) vs
+
 -- every slot has a verdict, with the answers that it observed, in file order
 pub record IsInOrder (slots : List Slot) : Type 0 where
   pub all_here : slots ≡ map Here (verdicts slots)

@@ -1,4 +1,5 @@
--- What a verdict guarantees: the faults of a definition, wherever its observations hold.
+-- What a verdict guarantees: the faults of a definition, and which keys it reads, wherever the
+-- verdict's observations hold.
 use Rattle.std.specs.Prelude.{◌≡◌, List}
 use Rattle.gql_ast.specs.declared.definition.Definition.{Definition}
 use Rattle.gql_ast.specs.declared.fault.Fault.{Fault}
@@ -16,6 +17,18 @@ abbrev pub IsCertificate : Definition → List Fault → List Observation → Ty
 IsCertificate d faults observations = (facts : Facts) → Hold facts observations
     → Lists faults (IsFaultIn facts d)
 
+-- wherever the observations hold, their keys are exactly those that d reads
+abbrev pub AreReadsOf : Definition → List Observation → Type 0
+AreReadsOf d observations = (facts : Facts) → Hold facts observations
+    → Lists (keys_of observations) (Reads facts d)
+
+-- what is true of every verdict: wherever its observations hold, its faults are those of the
+-- definition, and the keys that it observed are exactly those that the definition reads
+pub record IsFounded (d : Definition) (faults : List Fault) (observations : List Observation)
+    : Type 0 where
+  pub certificate : IsCertificate d faults observations
+  pub keys : AreReadsOf d observations
+
 -- a verdict, as specifications see it: what it observed are the observations of its answers
 pub record Judgement : Type 0 where
   pub def : Definition
@@ -23,10 +36,12 @@ pub record Judgement : Type 0 where
   pub observations : List Observation
   pub answers : List Answer
 
--- the observations are those of the answers, each of which has exactly the types that it leads to
+-- The observations are those of the answers, each of which has exactly the types that it leads to.
+-- Wherever they hold, their keys are exactly those that the definition reads.
 pub record IsRead (v : Judgement) : Type 0 where
   pub flat : v.observations ≡ observed_in v.answers
   pub led : AreLed v.answers
+  pub keys : AreReadsOf v.def v.observations
 
 -- The verdict on d that is made with these facts: it has a certificate, its observations hold, and
 -- their keys are those that d reads.

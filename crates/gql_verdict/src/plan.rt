@@ -1,5 +1,5 @@
 //! Which verdicts are kept, and which definitions are examined.
-ghost use Rattle.std.specs.Prelude.{◌≡◌, ◌↔◌, ◌∷◌, [], false, IfOk, IsTrue, MatchOption, length, map};
+ghost use Rattle.std.specs.Prelude.{◌≡◌, ◌↔◌, ◌++◌, ◌∷◌, [], false, IfOk, IsTrue, MatchOption, OnErr, OnOk, length, map};
 ghost use Rattle.std.specs.List.{AllZip};
 ghost use Rattle.gql_verdict.specs.Definitions.{all_definitions as definitions_of};
 ghost use Rattle.gql_verdict.specs.FileOrder.{AreFilesPlaced, InFileOrder};
@@ -7,9 +7,10 @@ ghost use Rattle.gql_facts.specs.Worlds.{Facts};
 ghost use Rattle.gql_pairs.specs.Tables.{Keeps};
 ghost use Rattle.gql_verdict.specs.Marks.{AreMarks};
 ghost use Rattle.gql_verdict.specs.SharedWorks.{Holds};
-ghost use Rattle.gql_verdict.specs.Shelves.{IsDue, IsDueWork, IsStepWork};
+ghost use Rattle.gql_verdict.specs.Shelves.{HasDuePairs, HasPairsOf, IsDue, IsDueWork, IsStepWork};
+ghost use Rattle.gql_verdict.specs.Shelves.{IsWholeDueWork};
 ghost use Rattle.gql_verdict.specs.Plans.{IsStep};
-ghost use Rattle.gql_verdict.specs.Slots.{IsInOrder, verdicts};
+ghost use Rattle.gql_verdict.specs.Slots.{IsInOrder, ids_of, verdicts};
 ghost use Rattle.gql_verdict.specs.TouchedFacts.{IsKnown, IsOtherKept, touches_definition};
 ghost use Rattle.gql_verdict.specs.declared.slot.Slot.TheVariants.{At};
 
@@ -94,8 +95,13 @@ fn step<W: World, K: KeptParts>(
     ensures holds { Holds (W.facts world.old) shared.new }
     ensures pairs { Keeps shared.old.pairs shared.new.pairs }
     ensures step { IfOk result (IsStep (W.facts world.old) kept.now definition.now) }
-    ensures work { IsStepWork (W.facts world.old) (verdicts kept.now) definition.now
-        meter.old meter.new }
+    ensures walked { OnOk result (IsDue (W.facts world.old) (verdicts kept.now) definition.now
+        → HasPairsOf (W.facts world.old) shared.new.pairs definition.now) }
+    ensures entries { IfOk result (λ s.
+        meter.new ≡ meter.old ++ ids_of (verdicts (s ∷ []))) }
+    ensures work { OnOk result (IsStepWork (W.facts world.old) (verdicts kept.now) definition.now
+        meter.old meter.new) }
+    ensures err { OnErr result (meter.new ≡ meter.old) }
 {
     match kept_verdict(kept, marks, near, definition, touched) {
         Some(j) => Ok(Slot::At(j)),
@@ -138,8 +144,14 @@ fn plan_all<W: World, K: KeptParts>(
     ensures pairs { Keeps shared.old.pairs shared.new.pairs }
     ensures steps { IfOk result (λ steps. AllZip (IsStep (W.facts world.old) kept.now)
         (map (λ d. d.now) definitions.now) steps.items) }
-    ensures work { IsDueWork (W.facts world.old) (verdicts kept.now)
-        (map (λ d. d.now) definitions.now) meter.old meter.new }
+    ensures walked { OnOk result (HasDuePairs (W.facts world.old) (verdicts kept.now)
+        (map (λ d. d.now) definitions.now) shared.new.pairs) }
+    ensures entries { IfOk result (λ steps.
+        meter.new ≡ meter.old ++ ids_of (verdicts steps.items)) }
+    ensures whole { OnOk result (IsWholeDueWork (W.facts world.old) (verdicts kept.now)
+        (map (λ d. d.now) definitions.now) meter.old meter.new) }
+    ensures work { OnErr result (IsDueWork (W.facts world.old) (verdicts kept.now)
+        (map (λ d. d.now) definitions.now) meter.old meter.new) }
 {
     let mut steps = Vec::new(alloc);
     let mut near = 0;
@@ -180,8 +192,14 @@ pub fn plan<W: World, K: KeptParts>(
         → InFileOrder (definitions_of files.now.documents) }
     ensures steps { IfOk result (λ steps. AllZip (IsStep (W.facts world.old) kept.now)
         (definitions_of files.now.documents) steps.items) }
-    ensures work { IsDueWork (W.facts world.old) (verdicts kept.now)
-        (definitions_of files.now.documents) meter.old meter.new }
+    ensures walked { OnOk result (HasDuePairs (W.facts world.old) (verdicts kept.now)
+        (definitions_of files.now.documents) shared.new.pairs) }
+    ensures entries { IfOk result (λ steps.
+        meter.new ≡ meter.old ++ ids_of (verdicts steps.items)) }
+    ensures whole { OnOk result (IsWholeDueWork (W.facts world.old) (verdicts kept.now)
+        (definitions_of files.now.documents) meter.old meter.new) }
+    ensures work { OnErr result (IsDueWork (W.facts world.old) (verdicts kept.now)
+        (definitions_of files.now.documents) meter.old meter.new) }
 {
     let definitions = all_definitions(alloc, &files.documents)?;
     plan_all(

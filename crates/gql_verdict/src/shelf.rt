@@ -8,10 +8,11 @@ ghost use Rattle.gql_verdict.specs.Definitions.{all_definitions as definitions_o
 ghost use Rattle.gql_verdict.specs.FileOrder.{AreFilesPlaced};
 ghost use Rattle.gql_pairs.specs.Tables.{AllHold, KeepsHolding};
 ghost use Rattle.gql_verdict.specs.Shelves.{nothing_shelved};
-ghost use Rattle.gql_verdict.specs.Shelves.{Answers, IsCurrent, IsFaultOfAny, IsVerdictAt, IsWork, readers_of};
+ghost use Rattle.gql_verdict.specs.Shelves.{Answers, IsCurrent, IsFaultOfAny, IsVerdictAt, readers_of};
+ghost use Rattle.gql_verdict.specs.Shelves.{HasDuePairs, IsWholeWork, IsWork};
 ghost use Rattle.gql_verdict.specs.Plans.{IsPlanned, IsPrepared};
 ghost use Rattle.gql_reads.specs.Observations.{keys_of};
-ghost use Rattle.gql_verdict.specs.Slots.{IsSlotCertified, slot_faults, verdicts};
+ghost use Rattle.gql_verdict.specs.Slots.{IsSlotCertified, ids_of, slot_faults, verdicts};
 ghost use Rattle.gql_verdict.specs.Verdicts.{Judgement};
 ghost use Rattle.gql_verdict.specs.TouchedFacts.{ArePairsKnown, IsKnown};
 
@@ -202,7 +203,8 @@ impl Shelf {
     }
 
     /// Prepares to make the shelf current after an edit: examines each definition that has no
-    /// verdict, or whose verdict no longer holds. Of the keys that are read, the world is asked only
+    /// verdict, or whose verdict no longer holds, and no other. The meter gains an entry for each new
+    /// verdict. Of the keys that are read, the world is asked only
     /// for those that the edit touches, or that lead to a type that it touches, and once for all
     /// readers of a key. Each fragment is walked at most once. Of what is kept of pairs of
     /// fragments, only what no longer holds is left out. The shelf stays as it is.
@@ -225,8 +227,14 @@ impl Shelf {
             (definitions_of files.now.documents) self.now.verdicts prepared) }
         ensures pairs { IfOk result (λ prepared.
             KeepsHolding (W.facts world.old) self.now.pairs prepared.pairs) }
-        ensures work { IsWork (W.facts world.old) self.now.verdicts
-            (definitions_of files.now.documents) meter.old meter.new }
+        ensures walked { IfOk result (λ prepared. HasDuePairs (W.facts world.old)
+            self.now.verdicts (definitions_of files.now.documents) prepared.pairs) }
+        ensures entries { IfOk result (λ prepared.
+            meter.new ≡ meter.old ++ ids_of (verdicts prepared.steps)) }
+        ensures whole { OnOk result (IsWholeWork (W.facts world.old) self.now.verdicts
+            (definitions_of files.now.documents) meter.old meter.new) }
+        ensures work { OnErr result (IsWork (W.facts world.old) self.now.verdicts
+            (definitions_of files.now.documents) meter.old meter.new) }
     {
         let kept = self.slots.as_slice();
         let marks = broken_marks(alloc, world, kept, &self.index, touched)?;
@@ -306,9 +314,13 @@ impl Shelf {
         ensures pairs { OnOk result (AllHold (W.facts world.old) self.new.pairs) }
         ensures kept { OnOk result
             (KeepsHolding (W.facts world.old) self.old.pairs self.new.pairs) }
+        ensures walked { OnOk result (HasDuePairs (W.facts world.old) self.old.verdicts
+            (definitions_of files.now.documents) self.new.pairs) }
         ensures err { OnErr result (self.new ≡ self.old) }
-        ensures work { IsWork (W.facts world.old) self.old.verdicts
-            (definitions_of files.now.documents) meter.old meter.new }
+        ensures whole { OnOk result (IsWholeWork (W.facts world.old) self.old.verdicts
+            (definitions_of files.now.documents) meter.old meter.new) }
+        ensures work { OnErr result (IsWork (W.facts world.old) self.old.verdicts
+            (definitions_of files.now.documents) meter.old meter.new) }
     {
         let prepared = self.prepare(alloc, world, files, &Touched::All, meter)?;
         self.commit(prepared);

@@ -15,7 +15,7 @@ ghost use Rattle.gql_pairs.specs.Tables as of_pairs;
 ghost use Rattle.gql_reads.specs.Tables.{Keeps};
 ghost use Rattle.gql_verdict.specs.SharedWorks.{Holds};
 ghost use Rattle.gql_verdict.specs.Faults.{IsFaultIn};
-ghost use Rattle.gql_verdict.specs.Verdicts.{IsCertificate, Judges};
+ghost use Rattle.gql_verdict.specs.Verdicts.{AreReadsOf, IsCertificate, Judges};
 
 use crate::meter::Meter;
 use crate::shared_work::SharedWork;
@@ -47,8 +47,9 @@ impl Drop for Held {
 }
 
 /// A definition, its faults, and the answers that these depend on. Wherever a world gives the same
-/// answers, the faults are the same. Only `examine` makes one. It is a handle, so that a list of
-/// verdicts is short, and one that is kept is moved at no cost.
+/// answers, the faults are the same, and the keys that were asked for are exactly those that the
+/// definition reads. Only `examine` makes one. It is a handle, so that a list of verdicts is short, and
+/// one that is kept is moved at no cost.
 pub struct Verdict {
     held: Shared<Held>,
 }
@@ -67,7 +68,7 @@ impl Model for Verdict {
     ghost use Rattle.gql_facts.specs.contracts.fact.Fact as fact;
     ghost use Rattle.gql_reads.specs.Readings.{answers_in, flat};
     ghost use Rattle.gql_reads.specs.contracts.observation.Answer as answer;
-    ghost use Rattle.gql_verdict.specs.Verdicts.{Judgement, IsCertificate};
+    ghost use Rattle.gql_verdict.specs.Verdicts.{IsFounded, Judgement};
 
     ghost Value = { Judgement };
 
@@ -87,7 +88,7 @@ impl Model for Verdict {
       answers = answers_in v.held.reading;
     } };
 
-    ghost invariant = { λ v. IsCertificate v.held.def v.held.faults.items (flat v.held.reading) };
+    ghost invariant = { λ v. IsFounded v.held.def v.held.faults.items (flat v.held.reading) };
 }
 
 impl Verdict {
@@ -111,6 +112,7 @@ impl Verdict {
     pub fn reading(&self) -> &Reading
         ensures flat { flat result.now ≡ self.now.observations }
         ensures answers { answers_in result.now ≡ self.now.answers }
+        ensures keys { AreReadsOf self.now.def self.now.observations }
     {
         &self.held.get().reading
     }

@@ -2,9 +2,10 @@ use Rattle.std.proofs.Common.{rules, sym, subst}
 use Rattle.gql_types.specs.Schemas.{schema_of}
 use Rattle.gql_verdict.specs.Definitions.{all_definitions}
 use Rattle.gql_verdict.specs.Plans.{IsPlanned}
-use Rattle.gql_verdict.specs.Shelves.{IsWork}
+use Rattle.gql_verdict.specs.Shelves.{HasDuePairs, IsWholeWork, IsWork}
 use Rattle.gql_verdict.specs.TouchedFacts.{ArePairsKnown, IsKnown}
 use Rattle.gql_pairs.specs.Tables.{KeepsHolding}
+use Rattle.gql_registry.proofs.Working.{on_err_of}
 use Rattle.gql_registry.proofs.kept.verdicts_for.Goals as goal
 
 pub prepare-requires-clause-placed : goal.prepare-requires-clause-placed
@@ -38,7 +39,7 @@ pub returns-in_err-prepared-clause-work : goal.returns-in_err-prepared-clause-wo
 returns-in_err-prepared-clause-work c =
     let files = c.args.plan.now.files in
     let same = c.new-world.ensures.answers (schema_of files) files.documents c.requires.schema.facts c.requires.index.fragments in
-    subst (λ v. IsWork v c.args.shelf.now.verdicts (all_definitions files.documents) c.args.meter.now c.prepare.new.meter) same c.in_err-prepared.ensures.work
+    on_err_of _ (subst (λ v. IsWork v c.args.shelf.now.verdicts (all_definitions files.documents) c.args.meter.now c.prepare.new.meter) same c.in_err-prepared.ensures.work)
 
 pub returns-clause-planned : goal.returns-clause-planned
 returns-clause-planned c =
@@ -46,8 +47,20 @@ returns-clause-planned c =
     let same = c.new-world.ensures.answers (schema_of files) files.documents c.requires.schema.facts c.requires.index.fragments in
     subst (λ v. IsPlanned v (all_definitions files.documents) c.args.shelf.now.verdicts c.in_ok-prepared.prepared) same c.in_ok-prepared.ensures.planned
 
-pub returns-clause-work : goal.returns-clause-work
-returns-clause-work c =
+pub returns-in_err-prepared-clause-whole : goal.returns-in_err-prepared-clause-whole
+returns-in_err-prepared-clause-whole c = search rules
+
+pub returns-in_err-prepared-clause-walked : goal.returns-in_err-prepared-clause-walked
+returns-in_err-prepared-clause-walked c = search rules
+
+pub returns-clause-walked : goal.returns-clause-walked
+returns-clause-walked c =
     let files = c.args.plan.now.files in
     let same = c.new-world.ensures.answers (schema_of files) files.documents c.requires.schema.facts c.requires.index.fragments in
-    subst (λ v. IsWork v c.args.shelf.now.verdicts (all_definitions files.documents) c.args.meter.now c.prepare.new.meter) same c.in_ok-prepared.ensures.work
+    subst (λ v. HasDuePairs v c.args.shelf.now.verdicts (all_definitions files.documents) c.in_ok-prepared.prepared.pairs) same c.in_ok-prepared.ensures.walked
+
+pub returns-clause-whole : goal.returns-clause-whole
+returns-clause-whole c =
+    let files = c.args.plan.now.files in
+    let same = c.new-world.ensures.answers (schema_of files) files.documents c.requires.schema.facts c.requires.index.fragments in
+    subst (λ v. IsWholeWork v c.args.shelf.now.verdicts (all_definitions files.documents) c.args.meter.now c.prepare.new.meter) same c.in_ok-prepared.ensures.whole

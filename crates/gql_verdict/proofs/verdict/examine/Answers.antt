@@ -6,17 +6,17 @@ use Rattle.gql_pairs.specs.Tables as of_pairs
 use Rattle.gql_reads.specs.Tables.{AllHold}
 use Rattle.gql_reads.specs.Readings.{answers_in, flat}
 use Rattle.gql_verdict.specs.Faults.{IsFaultIn}
-use Rattle.gql_verdict.specs.Verdicts.{IsCertificate, Judges}
+use Rattle.gql_verdict.specs.Verdicts.{IsFounded, Judges}
 use Rattle.gql_verdict.specs.declared.verdict.Held.{Held}
-use Rattle.gql_verdict.proofs.Certified.{certificate, flat_is, judged}
+use Rattle.gql_verdict.proofs.Certified.{flat_is, founded, judged}
 use Rattle.gql_verdict.proofs.verdict.examine.Goals as goal
 
 pub invariant_of-result : goal.invariant_of-result
 invariant_of-result g c =
     let F = g.W.World.facts c.args.world.now in
     let d = c.args.definition.now in
-    subst (λ (h : Held). IsCertificate h.def h.faults.items (flat h.reading)) (sym c.in_ok-held.ensures)
-    (certificate F d _ c.in_ok-reading.ensures.hold c.in_ok-reading.ensures.keys _ _ c.in_ok-def.ensures
+    subst (λ (h : Held). IsFounded h.def h.faults.items (flat h.reading)) (sym c.in_ok-held.ensures)
+    (founded F d _ c.in_ok-reading.ensures.hold c.in_ok-reading.ensures.keys _ _ c.in_ok-def.ensures
     (subst (λ f. Lists c.in_ok-found.found.faults.items (IsFaultIn f d)) c.reads_of.ensures.facts c.in_ok-found.ensures.faults))
 
 pub returns-clause-verdict : goal.returns-clause-verdict

@@ -3,7 +3,7 @@ use Rattle.gql_facts.specs.Facts.{fact_of}
 use Rattle.gql_verdict.specs.Definitions.{all_definitions}
 use Rattle.gql_verdict.specs.DocumentEdits.{ChangesOnly}
 use Rattle.gql_registry.specs.EditPlans.{IsEditPlanOf}
-use Rattle.gql_registry.specs.Keeping.{ArePairsOf, IsWorkOn, Keeping, KeepsPairs}
+use Rattle.gql_registry.specs.Keeping.{ArePairsOf, HasPairsDue, IsWholeWorkOn, IsWorkOn, Keeping, KeepsPairs}
 use Rattle.gql_registry.proofs.Knowing.{known, pairs_known}
 use Rattle.gql_registry.proofs.Working.{on_err_of}
 use Rattle.gql_registry.proofs.kept.Kept.commit.Goals as goal
@@ -49,7 +49,13 @@ pub returns-in_err-found-clause-err : goal.returns-in_err-found-clause-err
 returns-in_err-found-clause-err c = on_err_of _ refl
 
 pub returns-in_err-found-clause-work : goal.returns-in_err-found-clause-work
-returns-in_err-found-clause-work c = subst (λ (k : Keeping). IsWorkOn c.args.plan.files k.shelf c.args.meter.now c.examine.new.meter) c.self.view_is c.in_err-found.ensures.work
+returns-in_err-found-clause-work c = on_err_of _ (subst (λ (k : Keeping). IsWorkOn c.args.plan.files k.shelf c.args.meter.now c.examine.new.meter) c.self.view_is c.in_err-found.ensures.work)
+
+pub returns-in_err-found-clause-whole : goal.returns-in_err-found-clause-whole
+returns-in_err-found-clause-whole c = search rules
+
+pub returns-in_err-found-clause-walked : goal.returns-in_err-found-clause-walked
+returns-in_err-found-clause-walked c = search rules
 
 pub commit-requires : goal.commit-requires
 commit-requires c = (fact_of c.args.plan.files, all_definitions c.args.plan.files.documents, c.in_ok-found.ensures.examined.verdicts)
@@ -60,8 +66,12 @@ returns-clause-files c = search rules
 pub returns-clause-count : goal.returns-clause-count
 returns-clause-count c = (c.in_ok-found.found.known.report.items, c.in_ok-found.ensures.examined.known.report, search rules)
 
-pub returns-clause-work : goal.returns-clause-work
-returns-clause-work c = subst (λ (k : Keeping). IsWorkOn c.args.plan.files k.shelf c.args.meter.now c.examine.new.meter) c.self.view_is c.in_ok-found.ensures.work
+pub returns-clause-whole : goal.returns-clause-whole
+returns-clause-whole c = subst (λ (k : Keeping). IsWholeWorkOn c.args.plan.files k.shelf c.args.meter.now c.examine.new.meter) c.self.view_is c.in_ok-found.ensures.whole
+
+pub returns-clause-walked : goal.returns-clause-walked
+returns-clause-walked c = subst (λ (k : Keeping). HasPairsDue c.args.plan.files k.shelf c.commit.new.self.pairs) c.self.view_is
+    (subst (HasPairsDue c.args.plan.files c.self.inside.shelf.verdicts) (sym c.commit.ensures.pairs) c.in_ok-found.ensures.walked)
 
 pub invariant_of-self : goal.invariant_of-self
 invariant_of-self c = record {

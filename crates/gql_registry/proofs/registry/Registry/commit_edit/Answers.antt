@@ -1,6 +1,6 @@
 use Rattle.std.proofs.Common.{subst, rules, ap, ap₂, sym}
 use Rattle.gql_ast.specs.declared.files.Files.{Files}
-use Rattle.gql_registry.specs.Keeping.{Keeping, KeepsPairs}
+use Rattle.gql_registry.specs.Keeping.{HasPairsDue, Keeping, KeepsPairs}
 use Rattle.gql_registry.specs.State.{State}
 use Rattle.gql_registry.proofs.Working.{on_err_of}
 use Rattle.serde_json.specs.View.{view}
@@ -23,7 +23,13 @@ pub returns-in_err-faults-clause-shelf : goal.returns-in_err-faults-clause-shelf
 returns-in_err-faults-clause-shelf c = on_err_of _ (ap (λ (k : Keeping). k.shelf) c.in_err-faults.ensures.err)
 
 pub returns-in_err-faults-clause-work : goal.returns-in_err-faults-clause-work
-returns-in_err-faults-clause-work c = c.in_err-faults.ensures.work
+returns-in_err-faults-clause-work c = on_err_of _ c.in_err-faults.ensures.work
+
+pub returns-in_err-faults-clause-whole : goal.returns-in_err-faults-clause-whole
+returns-in_err-faults-clause-whole c = search rules
+
+pub returns-in_err-faults-clause-walked : goal.returns-in_err-faults-clause-walked
+returns-in_err-faults-clause-walked c = search rules
 
 pub returns-clause-next : goal.returns-clause-next
 returns-clause-next c =
@@ -32,8 +38,11 @@ returns-clause-next c =
 pub returns-clause-reports : goal.returns-clause-reports
 returns-clause-reports c = (c.requires.revision, c.in_ok-faults.ensures.count)
 
-pub returns-clause-work : goal.returns-clause-work
-returns-clause-work c = c.in_ok-faults.ensures.work
+pub returns-clause-whole : goal.returns-clause-whole
+returns-clause-whole c = c.in_ok-faults.ensures.whole
+
+pub returns-clause-walked : goal.returns-clause-walked
+returns-clause-walked c = subst (λ (f : Files). HasPairsDue f c.args.self.now.kept.shelf c.commit.new.self.pairs) (sym c.in_ok-faults.ensures.files) c.in_ok-faults.ensures.walked
 
 pub returns-in_err-faults-clause-pairs : goal.returns-in_err-faults-clause-pairs
 returns-in_err-faults-clause-pairs c = subst (λ (k : Keeping). KeepsPairs k.files c.args.self.now.kept.pairs k.pairs) (sym c.in_err-faults.ensures.err) (λ n m k is holds. is)

@@ -1,6 +1,6 @@
-use Rattle.std.proofs.Common.{refl, sym, ap, subst, inr}
+use Rattle.std.proofs.Common.{refl, rules, sym, ap, subst, inr}
 use Rattle.gql_registry.specs.Edits.{put}
-use Rattle.gql_registry.specs.Keeping.{IsWorkOn}
+use Rattle.gql_registry.specs.Keeping.{IsWholeWorkOn}
 use Rattle.gql_registry.specs.State.{State, state_of, shelf_of, next}
 use Rattle.gql_registry.proofs.Working.{first_answer, idle_answer, makes_memory, on_err_of, refused_answer, accepted_answer, works_in_vain}
 use Rattle.gql_registry.proofs.registry.Registry.put.Goals as goal
@@ -45,7 +45,7 @@ returns-clause-makes c = accepted_answer (state_of c.args.self.now) _ c.args.exp
 
 pub returns-clause-works : goal.returns-clause-works
 returns-clause-works c =
-    subst (λ f. IsWorkOn f (shelf_of c.args.self.now) c.args.meter.now c.commit_edit.new.meter) (sym (ap (λ (t : State). t.files) c.in_ok-edited.ensures.next)) c.in_ok-edited.ensures.work
+    subst (λ f. IsWholeWorkOn f (shelf_of c.args.self.now) c.args.meter.now c.commit_edit.new.meter) (sym (ap (λ (t : State). t.files) c.in_ok-edited.ensures.next)) c.in_ok-edited.ensures.whole
 
 pub returns-in_err-revision-clause-pairs : goal.returns-in_err-revision-clause-pairs
 returns-in_err-revision-clause-pairs c = λ n m k is holds. is
@@ -58,3 +58,15 @@ returns-in_err-edited-clause-pairs c = c.in_err-edited.ensures.pairs
 
 pub returns-clause-pairs : goal.returns-clause-pairs
 returns-clause-pairs c = c.in_ok-edited.ensures.pairs
+
+pub returns-in_err-revision-clause-walked : goal.returns-in_err-revision-clause-walked
+returns-in_err-revision-clause-walked c = search rules
+
+pub returns-in_err-plan-clause-walked : goal.returns-in_err-plan-clause-walked
+returns-in_err-plan-clause-walked c = search rules
+
+pub returns-in_err-edited-clause-walked : goal.returns-in_err-edited-clause-walked
+returns-in_err-edited-clause-walked c = search rules
+
+pub returns-clause-walked : goal.returns-clause-walked
+returns-clause-walked c = c.in_ok-edited.ensures.walked

@@ -1,7 +1,7 @@
-use Rattle.std.proofs.Common.{refl, sym, ap, subst}
+use Rattle.std.proofs.Common.{refl, rules, sym, ap, subst}
 use Rattle.gql_ast.specs.declared.files.Files.{Files}
 use Rattle.gql_verdict.specs.FileOrder.{AreFilesPlaced}
-use Rattle.gql_registry.specs.Keeping.{IsWorkOn}
+use Rattle.gql_registry.specs.Keeping.{IsWholeWorkOn}
 use Rattle.gql_registry.specs.Loading.{MakesAll, IsLoadRefusal, edits_of}
 use Rattle.gql_registry.specs.State.{State, state_of, shelf_of}
 use Rattle.gql_registry.specs.Working.{state_in, state_over}
@@ -28,7 +28,7 @@ returns-in-Ok-clause-loads c =
 
 pub returns-in-Ok-clause-works : goal.returns-in-Ok-clause-works
 returns-in-Ok-clause-works c =
-    subst (λ f. IsWorkOn f (shelf_of c.args.self.now) c.args.meter.now c.commit_loading.new.meter) (sym (ap (λ (t : State). t.files) c.in-Ok.ensures.state)) c.in-Ok.ensures.work
+    subst (λ f. IsWholeWorkOn f (shelf_of c.args.self.now) c.args.meter.now c.commit_loading.new.meter) (sym (ap (λ (t : State). t.files) c.in-Ok.ensures.state)) c.in-Ok.ensures.whole
 
 pub returns-in-Err-clause-loads : goal.returns-in-Err-clause-loads
 returns-in-Err-clause-loads c =
@@ -53,3 +53,9 @@ returns-in-Ok-clause-pairs c = c.in-Ok.ensures.pairs
 
 pub returns-in-Err-clause-pairs : goal.returns-in-Err-clause-pairs
 returns-in-Err-clause-pairs c = c.in-Err.ensures.pairs
+
+pub returns-in_err-loading-clause-walked : goal.returns-in_err-loading-clause-walked
+returns-in_err-loading-clause-walked c = search rules
+
+pub returns-in-Ok-clause-walked : goal.returns-in-Ok-clause-walked
+returns-in-Ok-clause-walked c = c.in-Ok.ensures.walked

@@ -11,3 +11,6 @@ returns-clause-works c = c.put.ensures.works
 
 pub returns-clause-pairs : goal.returns-clause-pairs
 returns-clause-pairs c = c.put.ensures.pairs
+
+pub returns-clause-walked : goal.returns-clause-walked
+returns-clause-walked c = c.put.ensures.walked

@@ -11,3 +11,6 @@ returns-clause-works c = c.remove.ensures.works
 
 pub returns-clause-pairs : goal.returns-clause-pairs
 returns-clause-pairs c = c.remove.ensures.pairs
+
+pub returns-clause-walked : goal.returns-clause-walked
+returns-clause-walked c = c.remove.ensures.walked

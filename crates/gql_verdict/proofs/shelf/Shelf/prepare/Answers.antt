@@ -1,5 +1,6 @@
 use Rattle.std.proofs.Common.{◌≡◌, ap, sym, ◌∙◌, subst, List, map}
 use Rattle.std.specs.List.{AllZip}
+use Rattle.gql_facts.proofs.Failing.{on_error}
 use Rattle.gql_facts.specs.Worlds.{Facts}
 use Rattle.gql_pairs.specs.Groups.{KeptGroup}
 use Rattle.gql_pairs.specs.Tables.{AllHold, IsEntry, Keeps, KeepsHolding}
@@ -7,44 +8,53 @@ use Rattle.gql_readers.specs.Indexes.{IsIndexOf}
 use Rattle.gql_verdict.specs.Definitions.{all_definitions}
 use Rattle.gql_verdict.specs.Plans.{IsStep}
 use Rattle.gql_verdict.specs.Readings.{readers}
-use Rattle.gql_verdict.specs.Shelves.{IsWork, Shelved}
+use Rattle.gql_verdict.specs.Shelves.{HasDuePairs, IsWholeWork, IsWork, Shelved}
 use Rattle.gql_verdict.specs.Slots.{resolve, verdicts}
 use Rattle.gql_verdict.specs.TouchedFacts.{ArePairsKnown}
 use Rattle.gql_verdict.specs.Verdicts.{Judgement}
 use Rattle.gql_verdict.specs.declared.slot.Slot.{Slot}
 use Rattle.gql_verdict.specs.declared.slot.Slot.TheVariants.{Here}
-use Rattle.gql_verdict.proofs.Picked.{no_entries, work_once}
+use Rattle.gql_verdict.proofs.Picked.{no_entries, whole_once, work_once}
 use Rattle.gql_verdict.proofs.shelf.Shelf.prepare.Goals as goal
 
 pub returns-in_err-marks-clause-work : goal.returns-in_err-marks-clause-work
-returns-in_err-marks-clause-work g c = no_entries (g.W.World.facts c.args.world.now) c.args.self.now.verdicts (all_definitions c.args.files.now.documents) c.args.meter.now
+returns-in_err-marks-clause-work g c = on_error _ (no_entries (g.W.World.facts c.args.world.now) c.args.self.now.verdicts (all_definitions c.args.files.now.documents) c.args.meter.now)
 
 pub returns-in_err-steps-clause-work : goal.returns-in_err-steps-clause-work
 returns-in_err-steps-clause-work g c =
     let ds = all_definitions c.args.files.now.documents in
     let G = g.W.World.facts c.held_pairs.new.world in
-    subst (λ (H : Facts). IsWork H c.args.self.now.verdicts ds c.args.meter.now c.plan.new.meter) (c.held_pairs.ensures.facts ∙ c.broken_marks.ensures.facts)
+    on_error _ (subst (λ (H : Facts). IsWork H c.args.self.now.verdicts ds c.args.meter.now c.plan.new.meter) (c.held_pairs.ensures.facts ∙ c.broken_marks.ensures.facts)
     (subst (λ (vs : List Judgement). IsWork G vs ds c.args.meter.now c.plan.new.meter)
     (ap verdicts c.as_slice-kept.ensures.value ∙ (ap (λ (s : Shelved). s.verdicts) c.self.view_is))
-    (work_once G _ ds _ _ (c.in_err-steps.ensures.order c.requires.placed) c.in_err-steps.ensures.work))
+    (work_once G _ ds _ _ (c.in_err-steps.ensures.order c.requires.placed) c.in_err-steps.ensures.work)))
 
 pub returns-in_err-index-clause-work : goal.returns-in_err-index-clause-work
 returns-in_err-index-clause-work g c =
     let ds = all_definitions c.args.files.now.documents in
     let G = g.W.World.facts c.held_pairs.new.world in
-    subst (λ (H : Facts). IsWork H c.args.self.now.verdicts ds c.args.meter.now c.plan.new.meter) (c.held_pairs.ensures.facts ∙ c.broken_marks.ensures.facts)
+    on_error _ (subst (λ (H : Facts). IsWork H c.args.self.now.verdicts ds c.args.meter.now c.plan.new.meter) (c.held_pairs.ensures.facts ∙ c.broken_marks.ensures.facts)
     (subst (λ (vs : List Judgement). IsWork G vs ds c.args.meter.now c.plan.new.meter)
     (ap verdicts c.as_slice-kept.ensures.value ∙ (ap (λ (s : Shelved). s.verdicts) c.self.view_is))
-    (work_once G _ ds _ _ (c.in_ok-steps.ensures.order c.requires.placed) c.in_ok-steps.ensures.work))
+    (work_once G _ ds _ _ (c.in_ok-steps.ensures.order c.requires.placed) c.in_ok-steps.ensures.whole.0)))
 
-pub returns-clause-work : goal.returns-clause-work
-returns-clause-work g c =
+pub returns-clause-whole : goal.returns-clause-whole
+returns-clause-whole g c =
     let ds = all_definitions c.args.files.now.documents in
     let G = g.W.World.facts c.held_pairs.new.world in
-    subst (λ (H : Facts). IsWork H c.args.self.now.verdicts ds c.args.meter.now c.plan.new.meter) (c.held_pairs.ensures.facts ∙ c.broken_marks.ensures.facts)
-    (subst (λ (vs : List Judgement). IsWork G vs ds c.args.meter.now c.plan.new.meter)
+    subst (λ (H : Facts). IsWholeWork H c.args.self.now.verdicts ds c.args.meter.now c.plan.new.meter) (c.held_pairs.ensures.facts ∙ c.broken_marks.ensures.facts)
+    (subst (λ (vs : List Judgement). IsWholeWork G vs ds c.args.meter.now c.plan.new.meter)
     (ap verdicts c.as_slice-kept.ensures.value ∙ (ap (λ (s : Shelved). s.verdicts) c.self.view_is))
-    (work_once G _ ds _ _ (c.in_ok-steps.ensures.order c.requires.placed) c.in_ok-steps.ensures.work))
+    (whole_once G _ ds _ _ (c.in_ok-steps.ensures.order c.requires.placed) c.in_ok-steps.ensures.whole))
+
+pub returns-clause-walked : goal.returns-clause-walked
+returns-clause-walked g c =
+    let ds = all_definitions c.args.files.now.documents in
+    let G = g.W.World.facts c.held_pairs.new.world in
+    subst (λ (H : Facts). HasDuePairs H c.args.self.now.verdicts ds c.plan.new.shared.pairs) (c.held_pairs.ensures.facts ∙ c.broken_marks.ensures.facts)
+    (subst (λ (vs : List Judgement). HasDuePairs G vs ds c.plan.new.shared.pairs)
+    (ap verdicts c.as_slice-kept.ensures.value ∙ (ap (λ (s : Shelved). s.verdicts) c.self.view_is))
+    c.in_ok-steps.ensures.walked)
 
 pub returns-clause-planned : goal.returns-clause-planned
 returns-clause-planned g c =
@@ -85,4 +95,4 @@ held_pairs-requires g c =
     (subst (λ (l : List KeptGroup). ArePairsKnown F l c.args.touched.now) (sym before) c.requires.pairs)
 
 pub returns-in_err-held-clause-work : goal.returns-in_err-held-clause-work
-returns-in_err-held-clause-work g c = no_entries (g.W.World.facts c.args.world.now) c.args.self.now.verdicts (all_definitions c.args.files.now.documents) c.args.meter.now
+returns-in_err-held-clause-work g c = on_error _ (no_entries (g.W.World.facts c.args.world.now) c.args.self.now.verdicts (all_definitions c.args.files.now.documents) c.args.meter.now)
