@@ -118,6 +118,14 @@ fn named_like(
     }
 }
 
+/// How many operations with names there are likely to be: as many as before, or one in each file.
+fn likely_count(documents: &FileMap<Shared<Document>>, before: Option<&Operations>) -> usize {
+    match before {
+        Some(before) => before.named.as_slice().len(),
+        None => documents.len(),
+    }
+}
+
 impl Operations {
     /// The operations of these files. They share the trees, and the look-up of the operations before
     /// if these have the same names.
@@ -128,7 +136,7 @@ impl Operations {
     ) -> Result<Operations, AllocError>
         ensures { IfOk result (IsIndexOf documents.now) }
     {
-        let mut named = Vec::with_capacity(alloc, documents.len())?;
+        let mut named = Vec::with_capacity(alloc, likely_count(documents, before))?;
         let mut first_two = Vec::new(alloc);
         for (_name, document) in documents.entries().iter() {
             let definitions = document.get().definitions.as_slice();
