@@ -1,0 +1,5 @@
+pub mod Values
+pub mod OfParts
+pub mod OfRounding
+pub mod OfTexts
+pub mod OfFewest

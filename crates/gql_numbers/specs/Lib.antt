@@ -1,0 +1,4 @@
+pub mod Doubles
+pub mod Decimals
+pub mod Laws
+pub mod Examples
