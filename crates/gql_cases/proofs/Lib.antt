@@ -13,3 +13,4 @@ pub mod OfCalls
 pub mod OfShapes
 pub mod OfExamples
 pub mod OfErrors
+pub mod OfMutations

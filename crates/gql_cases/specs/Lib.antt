@@ -6,3 +6,5 @@ pub mod SameCalls
 pub mod CallExamples
 pub mod SameShapes
 pub mod Errors
+pub mod Mutations
+pub mod MutationExamples

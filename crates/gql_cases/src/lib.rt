@@ -1,7 +1,8 @@
 //! Definitions for readers: what an input comes to, what variables and arguments come to, what of a
 //! value does not fit its type, which fields a selection set stands for, each in cases; when two
-//! fields are the same call; and which errors a field has; and for each a law that it is exactly the
-//! definition that contracts cite. The functions do nothing; their contracts hold.
+//! fields are the same call; which errors a field has; and a mutation field by field; and for each a
+//! law that it is exactly the definition that contracts cite. The functions do nothing; their
+//! contracts hold.
 #![tactic(auto)]
 
 ghost use Rattle.gql_cases.specs.CallExamples as examples;
@@ -9,6 +10,13 @@ ghost use Rattle.gql_cases.specs.Errors.{KeepsErrors};
 ghost use Rattle.gql_cases.specs.Fields.{Flattens};
 ghost use Rattle.gql_cases.specs.Inputs.{InCases};
 ghost use Rattle.gql_cases.specs.Misfits.{BadValuesInCases};
+ghost use Rattle.gql_cases.specs.Mutations.{
+  AnswerInTurn,
+  DataInTurn,
+  EffectsInTurn,
+  RequestInTurn,
+  ValueInTurn,
+};
 ghost use Rattle.gql_cases.specs.Requests.{ArgumentsInCases, VariablesInCases};
 ghost use Rattle.gql_cases.specs.SameCalls.{
   SameCallHasSameText,
@@ -68,4 +76,16 @@ pub fn call_examples()
 /// execution keeps by the contracts of gql_exec.
 pub fn errors()
     ensures { KeepsErrors }
+{}
+
+/// The root fields of a mutation take effect one after the other, each on the data that the fields
+/// before it left. By the contracts of gql_exec all are executed on the data before the mutation, and
+/// what they add is added afterwards: the value, the errors and what is added are the same, and so
+/// are the data in the end.
+pub fn mutations()
+    ensures value { ValueInTurn }
+    ensures effects { EffectsInTurn }
+    ensures answer { AnswerInTurn }
+    ensures request { RequestInTurn }
+    ensures data { DataInTurn }
 {}
