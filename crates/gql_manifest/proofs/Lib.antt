@@ -1,6 +1,11 @@
-mod Hashed
-mod PackedSteps
-mod Kept
+mod FileSteps
+mod Firsts
 mod FragmentSteps
-mod OperationSteps
+mod GatheredSteps
+mod Hashed
 mod JoinedSteps
+mod Kept
+mod Listed
+mod OperationSteps
+mod PackedSteps
+mod PieceSteps

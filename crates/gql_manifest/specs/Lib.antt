@@ -3,4 +3,9 @@ pub mod Packing
 pub mod Origins
 pub mod Fragments
 pub mod Gathering
+pub mod Entries
+pub mod Pieces
+pub mod Definitions
+pub mod Reading
+pub mod Files
 pub mod Joining

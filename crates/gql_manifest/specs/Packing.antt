@@ -44,3 +44,7 @@ IsTextFor most piece texts begun new text =
     ((new ≡ texts) × (text ≡ begun)
     × ((length begun.items ≡ 0) ⊎ (length begun.items + length piece + 1 ≤ most)))
     ⊎ ((new ≡ texts ++ begun ∷ []) × (text.items ≡ []) × (0 < length begun.items))
+
+-- the texts, one after the other
+abbrev pub texts_joined : List (Bor (List ℕ)) → List ℕ
+texts_joined = flat_map (λ (text : Bor (List ℕ)). text.now)

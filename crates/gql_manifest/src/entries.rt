@@ -1,5 +1,9 @@
 //! The operations of a manifest, with their ids.
 
+ghost use Rattle.std.specs.Prelude.{◌≡◌, IfOk, Some, option_map};
+ghost use Rattle.gql_manifest.specs.Entries.{list_at, listing_in, listing_of, listings_found, listings_in, listings_of, text_at, texts_by_id};
+ghost use Rattle.serde_json.specs.View.{items_view, members_view, view};
+
 use serde_json::{Map, Value};
 use std::alloc::{AllocError, Global};
 
@@ -11,7 +15,9 @@ pub struct Entry<'m> {
 }
 
 /// The text of a member of an operation.
-fn member<'m>(operation: &'m Value, name: &str) -> Option<&'m str> {
+fn member<'m>(operation: &'m Value, name: &str) -> Option<&'m str>
+    ensures { option_map (λ text. text.now) result ≡ text_at name.now (view operation.now) }
+{
     match operation.get(name) {
         Some(value) => value.as_str(),
         None => None,
@@ -20,7 +26,9 @@ fn member<'m>(operation: &'m Value, name: &str) -> Option<&'m str> {
 
 /// The entry of an operation of Apollo's form: an object with a text `body`, and with an `id` or a
 /// `name`.
-fn listed_entry(operation: &Value) -> Option<Entry<'_>> {
+fn listed_entry(operation: &Value) -> Option<Entry<'_>>
+    ensures { option_map listing_of result ≡ listing_in (view operation.now) }
+{
     let body = member(operation, "body")?;
     let id = match member(operation, "id") {
         Some(id) => id,
@@ -30,10 +38,10 @@ fn listed_entry(operation: &Value) -> Option<Entry<'_>> {
 }
 
 /// The entries of a list of operations, Apollo's form. None if one is no operation.
-fn listed<'m>(
-    alloc: Global,
-    operations: &'m [Value],
-) -> Result<Option<Vec<Entry<'m>>>, AllocError> {
+fn listed<'m>(alloc: Global, operations: &'m [Value]) -> Result<Option<Vec<Entry<'m>>>, AllocError>
+    ensures { IfOk result
+        (λ found. listings_found found ≡ listings_in (items_view operations.now)) }
+{
     let mut entries = Vec::new(alloc);
     for operation in operations {
         match listed_entry(operation) {
@@ -48,7 +56,10 @@ fn listed<'m>(
 fn mapped<'m>(
     alloc: Global,
     texts: &'m Map<String, Value>,
-) -> Result<Option<Vec<Entry<'m>>>, AllocError> {
+) -> Result<Option<Vec<Entry<'m>>>, AllocError>
+    ensures { IfOk result
+        (λ found. listings_found found ≡ texts_by_id (members_view texts.now.entries)) }
+{
     let mut entries = Vec::new(alloc);
     for (id, text) in texts.iter() {
         match text.as_str() {
@@ -62,17 +73,29 @@ fn mapped<'m>(
     Ok(Some(entries))
 }
 
+/// The list under a key of an object.
+fn list_in<'m>(object: &'m Value, key: &str) -> Option<&'m [Value]>
+    ensures { option_map (λ list. items_view list.now) result ≡ list_at key.now (view object.now) }
+{
+    match object.get(key) {
+        Some(value) => Some(value.as_array()?.as_slice()),
+        None => None,
+    }
+}
+
 /// The entries of a manifest: those of its list `operations`, or if it has none its texts by ids.
 /// None if it has neither form.
 pub fn entries_of<'m>(
     alloc: Global,
     manifest: &'m Value,
-) -> Result<Option<Vec<Entry<'m>>>, AllocError> {
+) -> Result<Option<Vec<Entry<'m>>>, AllocError>
+    ensures { IfOk result (λ found. listings_found found ≡ listings_of (view manifest.now)) }
+{
     let Some(members) = manifest.as_object() else {
         return Ok(None);
     };
-    match manifest.get("operations") {
-        Some(Value::Array(operations)) => listed(alloc, operations.as_slice()),
-        _ => mapped(alloc, members),
+    match list_in(manifest, "operations") {
+        Some(operations) => listed(alloc, operations),
+        None => mapped(alloc, members),
     }
 }

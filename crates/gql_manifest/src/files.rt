@@ -1,5 +1,13 @@
 //! The files that manifests are made into.
 
+ghost use Rattle.std.specs.Prelude.{◌≡◌, ◌++◌, ◌<◌, ◌∷◌, [], IfErr, IfOk, MatchOption, OnOk, map, string_bytes};
+ghost use Rattle.gql_manifest.specs.Entries.{IsJson, IsNoJson};
+ghost use Rattle.gql_manifest.specs.Files as spec;
+ghost use Rattle.gql_manifest.specs.Gathering.{operation_of};
+ghost use Rattle.gql_manifest.specs.Packing.{texts_of};
+ghost use Rattle.gql_manifest.specs.Reading.{GathersAll, GathersManifest, IsManifestFault, IsManifestsFault};
+ghost use Rattle.serde_json.specs.View.{view};
+
 use crate::bucket::BUCKETS;
 use crate::entries::entries_of;
 use crate::fault::ManifestFault;
@@ -12,7 +20,6 @@ use gql_folder::GivenFile;
 use indexmap::IndexMap;
 use serde_json::Value;
 use std::alloc::{AllocError, Global};
-use std::str;
 
 /// The greatest number of bytes of a file.
 const MAX_FILE_BYTES: usize = 65_536;
@@ -43,11 +50,11 @@ pub struct FromManifests {
 }
 
 /// The JSON of a manifest. None if it is none.
-fn json_in(alloc: Global, bytes: &[u8]) -> Result<Option<Value>, AllocError> {
-    let Ok(text) = str::from_utf8(bytes) else {
-        return Ok(None);
-    };
-    match Value::from_str(alloc, text) {
+fn json_in(alloc: Global, bytes: &[u8]) -> Result<Option<Value>, AllocError>
+    ensures { IfOk result (λ found. MatchOption found (IsNoJson bytes.now)
+        (λ value. IsJson bytes.now (view value))) }
+{
+    match Value::from_slice(alloc, bytes) {
         Ok(value) => Ok(Some(value)),
         Err(error) => {
             if error.is_memory() {
@@ -64,7 +71,10 @@ fn add_manifest(
     alloc: Global,
     manifest: &GivenManifest,
     gathered: &mut Gathered,
-) -> Result<(), ManifestFault> {
+) -> Result<(), ManifestFault>
+    ensures ok { OnOk result (GathersManifest manifest.now gathered.old gathered.new) }
+    ensures err { IfErr result (IsManifestFault manifest.now gathered.old) }
+{
     let path = manifest.path.as_str();
     let Some(value) = json_in(alloc, manifest.bytes.as_slice())? else {
         let path = String::from_str(alloc, path)?;
@@ -81,11 +91,14 @@ fn add_manifest(
 }
 
 /// The path of the first, the second .. file of this stem.
-fn path_of(alloc: Global, stem: &str, at: usize) -> Result<String, AllocError> {
+fn path_of(alloc: Global, stem: &str, at: usize) -> Result<String, AllocError>
+    requires { at < usize.MAX }
+    ensures { IfOk result (λ path. string_bytes path ≡ spec.path_of stem.now at) }
+{
     if at == 0 {
         return text_from(alloc, &["documents/", stem, ".graphql"]);
     }
-    let number = at.saturating_add(1);
+    let number = at + 1;
     format!(in alloc; "documents/{stem}-{number}.graphql")
 }
 
@@ -96,7 +109,10 @@ fn add_texts(
     source: &str,
     texts: Vec<Vec<u8>>,
     files: &mut Vec<MadeFile>,
-) -> Result<(), AllocError> {
+) -> Result<(), AllocError>
+    ensures { OnOk result (spec.files_of files.new.items ≡ spec.files_of files.old.items
+        ++ spec.files_from stem.now source.now (texts_of texts.items)) }
+{
     let mut at = 0;
     for bytes in texts {
         let path = path_of(alloc, stem, at)?;
@@ -104,7 +120,7 @@ fn add_texts(
             file: GivenFile { path, bytes },
             source: String::from_str(alloc, source)?,
         })?;
-        at = usize::saturating_add(at, 1);
+        at += 1;
     }
     Ok(())
 }
@@ -115,7 +131,10 @@ fn add_operation(
     name: &Text,
     operation: GatheredOperation,
     files: &mut Vec<MadeFile>,
-) -> Result<(), AllocError> {
+) -> Result<(), AllocError>
+    ensures { OnOk result (spec.files_of files.new.items ≡ spec.files_of files.old.items
+        ++ spec.own_file (operation_of (name.now, operation)) ∷ []) }
+{
     let GatheredOperation {
         origin,
         bytes,
@@ -131,24 +150,36 @@ fn add_operation(
     Ok(())
 }
 
+/// These texts without their last bytes: the empty line after the last operation goes.
+fn without_last_bytes(alloc: Global, texts: Vec<Vec<u8>>) -> Result<Vec<Vec<u8>>, AllocError>
+    ensures { IfOk result
+        (λ shorter. texts_of shorter.items ≡ map spec.without_last (texts_of texts.items)) }
+{
+    let mut shorter = Vec::new(alloc);
+    for text in texts {
+        let mut text = text;
+        text.pop();
+        shorter.push(text)?;
+    }
+    Ok(shorter)
+}
+
 /// The texts of the files of the operations in a bucket, which an empty line separates.
 fn bucket_texts(
     alloc: Global,
     operations: &IndexMap<Text, GatheredOperation>,
     bucket: usize,
-) -> Result<Vec<Vec<u8>>, AllocError> {
+) -> Result<Vec<Vec<u8>>, AllocError>
+    ensures { IfOk result (λ texts. spec.AreBucketTexts
+        (spec.texts_in bucket (map operation_of operations.now.entries)) (texts_of texts.items)) }
+{
     let mut pieces = Vec::new(alloc);
     for (_name, operation) in operations.iter() {
         if operation.bucket == bucket {
             pieces.push(operation.bytes.as_slice())?;
         }
     }
-    // (the empty line after the last operation goes)
-    let mut texts = packed(alloc, pieces.as_slice(), MAX_FILE_BYTES + 1)?;
-    for text in texts.iter_mut() {
-        text.pop();
-    }
-    Ok(texts)
+    without_last_bytes(alloc, packed(alloc, pieces.as_slice(), MAX_FILE_BYTES + 1)?)
 }
 
 /// Adds the files of the buckets that have operations, in the order of their numbers.
@@ -156,7 +187,11 @@ fn add_buckets(
     alloc: Global,
     operations: &IndexMap<Text, GatheredOperation>,
     files: &mut Vec<MadeFile>,
-) -> Result<(), AllocError> {
+) -> Result<(), AllocError>
+    ensures { OnOk result
+        (spec.Adds (spec.AreBuckets (map operation_of operations.now.entries) 96)
+        files.old.items files.new.items) }
+{
     for bucket in 0..BUCKETS {
         let texts = bucket_texts(alloc, operations, bucket)?;
         let (tens, ones) = ((bucket + 1) / 10, (bucket + 1) % 10);
@@ -177,7 +212,11 @@ fn add_operations(
     alloc: Global,
     operations: IndexMap<Text, GatheredOperation>,
     files: &mut Vec<MadeFile>,
-) -> Result<(), AllocError> {
+) -> Result<(), AllocError>
+    ensures { OnOk result
+        (spec.Adds (spec.AreOperationFiles (map operation_of operations.entries))
+        files.old.items files.new.items) }
+{
     if operations.len() > MAX_OWN_FILES {
         return add_buckets(alloc, &operations, files);
     }
@@ -192,14 +231,20 @@ fn add_fragments(
     alloc: Global,
     fragments: &KeptFragments,
     files: &mut Vec<MadeFile>,
-) -> Result<(), AllocError> {
+) -> Result<(), AllocError>
+    ensures { OnOk result (spec.Adds (spec.AreFragmentFiles fragments.now)
+        files.old.items files.new.items) }
+{
     let texts = fragments.texts(alloc, MAX_FILE_BYTES)?;
     let source = "the fragments of manifests";
     add_texts(alloc, "shared-fragments", source, texts, files)
 }
 
 /// The operations and fragments of all manifests.
-fn gathered_from(alloc: Global, manifests: &[GivenManifest]) -> Result<Gathered, ManifestFault> {
+fn gathered_from(alloc: Global, manifests: &[GivenManifest]) -> Result<Gathered, ManifestFault>
+    ensures ok { IfOk result (GathersAll manifests.now) }
+    ensures err { IfErr result (IsManifestsFault manifests.now) }
+{
     let mut gathered = Gathered::new(alloc);
     for manifest in manifests {
         add_manifest(alloc, manifest, &mut gathered)?;
@@ -210,10 +255,10 @@ fn gathered_from(alloc: Global, manifests: &[GivenManifest]) -> Result<Gathered,
 /// The files that manifests are made into: `documents/NAME.graphql` for each operation, or if there
 /// are more than 128 `documents/operations-01.graphql` to `-96` for those of a bucket each, and
 /// `documents/shared-fragments.graphql` for the fragments of all.
-pub fn files_of(
-    alloc: Global,
-    manifests: &[GivenManifest],
-) -> Result<FromManifests, ManifestFault> {
+pub fn files_of(alloc: Global, manifests: &[GivenManifest]) -> Result<FromManifests, ManifestFault>
+    ensures ok { IfOk result (spec.IsMadeOf manifests.now) }
+    ensures err { IfErr result (IsManifestsFault manifests.now) }
+{
     let Gathered {
         operations,
         fragments,

@@ -1,8 +1,12 @@
 //! The operations and fragments of manifests, as their texts are read one after the other.
 
-ghost use Rattle.std.specs.Prelude.{◌≡◌, [], IfOk, IfErr, OnErr, OnOk};
+ghost use Rattle.std.specs.Prelude.{◌≡◌, [], ◌∷◌, IfOk, IfErr, OnErr, OnOk};
 ghost use Rattle.gql_manifest.specs.Gathering.{IsAddFault, IsAdded, IsUnchanged, SaysTwice, operations_of};
+ghost use Rattle.gql_manifest.specs.Definitions.{GathersMore, IsPieceFault};
+ghost use Rattle.gql_manifest.specs.Entries.{listing_of};
 ghost use Rattle.gql_manifest.specs.Origins.{place_of};
+ghost use Rattle.gql_manifest.specs.Pieces.{brought_at};
+ghost use Rattle.gql_manifest.specs.Reading.{GathersListing, IsEntryFault};
 
 use crate::bucket::bucket_of;
 use crate::entries::Entry;
@@ -94,7 +98,12 @@ impl Gathered {
         alloc: Global,
         at: &Origin,
         piece: Piece<'_>,
-    ) -> Result<(), ManifestFault> {
+    ) -> Result<(), ManifestFault>
+        ensures ok { OnOk result
+            (GathersMore (brought_at (place_of at.now) piece.entry ∷ []) self.old self.new) }
+        ensures err { IfErr result
+            (IsPieceFault self.old (brought_at (place_of at.now) piece.entry)) }
+    {
         let Piece {
             tree,
             bytes,
@@ -116,7 +125,11 @@ impl Gathered {
         alloc: Global,
         path: &str,
         entry: &Entry<'_>,
-    ) -> Result<(), ManifestFault> {
+    ) -> Result<(), ManifestFault>
+        ensures ok { OnOk result
+            (GathersListing path.now (listing_of entry.now) self.old self.new) }
+        ensures err { IfErr result (IsEntryFault path.now (listing_of entry.now) self.old) }
+    {
         let at = Origin::new(alloc, path, entry.id)?;
         for piece in pieces_of(alloc, &at, entry.body)? {
             self.add_piece(alloc, &at, piece)?;

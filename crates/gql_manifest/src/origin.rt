@@ -1,7 +1,7 @@
 //! Where a definition of a manifest comes from.
 
-ghost use Rattle.std.specs.Prelude.{◌≡◌, IfOk};
-ghost use Rattle.gql_manifest.specs.Origins.{place_of};
+ghost use Rattle.std.specs.Prelude.{◌≡◌, IfOk, string_bytes};
+ghost use Rattle.gql_manifest.specs.Origins.{origin_text, place_of};
 
 use crate::texts::text_from;
 use std::alloc::{AllocError, Global};
@@ -35,7 +35,9 @@ impl Origin {
     }
 
     /// The origin in words, as `operation 7 of web.json`.
-    pub fn text(&self, alloc: Global) -> Result<String, AllocError> {
+    pub fn text(&self, alloc: Global) -> Result<String, AllocError>
+        ensures { IfOk result (λ text. string_bytes text ≡ origin_text (place_of self.now)) }
+    {
         let (path, id) = (self.path.as_str(), self.id.as_str());
         text_from(alloc, &["operation ", id, " of ", path])
     }

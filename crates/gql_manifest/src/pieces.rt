@@ -1,12 +1,18 @@
 //! The definitions of a text, each with the part of the text that it is.
 
+ghost use Rattle.std.specs.Prelude.{◌≡◌, ◌≢◌, IfErr, IfOk, IfSome, map, string_bytes};
+ghost use Rattle.gql_grammar.specs.declared.fault.SyntaxFault.{SyntaxFault};
+ghost use Rattle.gql_manifest.specs.Origins.{place_of};
+ghost use Rattle.gql_manifest.specs.Pieces.{AreParts, Brings, HasTokens, IsPart, IsTextFault, OrMemory, SaysFault, brought_at, next_start, parsed_as, part_of};
+ghost use Rattle.gql_parse_sdl.specs.DocumentFiles.{IsDocumentFile};
+
 use crate::fault::ManifestFault;
 use crate::origin::Origin;
 use crate::texts::push_all;
-use gql_ast::{Document, FileName, Tree};
+use gql_ast::{Definition, Document, FileName, Tree};
 use gql_grammar::SyntaxFault;
 use gql_parse_sdl::parse_any;
-use gql_text::{Token, lex};
+use gql_text::lex;
 use std::alloc::{AllocError, Global};
 
 /// A definition of a text, and its bytes: from its first token to the next definition.
@@ -20,7 +26,9 @@ pub struct Piece<'t> {
 }
 
 /// The fault of a text that is refused.
-fn refused(at: &Origin, fault: SyntaxFault) -> ManifestFault {
+fn refused(at: &Origin, fault: SyntaxFault) -> ManifestFault
+    ensures { OrMemory (SaysFault (place_of at.now) fault) result }
+{
     let SyntaxFault::At { number, place } = fault else {
         return ManifestFault::Memory;
     };
@@ -36,7 +44,10 @@ fn refused(at: &Origin, fault: SyntaxFault) -> ManifestFault {
 }
 
 /// The tree of the text of an operation.
-fn parsed(alloc: Global, at: &Origin, text: &str) -> Result<Document, ManifestFault> {
+fn parsed(alloc: Global, at: &Origin, text: &str) -> Result<Document, ManifestFault>
+    ensures ok { IfOk result (IsDocumentFile parsed_as text.now) }
+    ensures err { IfErr result (OrMemory (IsTextFault (place_of at.now) text.now)) }
+{
     let Some(name) = FileName::read("manifest") else {
         return Err(ManifestFault::Memory);
     };
@@ -46,75 +57,64 @@ fn parsed(alloc: Global, at: &Origin, text: &str) -> Result<Document, ManifestFa
     }
 }
 
-/// The index of the first of these tokens that is at this offset or after it.
-fn first_from(tokens: &[Token<'_>], offset: usize) -> usize {
-    tokens.partition_point(|token| token.place.offset < offset)
-}
-
-/// The tokens of a part of a text, with a blank between each two.
-fn joined(
-    alloc: Global,
-    tokens: &[Token<'_>],
-    start: usize,
-    end: usize,
-) -> Result<String, AllocError> {
-    let (first, past) = (first_from(tokens, start), first_from(tokens, end));
-    let mut text = String::new(alloc);
-    if let Some(part) = tokens.get(first..past) {
-        for token in part {
-            push_all(&mut text, &[token.text, " "])?;
-        }
+/// The tokens of a definition's text, with a blank after each. None if it has none, which is not so
+/// for a part of a text that has tokens.
+fn tokens_of(alloc: Global, text: &str) -> Result<String, ManifestFault>
+    ensures ok { IfOk result (λ tokens. HasTokens text.now (string_bytes tokens)) }
+    ensures err { IfErr result (λ fault. fault ≡ ManifestFault.Memory) }
+{
+    let Ok(tokens) = lex(alloc, text) else {
+        return Err(ManifestFault::Memory);
+    };
+    let mut joined = String::new(alloc);
+    for token in tokens.as_slice() {
+        push_all(&mut joined, &[token.text, " "])?;
     }
-    Ok(text)
+    Ok(joined)
 }
 
-/// The bytes of a part of a text, without blanks at its end.
-fn part_of(text: &str, start: usize, end: usize) -> &[u8] {
+/// The part of a text between two offsets, without white space at its end. None if a character of
+/// the text is cut there.
+fn part(text: &str, start: usize, end: usize) -> Option<&str>
+    ensures { IfSome result (λ part. part.now ≡ part_of text.now start end) }
+{
     match text.get(start..end) {
-        Some(part) => part.trim_end().as_bytes(),
-        None => "".as_bytes(),
+        Some(part) => Some(part.trim_end()),
+        None => None,
     }
 }
 
-/// Where the definition after each of these begins, and at last the length of the text.
-fn ends_of(alloc: Global, document: &Document, length: usize) -> Result<Vec<usize>, AllocError> {
-    let mut ends = Vec::new(alloc);
-    for definition in document.definitions.as_slice().iter().skip(1) {
-        ends.push(definition.tree.place().offset)?;
-    }
-    ends.push(length)?;
-    Ok(ends)
-}
-
-/// The piece of a definition of a text, which ends where the next one begins.
+/// The piece of a definition of a text, which ends at this offset.
 fn piece_of<'t>(
     alloc: Global,
-    tree: &Tree,
+    at: &Origin,
     text: &'t str,
-    tokens: &[Token<'_>],
+    definition: &Definition,
     end: usize,
-) -> Result<Piece<'t>, AllocError> {
-    let start = tree.place().offset;
+) -> Result<Piece<'t>, ManifestFault>
+    ensures ok { IfOk result (λ piece. IsPart (place_of at.now) text.now definition.now end
+        (brought_at (place_of at.now) piece)) }
+    ensures err { IfErr result (λ fault. fault ≡ ManifestFault.Memory) }
+{
+    let start = definition.tree.place().offset;
+    let Some(part) = part(text, start, end) else {
+        return Err(ManifestFault::Memory);
+    };
     Ok(Piece {
-        tree: tree.copy()?,
-        bytes: part_of(text, start, end),
-        tokens: joined(alloc, tokens, start, end)?,
+        tree: definition.tree.copy()?,
+        bytes: part.as_bytes(),
+        tokens: tokens_of(alloc, part)?,
     })
 }
 
-/// The pieces of the definitions of a text that has these tokens.
-fn pieces_in<'t>(
-    alloc: Global,
-    document: &Document,
-    text: &'t str,
-    tokens: &[Token<'_>],
-) -> Result<Vec<Piece<'t>>, AllocError> {
-    let ends = ends_of(alloc, document, text.len())?;
-    let mut pieces = Vec::new(alloc);
-    for (definition, end) in document.definitions.as_slice().iter().zip(ends.iter()) {
-        pieces.push(piece_of(alloc, &definition.tree, text, tokens, *end)?)?;
+/// Where the first of some definitions of a text begins, or if there is none the text's end.
+fn end_before(text: &str, definitions: &[Definition]) -> usize
+    ensures { result ≡ next_start text.now definitions.now }
+{
+    match definitions {
+        [next, ..] => next.tree.place().offset,
+        [] => text.len(),
     }
-    Ok(pieces)
 }
 
 /// The definitions of the text of an operation, in their order.
@@ -122,10 +122,18 @@ pub fn pieces_of<'t>(
     alloc: Global,
     at: &Origin,
     text: &'t str,
-) -> Result<Vec<Piece<'t>>, ManifestFault> {
+) -> Result<Vec<Piece<'t>>, ManifestFault>
+    ensures ok { IfOk result (λ pieces. Brings (place_of at.now) text.now
+        (map (brought_at (place_of at.now)) pieces.items)) }
+    ensures err { IfErr result (OrMemory (IsTextFault (place_of at.now) text.now)) }
+{
     let document = parsed(alloc, at, text)?;
-    match lex(alloc, text) {
-        Ok(tokens) => Ok(pieces_in(alloc, &document, text, tokens.as_slice())?),
-        Err(_) => Err(ManifestFault::Memory),
+    let mut pieces = Vec::new(alloc);
+    let mut left = document.definitions.as_slice();
+    while let [definition, others @ ..] = left {
+        let end = end_before(text, others);
+        pieces.push(piece_of(alloc, at, text, definition, end)?)?;
+        left = others;
     }
+    Ok(pieces)
 }
