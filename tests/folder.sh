@@ -183,6 +183,7 @@ cp -r changed hiding
 printf 'type Query { user(id: ID!): User }\ntype User { id: ID! fullName: Strin }\n' > hiding/schema/users.graphql
 has 'documents are not checked' 1 '^the documents are not checked until the schema has no fault' "$gqlreg" check hiding
 try 'a fault that is hidden is not mended' 1 "$gqlreg" check hiding --base changed <<'TEXT'
+the schema has faults: which operations this change breaks is not known
 hiding/schema/users.graphql:2:31: S20 `Strin`: Unknown Types: a reference names no type.
   type User { id: ID! fullName: Strin }
                                 ^
@@ -190,9 +191,169 @@ hiding/schema/users.graphql:2:31: S20 `Strin`: Unknown Types: a reference names 
 no operation is served until the schema has no fault; nor are the documents checked
 TEXT
 has 'a base that hides its faults' 1 '^the schema of the base has faults' "$gqlreg" check changed --base hiding
+unknown='the schema has faults: which operations this change breaks is not known'
+# first LINE PATTERN FORMAT: that the documents are hidden is said first, in this line of the format
+first() {
+    "$gqlreg" check hiding --base changed --format "$3" > hiding.out
+    has "hidden, first in $3" 0 "$2" sed -n "$1p" hiding.out
+}
+first 1 "^$unknown\$" text
+first 1 "^::error title=Documents::$unknown\$" github
+first 1 "^\*\*$unknown\*\*\$" markdown
+first 5 "^<title>GraphQL: $unknown; " html
+has 'hidden, before the heading of the page' 0 "^<p><strong>$unknown</strong></p>\$" grep -B1 '<h1>' hiding.out
+first 1 '"hidden":true,"brought":\[.*"broken":null,"healed":null}' json
+first 1 '"rules":\[{"id":"hidden",' sarif
+has 'hidden, as the first result' 0 '"results":\[{"ruleId":"hidden","ruleIndex":0,"level":"error",' cat hiding.out
+has 'hidden, as the first note' 0 "\"toolExecutionNotifications\":\[{\"level\":\"error\",\"message\":{\"text\":\"$unknown" cat hiding.out
+has 'the other rules come after it' 0 '{"ruleId":"S20","ruleIndex":1,' cat hiding.out
+has 'nothing is hidden' 1 '"hidden":false,"brought"' "$gqlreg" check changed --base team --format json
 has 'two places as an annotation' 1 ' And pair/documents/d.graphql:1:8.$' "$gqlreg" check pair --format github
 cp -r changed '50%, all'
 has 'an annotation of a strange folder' 1 '^::error file=50%25%2C all/documents' "$gqlreg" check --format github '50%, all'
+
+# ---- faults that are known again
+
+mv moved/documents/profile.graphql moved/documents/people.graphql
+has 'a fault in a renamed file' 0 '^0 faults brought, 0 faults mended' "$gqlreg" check moved --base changed
+cat > moved/documents/people.graphql <<'TEXT'
+query Profile($id: ID!) { user(id: $id) { id, ...Shown } }
+fragment Shown on User
+{
+	# of a person
+	name,
+}
+TEXT
+has 'a fault that is laid out anew' 0 '^0 faults brought, 0 faults mended' "$gqlreg" check moved --base changed
+printf 'fragment Shown on User { name }\n' > moved/documents/shown.graphql
+printf 'query Profile($id: ID!) { user(id: $id) { id ...Shown } }\n' > moved/documents/people.graphql
+has 'a fault that goes to another file' 0 '^0 faults brought, 0 faults mended' "$gqlreg" check moved --base changed
+has 'a fault that comes from another file' 0 '^0 faults brought, 0 faults mended' "$gqlreg" check changed --base moved
+printf 'fragment Shown on User { name name }\n' > moved/documents/shown.graphql
+has 'a fault once more' 1 '^1 fault brought, 0 faults mended' "$gqlreg" check moved --base changed
+mkdir -p whole/schema divided/schema
+printf 'type Query { a: Int }\ninterface I { id: ID }\ntype A implements I { x: Int }\n' > whole/schema/s.graphql
+printf 'type Query { a: Int }\n' > divided/schema/q.graphql
+printf 'type A implements\n  & I\n{\n  x: Int\n}\n\ninterface I { id: ID }\n' > divided/schema/t.graphql
+has 'a fault of a schema in another file' 0 '^0 faults brought, 0 faults mended' "$gqlreg" check divided --base whole
+printf 'type B implements I { x: Int }\ntype A implements I { x: Int id: ID }\ninterface I { id: ID }\n' > divided/schema/t.graphql
+has 'a fault of another type' 1 '^1 fault brought, 1 fault mended' "$gqlreg" check divided --base whole
+mkdir -p lone/schema lone/documents
+printf 'type Query { a: Int b: Int }\n' > lone/schema/s.graphql
+printf '{ a }\n' > lone/documents/one.graphql
+cp -r lone left
+printf 'type Query { b: Int }\n' > left/schema/s.graphql
+mv left/documents/one.graphql left/documents/other.graphql
+has 'an operation without a name in a renamed file' 1 'left/documents/other.graphql: an operation without a name' "$gqlreg" check left --base lone
+has 'it is healed' 0 'left/documents/other.graphql: an operation without a name' "$gqlreg" check lone --base left
+
+# ---- the status against a base
+
+mkdir -p linked/schema linked/documents
+printf 'type Query { a: Int }\n' > linked/schema/s.graphql
+printf 'query Q { a }\nquery R { ...F }\nfragment F on Query { zz }\n' > linked/documents/d.graphql
+cp -r linked relinked
+printf 'query Q { a ...F }\nquery R { ...F }\nfragment F on Query { zz }\n' > relinked/documents/d.graphql
+has 'an operation that breaks by a fault that was there' 1 '^  relinked/documents/d.graphql: query Q (by fragment F)' "$gqlreg" check relinked --base linked
+has 'an operation that is healed, with its fault still there' 0 '^0 faults brought, 0 faults mended' "$gqlreg" check linked --base relinked
+# each schema has a fault of Float: what the change does to the documents is not known
+mkdir -p shown/schema shown/documents
+printf 'type Query {\n  a: Int\n  f: Float\n}\n' > shown/schema/s.graphql
+printf 'query Q { a }\n' > shown/documents/d.graphql
+cp -r shown unseen
+printf 'type Query {\n  f: Float\n}\n' > unseen/schema/s.graphql
+has 'documents that the schema hides' 1 '^0 faults brought, 0 faults mended' "$gqlreg" check unseen --base shown
+printf 'query Q { b }\n' > unseen/documents/d.graphql
+cp shown/schema/s.graphql unseen/schema/s.graphql
+has 'a schema with faults that is the same' 0 '^0 faults brought, 0 faults mended' "$gqlreg" check unseen --base shown
+mv unseen/schema/s.graphql unseen/schema/t.graphql
+has 'a schema with faults of another name' 1 '^0 faults brought, 0 faults mended' "$gqlreg" check unseen --base shown
+rm -r unseen/documents
+has 'no documents to hide' 0 '^0 faults brought, 0 faults mended' "$gqlreg" check unseen --base shown
+printf 'type Query { b: Int }\n' > unseen/schema/t.graphql
+cp -r shown/documents unseen/documents
+has 'only the schema of the base has faults' 1 '^1 fault brought, 1 fault mended' "$gqlreg" check unseen --base shown
+
+# ---- definitions of the type system in documents, and all files that are refused
+
+printf 'type Astray { a: Int }\n' > lone/documents/astray.graphql
+has 'a type in a document owns its fault' 1 '"rule":"V01",.*"owner":{"kind":[^}]*"name":"Astray"' "$gqlreg" check lone --format json
+cp -r team cut
+printf 'type Query { a: Int\n' > cut/schema/a.graphql
+printf '{ é }\n' > cut/documents/b.graphql
+printf '{ a\n' > cut/documents/c.graphql
+try 'all files that are refused' 2 "$gqlreg" check cut <<'TEXT'
+cut/schema/a.graphql:2:1: syntax: unexpected token (201)
+  
+  ^
+cut/documents/b.graphql:1:3: syntax: bad character (201)
+  { é }
+    ^
+cut/documents/c.graphql:2:1: syntax: unexpected token (201)
+  
+  ^
+TEXT
+try 'all files that are refused, as annotations' 2 "$gqlreg" check cut --format github <<'TEXT'
+::error file=cut/schema/a.graphql,line=2,col=1,title=201::syntax: unexpected token (201)
+::error file=cut/documents/b.graphql,line=1,col=3,title=201::syntax: bad character (201)
+::error file=cut/documents/c.graphql,line=2,col=1,title=201::syntax: unexpected token (201)
+cut/schema/a.graphql:2:1: syntax: unexpected token (201)
+  
+  ^
+cut/documents/b.graphql:1:3: syntax: bad character (201)
+  { é }
+    ^
+cut/documents/c.graphql:2:1: syntax: unexpected token (201)
+  
+  ^
+TEXT
+has 'and of a base' 2 '^cut/documents/c.graphql:' "$gqlreg" check team --base cut
+
+# ---- a definition of the type system in a document file
+
+cp -r team typed
+printf 'query Q($id: ID!) { user(id: $id) { id } }\nextend type User { age: Int }\n' > typed/documents/typed.graphql
+has 'its owner in words' 1 '^typed/documents/typed.graphql:2:1: V01 `User`: .* (in type extension User)$' "$gqlreg" check typed
+has 'its owner in JSON' 1 '"owner":{"kind":"type extension","name":"User","path":"typed/documents/typed.graphql","line":2,"column":1}' "$gqlreg" check typed --format json
+
+# ---- many faults: annotations and a summary
+
+mkdir -p crowd/schema crowd/documents
+printf 'type Query {\n  a: Int\n  b: Int\n}\n' > crowd/schema/s.graphql
+{
+    printf 'query Broken { gone ...F }\nfragment F on Query { a }\n'
+    awk 'BEGIN { for (i = 0; i < 30; i++) print "fragment U" i " on Query { other" i " }" }'
+} > crowd/documents/d.graphql
+"$gqlreg" check crowd --format github > crowd.out
+try 'ten annotations of faults' 0 grep -c '^::error' crowd.out <<'TEXT'
+10
+TEXT
+has 'first that of a fault that breaks an operation' 0 'V04 `gone`' sed -n 1p crowd.out
+has 'and how many there are more' 0 '^::notice title=More::and 51 more faults$' sed -n 11p crowd.out
+has 'and which operations' 0 '^::notice title=Operations::' sed -n 12p crowd.out
+cp -r crowd crowd-before
+printf 'type Query {\n  a: Int\n  b: Int\n  gone: Int\n  other0: Int\n}\n' > crowd-before/schema/s.graphql
+printf 'type Query {\n  a: Int\n  b: Int\n  other0: Int\n  c: Int\n}\n' > crowd/schema/s.graphql
+try 'the line where the schema changed' 1 "$gqlreg" check crowd --base crowd-before --format github <<'TEXT'
+::warning file=crowd/schema/s.graphql,line=4,title=Changed::this change breaks 1 operation: query Broken
+::error file=crowd/documents/d.graphql,line=1,col=16,title=V04::V04 `gone`: Field Selections: the parent type has no field of this name. (in query Broken)
+::notice title=Operations::operations that this breaks:%0Acrowd/documents/d.graphql: query Broken
+TEXT
+try 'no line where it does no harm' 0 "$gqlreg" check crowd-before --base crowd --format github < /dev/null
+mkdir -p long-page/schema long-page/documents
+printf 'type Query { a: Int }\n' > long-page/schema/s.graphql
+awk 'BEGIN { for (i = 0; i < 500; i++) print "query Q" i " { b }" }' > long-page/documents/d.graphql
+"$gqlreg" check long-page --format markdown > long-page.out
+has 'a summary has at most 65,536 bytes' 0 '^yes$' sh -c 'size=$(wc -c < long-page.out); [ "$size" -le 65536 ] && [ "$size" -gt 65000 ] && echo yes'
+has 'and says how much is left out' 0 '^and [0-9]* more faults, [0-9]* more operations$' tail -n 1 long-page.out
+has 'with no section left open' 0 '^</details>$' sh -c 'tail -n 3 long-page.out | head -n 1'
+if command -v python3 > /dev/null 2>&1; then
+    has 'which with what is there is all of it' 0 '^500 500$' python3 -c '
+import re
+text = open("long-page.out").read()
+faults, operations = map(int, re.search("and (\d+) more faults?, (\d+) more operations?\n$", text).groups())
+print(faults + text.count("\n- <code>long-page/documents/d.graphql:"), operations + text.count("\n- <code>query Q"))'
+fi
 
 # ---- data
 
@@ -243,6 +404,25 @@ TEXT
     try 'SARIF without a base' 0 python3 "$here/sarif.py" page.sarif <<'TEXT'
 1 results, 0 mistakes
 TEXT
+    has 'its version' 0 "\"name\":\"gqlreg\",\"version\":\"$("$gqlreg" --version | sed 's/^gqlreg //')\"" cat page.sarif
+    cp page.sarif before.sarif
+    cp -r changed later
+    { printf '# one line more\n'; cat changed/documents/profile.graphql; } > later/documents/renamed.graphql
+    rm later/documents/profile.graphql
+    "$gqlreg" check later --format sarif > page.sarif
+    try 'a fingerprint stays where lines and files move' 0 python3 -c '
+import json
+def prints(path):
+    return [r["partialFingerprints"] for r in json.load(open(path))["runs"][0]["results"]]
+print(prints("before.sarif") == prints("page.sarif"), len(prints("page.sarif")))' <<'TEXT'
+True 1
+TEXT
+    "$gqlreg" check crowd --format sarif > page.sarif
+    has 'each result has a fingerprint of its own' 0 ' 0 mistakes$' python3 "$here/sarif.py" page.sarif
+    "$gqlreg" check hiding --base changed --format sarif > page.sarif
+    try 'SARIF with hidden documents' 0 python3 "$here/sarif.py" page.sarif <<'TEXT'
+2 results, 0 mistakes
+TEXT
     has 'JSON is JSON' 0 '^1 1 0$' python3 -c 'import json; j = json.load(open("page.json")); print(len(j["brought"]), len(j["broken"]), len(j["mended"]))'
 fi
 
@@ -261,6 +441,27 @@ start() {
     done
 }
 
+# a port that another program has, for many connections at one time and for one
+if command -v python3 > /dev/null; then
+    python3 -c 'import socket, sys, time
+s = socket.socket(); s.bind(("127.0.0.1", int(sys.argv[1]))); s.listen(); print("held", flush=True); time.sleep(60)' "$port" > held &
+    server_pid=$!
+    for _ in 1 2 3 4 5 6 7 8 9 10 11 12 13 14 15; do
+        if grep -q held held 2> /dev/null; then break; fi
+        sleep 0.2
+    done
+    try 'a taken port' 1 "$gqlreg" serve --port "$port" --connections 1 <<TEXT
+port $port of 127.0.0.1 cannot be listened to: address in use
+TEXT
+    try 'a taken port, one connection at a time' 1 "$gqlreg" serve --port "$port" --connections 1 --at-once 1 <<TEXT
+port $port of 127.0.0.1 cannot be listened to: address in use
+TEXT
+    kill "$server_pid"
+    wait "$server_pid" 2> /dev/null
+    server_pid=
+    rm held
+fi
+
 rm -f team/data.json
 try 'push to no server' 5 "$gqlreg" push team --to "$to" <<'TEXT'
 no answer from the server, or not one of a registry
@@ -275,7 +476,7 @@ TEXT
 cp changed/schema/users.graphql team/schema/users.graphql
 has 'push of faults that is to fail' 1 'has 1 fault' "$gqlreg" push team --to "$to" --fail-on-faults
 try 'push what changed' 0 "$gqlreg" push team --to "$to" <<'TEXT'
-1 file put or removed: revision 3, 1 fault, 1 operation is not served
+1 file put or removed: revision 3, 1 fault, 1 operation of this folder is not served
 TEXT
 printf 'type Query { user(id: ID!): User }\ntype User { id: ID! name: String! }\n' > team/schema/users.graphql
 printf '{"query": {"user": [{"id": "7", "name": "Ann"}, {"id": "8"}]}}\n' > team/data.json
@@ -286,12 +487,21 @@ rm team/data.json
 try 'push that empties the data' 0 "$gqlreg" push team --to "$to" <<'TEXT'
 1 file put or removed: revision 6, 0 faults, 0 operations are not served
 TEXT
+cp team/schema/users.graphql users.graphql
+printf 'type Query { user(id: ID!): User }\ntype User { id: ID! name: Strin! }\n' > team/schema/users.graphql
+try 'push of a schema with faults' 0 "$gqlreg" push team --to "$to" <<'TEXT'
+1 file put or removed: revision 7, the schema has 1 fault: no operation is served
+TEXT
+mv users.graphql team/schema/users.graphql
+try 'push that mends it' 0 "$gqlreg" push team --to "$to" <<'TEXT'
+1 file put or removed: revision 8, 0 faults, 0 operations are not served
+TEXT
 rm team/documents/profile.graphql
 try 'push a removal' 0 "$gqlreg" push team --to "$to" <<'TEXT'
-1 file put or removed: revision 7, 0 faults, 0 operations are not served
+1 file put or removed: revision 9, 0 faults, 0 operations are not served
 TEXT
 curl -s -X PUT --data-binary 'type Other { a: Int }' "http://$to/schema/other" > /dev/null
-has 'push after an edit of somebody else' 3 'at revision 8, and the last push left 7: somebody else' "$gqlreg" push team --to "$to"
+has 'push after an edit of somebody else' 3 'at revision 10, and the last push left 9: somebody else' "$gqlreg" push team --to "$to"
 has 'which says that the folder has not changed' 3 '^the folder is as it was at the last push$' "$gqlreg" push team --to "$to"
 printf 'query Q { user(id: 1) { id } }\n' > team/documents/new.graphql
 has 'or which files have' 3 '^in the folder, since the last push:$' "$gqlreg" push team --to "$to"
@@ -302,16 +512,26 @@ printf 'type Query { a: Int }\n' > team/schema/root.graphql
 has 'one that is gone' 3 '^  schema/users is gone$' "$gqlreg" push team --to "$to"
 rm team/schema/root.graphql
 mv users.graphql team/schema/users.graphql
-has 'which put nothing' 0 '^{"revision":8,"faults":..}$' curl -s "http://$to/report"
+has 'which put nothing' 0 '^{"revision":10,"faults":..}$' curl -s "http://$to/report"
 try 'push all the same' 0 "$gqlreg" push team --to "$to" --force <<'TEXT'
-1 file put or removed: revision 9, 0 faults, 0 operations are not served
+1 file put or removed: revision 11, 0 faults, 0 operations are not served
 TEXT
 has 'push with a state elsewhere' 3 'it is not known what was pushed last' "$gqlreg" push team --to "$to" --state pushed
 try 'push of all files' 0 "$gqlreg" push team --to "$to" --state pushed --all <<'TEXT'
-1 file put or removed: revision 10, 0 faults, 0 operations are not served
+1 file put or removed: revision 12, 0 faults, 0 operations are not served
+TEXT
+cp team/schema/users.graphql team/schema/more.graphql
+sed -i 's/type Query/extend type Query/; s/user(/more(/; /^type User/d' team/schema/more.graphql
+try 'push of one file more' 0 "$gqlreg" push team --to "$to" --state pushed <<'TEXT'
+1 file put or removed: revision 13, 0 faults, 0 operations are not served
+TEXT
+curl -s -X DELETE "http://$to/schema/more" > /dev/null
+rm team/schema/more.graphql
+try 'a removal of a file that is not there is made' 0 "$gqlreg" push team --to "$to" --state pushed --force <<'TEXT'
+2 files put or removed: revision 15, 0 faults, 0 operations are not served
 TEXT
 try 'push again with it' 0 "$gqlreg" push team --to "$to" --state pushed <<TEXT
-nothing to push: $to is at revision 10
+nothing to push: $to is at revision 15
 TEXT
 has 'a state that cannot be written' 2 'nowhere/pushed cannot be written' "$gqlreg" push team --to "$to" --state nowhere/pushed --all
 mkdir -p long/documents

@@ -2,14 +2,16 @@
 """Checks a report of `gqlreg check --format sarif` against SARIF 2.1.0: tests/sarif.py FILE.
 
 It states the rules of the standard (OASIS SARIF 2.1.0) for the members that the report has: which are
-required, their types, which values they may have, and the references from results to rules. It does not
-validate against the JSON schema of the standard. Prints the mistakes, then `N results, M mistakes`; the
+required, their types, which values they may have, and the references from results to rules. The driver has
+a version, and each result a fingerprint of its own. It does not validate against the JSON schema of the
+standard. Prints the mistakes, then `N results, M mistakes`; the
 status is 1 where there are some."""
 import json
 import re
 import sys
 
 mistakes = []
+fingerprints = set()
 
 
 def wrong(at, what):
@@ -78,7 +80,8 @@ def check_rule(at, rule, ids):
 
 
 def check_result(at, result, ids):
-    optional = ['ruleIndex', 'level', 'locations', 'relatedLocations', 'baselineState']
+    optional = ['ruleIndex', 'level', 'locations', 'relatedLocations', 'baselineState',
+                'partialFingerprints']
     if not members(at, result, ['ruleId', 'message'], optional):
         return
     message(f'{at}.message', result['message'])
@@ -96,11 +99,20 @@ def check_result(at, result, ids):
     for name in ('locations', 'relatedLocations'):
         for number, place in enumerate(result.get(name, [])):
             location(f'{at}.{name}[{number}]', place)
+    # 3.27.17: texts by name; no two results of a run are the same, so no two have the same
+    prints = result.get('partialFingerprints')
+    if not typed(f'{at}.partialFingerprints', prints, dict):
+        return
+    for name, value in prints.items():
+        if typed(f'{at}.partialFingerprints.{name}', value, str) and value in fingerprints:
+            wrong(f'{at}.partialFingerprints.{name}', f'{value} is that of another result')
+        fingerprints.add(value)
 
 
 def check_invocation(at, invocation):
     # 3.20.14: whether the tool ran to its end
-    if not members(at, invocation, ['executionSuccessful'], ['toolExecutionNotifications']):
+    if not members(at, invocation, ['executionSuccessful'],
+                   ['toolExecutionNotifications', 'properties']):
         return
     typed(f'{at}.executionSuccessful', invocation['executionSuccessful'], bool)
     for number, note in enumerate(invocation.get('toolExecutionNotifications', [])):
@@ -118,7 +130,8 @@ def check_run(at, run):
     ids = []
     if members(f'{at}.tool', run['tool'], ['driver']):
         driver = run['tool']['driver']
-        if members(f'{at}.tool.driver', driver, ['name'], ['rules', 'version', 'informationUri']):
+        if members(f'{at}.tool.driver', driver, ['name', 'version'], ['rules', 'informationUri']):
+            typed(f'{at}.tool.driver.version', driver['version'], str)
             for number, rule in enumerate(driver.get('rules', [])):
                 check_rule(f'{at}.tool.driver.rules[{number}]', rule, ids)
     for number, result in enumerate(run['results']):

@@ -23,7 +23,7 @@ faulty false known = (λ e p. cc (known.1 p), λ h. refl)
 
 -- the parts are those of a check
 pub together : (label : List ℕ) (given : List GivenFile) (f p : Folder) (files held : Files) (ds : List Definition) (faults : List Fault) (x : Findings) → p ≡ f → held ≡ files
-    → ds ≡ all_definitions held.documents → IsReport files faults → AllZip (IsSource label) given x.sources.items → AllZip (IsFinding p ds) faults x.findings.items
+    → ds ≡ all_definitions held.documents → IsReport files faults → AllZip (IsSource label) given x.sources.items → AllZip (IsFinding p held ds) faults x.findings.items
     → x.operations.items ≡ flat_map (operation_in p) ds → AreAffected p (fact_of held) (is_owner faults) ds x.affected.items → (is : Bool) → (IsTrue is ↔ IsSound files)
     → x.schema_is_faulty ≡ not is → IsFound label given f files x
 together label given f p files held ds faults x folder same all report sources findings operations affected is sound schema =
@@ -35,7 +35,7 @@ together label given f p files held ds faults x folder same all report sources f
       faults = faults;
       report = reported;
       sources = sources;
-      findings = subst (λ es. AllZip (IsFinding p es) faults x.findings.items) all findings;
+      findings = subst (λ es. AllZip (IsFinding p held es) faults x.findings.items) all findings;
       operations = subst (λ es. x.operations.items ≡ flat_map (operation_in p) es) all operations;
       affected = subst (λ es. AreAffected p (fact_of held) (is_owner faults) es x.affected.items) all affected;
       schema_is_faulty = subst (λ b. IsTrue b ↔ (IsSound held → ⊥)) (sym schema) (faulty is known);

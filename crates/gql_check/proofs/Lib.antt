@@ -4,3 +4,4 @@ mod Marks
 mod Serving
 mod Refused
 mod Found
+mod Homes

@@ -1,8 +1,9 @@
 -- One item more of a list.
-use Rattle.std.proofs.Common.{◌≡◌, ◌<◌, ◌+◌, ◌∙◌, ℕ, List, [], ◌∷◌, ◌++◌, length, map, take, get_or, ap, sym, subst, flat_map, Bool, true, false, Result, Ok, Err, OnOk, append-nil, Contains, inl, inr}
+use Rattle.std.proofs.Common.{◌≡◌, ◌<◌, ◌+◌, ◌∙◌, ℕ, List, [], ◌∷◌, ◌++◌, length, map, take, get_or, ap, sym, subst, flat_map, Bool, true, false, Result, Ok, Err, OnOk, append-nil, Contains, inl, inr, Some, slice_get}
 use Rattle.std.specs.List.{AllZip}
 use Rattle.std.proofs.lemmas.List.{map-append, take_more}
 use Rattle.std.proofs.lemmas.Grind.{flat_map-append}
+use Rattle.std.proofs.lemmas.Option.{slice_get-get_or}
 use Rattle.std.proofs.lemmas.List.Elements.{Contains-push_cases}
 
 pub take_next : {A : Type 0} (xs : List A) (i : ℕ) (x : A) → i < length xs → x ≡ get_or xs i x → take (i + 1) xs ≡ take i xs ++ x ∷ []
@@ -52,3 +53,7 @@ differ b is not_so = absurd (cc (sym is ∙ not_so))
 pub ok_then : {T E : Type 0} {P Q : Type 0} (r : Result T E) → OnOk r P → (P → Q) → OnOk r Q
 ok_then (Ok v) h f = f h
 ok_then (Err e) h f = tt
+
+-- an item that was found at an index is the one there
+pub found_at : {A : Type 0} (xs ys : List A) (i : ℕ) (x : A) → ys ≡ xs → i < length ys → x ≡ get_or ys i x → slice_get xs i ≡ Some x
+found_at xs ys i x same within is = subst (λ zs. slice_get zs i ≡ Some x) same (slice_get-get_or ys i x within ∙ ap Some (sym is))

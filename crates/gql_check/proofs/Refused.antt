@@ -1,22 +1,25 @@
 -- Why the files of a folder are not put.
-use Rattle.std.proofs.Common.{◌≡◌, ◌==◌, ℕ, List, [], ◌∷◌, Some, true, Result, Ok, Err, IfErr, suc, arith, length, refl, slice_get, subst, sym}
+use Rattle.std.proofs.Common.{◌≡◌, ◌==◌, ◌+◌, ◌∙◌, ℕ, List, [], ◌∷◌, None, Option, Some, true, Result, Ok, Err, IfErr, zero, suc, arith, length, refl, slice_get, subst, sym}
 use Rattle.std.specs.Result.{IsErrAnd}
 use Rattle.std.proofs.lemmas.Bool.Decides.{nat_tests}
-use Rattle.gql_check.specs.Faults.{IsFault, IsRefusedFile, bad_folder, empty, memory, of_folder, refused}
+use Rattle.std.proofs.lemmas.List.{length-map}
+use Rattle.std.proofs.lemmas.Option.{slice_get_past}
+use Rattle.gql_check.specs.Faults.{AreRefused, IsFault, IsFileFault, also_accepted, bad_folder, empty, first_refused, memory, of_folder, refused}
 use Rattle.gql_check.specs.Loads.{IsFolderOf, folder_edits, folder_indices}
-use Rattle.gql_check.specs.Steps.{ArePuts, IsLoadFault, IsPutFault}
+use Rattle.gql_check.specs.Steps.{ArePuts, IsAnswer, IsLoadFault, IsPutFault}
 use Rattle.gql_check.specs.declared.fault.CheckFault.{CheckFault}
 use Rattle.gql_check.specs.declared.fault.CheckFault.TheVariants.{Empty, TooMany, Twice, Misnamed, Refused, Memory}
+use Rattle.gql_check.specs.declared.fault.FileFault.{FileFault}
 use Rattle.gql_check.specs.declared.loading.Puts.{Puts}
 use Rattle.gql_folder.specs.Folders.{IsFolder, IsFolderFault, paths_of}
 use Rattle.gql_folder.specs.declared.folder.Folder.{Folder}
 use Rattle.gql_folder.specs.declared.folder.FolderFault.{FolderFault}
 use Rattle.gql_folder.specs.declared.folder.GivenFile.{GivenFile}
-use Rattle.gql_registry.specs.Edits.{Edit}
-use Rattle.gql_registry.specs.Loading.{IsLoadRefusal, IsRefusedAt, edits_of}
+use Rattle.gql_registry.specs.Edits.{Edit, IsAccepted, IsFirstRefusal}
+use Rattle.gql_registry.specs.Loading.{IsLoadRefusal, IsRefusedAt, MakesAll, done, step, edit_of, edits_of}
 use Rattle.gql_registry.specs.State as state
 use Rattle.gql_registry.specs.State.{State}
-use Rattle.gql_registry.specs.declared.loading.PutRefusal.{PutRefusal}
+use Rattle.gql_registry.specs.declared.loading.GivenPut.{GivenPut}
 use Rattle.gql_registry.specs.declared.refusal.Refusal.{Refusal}
 use Rattle.gql_registry.specs.declared.refusal.Refusal.TheVariants as refusal
 
@@ -51,22 +54,52 @@ at_index s edits at refusal.TooLarge other h = h
 at_index s edits at refusal.Memory other h = absurd (other refl)
 at_index s edits at refusal.Spent other h = h
 
--- the refusal of a put is that of a file of the folder
-pub load_fault : (given : List GivenFile) (f : Folder) (p : Puts) → ArePuts given f p → (r : PutRefusal) → IsLoadRefusal state.empty (edits_of p.puts.items) r.at r.refusal
-    → (c : CheckFault) → IsPutFault p.indices.items r c → IsLoadFault given f c
-load_fault given f p puts r h Empty is = absurd is
-load_fault given f p puts r h (TooMany side) is = absurd is
-load_fault given f p puts r h (Twice first at) is = absurd is
-load_fault given f p puts r h (Misnamed at) is = absurd is
-load_fault given f p puts r h Memory is = tt
-load_fault given f p puts r h (Refused e) is = record {
-  at = r.at;
-  refusal = r.refusal;
-  refused = subst (λ edits. IsRefusedAt state.empty edits r.at r.refusal) puts.edits (at_index state.empty _ r.at r.refusal is.0 h);
-  file = is.1;
-  index = subst (λ indices. slice_get indices r.at ≡ Some is.1) puts.indices is.2;
-  fault = is.3;
-}
+-- an edit alone that is accepted
+pub accepted_alone : (s t : State) (e : Edit) → s ≡ state.empty → MakesAll s (e ∷ []) t → IsAccepted state.empty None e
+accepted_alone s t e is (step accepts leaves more) = subst (λ x. IsAccepted x None e) is accepts
+
+left_same : (s t : State) (edits : List Edit) → edits ≡ [] → MakesAll s edits t → t ≡ s
+left_same s _ _ none done = refl
+left_same s t (e ∷ edits) none (step accepts leaves more) = absurd (cc none)
+
+first_alone : (s : State) (e : Edit) (at : ℕ) (r : Refusal) → IsRefusedAt s (e ∷ []) at r → IsFirstRefusal s None e r
+first_alone s e zero r h =
+    subst (λ x. IsFirstRefusal x None e r) (left_same s h.left [] refl h.before)
+    (subst (λ x. IsFirstRefusal h.left None x r) (sym (same e h.edit h.there)) h.first)
+  where
+    same : (a b : Edit) → slice_get (a ∷ []) 0 ≡ Some b → a ≡ b
+    same a b is = cc is
+first_alone s e (suc n) r h = absurd (past n h.there)
+  where
+    past : (n : ℕ) → slice_get (e ∷ []) (suc n) ≡ Some h.edit → ⊥
+    past n is = cc (sym (slice_get_past (e ∷ []) (suc n) (omega arith)) ∙ is)
+
+-- an edit alone that is refused
+pub refused_alone : (s : State) (e : Edit) (at : ℕ) (r : Refusal) → s ≡ state.empty → (r ≡ refusal.Memory → ⊥) → IsLoadRefusal s (e ∷ []) at r → IsFirstRefusal state.empty None e r
+refused_alone s e at r is other h = subst (λ x. IsFirstRefusal x None e r) is (first_alone s e at r (at_index s (e ∷ []) at r other h))
+
+-- the edit of the put at an index is the one at that index
+pub edit_there : (puts : List GivenPut) (at : ℕ) (p : GivenPut) → slice_get puts at ≡ Some p → slice_get (edits_of puts) at ≡ Some (edit_of p)
+edit_there [] at p is = absurd (cc is)
+edit_there (q ∷ puts) zero p is = cc is
+edit_there (q ∷ puts) (suc n) p is = edit_there puts n p is
+
+-- the first file that is refused
+pub refused_first : (edits : List Edit) (indices : List ℕ) (at file : ℕ) (r : Refusal) (e : FileFault) → (r ≡ refusal.Memory → ⊥) → IsLoadRefusal state.empty edits at r
+    → slice_get indices at ≡ Some file → IsFileFault file r e → AreRefused edits indices (at + 1) (e ∷ [])
+refused_first edits indices at file r e other h index fault = first_refused at r (at_index state.empty edits at r other h) index fault
+
+-- the fault of the files that are put is that of the files of the folder
+pub load_fault : (given : List GivenFile) (f : Folder) (p : Puts) → ArePuts given f p → (c : CheckFault) → IsPutFault p c → IsLoadFault given f c
+load_fault given f p puts Empty is = absurd is
+load_fault given f p puts (TooMany side) is = absurd is
+load_fault given f p puts (Twice first at) is = absurd is
+load_fault given f p puts (Misnamed at) is = absurd is
+load_fault given f p puts Memory is = tt
+load_fault given f p puts (Refused es) is =
+    subst (λ indices. AreRefused (folder_edits given f) indices (length (folder_edits given f)) es.items) puts.indices
+    (subst (λ edits. AreRefused edits p.indices.items (length edits) es.items) puts.edits
+    (subst (λ n. AreRefused (edits_of p.puts.items) p.indices.items n es.items) (sym (length-map p.puts.items edit_of)) is))
 
 -- why the files of a folder are not put is why they are not checked
 pub loading_fault : (given : List GivenFile) (f : Folder) → IsFolderOf given f → (c : CheckFault) → IsLoadFault given f c → IsFault given c
@@ -75,9 +108,19 @@ loading_fault given f h (TooMany side) is = absurd is
 loading_fault given f h (Twice first at) is = absurd is
 loading_fault given f h (Misnamed at) is = absurd is
 loading_fault given f h Memory is = memory
-loading_fault given f h (Refused e) is = refused f h is
+loading_fault given f h (Refused es) is = refused f h is
 
 -- what holds of an error holds of the answer that returns it
 pub err_of : {T E : Type 0} (P : E → Type 0) (r : Result T E) (e : E) → IsErrAnd r (λ x. x ≡ e) → P e → IfErr r P
 err_of P (Ok v) e is h = absurd is
 err_of P (Err x) e is h = subst P (sym is) h
+
+-- an answer that is no refusal accepts the edit
+answered : (e : Edit) (o : Option Refusal) → IsAnswer e o → ((r : Refusal) → o ≡ Some r → ⊥) → IsAccepted state.empty None e
+answered e None h none = h
+answered e (Some r) h none = absurd (none r refl)
+
+-- a file that a new registry accepts is left out
+pub left_out : (puts : List GivenPut) (indices : List ℕ) (at : ℕ) (p : GivenPut) (es : List FileFault) (o : Option Refusal) → slice_get puts at ≡ Some p → IsAnswer (edit_of p) o
+    → ((r : Refusal) → o ≡ Some r → ⊥) → AreRefused (edits_of puts) indices at es → AreRefused (edits_of puts) indices (at + 1) es
+left_out puts indices at p es o there h none before = also_accepted at (edit_of p) before (edit_there puts at p there) (answered (edit_of p) o h none)

@@ -23,7 +23,8 @@ pub record IsFound (label : List ℕ) (given : List GivenFile) (f : Folder) (fil
   pub faults : List Fault
   pub report : IsReport files faults
   pub sources : AllZip (IsSource label) given found.sources.items
-  pub findings : AllZip (IsFinding f (all_definitions files.documents)) faults found.findings.items
+  pub findings : AllZip (IsFinding f files (all_definitions files.documents)) faults
+      found.findings.items
   pub operations : found.operations.items
       ≡ flat_map (operation_in f) (all_definitions files.documents)
   pub affected : AreAffected f (fact_of files) (is_owner faults) (all_definitions files.documents)

@@ -1,5 +1,5 @@
 -- Why the files of a folder are not checked.
-use Rattle.std.specs.Prelude.{ℕ, ◌≡◌, List, [], Option, Some, None, codes, length, slice_get}
+use Rattle.std.specs.Prelude.{ℕ, ◌≡◌, ◌+◌, List, [], ◌∷◌, ◌++◌, Option, Some, None, codes, length, slice_get}
 use Rattle.gql_check.specs.Loads.{IsFolderOf, folder_edits, folder_indices}
 use Rattle.gql_check.specs.declared.fault.CheckFault.{CheckFault}
 use Rattle.gql_check.specs.declared.fault.CheckFault.TheVariants.{Empty, TooMany, Twice, Misnamed, Refused, Memory}
@@ -9,6 +9,7 @@ use Rattle.gql_folder.specs.declared.folder.Folder.{Folder}
 use Rattle.gql_folder.specs.declared.folder.FolderFault.{FolderFault}
 use Rattle.gql_folder.specs.declared.folder.FolderFault.TheVariants as folder
 use Rattle.gql_folder.specs.declared.folder.GivenFile.{GivenFile}
+use Rattle.gql_registry.specs.Edits.{Edit, IsAccepted, IsFirstRefusal}
 use Rattle.gql_registry.specs.Loading.{IsRefusedAt}
 use Rattle.gql_registry.specs.Refusals.{number_of, syntax_message}
 use Rattle.gql_registry.specs.State as state
@@ -38,15 +39,34 @@ pub record IsFileFault (at : ℕ) (r : Refusal) (e : FileFault) : Type 0 where
   pub number : e.number ≡ number_of r
   pub reason : e.reason.now ≡ reason_of r
 
--- A file of a folder is refused: those before it are accepted in turn by a new registry, and it is
--- refused in the state that they leave.
-pub record IsRefusedFile (given : List GivenFile) (f : Folder) (e : FileFault) : Type 0 where
-  pub at : ℕ
-  pub refusal : Refusal
-  pub refused : IsRefusedAt state.empty (folder_edits given f) at refusal
-  pub file : ℕ
-  pub index : slice_get (folder_indices f) at ≡ Some file
-  pub fault : IsFileFault file refusal e
+-- Of the first `count` of these edits, which put the files at these indices, those that are
+-- refused, in their order. The edits before the first of them are accepted in turn by a new
+-- registry, and it is refused in the state that they leave; each of the others is refused by a new
+-- registry.
+pub data AreRefused (edits : List Edit) (indices : List ℕ) : ℕ → List FileFault → Type 0 where
+  -- the first file that is refused
+  first_refused : {file : ℕ} {e : FileFault} (at : ℕ) (r : Refusal)
+      → IsRefusedAt state.empty edits at r → slice_get indices at ≡ Some file → IsFileFault file r e
+      → AreRefused edits indices (at + 1) (e ∷ [])
+  -- a file after it is refused, too
+  also_refused : {es : List FileFault} {file : ℕ} {e : FileFault} (at : ℕ) (edit : Edit)
+      (r : Refusal) → AreRefused edits indices at es → slice_get edits at ≡ Some edit
+      → IsFirstRefusal state.empty None edit r → slice_get indices at ≡ Some file
+      → IsFileFault file r e → AreRefused edits indices (at + 1) (es ++ e ∷ [])
+  -- a file after it is accepted
+  also_accepted : {es : List FileFault} (at : ℕ) (edit : Edit) → AreRefused edits indices at es
+      → slice_get edits at ≡ Some edit → IsAccepted state.empty None edit
+      → AreRefused edits indices (at + 1) es
+
+-- these are the files of a folder that are refused
+abbrev pub AreRefusedFiles : List GivenFile → Folder → List FileFault → Type 0
+AreRefusedFiles given f es =
+    AreRefused (folder_edits given f) (folder_indices f) (length (folder_edits given f)) es
+
+-- the files of a folder are refused
+abbrev pub IsRefusal : List GivenFile → Folder → CheckFault → Type 0
+IsRefusal given f (Refused es) = AreRefusedFiles given f es.items
+IsRefusal given f _ = ⊥
 
 -- the fault of a folder, as one of a check
 abbrev pub of_folder : FolderFault → CheckFault
@@ -63,8 +83,8 @@ pub data IsFault (given : List GivenFile) : CheckFault → Type 0 where
   -- their paths are not those of the files of a registry
   bad_folder : {c : CheckFault} (e : FolderFault) → IsFolderFault (paths_of given) e
       → c ≡ of_folder e → IsFault given c
-  -- a file is refused
-  refused : {e : FileFault} (f : Folder) → IsFolderOf given f → IsRefusedFile given f e
-      → IsFault given (Refused e)
+  -- files are refused
+  refused : {c : CheckFault} (f : Folder) → IsFolderOf given f → IsRefusal given f c
+      → IsFault given c
   -- an allocation failed
   memory : IsFault given Memory

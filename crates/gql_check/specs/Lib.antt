@@ -2,6 +2,7 @@ pub mod Affected
 pub mod Checks
 pub mod Faults
 pub mod Findings
+pub mod Homes
 pub mod Loads
 pub mod Owners
 pub mod Spots

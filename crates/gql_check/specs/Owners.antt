@@ -13,6 +13,7 @@ use Rattle.gql_check.specs.Spots.{spot_of, start_of}
 use Rattle.gql_findings.specs.declared.finding.Owner.{Owner}
 use Rattle.gql_findings.specs.declared.finding.Owner.TheVariants as owner
 use Rattle.gql_findings.specs.declared.finding.OwnerAt.{OwnerAt}
+use Rattle.gql_findings.specs.declared.finding.SystemKind.TheVariants as system
 use Rattle.gql_folder.specs.declared.folder.Folder.{Folder}
 
 -- whether a definition starts at a place of a document file: it is in that file, at that offset
@@ -36,26 +37,26 @@ is_owner faults d = list_any (is_owned_by d) faults
 abbrev pub name_of : Operation → Option (List ℕ)
 name_of o = option_map (λ (n : Name). n.text) o.name
 
--- a definition of a document, by its kind and its name
-abbrev pub owner_of : Tree → Option Owner
-owner_of (tree.Operation o) = Some (owner.Operation o.kind (name_of o))
-owner_of (tree.Fragment f) = Some (owner.Fragment f.name.text)
-owner_of _ = None
+-- a definition, by its kind and its name
+abbrev pub owner_of : Tree → Owner
+owner_of (tree.Operation o) = owner.Operation o.kind (name_of o)
+owner_of (tree.Fragment f) = owner.Fragment f.name.text
+owner_of (tree.Schema d) = owner.TypeSystem system.Schema None
+owner_of (tree.Type d) = owner.TypeSystem system.Type (Some d.name.text)
+owner_of (tree.Directive d) = owner.TypeSystem system.Directive (Some d.name.text)
+owner_of (tree.SchemaExtension e) = owner.TypeSystem system.SchemaExtension None
+owner_of (tree.TypeExtension e) = owner.TypeSystem system.TypeExtension (Some e.name.text)
 
--- The definition that owns a fault, and where it starts: the operation or the fragment that is at
--- the place of the owner, if there is one.
+-- The definition that owns a fault, and where it starts: the one at the place of the owner, if
+-- there is one.
 pub data IsOwnerAt (f : Folder) (definitions : List Definition) : Option FilePlace
     → Option OwnerAt → Type 0 where
   -- the fault has no owner
   none : IsOwnerAt f definitions None None
   -- the owner is this definition
-  found : {p : FilePlace} (d : Definition) (o : Owner) → Contains definitions d
-      → is_at p d ≡ true → owner_of d.tree ≡ Some o
+  found : {p : FilePlace} (d : Definition) → Contains definitions d → is_at p d ≡ true
       → IsOwnerAt f definitions (Some p)
-      (Some (record { owner = o; spot = spot_of f (start_of d) }))
-  -- a definition of another kind is there
-  other : {p : FilePlace} (d : Definition) → Contains definitions d → is_at p d ≡ true
-      → owner_of d.tree ≡ None → IsOwnerAt f definitions (Some p) None
+      (Some (record { owner = owner_of d.tree; spot = spot_of f (start_of d) }))
   -- no definition is there
   missing : {p : FilePlace} → ((d : Definition) → Contains definitions d → is_at p d ≡ true → ⊥)
       → IsOwnerAt f definitions (Some p) None

@@ -1,5 +1,5 @@
 -- Helper definitions for private contracts: what the parts of a check come to.
-use Rattle.std.specs.Prelude.{ℕ, ◌≡◌, ◌⊎◌, List, [], ◌∷◌, ◌++◌, Bool, true, false, Contains, Option, Some, None, slice_get}
+use Rattle.std.specs.Prelude.{ℕ, ◌≡◌, List, [], ◌∷◌, ◌++◌, Bool, true, false, Contains, Option, Some, None, length}
 use Rattle.std.specs.BTreeMap.{BTreeMap, get}
 use Rattle.std.specs.BTreeSet.{BTreeSet, contains}
 use Rattle.std.specs.Ordering.{nat_cmp, ordering_then}
@@ -11,7 +11,7 @@ use Rattle.gql_ast.specs.declared.executable.Operation.{Operation}
 use Rattle.gql_ast.specs.declared.fault.Fault.{Fault}
 use Rattle.gql_ast.specs.declared.fault.FilePlace.{FilePlace}
 use Rattle.gql_check.specs.Affected.{AreAffected, Breaks, definition_of}
-use Rattle.gql_check.specs.Faults.{IsFileFault, IsRefusedFile}
+use Rattle.gql_check.specs.Faults.{AreRefused, AreRefusedFiles}
 use Rattle.gql_check.specs.Loads.{folder_edits, folder_indices}
 use Rattle.gql_check.specs.Owners.{is_at, is_owner, name_of}
 use Rattle.gql_check.specs.Spots.{index_in}
@@ -28,9 +28,10 @@ use Rattle.gql_findings.specs.declared.finding.Spot.{Spot}
 use Rattle.gql_folder.specs.declared.folder.Folder.{Folder}
 use Rattle.gql_folder.specs.declared.folder.GivenFile.{GivenFile}
 use Rattle.gql_folder.specs.declared.folder.NamedFile.{NamedFile}
+use Rattle.gql_registry.specs.Edits.{Edit, IsAccepted, IsFirstRefusal}
 use Rattle.gql_registry.specs.Loading.{edits_of}
-use Rattle.gql_registry.specs.declared.loading.PutRefusal.{PutRefusal}
-use Rattle.gql_registry.specs.declared.refusal.Refusal.TheVariants as refusal
+use Rattle.gql_registry.specs.State.{empty}
+use Rattle.gql_registry.specs.declared.refusal.Refusal.{Refusal}
 
 -- ---- places
 
@@ -120,16 +121,20 @@ pub record ArePuts (given : List GivenFile) (f : Folder) (p : Puts) : Type 0 whe
   pub edits : edits_of p.puts.items ≡ folder_edits given f
   pub indices : p.indices.items ≡ folder_indices f
 
--- The fault of a file that a put refuses, or that an allocation failed. A refusal of a put that is
--- not there has no file.
-abbrev pub IsPutFault : List ℕ → PutRefusal → CheckFault → Type 0
-IsPutFault indices r (Refused e) = (r.refusal ≡ refusal.Memory → ⊥) × (file : ℕ)
-    × (slice_get indices r.at ≡ Some file) × IsFileFault file r.refusal e
-IsPutFault indices r Memory = (r.refusal ≡ refusal.Memory) ⊎ (slice_get indices r.at ≡ None)
-IsPutFault indices r _ = ⊥
+-- what a new registry answers to an edit: nothing if it accepts it, or its refusal
+abbrev pub IsAnswer : Edit → Option Refusal → Type 0
+IsAnswer e None = IsAccepted empty None e
+IsAnswer e (Some r) = IsFirstRefusal empty None e r
+
+-- The files that are refused when all are put, or that an allocation failed.
+abbrev pub IsPutFault : Puts → CheckFault → Type 0
+IsPutFault p (Refused es) =
+    AreRefused (edits_of p.puts.items) p.indices.items (length p.puts.items) es.items
+IsPutFault p Memory = Unit {0}
+IsPutFault p _ = ⊥
 
 -- why the files of a folder are not put
 abbrev pub IsLoadFault : List GivenFile → Folder → CheckFault → Type 0
 IsLoadFault given f Memory = Unit {0}
-IsLoadFault given f (Refused e) = IsRefusedFile given f e
+IsLoadFault given f (Refused es) = AreRefusedFiles given f es.items
 IsLoadFault given f _ = ⊥

@@ -40,7 +40,7 @@ fn found_in(
     let affected = affected_of(alloc, files, definitions, &places, faults.as_slice())?;
     Ok(Findings {
         sources: sources_of(alloc, label, given)?,
-        findings: findings_of(alloc, definitions, &places, faults.as_slice())?,
+        findings: findings_of(alloc, files, definitions, &places, faults.as_slice())?,
         operations: operations_of(alloc, &places, definitions)?,
         affected,
         schema_is_faulty: !is_sound,

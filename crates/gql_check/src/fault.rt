@@ -36,9 +36,9 @@ pub enum CheckFault {
     /// The file at this index has a path that gives no name of a registry.
     #[error("a file has a name that is not accepted")]
     Misnamed { at: usize },
-    /// A file is refused.
+    /// Files are refused: at least one, in the order in which files are put.
     #[error("a file is refused")]
-    Refused(FileFault),
+    Refused(Vec<FileFault>),
     /// An allocation failed.
     #[error("out of memory")]
     Memory,

@@ -8,10 +8,12 @@ ghost use Rattle.gql_check.specs.Owners as spec;
 ghost use Rattle.gql_check.specs.Owners.{IsOwnerAt};
 ghost use Rattle.gql_check.specs.Spots.{spot_of};
 ghost use Rattle.gql_check.specs.Steps.{IsFoundIn};
+ghost use Rattle.gql_findings.specs.declared.finding.Owner.TheVariants.{TypeSystem};
 
+use crate::home::definition_of;
 use crate::places::{Places, start_of};
-use gql_ast::{Definition, Fault, FilePlace, Operation, Text, Tree};
-use gql_findings::{Finding, Owner, OwnerAt, Spot};
+use gql_ast::{Definition, Fault, FilePlace, Files, Operation, Text, Tree};
+use gql_findings::{Finding, Owner, OwnerAt, Spot, SystemKind};
 use std::alloc::{AllocError, Global};
 
 /// The name of an operation, if it has one.
@@ -24,20 +26,39 @@ pub fn name_of(operation: &Operation) -> Result<Option<Text>, AllocError>
     }
 }
 
-/// A definition of a document, as the owner of faults.
-fn owner_of(tree: &Tree) -> Result<Option<Owner>, AllocError>
+/// The owner that a definition of the type system is.
+fn system(kind: SystemKind, name: Option<&Text>) -> Result<Owner, AllocError>
+    ensures { IfOk result (λ owner. owner ≡ TypeSystem kind (option_copied name.entry)) }
+{
+    let name = match name {
+        Some(name) => Some(name.copy()?),
+        None => None,
+    };
+    Ok(Owner::TypeSystem { kind, name })
+}
+
+/// A definition, as the owner of faults.
+pub fn owner_of(tree: &Tree) -> Result<Owner, AllocError>
     ensures { IfOk result (λ owner. owner ≡ spec.owner_of tree.now) }
 {
     match tree {
         Tree::Operation(operation) => {
             let operation = operation.get();
-            Ok(Some(Owner::Operation {
+            Ok(Owner::Operation {
                 kind: operation.kind,
                 name: name_of(operation)?,
-            }))
+            })
         }
-        Tree::Fragment(fragment) => Ok(Some(Owner::Fragment(fragment.get().name.text.copy()?))),
-        _ => Ok(None),
+        Tree::Fragment(fragment) => Ok(Owner::Fragment(fragment.get().name.text.copy()?)),
+        Tree::Schema(_) => system(SystemKind::Schema, None),
+        Tree::Type(definition) => system(SystemKind::Type, Some(&definition.get().name.text)),
+        Tree::Directive(definition) => {
+            system(SystemKind::Directive, Some(&definition.get().name.text))
+        }
+        Tree::SchemaExtension(_) => system(SystemKind::SchemaExtension, None),
+        Tree::TypeExtension(extension) => {
+            system(SystemKind::TypeExtension, Some(&extension.get().name.text))
+        }
     }
 }
 
@@ -95,13 +116,10 @@ fn owner_at(
     let Some(definition) = find_at(definitions, place) else {
         return Ok(None);
     };
-    match owner_of(&definition.tree)? {
-        Some(owner) => Ok(Some(OwnerAt {
-            owner,
-            spot: places.spot(&start_of(definition)),
-        })),
-        None => Ok(None),
-    }
+    Ok(Some(OwnerAt {
+        owner: owner_of(&definition.tree)?,
+        spot: places.spot(&start_of(definition)),
+    }))
 }
 
 /// Places of a report, as places in the files given.
@@ -118,34 +136,38 @@ fn spots_of(alloc: Global, places: &Places, at: &[FilePlace]) -> Result<Vec<Spot
 /// A fault of a report, with its places and its owner.
 fn finding_of(
     alloc: Global,
+    files: &Files,
     definitions: &[&Definition],
     places: &Places,
     fault: &Fault,
 ) -> Result<Finding, AllocError>
     ensures { IfOk result
-        (IsFinding places.now (map (λ d. d.now) definitions.now) fault.now) }
+        (IsFinding places.now files.now (map (λ d. d.now) definitions.now) fault.now) }
 {
     Ok(Finding {
         rule: fault.rule,
         about: fault.about.copy()?,
         spots: spots_of(alloc, places, fault.places.as_slice())?,
         owner: owner_at(definitions, places, &fault.owner)?,
+        definition: definition_of(files, fault)?,
     })
 }
 
-/// The faults of a report.
+/// The faults of a report of these files. These are the definitions of the document files.
 pub fn findings_of(
     alloc: Global,
+    files: &Files,
     definitions: &[&Definition],
     places: &Places,
     faults: &[Fault],
 ) -> Result<Vec<Finding>, AllocError>
     ensures { IfOk result (λ findings. AllZip
-        (IsFinding places.now (map (λ d. d.now) definitions.now)) faults.now findings.items) }
+        (IsFinding places.now files.now (map (λ d. d.now) definitions.now))
+        faults.now findings.items) }
 {
     let mut findings = Vec::new(alloc);
     for fault in faults {
-        findings.push(finding_of(alloc, definitions, places, fault)?)?;
+        findings.push(finding_of(alloc, files, definitions, places, fault)?)?;
     }
     Ok(findings)
 }

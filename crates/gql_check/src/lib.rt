@@ -6,10 +6,12 @@ mod affected;
 mod check;
 mod fault;
 mod finding;
+mod home;
 mod loading;
 mod operations;
 mod owners;
 mod places;
+mod refusals;
 mod sources;
 mod words;
 

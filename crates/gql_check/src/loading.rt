@@ -5,21 +5,22 @@ ghost use Rattle.gql_check.specs.Faults as fault;
 ghost use Rattle.gql_check.specs.Faults.{IsFault};
 ghost use Rattle.gql_check.specs.Loads as spec;
 ghost use Rattle.gql_check.specs.Loads.{IsFolderOf, IsLoaded, folder_edits, folder_indices, indices_of, put_on};
-ghost use Rattle.gql_check.specs.Steps.{ArePuts, IsLoadFault, IsPutFault};
+ghost use Rattle.gql_check.specs.Steps.{ArePuts, IsLoadFault};
 ghost use Rattle.gql_registry.specs.Loading.{MakesAll, edit_of, edits_of};
 ghost use Rattle.gql_registry.specs.State.{empty, state_of};
 
-use crate::fault::{CheckFault, file_fault};
+use crate::fault::CheckFault;
+use crate::refusals::put_fault;
 use gql_ast::FileSide;
 use gql_folder::{Folder, GivenFile, NamedFile, read_folder};
-use gql_registry::{GivenPut, PutRefusal, Refusal, Registry};
+use gql_registry::{GivenPut, Registry};
 use gql_verdict::Meter;
 use std::alloc::{AllocError, Global};
 
 /// Files and data that are put, and the index of each among the files given.
 pub struct Puts<'g> {
-    puts: Vec<GivenPut<'g>>,
-    indices: Vec<usize>,
+    pub puts: Vec<GivenPut<'g>>,
+    pub indices: Vec<usize>,
 }
 
 impl Drop for Puts<'_> {
@@ -126,20 +127,6 @@ pub fn folder_of(alloc: Global, given: &[GivenFile]) -> Result<Folder, CheckFaul
     Ok(folder)
 }
 
-/// Why files are not put: the refusal of one of them, whose index among the files given is at the
-/// same index as the put.
-fn put_fault(indices: &[usize], refused: &PutRefusal) -> CheckFault
-    ensures { IsPutFault indices.now refused.now result }
-{
-    if matches!(refused.refusal, Refusal::Memory) {
-        return CheckFault::Memory;
-    }
-    match indices.get(refused.at) {
-        Some(file) => CheckFault::Refused(file_fault(*file, &refused.refusal)),
-        None => CheckFault::Memory,
-    }
-}
-
 /// The registry that putting the files of a folder one by one into a new one leaves.
 pub fn load(alloc: Global, folder: &Folder, given: &[GivenFile]) -> Result<Registry, CheckFault>
     ensures loaded { IfOk result (λ r.
@@ -151,13 +138,13 @@ pub fn load(alloc: Global, folder: &Folder, given: &[GivenFile]) -> Result<Regis
     let mut meter = Meter::new(alloc);
     match registry.put_all(puts.puts.as_slice(), &mut meter) {
         Ok(_) => Ok(registry),
-        Err(refused) => Err(put_fault(puts.indices.as_slice(), &refused)),
+        Err(refused) => Err(put_fault(alloc, &puts, &refused)),
     }
 }
 
 /// The registry that putting these files of a folder one by one into a new one leaves. It is
 /// refused if none of them is a file of a registry, if their paths are not those of a registry's
-/// files, and with the first file that the registry refuses.
+/// files, and with all files that the registry refuses.
 pub fn load_files(alloc: Global, given: &[GivenFile]) -> Result<Registry, CheckFault>
     ensures loaded { IfOk result (IsLoaded given.now) }
     ensures err { IfErr result (IsFault given.now) }

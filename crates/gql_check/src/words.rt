@@ -64,6 +64,23 @@ fn refused_text(
     Ok(out)
 }
 
+/// All files that are refused, each on a line of its own.
+fn all_refused_text(
+    alloc: Global,
+    folder: &str,
+    files: &[GivenFile],
+    faults: &[FileFault],
+) -> Result<String, AllocError> {
+    let mut out = String::new(alloc);
+    for fault in faults {
+        if !out.is_empty() {
+            out.push('\n')?;
+        }
+        out.push_str(refused_text(alloc, folder, files, fault)?.as_str())?;
+    }
+    Ok(out)
+}
+
 /// The name of the folder of a side.
 fn side_folder(side: FileSide) -> &'static str {
     match side {
@@ -100,26 +117,23 @@ pub fn refusal_text(
                 "{folder}/{path} has a name that is not accepted: 1 to 64 letters, digits, `_`, `.` and `-`"
             )
         }
-        CheckFault::Refused(fault) => refused_text(alloc, folder, files, fault),
+        CheckFault::Refused(faults) => all_refused_text(alloc, folder, files, faults.as_slice()),
         CheckFault::Memory => String::from_str(alloc, "out of memory"),
     }
 }
 
-/// Why a file given is refused, as an annotation of GitHub's build server, with a line break at its
-/// end. None for what is no fault of one file.
-pub fn refusal_annotation(
+/// Adds why a file given is refused, as an annotation, with a line break at its end.
+fn write_annotation(
     alloc: Global,
+    out: &mut String,
     folder: &str,
     files: &[GivenFile],
-    fault: &CheckFault,
-) -> Result<Option<String>, AllocError> {
-    let CheckFault::Refused(fault) = fault else {
-        return Ok(None);
-    };
+    fault: &FileFault,
+) -> Result<(), AllocError> {
     let path = path_at(files, fault.file);
     let path = format!(in alloc; "{folder}/{path}")?;
-    let mut out = String::from_str(alloc, "::error file=")?;
-    write_property(&mut out, path.as_str())?;
+    out.push_str("::error file=")?;
+    write_property(out, path.as_str())?;
     let (number, reason) = (fault.number, fault.reason);
     if let Some(place) = fault.place {
         let (line, column) = (place.line, place.column);
@@ -128,5 +142,23 @@ pub fn refusal_annotation(
     }
     let end = format!(in alloc; ",title={number}::{reason} ({number})\n")?;
     out.push_str(end.as_str())?;
+    Ok(())
+}
+
+/// Why files given are refused, as annotations of GitHub's build server, one for each, with a line
+/// break at the end of each. None for what is no fault of files.
+pub fn refusal_annotation(
+    alloc: Global,
+    folder: &str,
+    files: &[GivenFile],
+    fault: &CheckFault,
+) -> Result<Option<String>, AllocError> {
+    let CheckFault::Refused(faults) = fault else {
+        return Ok(None);
+    };
+    let mut out = String::new(alloc);
+    for fault in faults.as_slice() {
+        write_annotation(alloc, &mut out, folder, files, fault)?;
+    }
     Ok(Some(out))
 }

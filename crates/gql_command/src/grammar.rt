@@ -6,6 +6,7 @@ ghost use Rattle.gql_command.specs.Grammar.{at_once_option, command_line, connec
 ghost use Rattle.gql_command.specs.Grammar.{serve as serve_shape};
 
 use clap::{Arg, Command, value_parser};
+use gql_version::VERSION;
 use std::alloc::{AllocError, Global};
 
 /// The end of the program's help.
@@ -84,7 +85,7 @@ pub fn grammar<'a>(alloc: Global) -> Result<Command<'a>, AllocError>
         "Answers the HTTP/1.1 requests of standard input on standard output",
     );
     Command::new(alloc, "gqlreg")
-        .version("1.0.0")
+        .version(VERSION)
         .about("A registry of a GraphQL schema and of operations, over HTTP/1.1")
         .after_help(AFTER_HELP)
         .subcommand_required(true)

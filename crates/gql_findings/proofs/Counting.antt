@@ -18,8 +18,8 @@ blank = record {
   kind = 0;
   rule = record { ref_ptr = (0, 0); now = [] };
   about = record { ref_ptr = (0, 0); now = [] };
-  path = record { ref_ptr = (0, 0); now = [] };
-  line = record { ref_ptr = (0, 0); now = [] };
+  first = record { ref_ptr = (0, 0); now = [] };
+  second = record { ref_ptr = (0, 0); now = [] };
   owner = record { ref_ptr = (0, 0); now = [] };
 }
 

@@ -15,8 +15,8 @@ mark_of_cause c = record {
   kind = 0;
   rule = name_of c.rule;
   about = c.about;
-  path = [];
-  line = [];
+  first = [];
+  second = [];
   owner = [];
 }
 

@@ -1,10 +1,12 @@
--- What a comparison of two checks has: the faults that are brought and mended, and the operations
--- that are broken and healed.
-use Rattle.std.specs.Prelude.{ℕ, suc, List, [], ◌∷◌, Bool, false, ◌&&◌, ◌||◌, not, nat_le, nat_eq, bytes_eq, codes, count_by, filter, take, option_map, unwrap_or, slice_get, if◌then◌else◌}
+-- What a comparison of two checks has: the faults that are brought and mended, the operations that
+-- are broken and healed, and whether the documents are hidden.
+use Rattle.std.specs.Prelude.{ℕ, suc, List, [], ◌∷◌, Bool, false, ◌&&◌, ◌||◌, not, nat_le, nat_eq, bytes_eq, codes, count_by, filter, take, map, option_map, unwrap_or, slice_get, if◌then◌else◌}
 use Rattle.std.specs.List.{list_any, starts_with}
+use lib.Pointwise.{pointwise}
 use Rattle.gql_ast.specs.Rules.{name_of}
 use Rattle.gql_ast.specs.declared.rule.Rule.{Rule}
 use Rattle.gql_findings.specs.Marks.{Mark, same_mark, fault_marks, operation_marks, affected_marks}
+use Rattle.gql_findings.specs.Sources.{TextFile}
 use Rattle.gql_findings.specs.declared.finding.Findings.{Findings}
 
 -- the places at which the test holds, counted from i
@@ -59,3 +61,44 @@ abbrev pub newly_affected : Findings → Findings → List ℕ
 newly_affected here there =
     if here.schema_is_faulty || there.schema_is_faulty then []
     else places_from 0 (λ i mark. is_served there mark) (affected_marks here)
+
+-- the operations that are broken, by their places in the list of now: the base serves them
+abbrev pub broken : Findings → Findings → List ℕ
+broken now base = newly_affected now base
+
+-- the operations that are healed, by their places in the list of the base: now they are served
+abbrev pub healed : Findings → Findings → List ℕ
+healed now base = newly_affected base now
+
+-- whether a file is one of the schema, or one of the documents, by its path
+abbrev pub is_schema_file : TextFile → Bool
+is_schema_file s = starts_with nat_eq s.path (codes "schema/")
+
+abbrev pub is_document_file : TextFile → Bool
+is_document_file s = starts_with nat_eq s.path (codes "documents/")
+
+-- whether there is a document file
+abbrev pub has_documents : Findings → Bool
+has_documents f = list_any is_document_file f.sources.items
+
+-- a file by its path below its folder and its text
+abbrev pub path_and_text : TextFile → List ℕ × List ℕ
+path_and_text s = (s.path, s.text)
+
+-- the schema files
+abbrev pub schema_files : Findings → List (List ℕ × List ℕ)
+schema_files f = map path_and_text (filter is_schema_file f.sources.items)
+
+-- whether two paths and two texts are equal
+abbrev pub are_same_file : List ℕ × List ℕ → List ℕ × List ℕ → Bool
+are_same_file a b = bytes_eq a.0 b.0 && bytes_eq a.1 b.1
+
+-- whether two checks have the same schema files, byte for byte
+abbrev pub have_same_schema : Findings → Findings → Bool
+have_same_schema f g = pointwise are_same_file (schema_files f) (schema_files g)
+
+-- Whether the documents of now are hidden: they are not checked, since the schema has faults, and
+-- it is not the schema of the base, so that what the change does to them is not known.
+abbrev pub hidden : Findings → Findings → Bool
+hidden now base =
+    now.schema_is_faulty && has_documents now && not (have_same_schema now base)

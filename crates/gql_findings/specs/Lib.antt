@@ -1,9 +1,11 @@
 pub mod Causes
 pub mod Comparing
+pub mod Examples
 pub mod Gathering
 pub mod Keys
 pub mod LineSpans
 pub mod Marks
 pub mod SameMarks
 pub mod Sources
+pub mod Tokens
 pub mod Words

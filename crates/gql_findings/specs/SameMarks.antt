@@ -17,8 +17,8 @@ same_mark_equiv =
     (on_equiv (λ (m : Mark). m.kind) nat_eq_equiv)
     (on_equiv (λ (m : Mark). m.rule) nat_list_eq_equiv))
     (on_equiv (λ (m : Mark). m.about) nat_list_eq_equiv))
-    (on_equiv (λ (m : Mark). m.path) nat_list_eq_equiv))
-    (on_equiv (λ (m : Mark). m.line) nat_list_eq_equiv))
+    (on_equiv (λ (m : Mark). m.first) nat_list_eq_equiv))
+    (on_equiv (λ (m : Mark). m.second) nat_list_eq_equiv))
     (on_equiv (λ (m : Mark). m.owner) nat_list_eq_equiv)
 
 -- `same_key` is an equivalence of keys
@@ -34,12 +34,12 @@ both true false e = absurd (true≢false (sym e))
 both false y e = absurd (true≢false (sym e))
 
 make : ℕ → List ℕ → List ℕ → List ℕ → List ℕ → List ℕ → Mark
-make kind rule about path line owner = record {
+make kind rule about first second owner = record {
   kind = kind;
   rule = rule;
   about = about;
-  path = path;
-  line = line;
+  first = first;
+  second = second;
   owner = owner;
 }
 
@@ -48,27 +48,28 @@ pub same_mark_equal : (a b : Mark) → same_mark a b ≡ true → a ≡ b
 unfolding make
 same_mark_equal a b e =
     let owners = both _ _ e in
-    let lines = both _ _ owners.0 in
-    let paths = both _ _ lines.0 in
-    let abouts = both _ _ paths.0 in
+    let seconds = both _ _ owners.0 in
+    let firsts = both _ _ seconds.0 in
+    let abouts = both _ _ firsts.0 in
     let rules = both _ _ abouts.0 in
-    ap (λ x. make x a.rule a.about a.path a.line a.owner)
+    ap (λ x. make x a.rule a.about a.first a.second a.owner)
     ((unsigned_Decides a.kind b.kind).0 rules.0)
-    ∙ ap (λ x. make b.kind x a.about a.path a.line a.owner)
+    ∙ ap (λ x. make b.kind x a.about a.first a.second a.owner)
     ((bytes_eq-Decides a.rule b.rule).0 rules.1)
-    ∙ ap (λ x. make b.kind b.rule x a.path a.line a.owner)
+    ∙ ap (λ x. make b.kind b.rule x a.first a.second a.owner)
     ((bytes_eq-Decides a.about b.about).0 abouts.1)
-    ∙ ap (λ x. make b.kind b.rule b.about x a.line a.owner)
-    ((bytes_eq-Decides a.path b.path).0 paths.1)
-    ∙ ap (λ x. make b.kind b.rule b.about b.path x a.owner)
-    ((bytes_eq-Decides a.line b.line).0 lines.1)
-    ∙ ap (λ x. make b.kind b.rule b.about b.path b.line x)
+    ∙ ap (λ x. make b.kind b.rule b.about x a.second a.owner)
+    ((bytes_eq-Decides a.first b.first).0 firsts.1)
+    ∙ ap (λ x. make b.kind b.rule b.about b.first x a.owner)
+    ((bytes_eq-Decides a.second b.second).0 seconds.1)
+    ∙ ap (λ x. make b.kind b.rule b.about b.first b.second x)
     ((bytes_eq-Decides a.owner b.owner).0 owners.1)
 
 -- what of a mark is hashed: all its texts
 abbrev pub texts_of : Mark → List (List ℕ)
 texts_of m =
-    fed.str m.rule ++ fed.str m.about ++ fed.str m.path ++ fed.str m.line ++ fed.str m.owner
+    fed.str m.rule ++ fed.str m.about ++ fed.slice fed.u8 m.first ++ fed.slice fed.u8 m.second
+    ++ fed.str m.owner
 
 -- equal keys are hashed alike
 pub same_key_hashes : (a b : Key) → same_key a b ≡ true

@@ -4,6 +4,7 @@ ghost use Rattle.std.specs.Prelude.{◌≡◌, filter, IfOk};
 ghost use Rattle.gql_findings.specs.Comparing as spec;
 
 use crate::finding::Findings;
+use crate::hiding::hides_documents;
 use crate::marks::fault_keys;
 use crate::pairing::unpaired;
 use crate::served::newly_affected;
@@ -12,22 +13,26 @@ use std::alloc::{AllocError, Global};
 
 /// What a change does: the faults that it brings, and the operations that it breaks, by their
 /// places in the lists of now; the faults that it mends, and the operations that it heals, by their
-/// places in the lists of the base.
+/// places in the lists of the base; and whether the documents of now are hidden.
 ///
 /// A fault of now is brought unless the base is known to have it. Where the schema of the base has
 /// faults, its documents were not checked, so that each fault of a document is brought. A fault of
 /// the base is mended if it is known to be gone: while the schema of now has faults, that is not
 /// known of faults of documents. While either schema has faults, no operation is broken or healed.
+///
+/// The documents of now are hidden if its schema has faults, so that they are not checked, and its
+/// schema files are not those of the base: what the change does to them is not known.
 #[derive(Debug, Drop)]
 pub struct Comparison {
     pub brought: Vec<usize>,
     pub mended: Vec<usize>,
     pub broken: Vec<usize>,
     pub healed: Vec<usize>,
+    pub hidden: bool,
 }
 
 /// Whether the rule is one on the schema.
-fn is_of_schema(rule: Rule) -> bool
+pub fn is_of_schema(rule: Rule) -> bool
     ensures { result ≡ spec.is_of_schema rule }
 {
     let name = rule.name();
@@ -74,8 +79,9 @@ pub fn compare<'f>(
 ) -> Result<Comparison, AllocError>
     ensures brought { IfOk result (λ c. c.brought.items ≡ spec.brought now.now base.now) }
     ensures mended { IfOk result (λ c. c.mended.items ≡ spec.mended now.now base.now) }
-    ensures broken { IfOk result (λ c. c.broken.items ≡ spec.newly_affected now.now base.now) }
-    ensures healed { IfOk result (λ c. c.healed.items ≡ spec.newly_affected base.now now.now) }
+    ensures broken { IfOk result (λ c. c.broken.items ≡ spec.broken now.now base.now) }
+    ensures healed { IfOk result (λ c. c.healed.items ≡ spec.healed now.now base.now) }
+    ensures hidden { IfOk result (λ c. c.hidden ≡ spec.hidden now.now base.now) }
 {
     let faults = fault_keys(alloc, now)?;
     let others = fault_keys(alloc, base)?;
@@ -84,10 +90,12 @@ pub fn compare<'f>(
     let mended = known(alloc, now, base, gone.as_slice())?;
     let broken = newly_affected(alloc, now, base)?;
     let healed = newly_affected(alloc, base, now)?;
+    let hidden = hides_documents(alloc, now, base)?;
     Ok(Comparison {
         brought,
         mended,
         broken,
         healed,
+        hidden,
     })
 }

@@ -13,12 +13,27 @@ pub struct Spot {
     pub offset: usize,
 }
 
-/// A definition of a document: a fragment by its name, or an operation, which may have none.
+/// A form of a definition of the type system.
+#[derive(Clone, Copy, Debug, PartialEq, Eq)]
+pub enum SystemKind {
+    Schema,
+    Type,
+    Directive,
+    SchemaExtension,
+    TypeExtension,
+}
+
+/// A definition of a file: a fragment by its name, an operation, which may have none, or a
+/// definition of the type system, of which that of a schema and its extension have no name.
 #[derive(Debug, Drop)]
 pub enum Owner {
     Fragment(Text),
     Operation {
         kind: OperationKind,
+        name: Option<Text>,
+    },
+    TypeSystem {
+        kind: SystemKind,
         name: Option<Text>,
     },
 }
@@ -31,13 +46,15 @@ pub struct OwnerAt {
 }
 
 /// A fault: the rule that is broken, the text that it is about, its places (none, one or two), and
-/// the definition that owns it. A fault of the schema has no owner.
+/// the definition that owns it. A fault of the schema has no owner; it has the definition that its
+/// first place is in.
 #[derive(Debug, Drop)]
 pub struct Finding {
     pub rule: Rule,
     pub about: Text,
     pub spots: Vec<Spot>,
     pub owner: Option<OwnerAt>,
+    pub definition: Option<Owner>,
 }
 
 /// An operation, and where it starts.

@@ -5,17 +5,19 @@
 mod comparison;
 mod finding;
 mod grouping;
+mod hiding;
 mod lines;
 mod marks;
 mod pairing;
 mod served;
 mod source;
+mod tokens;
 mod words;
 
-pub use comparison::{Comparison, compare};
-pub use finding::{Affected, Finding, Findings, OperationAt, Owner, OwnerAt, Spot};
+pub use comparison::{Comparison, compare, is_of_schema};
+pub use finding::{Affected, Finding, Findings, OperationAt, Owner, OwnerAt, Spot, SystemKind};
 pub use gql_ast::{OperationKind, Rule, Text};
 pub use grouping::{Cause, causes};
-pub use marks::{label_at, line_at, path_at};
+pub use marks::{Key, fault_key, label_at, line_at, path_at};
 pub use source::Source;
 pub use words::{sentence, title};

@@ -1,11 +1,13 @@
 //! What faults, causes and operations are known by.
 
 ghost use Rattle.std.specs.Prelude.{◌≡◌, map, IfOk};
+ghost use Rattle.std.specs.Option.{option_copied};
 ghost use Rattle.gql_findings.specs.Marks as spec;
 ghost use Rattle.gql_findings.specs.Keys.{mark_of, marks_of, same_key};
 ghost use Rattle.gql_findings.specs.SameMarks.{same_key_equiv, same_key_hashes, same_key_partial, texts_of};
+ghost use Rattle.gql_findings.specs.Tokens.{token_at};
 
-use crate::finding::{Finding, Findings, Owner, OwnerAt, Spot};
+use crate::finding::{Finding, Findings, Owner, Spot, SystemKind};
 use crate::source::Source;
 use gql_ast::{OperationKind, Text};
 use std::alloc::{AllocError, Global};
@@ -17,8 +19,8 @@ pub struct Key<'a> {
     pub kind: u8,
     pub rule: &'a str,
     pub about: &'a str,
-    pub path: &'a str,
-    pub line: &'a str,
+    pub first: &'a [u8],
+    pub second: &'a [u8],
     pub owner: &'a str,
 }
 
@@ -31,8 +33,8 @@ impl<'a> PartialEq for Key<'a> {
         self.kind == other.kind
             && self.rule == other.rule
             && self.about == other.about
-            && self.path == other.path
-            && self.line == other.line
+            && self.first == other.first
+            && self.second == other.second
             && self.owner == other.owner
     }
 }
@@ -49,8 +51,8 @@ impl<'a> Hash for Key<'a> {
     fn hash<H: Hasher>(&self, state: &mut H) {
         self.rule.hash(state);
         self.about.hash(state);
-        self.path.hash(state);
-        self.line.hash(state);
+        self.first.hash(state);
+        self.second.hash(state);
         self.owner.hash(state);
     }
 }
@@ -96,28 +98,78 @@ pub fn line_at<'a>(sources: &'a [Source], spot: &Spot) -> &'a str
     }
 }
 
-/// The number of the kind of an owner, and its name.
-fn owner_key(owner: &Owner) -> (u8, &str)
-    ensures kind { result.0 ≡ spec.owner_kind owner.now }
-    ensures name { result.1.now ≡ spec.owner_name owner.now }
+/// The token at a place; empty where there is none.
+fn token_at<'a>(sources: &'a [Source], spot: &Spot) -> &'a [u8]
+    ensures { result.now ≡ token_at sources.now spot.now }
 {
-    match owner {
-        Owner::Fragment(name) => (1, name.as_str()),
-        Owner::Operation { kind, name } => match name {
-            Some(name) => (kind_number(*kind), name.as_str()),
-            None => (kind_number(*kind) + 3, ""),
-        },
+    match sources.get(spot.source) {
+        Some(source) => source.token(spot.offset),
+        None => &[],
     }
 }
 
-/// The number of the kind of a fault's owner, and its name.
-fn owner_at_key(owner: &Option<OwnerAt>) -> (u8, &str)
-    ensures kind { result.0 ≡ spec.kind_at owner.now }
-    ensures name { result.1.now ≡ spec.name_at owner.now }
+/// The token at the place of this index of a fault; empty where the fault has no such place.
+fn token_in<'a>(sources: &'a [Source], finding: &Finding, index: usize) -> &'a [u8]
+    ensures { result.now ≡ spec.token_in sources.now finding.now index }
+{
+    match finding.spots.get(index) {
+        Some(spot) => token_at(sources, spot),
+        None => &[],
+    }
+}
+
+/// The number of a form of a definition of the type system.
+fn system_number(kind: SystemKind) -> u8
+    ensures { result ≡ spec.system_number kind }
+{
+    match kind {
+        SystemKind::Schema => 8,
+        SystemKind::Type => 9,
+        SystemKind::Directive => 10,
+        SystemKind::SchemaExtension => 11,
+        SystemKind::TypeExtension => 12,
+    }
+}
+
+/// The number of the kind of a definition.
+fn owner_kind(owner: &Owner) -> u8
+    ensures { result ≡ spec.owner_kind owner.now }
 {
     match owner {
-        Some(owner) => owner_key(&owner.owner),
-        None => (0, ""),
+        Owner::Fragment(_) => 1,
+        Owner::Operation { kind, name } => {
+            if name.is_some() {
+                kind_number(*kind)
+            } else {
+                kind_number(*kind) + 3
+            }
+        }
+        Owner::TypeSystem { kind, name: _ } => system_number(*kind),
+    }
+}
+
+/// The name of a definition; empty where it has none.
+fn owner_name(owner: &Owner) -> &str
+    ensures { result.now ≡ spec.owner_name owner.now }
+{
+    let name = match owner {
+        Owner::Fragment(name) => return name.as_str(),
+        Owner::Operation { kind: _, name } => name,
+        Owner::TypeSystem { kind: _, name } => name,
+    };
+    match name {
+        Some(name) => name.as_str(),
+        None => "",
+    }
+}
+
+/// The definition that a fault is known by: its owner, or else that of its first place.
+fn definition_of(finding: &Finding) -> Option<&Owner>
+    ensures { option_copied result ≡ spec.definition_of finding.now }
+{
+    match &finding.owner {
+        Some(owner) => Some(&owner.owner),
+        None => finding.definition.as_ref(),
     }
 }
 
@@ -125,17 +177,16 @@ fn owner_at_key(owner: &Option<OwnerAt>) -> (u8, &str)
 pub fn fault_key<'a>(sources: &'a [Source], finding: &'a Finding) -> Key<'a>
     ensures { mark_of result ≡ spec.fault_mark sources.now finding.now }
 {
-    let (kind, owner) = owner_at_key(&finding.owner);
-    let (path, line) = match finding.spots.first() {
-        Some(spot) => (path_at(sources, spot), line_at(sources, spot)),
-        None => ("", ""),
+    let (kind, owner) = match definition_of(finding) {
+        Some(owner) => (owner_kind(owner), owner_name(owner)),
+        None => (0, ""),
     };
     Key {
         kind,
         rule: finding.rule.name(),
         about: finding.about.as_str(),
-        path,
-        line,
+        first: token_in(sources, finding, 0),
+        second: token_in(sources, finding, 1),
         owner,
     }
 }
@@ -148,33 +199,27 @@ pub fn cause_key(finding: &Finding) -> Key<'_>
         kind: 0,
         rule: finding.rule.name(),
         about: finding.about.as_str(),
-        path: "",
-        line: "",
+        first: &[],
+        second: &[],
         owner: "",
     }
 }
 
 /// What an operation is known by.
-fn operation_key<'a>(sources: &'a [Source], name: &'a Option<Text>, spot: &'a Spot) -> Key<'a>
-    ensures { mark_of result ≡ spec.operation_mark sources.now name.now spot.now }
+fn operation_key(name: &Option<Text>) -> Key<'_>
+    ensures { mark_of result ≡ spec.operation_mark name.now }
 {
-    match name {
-        Some(name) => Key {
-            kind: 1,
-            rule: "",
-            about: name.as_str(),
-            path: "",
-            line: "",
-            owner: "",
-        },
-        None => Key {
-            kind: 0,
-            rule: "",
-            about: "",
-            path: path_at(sources, spot),
-            line: "",
-            owner: "",
-        },
+    let (kind, about) = match name {
+        Some(name) => (1, name.as_str()),
+        None => (0, ""),
+    };
+    Key {
+        kind,
+        rule: "",
+        about,
+        first: &[],
+        second: &[],
+        owner: "",
     }
 }
 
@@ -194,10 +239,9 @@ pub fn fault_keys(alloc: Global, findings: &Findings) -> Result<Vec<Key<'_>>, Al
 pub fn operation_keys(alloc: Global, findings: &Findings) -> Result<Vec<Key<'_>>, AllocError>
     ensures { IfOk result (λ keys. marks_of keys.items ≡ spec.operation_marks findings.now) }
 {
-    let sources = findings.sources.as_slice();
     let mut keys = Vec::new(alloc);
     for operation in findings.operations.as_slice() {
-        keys.push(operation_key(sources, &operation.name, &operation.spot))?;
+        keys.push(operation_key(&operation.name))?;
     }
     Ok(keys)
 }
@@ -206,10 +250,9 @@ pub fn operation_keys(alloc: Global, findings: &Findings) -> Result<Vec<Key<'_>>
 pub fn affected_keys(alloc: Global, findings: &Findings) -> Result<Vec<Key<'_>>, AllocError>
     ensures { IfOk result (λ keys. marks_of keys.items ≡ spec.affected_marks findings.now) }
 {
-    let sources = findings.sources.as_slice();
     let mut keys = Vec::new(alloc);
     for operation in findings.affected.as_slice() {
-        keys.push(operation_key(sources, &operation.name, &operation.spot))?;
+        keys.push(operation_key(&operation.name))?;
     }
     Ok(keys)
 }

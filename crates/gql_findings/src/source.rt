@@ -1,9 +1,11 @@
 //! A file: its paths, its text, and where its lines are.
 
-ghost use Rattle.std.specs.Prelude.{◌≡◌, length, IfOk, string_bytes};
+ghost use Rattle.std.specs.Prelude.{◌≡◌, drop, length, IfOk, string_bytes};
 ghost use Rattle.gql_findings.specs.Sources.{line_at, lines_of};
+ghost use Rattle.gql_findings.specs.Tokens.{token_of};
 
 use crate::lines::{LineSpan, line_spans};
+use crate::tokens::token_of;
 use std::alloc::{AllocError, Global};
 use std::marker::Model;
 
@@ -92,6 +94,16 @@ impl Source {
         match self.lines.get(number - 1) {
             Some(span) => span.of(self.text.as_str()),
             None => "",
+        }
+    }
+
+    /// The token at an offset; empty where the text ends before it.
+    pub fn token(&self, offset: usize) -> &[u8]
+        ensures { result.now ≡ token_of (drop offset self.now.text) }
+    {
+        match self.text.as_bytes().get(offset..) {
+            Some(rest) => token_of(rest),
+            None => &[],
         }
     }
 }

@@ -1,7 +1,8 @@
 //! `gqlreg check`: what a check of a folder finds, written in a format.
 
+use crate::status::{Checked, check_status};
 use gql_check::{CheckFault, check_files, refusal_annotation, refusal_text};
-use gql_findings::{Comparison, Findings, compare};
+use gql_findings::{Findings, compare};
 use gql_folder::GivenFile;
 use gql_folder_command::{CheckOptions, Format};
 use gql_folder_files::{Failure, given_files, report, tell_long_check, tell_made, unwritten};
@@ -96,17 +97,8 @@ fn write_out(rt: &HostRuntime, text: Vec<u8>, output: &Option<String>) -> Result
     }
 }
 
-/// The status of a check: 1 if it has faults, or against a base if it brings some.
-fn status_of(now: &Findings, comparison: &Option<Comparison>) -> u8 {
-    let has_faults = match comparison {
-        Some(comparison) => !comparison.brought.is_empty(),
-        None => !now.findings.is_empty(),
-    };
-    u8::from(has_faults)
-}
-
 /// Checks a folder, and writes what is found.
-fn check(rt: &HostRuntime, options: &CheckOptions) -> Result<u8, Failure> {
+fn check(rt: &HostRuntime, options: &CheckOptions) -> Result<Checked, Failure> {
     let now = findings_now(rt, options)?;
     let base = match &options.base {
         Some(folder) => Some(findings_before(rt, folder.as_str(), options)?),
@@ -133,13 +125,15 @@ fn check(rt: &HostRuntime, options: &CheckOptions) -> Result<u8, Failure> {
         text.push(b'\n')?;
     }
     write_out(rt, text, &options.output)?;
-    Ok(status_of(&now, &comparison))
+    Ok(Checked { now, comparison })
 }
 
 /// Runs a check, and returns the status.
 pub fn run_check(rt: &HostRuntime, options: &CheckOptions) -> u8 {
-    match check(rt, options) {
-        Ok(status) => status,
-        Err(failure) => report(rt, failure),
+    let outcome = check(rt, options);
+    let status = check_status(&outcome);
+    if let Err(failure) = outcome {
+        let _ = report(rt, failure);
     }
+    status
 }

@@ -3,7 +3,9 @@
 #![tactic(auto)]
 
 mod check;
+mod status;
 mod usage;
 
 pub use check::{checked, run_check};
+pub use status::{Answered, Checked, check_status, usage_status};
 pub use usage::run_usage;

@@ -1,6 +1,7 @@
 //! `gqlreg usage`: who reads a part of a schema, and which parts nobody reads.
 
 use crate::check::refusal;
+use crate::status::{Answered, usage_status};
 use gql_folder::GivenFile;
 use gql_folder_command::{Format, UsageFormat, UsageOptions, UsageQuestion};
 use gql_folder_files::{Failure, given_files, report, tell_made};
@@ -35,33 +36,33 @@ fn faulty_text(rt: &HostRuntime, folder: &str, faults: usize) -> Result<String, 
     )
 }
 
-/// Says why there is no answer, and returns the status.
+/// Says why there is no answer.
 fn unanswered(
     rt: &HostRuntime,
     folder: &str,
     files: &[GivenFile],
     fault: UsageFault,
-) -> Result<u8, Failure> {
+) -> Result<Answered, Failure> {
     match fault {
         UsageFault::Files(fault) => Err(refusal(rt, folder, files, Format::Text, &fault)?),
         UsageFault::FaultySchema { faults } => {
             let _ = rt.eprintln(faulty_text(rt, folder, faults)?);
-            Ok(1)
+            Ok(Answered::FaultySchema)
         }
         UsageFault::NoSuchPart(text) => Err(Failure::Refused(text)),
         UsageFault::Memory => Err(Failure::Memory),
     }
 }
 
-/// Answers a question about the use of the schema of a folder, and returns the status.
-fn usage(rt: &HostRuntime, options: &UsageOptions) -> Result<u8, Failure> {
+/// Answers a question about the use of the schema of a folder.
+fn usage(rt: &HostRuntime, options: &UsageOptions) -> Result<Answered, Failure> {
     let folder = options.folder.as_str();
     let given = given_files(rt, folder, options.manifests.as_slice())?;
     tell_made(rt, &given);
     let files = given.files.as_slice();
     match answer(rt, options, files) {
         Ok(text) => match rt.stdout().write_all(text.as_slice()) {
-            Ok(()) => Ok(0),
+            Ok(()) => Ok(Answered::Written),
             Err(_) => Err(Failure::Closed),
         },
         Err(fault) => unanswered(rt, folder, files, fault),
@@ -70,8 +71,10 @@ fn usage(rt: &HostRuntime, options: &UsageOptions) -> Result<u8, Failure> {
 
 /// Runs a question about the use of a schema, and returns the status.
 pub fn run_usage(rt: &HostRuntime, options: &UsageOptions) -> u8 {
-    match usage(rt, options) {
-        Ok(status) => status,
-        Err(failure) => report(rt, failure),
+    let outcome = usage(rt, options);
+    let status = usage_status(&outcome);
+    if let Err(failure) = outcome {
+        let _ = report(rt, failure);
     }
+    status
 }

@@ -21,6 +21,24 @@ pub enum Failure {
     Memory,
 }
 
+impl Failure {
+    ghost use Rattle.std.specs.Prelude.{◌≡◌};
+    ghost use Rattle.gql_folder_files.specs.Statuses.{status_of};
+
+    /// The exit status of a command that ends so.
+    pub fn status(&self) -> u8
+        ensures { result ≡ status_of self.now }
+    {
+        match self {
+            Failure::Refused(_) => 2,
+            Failure::Edited(_) => 3,
+            Failure::NoServer => 5,
+            Failure::Closed => 1,
+            Failure::Memory => 4,
+        }
+    }
+}
+
 impl From<AllocError> for Failure {
     fn from(_: AllocError) -> Failure {
         Failure::Memory
@@ -54,20 +72,15 @@ pub fn unwritten(rt: &HostRuntime, path: &str) -> Failure {
 pub fn report(rt: &HostRuntime, failure: Failure) -> u8
     ensures { result ≡ status_of failure }
 {
+    let status = failure.status();
     match failure {
-        Failure::Refused(text) => {
+        Failure::Refused(text) | Failure::Edited(text) => {
             let _ = rt.eprintln(text);
-            2
-        }
-        Failure::Edited(text) => {
-            let _ = rt.eprintln(text);
-            3
         }
         Failure::NoServer => {
             let _ = rt.eprintln("no answer from the server, or not one of a registry");
-            5
         }
-        Failure::Closed => 1,
-        Failure::Memory => 4,
+        Failure::Closed | Failure::Memory => {}
     }
+    status
 }

@@ -1,7 +1,7 @@
 //! A connection to a registry, over which requests are sent and answers are read.
 
 use gql_folder_files::Failure;
-use gql_push::{AnswerSpan, Reply, answer_in, reply_in};
+use gql_push::{AnswerSpan, Reply, Report, answer_in, reply_in, report_in, write_report};
 use std::alloc::AllocError;
 use std::io::{Read, Write};
 use std::net::TcpStream;
@@ -97,18 +97,37 @@ impl Connection {
         Err(NoAnswer::NoServer)
     }
 
-    /// What the next answer says.
-    pub fn reply(&mut self, rt: &HostRuntime) -> Result<Reply, NoAnswer> {
+    /// The status and the body of the next answer.
+    fn answer(&mut self, rt: &HostRuntime) -> Result<(u16, Vec<u8>), NoAnswer> {
         let span = self.whole_answer()?;
-        let reply = match self.rest.get(span.body..span.end) {
-            Some(body) => reply_in(rt.alloc(), body)?,
-            None => Reply::Strange,
-        };
+        let mut body = Vec::new(rt.alloc());
+        if let Some(bytes) = self.rest.get(span.body..span.end) {
+            body.extend_from_slice(bytes)?;
+        }
         let mut rest = Vec::new(rt.alloc());
         if let Some(after) = self.rest.get(span.end..) {
             rest.extend_from_slice(after)?;
         }
         self.rest = rest;
+        Ok((span.status, body))
+    }
+
+    /// What the next answer says, to an edit.
+    pub fn reply(&mut self, rt: &HostRuntime) -> Result<Reply, NoAnswer> {
+        let (status, body) = self.answer(rt)?;
+        let reply = reply_in(rt.alloc(), status, body.as_slice())?;
         Ok(reply)
+    }
+
+    /// What the registry at this host reports.
+    pub fn report(&mut self, rt: &HostRuntime, host: &str) -> Result<Report, NoAnswer> {
+        let mut request = Vec::new(rt.alloc());
+        write_report(rt.alloc(), &mut request, host)?;
+        self.send(request.as_slice())?;
+        let (status, body) = self.answer(rt)?;
+        match report_in(rt.alloc(), status, body.as_slice())? {
+            Some(report) => Ok(report),
+            None => Err(NoAnswer::NoServer),
+        }
     }
 }

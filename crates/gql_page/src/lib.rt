@@ -3,6 +3,7 @@
 //! of the files that the page shows, and the only failure is memory.
 #![tactic(auto)]
 
+mod cut;
 mod files;
 mod lines;
 mod markdown;

@@ -1,5 +1,11 @@
 //! A check as a summary for a pull request, in Markdown.
 
+ghost use Rattle.std.specs.Prelude.{◌≡◌, ◌++◌, IfOk, OnOk, map, string_bytes};
+ghost use Rattle.gql_page.specs.Markdown as spec;
+ghost use Rattle.gql_page.specs.Markdown.{IsMarkdown};
+ghost use Rattle.gql_page.specs.declared.cut.Entry.TheVariants as entries;
+
+use crate::cut::{Entry, Part, closing, cut};
 use crate::parts::MOST_PLACES;
 use gql_findings::{
     Affected, Cause, Finding, Findings, Rule, Source, Spot, label_at, sentence, title,
@@ -7,11 +13,12 @@ use gql_findings::{
 use gql_render::check::{Check, broken, shown, shown_causes};
 use gql_render::escapes::write_markdown;
 use gql_render::phrases::{
-    hidden, write_count, write_counts, write_operation, write_owner, write_spot,
+    first_words, hidden, write_count, write_counts, write_operation, write_owner, write_spot,
 };
 use gql_render::picking::picked;
 use gql_render::write::{write_text, write_texts};
 use std::alloc::{AllocError, Global};
+use std::mem;
 
 /// Writes a text within Markdown, with the markup before it and after it.
 fn write_between(
@@ -59,23 +66,62 @@ fn write_item(
     write_text(out, "\n")
 }
 
-/// Writes the operations at these places, with how many they are; nothing where there are none.
-fn write_operations(
+/// Adds a part.
+fn add_part(
+    parts: &mut Vec<Part>,
+    text: String,
+    closing: &'static str,
+    entry: Entry,
+) -> Result<(), AllocError>
+    ensures { OnOk result (spec.told parts.new.items
+        ≡ spec.told parts.old.items ++ spec.telling entry) }
+{
+    parts.push(Part {
+        text,
+        closing,
+        entry,
+    })?;
+    Ok(())
+}
+
+/// The beginning of a section: what closes the section before, and a heading.
+fn section(alloc: Global, parts: &[Part], heading: &[&str]) -> Result<String, AllocError> {
+    let mut text = String::from_str(alloc, closing(parts))?;
+    write_texts(&mut text, heading)?;
+    Ok(text)
+}
+
+/// The heading of a section on operations.
+fn operations_heading(
     alloc: Global,
-    out: &mut String,
+    parts: &[Part],
+    count: usize,
+    state: &str,
+) -> Result<String, AllocError> {
+    let mut text = section(alloc, parts, &["\n**"])?;
+    write_count(&mut text, count, "operation")?;
+    write_texts(&mut text, &[state, "**\n\n"])?;
+    Ok(text)
+}
+
+/// Adds the operations at these places, with how many they are; nothing where there are none.
+fn add_operations(
+    alloc: Global,
+    parts: &mut Vec<Part>,
     findings: &Findings,
     places: &[usize],
     state: &str,
-) -> Result<(), AllocError> {
-    if places.is_empty() {
-        return Ok(());
-    }
-    let operations = picked(alloc, findings.affected.as_slice(), places)?;
-    write_text(out, "\n**")?;
-    write_count(out, operations.len(), "operation")?;
-    write_texts(out, &[state, "**\n\n"])?;
-    for affected in operations {
-        write_item(alloc, out, findings.sources.as_slice(), affected)?;
+) -> Result<(), AllocError>
+    ensures { OnOk result (spec.told parts.new.items
+        ≡ spec.told parts.old.items ++ map entries.Operation places.now) }
+{
+    let mut text = operations_heading(alloc, parts.as_slice(), places.len(), state)?;
+    for place in places {
+        if let Some(affected) = findings.affected.get(*place) {
+            write_item(alloc, &mut text, findings.sources.as_slice(), affected)?;
+        }
+        let whole = mem::replace(&mut text, String::new(alloc));
+        add_part(parts, whole, "", Entry::Operation(*place))?;
     }
     Ok(())
 }
@@ -129,15 +175,17 @@ fn write_row(
     write_text(out, " |\n")
 }
 
-/// Writes the causes of the faults, the largest first.
-fn write_causes(alloc: Global, out: &mut String, check: &Check<'_>) -> Result<(), AllocError> {
+/// Adds the causes of the faults, the largest first, as rows of a table.
+fn add_causes(alloc: Global, parts: &mut Vec<Part>, check: &Check<'_>) -> Result<(), AllocError>
+    ensures { OnOk result (spec.told parts.new.items ≡ spec.told parts.old.items) }
+{
     let causes = shown_causes(alloc, check)?;
-    if causes.is_empty() {
-        return Ok(());
-    }
-    write_text(out, "\n| Cause | Faults | First places |\n|---|---|---|\n")?;
+    let heading = "\n| Cause | Faults | First places |\n|---|---|---|\n";
+    let mut text = section(alloc, parts.as_slice(), &[heading])?;
     for cause in causes.as_slice() {
-        write_row(alloc, out, check.now, cause)?;
+        write_row(alloc, &mut text, check.now, cause)?;
+        let whole = mem::replace(&mut text, String::new(alloc));
+        add_part(parts, whole, "", Entry::Other)?;
     }
     Ok(())
 }
@@ -163,69 +211,122 @@ fn write_fault(
     write_text(out, "\n")
 }
 
-/// Writes the faults at these places, folded; nothing where there are none.
-fn write_faults(
+/// Adds the faults at these places, folded; nothing where there are none.
+fn add_faults(
     alloc: Global,
-    out: &mut String,
+    parts: &mut Vec<Part>,
     findings: &Findings,
     places: &[usize],
     summary: &str,
-) -> Result<(), AllocError> {
-    if places.is_empty() {
-        return Ok(());
+) -> Result<(), AllocError>
+    ensures { OnOk result (spec.told parts.new.items
+        ≡ spec.told parts.old.items ++ map entries.Fault places.now) }
+{
+    let heading = ["\n<details><summary>", summary, "</summary>\n\n"];
+    let mut text = section(alloc, parts.as_slice(), &heading)?;
+    for place in places {
+        if let Some(fault) = findings.findings.get(*place) {
+            write_fault(alloc, &mut text, findings.sources.as_slice(), fault)?;
+        }
+        let whole = mem::replace(&mut text, String::new(alloc));
+        add_part(parts, whole, "\n</details>\n", Entry::Fault(*place))?;
     }
-    write_texts(out, &["\n<details><summary>", summary, "</summary>\n\n"])?;
-    for fault in picked(alloc, findings.findings.as_slice(), places)? {
-        write_fault(alloc, out, findings.sources.as_slice(), fault)?;
-    }
-    write_text(out, "\n</details>\n")
+    Ok(())
 }
 
-/// Writes the operations: without a base those that are not served, else those that the change
-/// breaks and heals.
-fn write_states(alloc: Global, out: &mut String, check: &Check<'_>) -> Result<(), AllocError> {
+/// Adds the operations: without a base those that are not served, else those that the change breaks
+/// and heals.
+fn add_states(alloc: Global, parts: &mut Vec<Part>, check: &Check<'_>) -> Result<(), AllocError>
+    ensures { OnOk result (spec.told parts.new.items
+        ≡ spec.told parts.old.items ++ map entries.Operation (spec.operations check.entry.now)) }
+{
     let places = broken(alloc, check)?;
     match &check.base {
-        None => write_operations(alloc, out, check.now, places.as_slice(), " not served"),
+        None => add_operations(alloc, parts, check.now, places.as_slice(), " not served"),
         Some(base) => {
             let healed = base.comparison.healed.as_slice();
-            write_operations(alloc, out, check.now, places.as_slice(), " broken")?;
-            write_operations(alloc, out, base.findings, healed, " healed")
+            add_operations(alloc, parts, check.now, places.as_slice(), " broken")?;
+            add_operations(alloc, parts, base.findings, healed, " healed")
         }
     }
 }
 
-/// Writes the heading with the counts, and what a schema with faults hides.
-fn write_head(out: &mut String, check: &Check<'_>) -> Result<(), AllocError> {
-    write_text(out, "### GraphQL: ")?;
-    write_counts(out, check)?;
-    let hidden = hidden(check);
-    if hidden.is_empty() {
-        return write_text(out, "\n");
-    }
-    write_texts(out, &["\n\n", hidden, "\n"])
-}
-
-/// Writes the faults that are shown, and then those that are mended.
-fn write_each_fault(alloc: Global, out: &mut String, check: &Check<'_>) -> Result<(), AllocError> {
+/// Adds the faults that are shown, and then those that are mended.
+fn add_each_fault(alloc: Global, parts: &mut Vec<Part>, check: &Check<'_>) -> Result<(), AllocError>
+    ensures { OnOk result (spec.told parts.new.items
+        ≡ spec.told parts.old.items ++ map entries.Fault (spec.faults check.entry.now)) }
+{
     let places = shown(alloc, check)?;
-    write_faults(alloc, out, check.now, places.as_slice(), "Each fault")?;
+    add_faults(alloc, parts, check.now, places.as_slice(), "Each fault")?;
     match &check.base {
         Some(base) => {
             let mended = base.comparison.mended.as_slice();
-            write_faults(alloc, out, base.findings, mended, "Mended faults")
+            add_faults(alloc, parts, base.findings, mended, "Mended faults")
         }
         None => Ok(()),
     }
 }
 
-/// The check as a summary for a pull request: the counts, the operations that are broken, the
-/// causes of the faults, and then, folded, each fault.
-pub fn as_markdown(alloc: Global, check: &Check<'_>) -> Result<Vec<u8>, AllocError> {
+/// Writes what is said first, in bold; nothing where there is nothing to say.
+fn write_first(out: &mut String, first: &str) -> Result<(), AllocError>
+    ensures { OnOk result (string_bytes out.new
+        ≡ string_bytes out.old ++ spec.bold_line first.now) }
+{
+    if first.is_empty() {
+        return Ok(());
+    }
+    write_text(out, "**")?;
+    write_text(out, first)?;
+    write_text(out, "**\n\n")
+}
+
+/// What a schema with faults hides, after a heading.
+fn hidden_note(alloc: Global, check: &Check<'_>) -> Result<String, AllocError> {
+    let hidden = hidden(check);
+    let mut text = String::new(alloc);
+    if !hidden.is_empty() {
+        write_texts(&mut text, &["\n", hidden, "\n"])?;
+    }
+    Ok(text)
+}
+
+/// The head: what is said first, the heading with the counts, and what a schema with faults hides.
+#[tactic(auto, unfolding(crate::specs::Markdown::head_text))]
+fn head(alloc: Global, check: &Check<'_>, note: &str) -> Result<String, AllocError>
+    ensures { IfOk result (λ text. string_bytes text ≡ spec.head_text check.entry.now note.now) }
+{
     let mut out = String::new(alloc);
-    write_head(&mut out, check)?;
-    write_states(alloc, &mut out, check)?;
-    write_causes(alloc, &mut out, check)?;
-    write_each_fault(alloc, &mut out, check)?;
-    Ok(out.into_bytes())
+    write_first(&mut out, first_words(check))?;
+    write_text(&mut out, "### GraphQL: ")?;
+    write_counts(&mut out, check)?;
+    write_text(&mut out, "\n")?;
+    write_text(&mut out, note)?;
+    Ok(out)
+}
+
+/// The parts of a check: the head, the operations, the causes, and each fault.
+fn parts_of(alloc: Global, check: &Check<'_>) -> Result<Vec<Part>, AllocError>
+    ensures { IfOk result (λ parts. spec.told parts.items
+        ≡ map entries.Operation (spec.operations check.entry.now)
+        ++ map entries.Fault (spec.faults check.entry.now)) }
+{
+    let note = hidden_note(alloc, check)?;
+    let head = head(alloc, check, note.as_str())?;
+    let mut parts = Vec::new(alloc);
+    add_part(&mut parts, head, "", Entry::Other)?;
+    add_states(alloc, &mut parts, check)?;
+    add_causes(alloc, &mut parts, check)?;
+    add_each_fault(alloc, &mut parts, check)?;
+    Ok(parts)
+}
+
+/// The check as a summary for a pull request: whether nothing is known of the operations, the counts,
+/// the operations that are broken, the causes of the faults, and then, folded, each fault. It has at
+/// most 65,536 bytes: of a longer one the first parts are there, and how many entries are left out.
+pub fn as_markdown(alloc: Global, check: &Check<'_>) -> Result<Vec<u8>, AllocError>
+    ensures { IfOk result (λ body. IsMarkdown check.entry.now body.items) }
+{
+    let parts = parts_of(alloc, check)?;
+    let text = cut(alloc, parts.as_slice())?;
+    Ok(text.into_bytes())
 }

@@ -5,7 +5,7 @@ use crate::parts::{write_affected, write_cause, write_html_between, write_mended
 use crate::style::STYLE;
 use gql_findings::Findings;
 use gql_render::check::{Check, broken, shown_causes, shown_faults};
-use gql_render::phrases::{hidden, write_count, write_counts};
+use gql_render::phrases::{first_words, hidden, write_count, write_counts};
 use gql_render::picking::picked;
 use gql_render::write::{write_text, write_texts};
 use std::alloc::{AllocError, Global};
@@ -18,14 +18,25 @@ const HEAD: &str = "\
 <meta name=\"viewport\" content=\"width=device-width, initial-scale=1\">
 <title>GraphQL: ";
 
-/// Writes the head of the page, with the counts in its title and in its heading.
+/// What comes before what is said first, and after it.
+fn around(first: &str) -> (&'static str, &'static str) {
+    if first.is_empty() {
+        ("", "")
+    } else {
+        ("<p><strong>", "</strong></p>\n")
+    }
+}
+
+/// Writes the head of the page, with the counts in its title and in its heading. What is said first
+/// comes before both.
 fn write_head(out: &mut String, check: &Check<'_>) -> Result<(), AllocError> {
-    write_text(out, HEAD)?;
+    let first = first_words(check);
+    let colon = if first.is_empty() { "" } else { "; " };
+    let (before, after) = around(first);
+    write_texts(out, &[HEAD, first, colon])?;
     write_counts(out, check)?;
-    write_texts(
-        out,
-        &["</title>\n<style>\n", STYLE, "</style>\n<h1>GraphQL: "],
-    )?;
+    write_texts(out, &["</title>\n<style>\n", STYLE, "</style>\n"])?;
+    write_texts(out, &[before, first, after, "<h1>GraphQL: "])?;
     write_counts(out, check)?;
     write_text(out, "</h1>\n")
 }

@@ -2,3 +2,7 @@ mod Among
 mod Pushes
 mod Steps
 mod Finds
+mod Bodies
+mod Undisturbed
+mod Owners
+mod SameOwners

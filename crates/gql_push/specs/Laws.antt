@@ -1,9 +1,13 @@
 -- Laws of pushes.
-use Rattle.std.specs.Prelude.{◌≡◌, List, [], Bool, false, length, map}
+use Rattle.std.specs.Prelude.{ℕ, ◌≡◌, ◌++◌, List, [], ◌∷◌, Bool, true, false, Contains, Some, None, is_some, length, map}
 use Rattle.std.specs.List.{range_with_len}
 use Rattle.gql_folder.specs.declared.folder.GivenFile.{GivenFile}
-use Rattle.gql_push.specs.Plans.{put, planned, puts, after, put_again}
+use Rattle.gql_push.specs.Meanwhile.{Event, others, own, Happens}
+use Rattle.gql_push.specs.Plans.{Change, put, planned, puts, after, put_again}
 use Rattle.gql_push.specs.Resources.{Entry, entries_at, HaveSameSums, IsConsistent}
+use Rattle.gql_push.specs.Sending.{Sending, start, next, noted, is_made}
+use Rattle.gql_push.specs.declared.body.Reply.{Reply}
+use Rattle.gql_push.specs.declared.progress.Progress.{Progress}
 
 -- once all changes of a plan are made, what is pushed is what the folder has
 abbrev pub AllPushed : Type 0
@@ -22,3 +26,22 @@ abbrev pub AllPutAgain : Type 0
 AllPutAgain = (files : List GivenFile) (pushed : List Entry) (all : Bool)
     → puts all (entries_at files) (put_again pushed)
     ≡ map put (range_with_len 0 (length (entries_at files)))
+
+-- Where a push starts at the revision that the registry reports, no edit of it is made after one of
+-- somebody else: it stops at the first edit that expects a revision that is gone.
+abbrev pub NobodyBetween : Type 0
+NobodyBetween = (edits : List Change) (revision faults : ℕ) (before rest : List Event)
+    (s : Sending) (r : Reply)
+    → Happens edits revision (start revision faults) (before ++ own s r ∷ rest)
+    → is_made s.change r ≡ true → Contains before others → ⊥
+
+-- once a push has stopped, nothing is sent, whatever is replied
+abbrev pub StopsForGood : Type 0
+StopsForGood = (edits : List Change) (p : Progress) (r : Reply) → is_some p.stop ≡ true
+    → (next edits p ≡ None) × (noted edits p r ≡ p)
+
+-- an edit that is sent and not made stops the push
+abbrev pub StopsAtRefusal : Type 0
+StopsAtRefusal = (edits : List Change) (p : Progress) (s : Sending) (r : Reply)
+    → next edits p ≡ Some s → is_made s.change r ≡ false
+    → next edits (noted edits p r) ≡ None

@@ -1,4 +1,10 @@
 pub mod Sums
 pub mod Resources
 pub mod Plans
+pub mod Replies
+pub mod Reports
+pub mod Unserved
+pub mod Sending
+pub mod Requests
+pub mod Meanwhile
 pub mod Laws

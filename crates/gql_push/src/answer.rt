@@ -1,4 +1,5 @@
 //! Answers, as they are read from a connection.
+ghost use Rattle.std.specs.Prelude.{◌≤◌, IfOk, IfSome, length};
 
 use httparse::{EMPTY_HEADER, Header, Response, Status};
 use std::str;
@@ -41,7 +42,10 @@ fn length_in(fields: &[Header<'_>]) -> Option<usize> {
 
 /// The answer at the start of these bytes. None if more bytes are to come; an `Err` if they are no
 /// answer of a registry.
-pub fn answer_in(bytes: &[u8]) -> Result<Option<AnswerSpan>, ()> {
+pub fn answer_in(bytes: &[u8]) -> Result<Option<AnswerSpan>, ()>
+    ensures { IfOk result (λ answer. IfSome answer (λ span.
+        (span.body ≤ span.end) × (span.end ≤ length bytes.now))) }
+{
     let mut fields = [EMPTY_HEADER; MAX_FIELDS];
     let mut response = Response::new(&mut fields);
     let body = match response.parse(bytes) {

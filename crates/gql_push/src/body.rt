@@ -1,16 +1,23 @@
-//! What the body of an answer says.
+//! What the body of an answer to an edit says.
+ghost use Rattle.std.specs.Prelude.{◌≡◌, codes, IfOk, option_map};
+ghost use Rattle.std.specs.Option.{option_copied};
+ghost use Rattle.serde_json.specs.View.{view};
+ghost use Rattle.gql_push.specs.Replies as spec;
 
 use serde_json::Value;
 use std::alloc::{AllocError, Global};
 use std::str;
 
+/// The status of an answer to a request that is accepted.
+const ACCEPTED: u16 = 200;
+
 /// The error code of an edit that expects another revision than the present one.
 const STALE: u64 = 206;
 
-/// What a registry answers to an edit, or to a call for the report.
+/// What a registry answers to an edit.
 #[derive(Drop)]
 pub enum Reply {
-    /// The edit is accepted, or this is the report: the revision, and how many faults there are.
+    /// The edit is accepted: the revision, and how many faults there are.
     Done { revision: u64, faults: u64 },
     /// The edit expects another revision than the present one, which this is.
     Stale { revision: u64 },
@@ -21,67 +28,124 @@ pub enum Reply {
 }
 
 /// The number of a member of an object.
-fn number_at(value: &Value, name: &str) -> Option<u64> {
+pub(crate) fn number_at(value: &Value, name: &str) -> Option<u64>
+    ensures { result ≡ spec.number_at name.now (view value.now) }
+{
     match value.get(name) {
         Some(number) => number.as_u64(),
         None => None,
     }
 }
 
-/// How many faults an answer has: a number, or a list.
-fn faults_in(value: &Value) -> Option<u64> {
-    match value.get("faults") {
-        Some(Value::Array(faults)) => Some(faults.len() as u64),
-        Some(number) => number.as_u64(),
+/// The text of a member of an object.
+pub(crate) fn text_at<'v>(value: &'v Value, name: &str) -> Option<&'v str>
+    ensures { option_copied result ≡ spec.text_at name.now (view value.entry.now) }
+{
+    match value.get(name) {
+        Some(text) => text.as_str(),
         None => None,
     }
 }
 
 /// The first error of an answer.
-fn first_error(value: &Value) -> Option<&Value> {
+fn first_error(value: &Value) -> Option<&Value>
+    ensures { option_map (λ e. view e.now) result ≡ spec.first_error (view value.now) }
+{
     match value.get("errors") {
-        Some(Value::Array(errors)) => errors.first(),
-        _ => None,
+        Some(errors) => errors.get(0),
+        None => None,
+    }
+}
+
+/// What an edit that is accepted is answered.
+fn accepted(value: &Value) -> Reply
+    ensures { spec.said_by result ≡ spec.accepted_in (view value.now) }
+{
+    let (revision, faults) = (number_at(value, "revision"), number_at(value, "faults"));
+    match (revision, faults) {
+        (Some(revision), Some(faults)) => Reply::Done { revision, faults },
+        _ => Reply::Strange,
+    }
+}
+
+/// What an edit is answered that expects another revision.
+fn stale(extensions: &Value) -> Reply
+    ensures { spec.said_by result ≡ spec.stale_in (view extensions.now) }
+{
+    match number_at(extensions, "revision") {
+        Some(revision) => Reply::Stale { revision },
+        None => Reply::Strange,
+    }
+}
+
+/// What an edit is answered that is refused with this number.
+fn refused(alloc: Global, error: &Value, number: u64) -> Result<Reply, AllocError>
+    ensures { IfOk result (λ reply.
+        spec.said_by reply ≡ spec.refused_in (view error.now) number) }
+{
+    match text_at(error, "message") {
+        Some(message) => Ok(Reply::Refused {
+            number,
+            message: String::from_str(alloc, message)?,
+        }),
+        None => Ok(Reply::Strange),
     }
 }
 
 /// What an error says.
-fn refusal_in(alloc: Global, error: &Value) -> Result<Reply, AllocError> {
+fn error_reply(alloc: Global, error: &Value) -> Result<Reply, AllocError>
+    ensures { IfOk result (λ reply. spec.said_by reply ≡ spec.said_in_error (view error.now)) }
+{
     let Some(extensions) = error.get("extensions") else {
         return Ok(Reply::Strange);
     };
-    let Some(number) = number_at(extensions, "code") else {
-        return Ok(Reply::Strange);
-    };
-    if number == STALE {
-        return match number_at(extensions, "revision") {
-            Some(revision) => Ok(Reply::Stale { revision }),
-            None => Ok(Reply::Strange),
-        };
-    }
-    match error.get("message") {
-        Some(Value::String(message)) => Ok(Reply::Refused {
-            number,
-            message: String::from_str(alloc, message.as_str())?,
-        }),
-        _ => Ok(Reply::Strange),
+    match number_at(extensions, "code") {
+        Some(STALE) => Ok(stale(extensions)),
+        Some(number) => refused(alloc, error, number),
+        None => Ok(Reply::Strange),
     }
 }
 
-/// What the body of an answer says.
-pub fn reply_in(alloc: Global, body: &[u8]) -> Result<Reply, AllocError> {
+/// The bytes of a body as JSON, if they are JSON.
+pub(crate) fn value_in(alloc: Global, body: &[u8]) -> Result<Option<Value>, AllocError>
+    ensures { IfOk result (λ value. option_map view value ≡ spec.value_in body.now) }
+{
     let Ok(text) = str::from_utf8(body) else {
-        return Ok(Reply::Strange);
+        return Ok(None);
     };
-    let value: Value = match serde_json::from_str(alloc, text) {
-        Ok(value) => value,
-        Err(_) => return Ok(Reply::Strange),
-    };
-    if let (Some(revision), Some(faults)) = (number_at(&value, "revision"), faults_in(&value)) {
-        return Ok(Reply::Done { revision, faults });
+    match Value::from_str(alloc, text) {
+        Ok(value) => Ok(Some(value)),
+        Err(error) => {
+            if error.is_memory() {
+                Err(AllocError)
+            } else {
+                Ok(None)
+            }
+        }
     }
-    match first_error(&value) {
-        Some(error) => refusal_in(alloc, error),
+}
+
+/// What an answer with this status and this JSON says.
+fn value_reply(alloc: Global, status: u16, value: &Value) -> Result<Reply, AllocError>
+    ensures { IfOk result (λ reply.
+        spec.said_by reply ≡ spec.said_in_value status (view value.now)) }
+{
+    if status == ACCEPTED {
+        return Ok(accepted(value));
+    }
+    match first_error(value) {
+        Some(error) => error_reply(alloc, error),
+        None => Ok(Reply::Strange),
+    }
+}
+
+/// What an answer to an edit says, by its status and its body.
+pub fn reply_in(alloc: Global, status: u16, body: &[u8]) -> Result<Reply, AllocError>
+    ensures { IfOk result (λ reply.
+        spec.said_by reply ≡ spec.said_in status (spec.value_in body.now)) }
+{
+    match value_in(alloc, body)? {
+        Some(value) => value_reply(alloc, status, &value),
         None => Ok(Reply::Strange),
     }
 }

@@ -7,7 +7,6 @@ use Rattle.serde_json.specs.Data.{Data, boolean, number, unsigned, string, Membe
 use Rattle.serde_json.specs.Written.{compact_text, items_text, members_text}
 use Rattle.serde_json.proofs.OnLiterals.{serde_json_on_literals}
 use Rattle.gql_ast.specs.Rules.{name_of}
-use Rattle.gql_ast.specs.declared.executable.OperationKind.{OperationKind}
 use Rattle.gql_findings.specs.Marks.{label_at}
 use Rattle.gql_findings.specs.Sources.{TextFile}
 use Rattle.gql_findings.specs.Words.{title_of}
@@ -15,10 +14,10 @@ use Rattle.gql_findings.specs.declared.finding.Affected.{Affected}
 use Rattle.gql_findings.specs.declared.finding.Finding.{Finding}
 use Rattle.gql_findings.specs.declared.finding.Findings.{Findings}
 use Rattle.gql_findings.specs.declared.finding.Owner.{Owner}
-use Rattle.gql_findings.specs.declared.finding.Owner.TheVariants.{Fragment, Operation}
+use Rattle.gql_findings.specs.declared.finding.Owner.TheVariants.{Fragment, Operation, TypeSystem}
 use Rattle.gql_findings.specs.declared.finding.OwnerAt.{OwnerAt}
 use Rattle.gql_findings.specs.declared.finding.Spot.{Spot}
-use Rattle.gql_render.proofs.Appended.{seven_parts, ten_parts}
+use Rattle.gql_render.proofs.Appended.{seven_parts, twelve_parts}
 use Rattle.gql_render.specs.Json as json
 use Rattle.gql_render.specs.Picking.{picked}
 use Rattle.gql_render.specs.Texts as text
@@ -89,6 +88,10 @@ q_affected : quoted (codes "affected") ≡ codes "\"affected\""
 unfolding serde_json_on_literals
 q_affected = refl
 
+q_hidden : quoted (codes "hidden") ≡ codes "\"hidden\""
+unfolding serde_json_on_literals
+q_hidden = refl
+
 q_brought : quoted (codes "brought") ≡ codes "\"brought\""
 unfolding serde_json_on_literals
 q_brought = refl
@@ -140,11 +143,11 @@ unfolding text.name_text
 name_is None = refl
 name_is (Some name) = refl
 
-operation_is : (kind : OperationKind) (name : Option (List ℕ)) (others : Members) → members_text false (json.operation_members kind name others) ≡ text.operation_text kind name ++ members_text true others
-unfolding text.operation_text
-operation_is kind name others =
+named_is : (kind : List ℕ) (name : Option (List ℕ)) (others : Members) → members_text false (json.named_members kind name others) ≡ text.named_text kind name ++ members_text true others
+unfolding text.named_text
+named_is kind name others =
     let named = member (codes "name") (json.name_json name) others in
-    first (codes "kind") (codes "\"kind\"") (string (json.kind_word kind)) named (quoted (json.kind_word kind)) _ q_kind refl
+    first (codes "kind") (codes "\"kind\"") (string kind) named (quoted kind) _ q_kind refl
     (later (codes "name") (codes "\"name\"") (json.name_json name) others (text.name_text name) (members_text true others) q_name (name_is name) refl)
     ∙ sym (simp append_assoc refl)
 
@@ -155,7 +158,8 @@ definition_is (Fragment name) others =
     first (codes "kind") (codes "\"kind\"") (string (codes "fragment")) named (codes "\"fragment\"") _ q_kind q_fragment
     (later (codes "name") (codes "\"name\"") (string name) others (quoted name) (members_text true others) q_name refl refl)
     ∙ sym (simp append_assoc refl)
-definition_is (Operation kind name) others = operation_is kind name others
+definition_is (Operation kind name) others = named_is (json.kind_word kind) name others
+definition_is (TypeSystem kind name) others = named_is (json.system_word kind) name others
 
 owner_is : (sources : List TextFile) (o : Option OwnerAt) → compact_text (json.owner_json sources o) ≡ text.owner_text sources o
 unfolding text.owner_text
@@ -183,8 +187,8 @@ affected_is : (sources : List TextFile) (a : Affected) → compact_text (json.af
 unfolding text.affected_text text.affected_start
 affected_is sources a =
     let through = member (codes "through") (json.name_json a.through) no_members in
-    ap (λ x. 123 ∷ x) (operation_is a.kind a.name (json.place_members sources a.spot through)
-    ∙ ap (λ x. text.operation_text a.kind a.name ++ 44 ∷ x) (place_is sources a.spot through
+    ap (λ x. 123 ∷ x) (named_is (json.kind_word a.kind) a.name (json.place_members sources a.spot through)
+    ∙ ap (λ x. text.named_text (json.kind_word a.kind) a.name ++ 44 ∷ x) (place_is sources a.spot through
     ∙ ap (λ x. text.place_text sources a.spot ++ x) (later (codes "through") (codes "\"through\"") (json.name_json a.through) no_members (text.name_text a.through) (codes "}") q_through (name_is a.through) refl)))
     ∙ sym (simp append_assoc refl)
 
@@ -200,23 +204,31 @@ truth_is : (b : Bool) → compact_text (boolean b) ≡ text.truth_text b
 truth_is true = refl
 truth_is false = refl
 
+known_list_is : (hidden : Bool) (f : Findings) (places : List ℕ) → compact_text (json.known_operations hidden f places) ≡ text.known_list_text hidden f places
+unfolding text.known_list_text
+known_list_is true f places = refl
+known_list_is false f places = operation_list_is f places
+
 changes_are : (now : Findings) (base : Option Against) → members_text true (json.change_members now base) ≡ text.changes_text now base ++ codes "}"
 unfolding text.changes_text text.base_text text.fault_changes_text text.operation_changes_text
 changes_are now None = refl
 changes_are now (Some base) =
     let there = base.findings.now in
     let c = base.comparison.now in
-    let healed = member (codes "healed") (json.operations_at there c.healed.items) no_members in
-    let broken = member (codes "broken") (json.operations_at now c.broken.items) healed in
+    let h = c.hidden in
+    let healed = member (codes "healed") (json.known_operations h there c.healed.items) no_members in
+    let broken = member (codes "broken") (json.known_operations h now c.broken.items) healed in
     let mended = member (codes "mended") (json.faults_at there c.mended.items) broken in
     let brought = member (codes "brought") (json.faults_at now c.brought.items) mended in
-    later (codes "baseSchemaIsFaulty") (codes "\"baseSchemaIsFaulty\"") (boolean there.schema_is_faulty) brought (text.truth_text there.schema_is_faulty) _ q_base (truth_is there.schema_is_faulty)
+    let hidden = member (codes "hidden") (boolean h) brought in
+    later (codes "baseSchemaIsFaulty") (codes "\"baseSchemaIsFaulty\"") (boolean there.schema_is_faulty) hidden (text.truth_text there.schema_is_faulty) _ q_base (truth_is there.schema_is_faulty)
+    (later (codes "hidden") (codes "\"hidden\"") (boolean h) brought (text.truth_text h) _ q_hidden (truth_is h)
     (later (codes "brought") (codes "\"brought\"") (json.faults_at now c.brought.items) mended (text.fault_list_text now c.brought.items) _ q_brought (fault_list_is now c.brought.items)
     (later (codes "mended") (codes "\"mended\"") (json.faults_at there c.mended.items) broken (text.fault_list_text there c.mended.items) _ q_mended (fault_list_is there c.mended.items)
-    (later (codes "broken") (codes "\"broken\"") (json.operations_at now c.broken.items) healed (text.operation_list_text now c.broken.items) _ q_broken (operation_list_is now c.broken.items)
-    (later (codes "healed") (codes "\"healed\"") (json.operations_at there c.healed.items) no_members (text.operation_list_text there c.healed.items) (codes "}") q_healed (operation_list_is there c.healed.items) refl))))
-    ∙ sym (ten_parts (codes ",\"baseSchemaIsFaulty\":") (text.truth_text there.schema_is_faulty) (codes ",\"brought\":") (text.fault_list_text now c.brought.items) (codes ",\"mended\":") (text.fault_list_text there c.mended.items)
-    (codes ",\"broken\":") (text.operation_list_text now c.broken.items) (codes ",\"healed\":") (text.operation_list_text there c.healed.items) (codes "}"))
+    (later (codes "broken") (codes "\"broken\"") (json.known_operations h now c.broken.items) healed (text.known_list_text h now c.broken.items) _ q_broken (known_list_is h now c.broken.items)
+    (later (codes "healed") (codes "\"healed\"") (json.known_operations h there c.healed.items) no_members (text.known_list_text h there c.healed.items) (codes "}") q_healed (known_list_is h there c.healed.items) refl)))))
+    ∙ sym (twelve_parts (codes ",\"baseSchemaIsFaulty\":") (text.truth_text there.schema_is_faulty) (codes ",\"hidden\":") (text.truth_text h) (codes ",\"brought\":") (text.fault_list_text now c.brought.items) (codes ",\"mended\":") (text.fault_list_text there c.mended.items)
+    (codes ",\"broken\":") (text.known_list_text h now c.broken.items) (codes ",\"healed\":") (text.known_list_text h there c.healed.items) (codes "}"))
 
 all_faults_are : (f : Findings) → compact_text (json.list_of (json.fault_json f.sources.items) f.findings.items) ≡ text.all_faults_text f
 unfolding text.all_faults_text text.faults_text

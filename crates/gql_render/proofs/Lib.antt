@@ -1,3 +1,4 @@
 pub mod Appended
 pub mod Choosing
 pub mod JsonTexts
+pub mod Ranking

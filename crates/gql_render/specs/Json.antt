@@ -1,5 +1,5 @@
 -- The JSON of a check: a value of JSON, whose members are in this order.
-use Rattle.std.specs.Prelude.{ℕ, List, [], ◌∷◌, map, codes, Option, Some, None}
+use Rattle.std.specs.Prelude.{ℕ, List, [], ◌∷◌, Bool, true, false, map, codes, Option, Some, None}
 use Rattle.serde_json.specs.Data.{Data, null, boolean, number, unsigned, string, array, object, Items, no_items, item, Members, no_members, member}
 use Rattle.gql_ast.specs.Rules.{name_of}
 use Rattle.gql_ast.specs.declared.executable.OperationKind.{OperationKind}
@@ -11,9 +11,11 @@ use Rattle.gql_findings.specs.declared.finding.Affected.{Affected}
 use Rattle.gql_findings.specs.declared.finding.Finding.{Finding}
 use Rattle.gql_findings.specs.declared.finding.Findings.{Findings}
 use Rattle.gql_findings.specs.declared.finding.Owner.{Owner}
-use Rattle.gql_findings.specs.declared.finding.Owner.TheVariants.{Fragment, Operation}
+use Rattle.gql_findings.specs.declared.finding.Owner.TheVariants.{Fragment, Operation, TypeSystem}
 use Rattle.gql_findings.specs.declared.finding.OwnerAt.{OwnerAt}
 use Rattle.gql_findings.specs.declared.finding.Spot.{Spot}
+use Rattle.gql_findings.specs.declared.finding.SystemKind.{SystemKind}
+use Rattle.gql_findings.specs.declared.finding.SystemKind.TheVariants as system
 use Rattle.gql_render.specs.Picking.{picked}
 use Rattle.gql_render.specs.declared.check.Against.{Against}
 use Rattle.gql_render.specs.declared.check.Check.{Check}
@@ -49,16 +51,29 @@ kind_word Query = codes "query"
 kind_word Mutation = codes "mutation"
 kind_word Subscription = codes "subscription"
 
+-- the words for a kind of definition of the type system
+abbrev pub system_word : SystemKind → List ℕ
+system_word system.Schema = codes "schema"
+system_word system.Type = codes "type"
+system_word system.Directive = codes "directive"
+system_word system.SchemaExtension = codes "schema extension"
+system_word system.TypeExtension = codes "type extension"
+
+-- the members of something that has a kind and perhaps a name, and then others
+abbrev pub named_members : List ℕ → Option (List ℕ) → Members → Members
+named_members kind name others =
+    member (codes "kind") (string kind) (member (codes "name") (name_json name) others)
+
 -- the members of an operation, and then others
 abbrev pub operation_members : OperationKind → Option (List ℕ) → Members → Members
-operation_members kind name others =
-    member (codes "kind") (string (kind_word kind)) (member (codes "name") (name_json name) others)
+operation_members kind name others = named_members (kind_word kind) name others
 
 -- the members of a definition, and then others
 abbrev pub owner_members : Owner → Members → Members
 owner_members (Fragment name) others =
     member (codes "kind") (string (codes "fragment")) (member (codes "name") (string name) others)
 owner_members (Operation kind name) others = operation_members kind name others
+owner_members (TypeSystem kind name) others = named_members (system_word kind) name others
 
 -- the definition that owns a fault, or null
 abbrev pub owner_json : List TextFile → Option OwnerAt → Data
@@ -90,16 +105,26 @@ faults_at f places = list_of (fault_json f.sources.items) (picked f.findings.ite
 abbrev pub operations_at : Findings → List ℕ → Data
 operations_at f places = list_of (affected_json f.sources.items) (picked f.affected.items places)
 
+-- the operations at these places of the list; null where the documents of now are hidden, since
+-- then nothing is known of operations
+abbrev pub known_operations : Bool → Findings → List ℕ → Data
+known_operations true f places = null
+known_operations false f places = operations_at f places
+
 -- what a change does, as members; none without a base
 abbrev pub change_members : Findings → Option Against → Members
 change_members now None = no_members
 change_members now (Some base) =
     member (codes "baseSchemaIsFaulty") (boolean base.findings.now.schema_is_faulty)
+    (member (codes "hidden") (boolean base.comparison.now.hidden)
     (member (codes "brought") (faults_at now base.comparison.now.brought.items)
     (member (codes "mended") (faults_at base.findings.now base.comparison.now.mended.items)
-    (member (codes "broken") (operations_at now base.comparison.now.broken.items)
-    (member (codes "healed") (operations_at base.findings.now base.comparison.now.healed.items)
-    no_members))))
+    (member (codes "broken")
+    (known_operations base.comparison.now.hidden now base.comparison.now.broken.items)
+    (member (codes "healed")
+    (known_operations base.comparison.now.hidden base.findings.now
+    base.comparison.now.healed.items)
+    no_members)))))
 
 -- a check: all its faults, all operations that are not served, and what the change does
 abbrev pub check_json : Check → Data

@@ -1,3 +1,10 @@
+pub mod Annotations
+pub mod Escapes
+pub mod Fingerprints
 pub mod Json
+pub mod Phrases
 pub mod Picking
+pub mod Plain
+pub mod Shown
+pub mod Telling
 pub mod Texts

@@ -3,7 +3,6 @@ use Rattle.std.specs.Prelude.{ℕ, List, [], ◌∷◌, ◌++◌, Bool, true, fa
 use Rattle.std.specs.List.{flat_map}
 use Rattle.json.specs.Print.{quoted}
 use Rattle.gql_ast.specs.Rules.{name_of}
-use Rattle.gql_ast.specs.declared.executable.OperationKind.{OperationKind}
 use Rattle.gql_findings.specs.Marks.{label_at}
 use Rattle.gql_findings.specs.Sources.{TextFile}
 use Rattle.gql_findings.specs.Words.{title_of}
@@ -11,10 +10,10 @@ use Rattle.gql_findings.specs.declared.finding.Affected.{Affected}
 use Rattle.gql_findings.specs.declared.finding.Finding.{Finding}
 use Rattle.gql_findings.specs.declared.finding.Findings.{Findings}
 use Rattle.gql_findings.specs.declared.finding.Owner.{Owner}
-use Rattle.gql_findings.specs.declared.finding.Owner.TheVariants.{Fragment, Operation}
+use Rattle.gql_findings.specs.declared.finding.Owner.TheVariants.{Fragment, Operation, TypeSystem}
 use Rattle.gql_findings.specs.declared.finding.OwnerAt.{OwnerAt}
 use Rattle.gql_findings.specs.declared.finding.Spot.{Spot}
-use Rattle.gql_render.specs.Json.{kind_word}
+use Rattle.gql_render.specs.Json.{kind_word, system_word}
 use Rattle.gql_render.specs.Picking.{picked}
 use Rattle.gql_render.specs.declared.check.Against.{Against}
 
@@ -41,10 +40,9 @@ unfoldable pub name_text : Option (List ℕ) → List ℕ
 name_text None = codes "null"
 name_text (Some name) = quoted name
 
--- the members of an operation
-unfoldable pub operation_text : OperationKind → Option (List ℕ) → List ℕ
-operation_text kind name =
-    codes "\"kind\":" ++ quoted (kind_word kind) ++ codes ",\"name\":" ++ name_text name
+-- the members of something that has a kind and perhaps a name
+unfoldable pub named_text : List ℕ → Option (List ℕ) → List ℕ
+named_text kind name = codes "\"kind\":" ++ quoted kind ++ codes ",\"name\":" ++ name_text name
 
 -- the members of a fragment
 unfoldable pub fragment_text : List ℕ → List ℕ
@@ -53,7 +51,8 @@ fragment_text name = codes "\"kind\":\"fragment\",\"name\":" ++ quoted name
 -- the members of a definition
 unfoldable pub definition_text : Owner → List ℕ
 definition_text (Fragment name) = fragment_text name
-definition_text (Operation kind name) = operation_text kind name
+definition_text (Operation kind name) = named_text (kind_word kind) name
+definition_text (TypeSystem kind name) = named_text (system_word kind) name
 
 -- the owner of a fault, or null
 unfoldable pub owner_text : List TextFile → Option OwnerAt → List ℕ
@@ -81,7 +80,7 @@ faults_text sources = comma_list (fault_text sources)
 
 -- the first members of an operation that is not served
 unfoldable pub affected_start : List TextFile → Affected → List ℕ
-affected_start sources a = codes "{" ++ operation_text a.kind a.name ++ codes ","
+affected_start sources a = codes "{" ++ named_text (kind_word a.kind) a.name ++ codes ","
     ++ place_text sources a.spot
 
 -- an operation that is not served
@@ -108,9 +107,15 @@ abbrev pub truth_text : Bool → List ℕ
 truth_text true = codes "true"
 truth_text false = codes "false"
 
--- whether the schema of the base has faults
+-- whether the schema of the base has faults, and whether the documents of now are hidden
 unfoldable pub base_text : Against → List ℕ
 base_text base = codes ",\"baseSchemaIsFaulty\":" ++ truth_text base.findings.now.schema_is_faulty
+    ++ codes ",\"hidden\":" ++ truth_text base.comparison.now.hidden
+
+-- a list of operations, or null where the documents of now are hidden
+unfoldable pub known_list_text : Bool → Findings → List ℕ → List ℕ
+known_list_text true f places = codes "null"
+known_list_text false f places = operation_list_text f places
 
 -- what a change does to faults
 unfoldable pub fault_changes_text : Findings → Against → List ℕ
@@ -121,9 +126,11 @@ fault_changes_text now base =
 -- what a change does to operations
 unfoldable pub operation_changes_text : Findings → Against → List ℕ
 operation_changes_text now base =
-    codes ",\"broken\":" ++ operation_list_text now base.comparison.now.broken.items
+    codes ",\"broken\":"
+    ++ known_list_text base.comparison.now.hidden now base.comparison.now.broken.items
     ++ codes ",\"healed\":"
-    ++ operation_list_text base.findings.now base.comparison.now.healed.items
+    ++ known_list_text base.comparison.now.hidden base.findings.now
+    base.comparison.now.healed.items
 
 -- what a change does; nothing without a base
 unfoldable pub changes_text : Findings → Option Against → List ℕ

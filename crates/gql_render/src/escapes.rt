@@ -1,10 +1,16 @@
 //! Texts within the texts of a format.
 
+ghost use Rattle.std.specs.Prelude.{◌≡◌, ◌++◌, OnOk, string_bytes};
+ghost use Rattle.gql_render.specs.Escapes as spec;
+
 use crate::write::{write_text, write_texts};
 use std::alloc::AllocError;
 
 /// Writes the text that stands for a character, or the character itself if that text is empty.
-pub fn write_escaped(out: &mut String, character: char, escape: &str) -> Result<(), AllocError> {
+pub fn write_escaped(out: &mut String, character: char, escape: &str) -> Result<(), AllocError>
+    ensures { OnOk result (string_bytes out.new
+        ≡ string_bytes out.old ++ spec.written character escape.now) }
+{
     if escape.is_empty() {
         out.push(character)
     } else {
@@ -13,7 +19,9 @@ pub fn write_escaped(out: &mut String, character: char, escape: &str) -> Result<
 }
 
 /// The text for a character in the text of an annotation of GitHub; empty for the character itself.
-fn message_escape(character: char) -> &'static str {
+fn message_escape(character: char) -> &'static str
+    ensures { result.now ≡ spec.message_escape character }
+{
     match character {
         '%' => "%25",
         '\r' => "%0D",
@@ -23,16 +31,18 @@ fn message_escape(character: char) -> &'static str {
 }
 
 /// Writes the text of an annotation of GitHub.
-pub fn write_message(out: &mut String, text: &str) -> Result<(), AllocError> {
-    for character in text.chars() {
-        write_escaped(out, character, message_escape(character))?;
-    }
-    Ok(())
+pub fn write_message(out: &mut String, text: &str) -> Result<(), AllocError>
+    ensures { OnOk result (string_bytes out.new
+        ≡ string_bytes out.old ++ spec.escaped spec.message_escape text.now) }
+{
+    write_in(out, text, Format::Message)
 }
 
 /// The text for a character in a property of an annotation of GitHub; empty for the character
 /// itself.
-fn property_escape(character: char) -> &'static str {
+fn property_escape(character: char) -> &'static str
+    ensures { result.now ≡ spec.property_escape character }
+{
     match character {
         ':' => "%3A",
         ',' => "%2C",
@@ -41,11 +51,11 @@ fn property_escape(character: char) -> &'static str {
 }
 
 /// Writes a property of an annotation of GitHub.
-pub fn write_property(out: &mut String, text: &str) -> Result<(), AllocError> {
-    for character in text.chars() {
-        write_escaped(out, character, property_escape(character))?;
-    }
-    Ok(())
+pub fn write_property(out: &mut String, text: &str) -> Result<(), AllocError>
+    ensures { OnOk result (string_bytes out.new
+        ≡ string_bytes out.old ++ spec.escaped spec.property_escape text.now) }
+{
+    write_in(out, text, Format::Property)
 }
 
 /// The digits of hexadecimal numbers.
@@ -79,7 +89,9 @@ pub fn write_uri(out: &mut String, path: &str) -> Result<(), AllocError> {
 }
 
 /// The entity for a character in HTML; empty for the character itself.
-pub fn html_entity(character: char) -> &'static str {
+pub fn html_entity(character: char) -> &'static str
+    ensures { result.now ≡ spec.html_entity character }
+{
     match character {
         '&' => "&amp;",
         '<' => "&lt;",
@@ -91,15 +103,17 @@ pub fn html_entity(character: char) -> &'static str {
 }
 
 /// Writes a text within HTML.
-pub fn write_html(out: &mut String, text: &str) -> Result<(), AllocError> {
-    for character in text.chars() {
-        write_escaped(out, character, html_entity(character))?;
-    }
-    Ok(())
+pub fn write_html(out: &mut String, text: &str) -> Result<(), AllocError>
+    ensures { OnOk result (string_bytes out.new
+        ≡ string_bytes out.old ++ spec.escaped spec.html_entity text.now) }
+{
+    write_in(out, text, Format::Html)
 }
 
 /// What stands for a character in Markdown that is markup there; else nothing.
-fn markdown_entity(character: char) -> &'static str {
+fn markdown_entity(character: char) -> &'static str
+    ensures { result.now ≡ spec.markdown_entity character }
+{
     match character {
         '`' => "&#96;",
         '*' => "&#42;",
@@ -116,9 +130,41 @@ fn markdown_entity(character: char) -> &'static str {
 }
 
 /// Writes a text within Markdown: what is markup there is written as an entity.
-pub fn write_markdown(out: &mut String, text: &str) -> Result<(), AllocError> {
+pub fn write_markdown(out: &mut String, text: &str) -> Result<(), AllocError>
+    ensures { OnOk result (string_bytes out.new
+        ≡ string_bytes out.old ++ spec.escaped spec.markdown_entity text.now) }
+{
+    write_in(out, text, Format::Markdown)
+}
+
+/// A format, or a part of one, in which texts are written.
+#[derive(Clone, Copy)]
+enum Format {
+    Message,
+    Property,
+    Html,
+    Markdown,
+}
+
+/// What stands for a character in a format; empty for the character itself.
+fn escape_in(format: Format, character: char) -> &'static str
+    ensures { result.now ≡ spec.escape_in format character }
+{
+    match format {
+        Format::Message => message_escape(character),
+        Format::Property => property_escape(character),
+        Format::Html => html_entity(character),
+        Format::Markdown => markdown_entity(character),
+    }
+}
+
+/// Writes a text within a format.
+fn write_in(out: &mut String, text: &str, format: Format) -> Result<(), AllocError>
+    ensures { OnOk result (string_bytes out.new
+        ≡ string_bytes out.old ++ spec.escaped (spec.escape_in format) text.now) }
+{
     for character in text.chars() {
-        write_escaped(out, character, markdown_entity(character))?;
+        write_escaped(out, character, escape_in(format, character))?;
     }
     Ok(())
 }

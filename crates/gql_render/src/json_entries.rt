@@ -4,10 +4,8 @@ ghost use Rattle.std.specs.Prelude.{◌≡◌, ◌++◌, map, OnOk};
 ghost use Rattle.gql_render.specs.Texts as spec;
 
 use crate::json_write::{write_bytes, write_number_after, write_string, write_string_after};
-use crate::phrases::kind_word;
-use gql_findings::{
-    Affected, Finding, OperationKind, Owner, OwnerAt, Source, Spot, Text, label_at, title,
-};
+use crate::phrases::{kind_word, system_word};
+use gql_findings::{Affected, Finding, Owner, OwnerAt, Source, Spot, Text, label_at, title};
 use std::alloc::{AllocError, Global};
 
 /// Writes the members of a place: its path, line and column.
@@ -74,17 +72,17 @@ fn write_name(alloc: Global, out: &mut Vec<u8>, name: &Option<Text>) -> Result<(
     }
 }
 
-/// Writes the kind and the name of an operation, as members.
-#[tactic(auto, unfolding(crate::specs::Texts::operation_text))]
-fn write_operation(
+/// Writes a kind, and a name if there is one, as members.
+#[tactic(auto, unfolding(crate::specs::Texts::named_text))]
+fn write_named(
     alloc: Global,
     out: &mut Vec<u8>,
-    kind: OperationKind,
+    kind: &str,
     name: &Option<Text>,
 ) -> Result<(), AllocError>
-    ensures { OnOk result (out.new.items ≡ out.old.items ++ spec.operation_text kind name.now) }
+    ensures { OnOk result (out.new.items ≡ out.old.items ++ spec.named_text kind.now name.now) }
 {
-    write_string_after(alloc, out, b"\"kind\":", kind_word(kind))?;
+    write_string_after(alloc, out, b"\"kind\":", kind)?;
     write_bytes(out, b",\"name\":")?;
     write_name(alloc, out, name)
 }
@@ -105,7 +103,8 @@ fn write_definition(alloc: Global, out: &mut Vec<u8>, owner: &Owner) -> Result<(
 {
     match owner {
         Owner::Fragment(name) => write_fragment(alloc, out, name),
-        Owner::Operation { kind, name } => write_operation(alloc, out, *kind, name),
+        Owner::Operation { kind, name } => write_named(alloc, out, kind_word(*kind), name),
+        Owner::TypeSystem { kind, name } => write_named(alloc, out, system_word(*kind), name),
     }
 }
 
@@ -206,7 +205,7 @@ fn write_affected_start(
         ≡ out.old.items ++ spec.affected_start sources.now affected.now) }
 {
     write_bytes(out, b"{")?;
-    write_operation(alloc, out, affected.kind, &affected.name)?;
+    write_named(alloc, out, kind_word(affected.kind), &affected.name)?;
     write_bytes(out, b",")?;
     write_place_members(alloc, out, sources, &affected.spot)
 }

@@ -80,12 +80,15 @@ fn truth(value: bool) -> &'static [u8]
     if value { b"true" } else { b"false" }
 }
 
-/// Writes whether the schema of the base has faults, as a member.
+/// Writes whether the schema of the base has faults, and whether the documents of now are hidden,
+/// as members.
 fn write_base(out: &mut Vec<u8>, base: &Against<'_>) -> Result<(), AllocError>
     ensures { OnOk result (out.new.items ≡ out.old.items ++ spec.base_text base.now) }
 {
     write_bytes(out, b",\"baseSchemaIsFaulty\":")?;
     write_bytes(out, truth(base.findings.schema_is_faulty))?;
+    write_bytes(out, b",\"hidden\":")?;
+    write_bytes(out, truth(base.comparison.hidden))?;
     Ok(())
 }
 
@@ -106,6 +109,25 @@ fn write_fault_changes(
     Ok(())
 }
 
+/// Writes the operations at these places, as a list, or null where the documents of now are hidden.
+#[tactic(auto, unfolding(crate::specs::Texts::known_list_text))]
+fn write_known_list(
+    alloc: Global,
+    out: &mut Vec<u8>,
+    hidden: bool,
+    findings: &Findings,
+    places: &[usize],
+) -> Result<(), AllocError>
+    ensures { OnOk result (out.new.items
+        ≡ out.old.items ++ spec.known_list_text hidden findings.now places.now) }
+{
+    if hidden {
+        write_bytes(out, b"null")
+    } else {
+        write_operation_list(alloc, out, findings, places)
+    }
+}
+
 /// Writes what a change does to operations, as members.
 fn write_operation_changes(
     alloc: Global,
@@ -116,10 +138,17 @@ fn write_operation_changes(
     ensures { OnOk result (out.new.items
         ≡ out.old.items ++ spec.operation_changes_text now.now base.now) }
 {
+    let hidden = base.comparison.hidden;
     write_bytes(out, b",\"broken\":")?;
-    write_operation_list(alloc, out, now, base.comparison.broken.as_slice())?;
+    write_known_list(alloc, out, hidden, now, base.comparison.broken.as_slice())?;
     write_bytes(out, b",\"healed\":")?;
-    write_operation_list(alloc, out, base.findings, base.comparison.healed.as_slice())?;
+    write_known_list(
+        alloc,
+        out,
+        hidden,
+        base.findings,
+        base.comparison.healed.as_slice(),
+    )?;
     Ok(())
 }
 

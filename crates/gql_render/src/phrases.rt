@@ -1,20 +1,34 @@
 //! Phrases that several formats have.
 
-ghost use Rattle.std.specs.Prelude.{◌≡◌};
-ghost use Rattle.gql_render.specs.Json.{kind_word};
+ghost use Rattle.std.specs.Prelude.{◌≡◌, ◌++◌, OnOk, string_bytes};
+ghost use Rattle.gql_render.specs.Json.{kind_word, system_word};
+ghost use Rattle.gql_render.specs.Phrases as spec;
 
-use crate::check::Check;
+use crate::check::{Against, Check};
 use crate::write::{write_number, write_text, write_texts};
 use gql_findings::{
-    Affected, Finding, OperationKind, Owner, Source, Spot, Text, label_at, sentence, title,
+    Affected, Finding, Findings, OperationKind, Owner, Source, Spot, SystemKind, Text, label_at,
+    sentence, title,
 };
 use std::alloc::AllocError;
 
+/// The ending of a noun after a number.
+fn ending(count: usize) -> &'static str
+    ensures { result.now ≡ spec.ending count }
+{
+    if count == 1 { "" } else { "s" }
+}
+
 /// Writes how many there are: `1 fault`, `2 faults`.
-pub fn write_count(out: &mut String, count: usize, noun: &str) -> Result<(), AllocError> {
+#[tactic(auto, unfolding(crate::specs::Phrases::count_text))]
+pub fn write_count(out: &mut String, count: usize, noun: &str) -> Result<(), AllocError>
+    ensures { OnOk result (string_bytes out.new
+        ≡ string_bytes out.old ++ spec.count_text count noun.now) }
+{
     write_number(out, count)?;
-    let ending = if count == 1 { "" } else { "s" };
-    write_texts(out, &[" ", noun, ending])
+    write_text(out, " ")?;
+    write_text(out, noun)?;
+    write_text(out, ending(count))
 }
 
 /// The word for a kind of operation.
@@ -25,6 +39,19 @@ pub fn kind_word(kind: OperationKind) -> &'static str
         OperationKind::Query => "query",
         OperationKind::Mutation => "mutation",
         OperationKind::Subscription => "subscription",
+    }
+}
+
+/// The words for a kind of definition of the type system.
+pub fn system_word(kind: SystemKind) -> &'static str
+    ensures { result.now ≡ system_word kind }
+{
+    match kind {
+        SystemKind::Schema => "schema",
+        SystemKind::Type => "type",
+        SystemKind::Directive => "directive",
+        SystemKind::SchemaExtension => "schema extension",
+        SystemKind::TypeExtension => "type extension",
     }
 }
 
@@ -52,11 +79,21 @@ pub fn write_operation(
     }
 }
 
+/// Writes a definition of the type system, as `type User`.
+fn write_system(out: &mut String, kind: SystemKind, name: &Option<Text>) -> Result<(), AllocError> {
+    write_text(out, system_word(kind))?;
+    match name {
+        Some(name) => write_texts(out, &[" ", name.as_str()]),
+        None => Ok(()),
+    }
+}
+
 /// Writes a definition, as `fragment Shown`.
 pub fn write_owner(out: &mut String, owner: &Owner) -> Result<(), AllocError> {
     match owner {
         Owner::Fragment(name) => write_texts(out, &["fragment ", name.as_str()]),
         Owner::Operation { kind, name } => write_operation(out, *kind, name),
+        Owner::TypeSystem { kind, name } => write_system(out, *kind, name),
     }
 }
 
@@ -114,20 +151,50 @@ pub fn write_spot(out: &mut String, sources: &[Source], spot: &Spot) -> Result<(
     )
 }
 
+/// Writes how many faults a change brings and mends.
+#[tactic(auto, unfolding(crate::specs::Phrases::change_counts))]
+fn write_change_counts(out: &mut String, base: &Against<'_>) -> Result<(), AllocError>
+    ensures { OnOk result (string_bytes out.new
+        ≡ string_bytes out.old ++ spec.change_counts base.entry.now) }
+{
+    write_count(out, base.comparison.brought.len(), "fault")?;
+    write_text(out, " brought, ")?;
+    write_count(out, base.comparison.mended.len(), "fault")?;
+    write_text(out, " mended")
+}
+
+/// Writes how many faults there are, and in how many files.
+#[tactic(auto, unfolding(crate::specs::Phrases::all_counts))]
+fn write_all_counts(out: &mut String, now: &Findings) -> Result<(), AllocError>
+    ensures { OnOk result (string_bytes out.new
+        ≡ string_bytes out.old ++ spec.all_counts now.now) }
+{
+    write_count(out, now.findings.len(), "fault")?;
+    write_text(out, " in ")?;
+    write_count(out, now.sources.len(), "file")
+}
+
 /// Writes the counts: `1 fault in 2 files`, or against a base `1 fault brought, 0 faults mended`.
-pub fn write_counts(out: &mut String, check: &Check<'_>) -> Result<(), AllocError> {
+pub fn write_counts(out: &mut String, check: &Check<'_>) -> Result<(), AllocError>
+    ensures { OnOk result (string_bytes out.new
+        ≡ string_bytes out.old ++ spec.counts_text check.entry.now) }
+{
     match &check.base {
-        Some(base) => {
-            write_count(out, base.comparison.brought.len(), "fault")?;
-            write_text(out, " brought, ")?;
-            write_count(out, base.comparison.mended.len(), "fault")?;
-            write_text(out, " mended")
-        }
-        None => {
-            write_count(out, check.now.findings.len(), "fault")?;
-            write_text(out, " in ")?;
-            write_count(out, check.now.sources.len(), "file")
-        }
+        Some(base) => write_change_counts(out, base),
+        None => write_all_counts(out, check.now),
+    }
+}
+
+/// What is said first of a comparison that does not see the documents of now.
+const UNKNOWN: &str = "the schema has faults: which operations this change breaks is not known";
+
+/// What is said before all else: that the documents of now are hidden, if they are; else nothing.
+pub fn first_words(check: &Check<'_>) -> &'static str
+    ensures { result.now ≡ spec.first_words check.entry.now }
+{
+    match &check.base {
+        Some(base) => { if base.comparison.hidden { UNKNOWN } else { "" } }
+        None => "",
     }
 }
 

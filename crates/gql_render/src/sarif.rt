@@ -2,11 +2,16 @@
 
 use crate::check::{Check, broken_operations, shown_faults};
 use crate::escapes::write_uri;
+use crate::fingerprint::fingerprint;
 use crate::json_write::{write_bytes, write_number_after, write_string_after};
-use crate::phrases::{hidden, write_affected, write_fault};
-use crate::write::{write_text, write_texts};
-use gql_findings::{Affected, Finding, Rule, Source, Spot, label_at, sentence, title};
+use crate::phrases::{first_words, hidden, write_affected, write_fault};
+use crate::write::{write_number, write_text, write_texts};
+use gql_findings::{
+    Affected, Finding, Key, Rule, Source, Spot, fault_key, label_at, sentence, title,
+};
+use gql_version::VERSION;
 use std::alloc::{AllocError, Global};
+use std::collections::HashMap;
 
 /// The rules of the faults, each once, in the order of their first faults.
 fn rules_of(alloc: Global, faults: &[&Finding]) -> Result<Vec<Rule>, AllocError> {
@@ -48,15 +53,26 @@ fn write_rule(alloc: Global, out: &mut Vec<u8>, rule: Rule) -> Result<(), AllocE
     write_bytes(out, b"}}")
 }
 
-/// Writes rules with commas between them.
-fn write_rules(alloc: Global, out: &mut Vec<u8>, rules: &[Rule]) -> Result<(), AllocError> {
-    let Some((first, others)) = rules.split_first() else {
-        return Ok(());
-    };
-    write_rule(alloc, out, *first)?;
-    for rule in others {
-        write_bytes(out, b",")?;
+/// The rule of the result that the documents are hidden.
+const HIDDEN_RULE: &[u8] =
+    b"{\"id\":\"hidden\",\"shortDescription\":{\"text\":\"Hidden Documents\"}}";
+
+/// Writes rules with commas between them. If the documents are hidden, a rule for that is first.
+fn write_rules(
+    alloc: Global,
+    out: &mut Vec<u8>,
+    rules: &[Rule],
+    is_hidden: bool,
+) -> Result<(), AllocError> {
+    let mut comma: &[u8] = b"";
+    if is_hidden {
+        write_bytes(out, HIDDEN_RULE)?;
+        comma = b",";
+    }
+    for rule in rules {
+        write_bytes(out, comma)?;
         write_rule(alloc, out, *rule)?;
+        comma = b",";
     }
     Ok(())
 }
@@ -143,20 +159,36 @@ fn write_fault_message(
     )
 }
 
-/// Writes a fault. Against a base it is new.
-fn write_result(
+/// How many faults that are known by the same there have been, with this one.
+fn count_one<'f>(counts: &mut HashMap<Key<'f>, usize>, key: Key<'f>) -> Result<usize, AllocError> {
+    let count = counts.get(&key).copied().unwrap_or(0).saturating_add(1);
+    counts.insert(key, count)?;
+    Ok(count)
+}
+
+/// Writes the fingerprint of a fault, as a member: of faults that are known by the same, each has
+/// its number. GitHub reads the member of this name.
+fn write_fingerprint(
     alloc: Global,
     out: &mut Vec<u8>,
-    check: &Check<'_>,
-    rules: &[Rule],
+    sources: &[Source],
     fault: &Finding,
+    number: usize,
 ) -> Result<(), AllocError> {
-    write_string_after(alloc, out, b"{\"ruleId\":", fault.rule.name())?;
-    write_number_after(out, b",\"ruleIndex\":", place_of(rules, fault.rule))?;
-    write_fault_message(alloc, out, fault)?;
-    write_bytes(out, b"}")?;
-    let sources = check.now.sources.as_slice();
-    write_places(alloc, out, sources, fault.spots.as_slice())?;
+    let mut text = fingerprint(alloc, sources, fault)?;
+    write_text(&mut text, ":")?;
+    write_number(&mut text, number)?;
+    write_string_after(
+        alloc,
+        out,
+        b",\"partialFingerprints\":{\"primaryLocationLineHash\":",
+        text.as_str(),
+    )?;
+    write_bytes(out, b"}")
+}
+
+/// Writes the end of a result. Against a base it is new.
+fn write_result_end(out: &mut Vec<u8>, check: &Check<'_>) -> Result<(), AllocError> {
     if check.base.is_some() {
         write_bytes(out, b",\"baselineState\":\"new\"}")
     } else {
@@ -164,7 +196,51 @@ fn write_result(
     }
 }
 
-/// Writes faults with commas between them.
+/// Writes the first members of a fault: its rule, its text and its places.
+fn write_result_start(
+    alloc: Global,
+    out: &mut Vec<u8>,
+    sources: &[Source],
+    index: usize,
+    fault: &Finding,
+) -> Result<(), AllocError> {
+    write_string_after(alloc, out, b"{\"ruleId\":", fault.rule.name())?;
+    write_number_after(out, b",\"ruleIndex\":", index)?;
+    write_fault_message(alloc, out, fault)?;
+    write_bytes(out, b"}")?;
+    write_places(alloc, out, sources, fault.spots.as_slice())
+}
+
+/// Writes that the documents are hidden, as a result at the first fault of the schema.
+fn write_hidden_result(
+    alloc: Global,
+    out: &mut Vec<u8>,
+    check: &Check<'_>,
+    first: &str,
+) -> Result<(), AllocError> {
+    write_string_after(
+        alloc,
+        out,
+        b"{\"ruleId\":\"hidden\",\"ruleIndex\":0,\"level\":\"error\",\"message\":{\"text\":",
+        first,
+    )?;
+    write_bytes(out, b"}")?;
+    let sources = check.now.sources.as_slice();
+    match check.now.findings.first() {
+        Some(fault) => match fault.spots.as_slice().first() {
+            Some(spot) => write_places(alloc, out, sources, &[*spot])?,
+            None => write_places(alloc, out, sources, &[])?,
+        },
+        None => write_places(alloc, out, sources, &[])?,
+    }
+    write_bytes(
+        out,
+        b",\"partialFingerprints\":{\"primaryLocationLineHash\":\"hidden:1\"}",
+    )?;
+    write_result_end(out, check)
+}
+
+/// Writes faults with commas between them. If the documents are hidden, that comes first.
 fn write_results(
     alloc: Global,
     out: &mut Vec<u8>,
@@ -172,25 +248,38 @@ fn write_results(
     rules: &[Rule],
     faults: &[&Finding],
 ) -> Result<(), AllocError> {
-    let Some((first, others)) = faults.split_first() else {
-        return Ok(());
-    };
-    write_result(alloc, out, check, rules, first)?;
-    for fault in others {
-        write_bytes(out, b",")?;
-        write_result(alloc, out, check, rules, fault)?;
+    let sources = check.now.sources.as_slice();
+    let first = first_words(check);
+    let mut comma: &[u8] = b"";
+    let mut offset = 0;
+    if !first.is_empty() {
+        write_hidden_result(alloc, out, check, first)?;
+        comma = b",";
+        offset = 1;
+    }
+    let mut counts = HashMap::new(alloc);
+    for fault in faults {
+        let number = count_one(&mut counts, fault_key(sources, fault))?;
+        let index = place_of(rules, fault.rule).saturating_add(offset);
+        write_bytes(out, comma)?;
+        write_result_start(alloc, out, sources, index, fault)?;
+        write_fingerprint(alloc, out, sources, fault, number)?;
+        write_result_end(out, check)?;
+        comma = b",";
     }
     Ok(())
 }
 
 /// Writes a note of the run.
-fn write_note(alloc: Global, out: &mut Vec<u8>, text: &str) -> Result<(), AllocError> {
-    write_string_after(
-        alloc,
-        out,
-        b"{\"level\":\"note\",\"message\":{\"text\":",
-        text,
-    )?;
+fn write_note(
+    alloc: Global,
+    out: &mut Vec<u8>,
+    level: &[u8],
+    text: &str,
+) -> Result<(), AllocError> {
+    write_bytes(out, b"{\"level\":\"")?;
+    write_bytes(out, level)?;
+    write_string_after(alloc, out, b"\",\"message\":{\"text\":", text)?;
     write_bytes(out, b"}}")
 }
 
@@ -210,14 +299,19 @@ fn write_operation_note(
     write_affected(&mut text, affected)?;
     let label = label_at(check.now.sources.as_slice(), &affected.spot);
     write_texts(&mut text, &[" in ", label])?;
-    write_note(alloc, out, text.as_str())
+    write_note(alloc, out, b"note", text.as_str())
 }
 
-/// Writes the notes of the run: the operations that are broken, and what a schema with faults
-/// hides.
+/// Writes the notes of the run: first that the documents are hidden, if they are, then the operations
+/// that are broken, and what a schema with faults hides.
 fn write_notes(alloc: Global, out: &mut Vec<u8>, check: &Check<'_>) -> Result<(), AllocError> {
     let operations = broken_operations(alloc, check)?;
     let mut comma: &[u8] = b"";
+    let first = first_words(check);
+    if !first.is_empty() {
+        write_note(alloc, out, b"error", first)?;
+        comma = b",";
+    }
     for affected in operations.as_slice() {
         write_bytes(out, comma)?;
         write_operation_note(alloc, out, check, affected)?;
@@ -228,18 +322,30 @@ fn write_notes(alloc: Global, out: &mut Vec<u8>, check: &Check<'_>) -> Result<()
         return Ok(());
     }
     write_bytes(out, comma)?;
-    write_note(alloc, out, hidden)
+    write_note(alloc, out, b"note", hidden)
 }
 
 /// Writes the head of a log of one run, up to its rules.
-fn write_head(out: &mut Vec<u8>) -> Result<(), AllocError> {
-    write_bytes(
+fn write_head(alloc: Global, out: &mut Vec<u8>) -> Result<(), AllocError> {
+    write_string_after(
+        alloc,
         out,
         b"{\"$schema\":\"https://json.schemastore.org/sarif-2.1.0.json\",\
         \"version\":\"2.1.0\",\"runs\":[{\
         \"columnKind\":\"unicodeCodePoints\",\
-        \"tool\":{\"driver\":{\"name\":\"gqlreg\",\"rules\":[",
-    )
+        \"tool\":{\"driver\":{\"name\":\"gqlreg\",\"version\":",
+        VERSION,
+    )?;
+    write_bytes(out, b",\"rules\":[")
+}
+
+/// Writes how the run went, up to its notes.
+fn write_invocation(out: &mut Vec<u8>, is_hidden: bool) -> Result<(), AllocError> {
+    write_bytes(out, b"],\"invocations\":[{\"executionSuccessful\":true,")?;
+    if is_hidden {
+        write_bytes(out, b"\"properties\":{\"hidden\":true},")?;
+    }
+    write_bytes(out, b"\"toolExecutionNotifications\":[")
 }
 
 /// Writes the rules of the faults, and the faults as results.
@@ -250,7 +356,7 @@ fn write_run(
     faults: &[&Finding],
 ) -> Result<(), AllocError> {
     let rules = rules_of(alloc, faults)?;
-    write_rules(alloc, out, rules.as_slice())?;
+    write_rules(alloc, out, rules.as_slice(), !first_words(check).is_empty())?;
     write_bytes(out, b"]}},\"results\":[")?;
     write_results(alloc, out, check, rules.as_slice(), faults)
 }
@@ -261,16 +367,13 @@ fn write_shown(alloc: Global, out: &mut Vec<u8>, check: &Check<'_>) -> Result<()
     write_run(alloc, out, check, faults.as_slice())
 }
 
-/// The check as a SARIF log of one run: its rules, its faults as results, and notes on operations.
+/// The check as a SARIF log of one run: its rules, its faults as results, and notes on operations. If
+/// the documents are hidden, that is the first result and the first note.
 pub fn as_sarif(alloc: Global, check: &Check<'_>) -> Result<Vec<u8>, AllocError> {
     let mut out = Vec::new(alloc);
-    write_head(&mut out)?;
+    write_head(alloc, &mut out)?;
     write_shown(alloc, &mut out, check)?;
-    write_bytes(
-        &mut out,
-        b"],\"invocations\":[{\"executionSuccessful\":true,\
-        \"toolExecutionNotifications\":[",
-    )?;
+    write_invocation(&mut out, !first_words(check).is_empty())?;
     write_notes(alloc, &mut out, check)?;
     write_bytes(&mut out, b"]}]}]}")?;
     Ok(out)

@@ -1,9 +1,14 @@
 //! A check as a compiler prints it, for a terminal.
 
+ghost use Rattle.std.specs.Prelude.{◌≡◌, ◌++◌, IfOk, OnOk, string_bytes};
+ghost use Rattle.gql_render.specs.Phrases.{first_words};
+ghost use Rattle.gql_render.specs.Plain as spec;
+ghost use Rattle.gql_render.specs.Plain.{IsPlain};
+
 use crate::caret::write_padding;
 use crate::check::{Against, Check, shown};
 use crate::phrases::{
-    hidden, write_affected, write_counts, write_rule, write_sentence, write_spot,
+    first_words, hidden, write_affected, write_counts, write_rule, write_sentence, write_spot,
 };
 use crate::write::{write_text, write_texts};
 use gql_findings::{Affected, Finding, Findings, Source, Spot, label_at, line_at};
@@ -153,15 +158,10 @@ fn write_changes(
     paint: Paint,
 ) -> Result<(), AllocError> {
     let comparison = base.comparison;
-    if !comparison.mended.is_empty() {
+    let mended = comparison.mended.as_slice();
+    if !mended.is_empty() {
         write_text(out, "mended:\n")?;
-        write_findings(
-            out,
-            base.findings,
-            comparison.mended.as_slice(),
-            paint,
-            "  ",
-        )?;
+        write_findings(out, base.findings, mended, paint, "  ")?;
     }
     let broken = comparison.broken.as_slice();
     write_operations(out, now, broken, "operations that this breaks:\n")?;
@@ -169,25 +169,17 @@ fn write_changes(
     write_operations(out, base.findings, healed, "operations that this heals:\n")
 }
 
-/// Writes the faults that are shown, and their counts.
-fn write_shown(
-    alloc: Global,
-    out: &mut String,
-    check: &Check<'_>,
-    paint: Paint,
-) -> Result<(), AllocError> {
+/// The faults that are shown.
+fn faults_text(alloc: Global, check: &Check<'_>, paint: Paint) -> Result<String, AllocError> {
     let places = shown(alloc, check)?;
-    write_findings(out, check.now, places.as_slice(), paint, "")?;
-    write_counts(out, check)
+    let mut out = String::new(alloc);
+    write_findings(&mut out, check.now, places.as_slice(), paint, "")?;
+    Ok(out)
 }
 
-/// The check as a compiler prints it: each fault with its line and a caret, the counts, and what
-/// the change does to operations.
-pub fn as_text(alloc: Global, check: &Check<'_>, colours: bool) -> Result<Vec<u8>, AllocError> {
-    let paint = paint_of(colours);
+/// What comes after the counts: what the change does, and what a schema with faults hides.
+fn rest_text(alloc: Global, check: &Check<'_>, paint: Paint) -> Result<String, AllocError> {
     let mut out = String::new(alloc);
-    write_shown(alloc, &mut out, check, paint)?;
-    write_text(&mut out, "\n")?;
     if let Some(base) = &check.base {
         write_changes(&mut out, check.now, base, paint)?;
     }
@@ -195,5 +187,49 @@ pub fn as_text(alloc: Global, check: &Check<'_>, colours: bool) -> Result<Vec<u8
     if !hidden.is_empty() {
         write_texts(&mut out, &[hidden, "\n"])?;
     }
+    Ok(out)
+}
+
+/// Writes what is said first, in a line of its own; nothing where there is nothing to say.
+fn write_first(out: &mut String, check: &Check<'_>) -> Result<(), AllocError>
+    ensures { OnOk result (string_bytes out.new
+        ≡ string_bytes out.old ++ spec.line_of (first_words check.entry.now)) }
+{
+    let first = first_words(check);
+    if first.is_empty() {
+        return Ok(());
+    }
+    write_text(out, first)?;
+    write_text(out, "\n")
+}
+
+/// Writes a check: what is said first, the faults, their counts, and the rest.
+#[tactic(auto, unfolding(crate::specs::Plain::plain_text))]
+fn write_parts(
+    out: &mut String,
+    check: &Check<'_>,
+    faults: &str,
+    rest: &str,
+) -> Result<(), AllocError>
+    ensures { OnOk result (string_bytes out.new
+        ≡ string_bytes out.old ++ spec.plain_text check.entry.now faults.now rest.now) }
+{
+    write_first(out, check)?;
+    write_text(out, faults)?;
+    write_counts(out, check)?;
+    write_text(out, "\n")?;
+    write_text(out, rest)
+}
+
+/// The check as a compiler prints it: first whether nothing is known of the operations, then each
+/// fault with its line and a caret, the counts, and what the change does to operations.
+pub fn as_text(alloc: Global, check: &Check<'_>, colours: bool) -> Result<Vec<u8>, AllocError>
+    ensures { IfOk result (λ body. IsPlain check.entry.now body.items) }
+{
+    let paint = paint_of(colours);
+    let faults = faults_text(alloc, check, paint)?;
+    let rest = rest_text(alloc, check, paint)?;
+    let mut out = String::new(alloc);
+    write_parts(&mut out, check, faults.as_str(), rest.as_str())?;
     Ok(out.into_bytes())
 }

@@ -1,4 +1,5 @@
 mod Adding
 mod Going
 mod Parts
+mod Rooming
 mod Turning

@@ -1,4 +1,7 @@
 pub mod OneByOne
+pub mod Rooms
+pub mod Statuses
 pub mod Steps
 pub mod Together
 pub mod Turns
+pub mod Waits

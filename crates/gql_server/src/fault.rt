@@ -1,7 +1,7 @@
 //! Why a server ends early.
 use thiserror::Error;
 
-/// Why serving ended early.
+/// Why serving ended early, or did not begin.
 #[derive(Clone, Copy, Debug, PartialEq, Eq, Error)]
 pub enum ServeFault {
     /// 341: a connection was not accepted.
@@ -13,4 +13,10 @@ pub enum ServeFault {
     /// 343: an allocation failed before the first connection was accepted.
     #[error("out of memory")]
     Memory,
+    /// 344: the system does not let the program listen to the port.
+    #[error("listening failed")]
+    ListenFailed,
+    /// 345: it was not reported that connections are accepted.
+    #[error("reporting failed")]
+    ReportFailed,
 }

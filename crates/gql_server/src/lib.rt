@@ -8,6 +8,7 @@ mod one_by_one;
 mod place;
 mod room;
 mod socket;
+mod status;
 mod tcp_socket;
 mod together;
 
@@ -17,4 +18,5 @@ pub use net_listener::NetListener;
 pub use one_by_one::serve_on;
 pub use place::{End, MAX_READS, Next, Place};
 pub use socket::{Socket, SocketFailed};
+pub use status::status_of_serve;
 pub use together::serve_together;

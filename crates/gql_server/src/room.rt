@@ -1,7 +1,10 @@
 //! The connections that are served at one time.
-ghost use Rattle.std.specs.Prelude.{◌≡◌, ◌<◌, ◌≤◌, ◌+◌, length, IfSome, ℕ, None};
-ghost use Rattle.gql_http.specs.Hubs.{rests_of};
-ghost use Rattle.gql_server.specs.Together.{Goes};
+ghost use Rattle.std.specs.Prelude.{◌≡◌, ◌<◌, ◌≤◌, ◌+◌, [], length, IfSome, ℕ, None};
+ghost use Rattle.gql_http.specs.Events.{Does, closes, opens};
+ghost use Rattle.gql_http.specs.Hubs.{rests_of, service_of};
+ghost use Rattle.gql_server.specs.Rooms.{Moves, TurnsOrStays, talk_in};
+ghost use Rattle.gql_server.specs.Turns.{IsTurn};
+ghost use Rattle.gql_server.specs.Waits as waits;
 
 use crate::place::{Next, Place};
 use crate::tcp_socket::TcpSocket;
@@ -28,9 +31,8 @@ pub struct Seat {
 
 impl Seat {
     /// Gives the connection a turn. Returns whether it is over.
-    fn turn(&mut self, hub: &mut Hub, at_once: u8, number: u8, now: Instant) -> bool
-        requires { number < at_once }
-        ensures { Goes at_once hub.old hub.new }
+    fn turn(&mut self, hub: &mut Hub, number: u8, now: Instant) -> bool
+        ensures { IsTurn number hub.old self.old.place hub.new self.new.place }
     {
         let next = self.place.turn(hub, number);
         if self.place.take_moved() {
@@ -48,13 +50,11 @@ impl Seat {
 
     /// Gives the connection a turn if it is ready. Returns whether it is over, or was quiet for too
     /// long.
-    #[tactic(auto, using(crate::proofs::Going::goes_nothing))]
-    fn advance(&mut self, hub: &mut Hub, at_once: u8, number: u8, now: Instant) -> bool
-        requires { number < at_once }
-        ensures { Goes at_once hub.old hub.new }
+    fn advance(&mut self, hub: &mut Hub, number: u8, now: Instant) -> bool
+        ensures { TurnsOrStays number hub.old self.old.place hub.new self.new.place }
     {
         if self.is_ready {
-            self.turn(hub, at_once, number, now)
+            self.turn(hub, number, now)
         } else {
             self.is_given_up(now)
         }
@@ -75,9 +75,9 @@ impl Seat {
 }
 
 /// Closes a connection, if it is open.
-pub fn close(hub: &mut Hub, at_once: u8, number: u8)
-    requires { number < at_once }
-    ensures goes { Goes at_once hub.old hub.new }
+pub fn close(hub: &mut Hub, number: u8)
+    ensures does { Does (service_of hub.old) (rests_of hub.old) (closes number) []
+        (service_of hub.new) (rests_of hub.new) }
     ensures closed { rests_of hub.new number ≡ None }
     ensures others { (c : ℕ) → rests_of hub.old c ≡ None → rests_of hub.new c ≡ None }
 {
@@ -85,26 +85,35 @@ pub fn close(hub: &mut Hub, at_once: u8, number: u8)
 }
 
 /// Opens a connection, if it is closed.
-pub fn open(hub: &mut Hub, at_once: u8, number: u8)
-    requires { number < at_once }
-    ensures { Goes at_once hub.old hub.new }
+pub fn open(hub: &mut Hub, number: u8)
+    ensures { Does (service_of hub.old) (rests_of hub.old) (opens number) []
+        (service_of hub.new) (rests_of hub.new) }
 {
     let _ = hub.open(number);
 }
 
 /// Gives a connection a turn if it is ready. If it is over, or was quiet for too long, it is closed.
-#[tactic(auto, using(crate::proofs::Going::goes_nothing, crate::proofs::Going::goes_join))]
+#[tactic(auto, using(crate::proofs::Rooming::moves_stay, crate::proofs::Rooming::moves_turn))]
 pub fn turn_of(hub: &mut Hub, at_once: u8, number: u8, slot: &mut Option<Seat>, now: Instant)
     requires { number < at_once }
-    ensures { Goes at_once hub.old hub.new }
+    ensures { Moves at_once number hub.old (talk_in slot.old) hub.new (talk_in slot.new) }
 {
     let Some(seat) = slot else {
         return;
     };
-    let is_over = seat.advance(hub, at_once, number, now);
+    let is_over = seat.advance(hub, number, now);
     if is_over {
-        close(hub, at_once, number);
+        close(hub, number);
         *slot = None;
+    }
+}
+
+/// Notes that a connection is ready, if somebody has the seat.
+pub fn mark_ready(slot: &mut Option<Seat>)
+    ensures { talk_in slot.new ≡ talk_in slot.old }
+{
+    if let Some(seat) = slot {
+        seat.is_ready = true;
     }
 }
 
@@ -148,10 +157,18 @@ fn is_before(since: Instant, found: &Option<(u8, Instant)>) -> bool {
 }
 
 /// The shorter of two waits; none is a wait without end.
-pub fn shorter(one: Option<Duration>, other: Duration) -> Option<Duration> {
+pub fn shorter(one: Option<Duration>, other: Duration) -> Option<Duration>
+    ensures { result ≡ waits.shorter one other }
+{
     match one {
-        Some(one) if one < other => Some(one),
-        _ => Some(other),
+        Some(one) => {
+            if one.as_nanos() < other.as_nanos() {
+                Some(one)
+            } else {
+                Some(other)
+            }
+        }
+        None => Some(other),
     }
 }
 

@@ -1,5 +1,5 @@
 //! The sockets of a network, which never wait.
-ghost use Rattle.std.specs.Prelude.{None};
+ghost use Rattle.std.specs.Prelude.{◌≡◌, None, false};
 
 use crate::socket::{Socket, SocketFailed};
 use mio::net::TcpStream;
@@ -17,7 +17,9 @@ pub struct TcpSocket {
 
 impl TcpSocket {
     /// A socket of which nothing was read.
-    pub fn new(stream: TcpStream) -> TcpSocket {
+    pub fn new(stream: TcpStream) -> TcpSocket
+        ensures { result ≡ record { stream = stream; has_failed = false; ended = false } }
+    {
         TcpSocket {
             stream,
             has_failed: false,

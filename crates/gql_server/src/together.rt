@@ -1,11 +1,12 @@
 //! Many connections at one time, served by one thread.
 ghost use Rattle.std.specs.Prelude.{◌≡◌, ◌<◌, ◌≤◌, IfSome, IfOk};
 ghost use Rattle.gql_http.specs.Hubs.{rests_of};
+ghost use Rattle.gql_server.specs.Rooms.{IsBegun, Moves, Runs, RunsFromAny, RunsFromNone, talk_in, talks_of};
 ghost use Rattle.gql_server.specs.Together.{AreClosed, Goes};
 
 use crate::fault::ServeFault;
 use crate::place::Place;
-use crate::room::{Seat, Seats, close, next_place, open, shorter, turn_of, wait_time};
+use crate::room::{Seat, Seats, close, mark_ready, next_place, open, shorter, turn_of, wait_time};
 use crate::tcp_socket::TcpSocket;
 use gql_http::Hub;
 use mio::net::{TcpListener, TcpStream};
@@ -61,13 +62,9 @@ impl Queue {
 
 /// The seat of a stream that was accepted, which is watched from now on. None if the system refuses
 /// that, or an allocation fails.
-fn seat_of(
-    alloc: Global,
-    poll: &Poll,
-    number: u8,
-    stream: TcpStream,
-    now: Instant,
-) -> Option<Seat> {
+fn seat_of(alloc: Global, poll: &Poll, number: u8, stream: TcpStream, now: Instant) -> Option<Seat>
+    ensures { IfSome result (λ seat. IsBegun seat.place) }
+{
     let mut stream = stream;
     let both = Interest::READABLE | Interest::WRITABLE;
     let token = Token(usize::from(number));
@@ -89,6 +86,7 @@ fn seat_of(
 }
 
 /// Gives a place to a stream that was accepted. The connection that has it is closed.
+#[tactic(auto, using(crate::proofs::Rooming::moves_leave))]
 fn seat(
     alloc: Global,
     poll: &Poll,
@@ -100,17 +98,19 @@ fn seat(
     now: Instant,
 )
     requires { number < at_once }
-    ensures { Goes at_once hub.old hub.new }
+    ensures { Moves at_once number hub.old (talk_in slot.old) hub.new (talk_in slot.new) }
 {
-    close(hub, at_once, number);
-    *slot = seat_of(alloc, poll, number, stream, now);
-    if slot.is_some() {
-        open(hub, at_once, number);
-    }
+    close(hub, number);
+    let Some(seat) = seat_of(alloc, poll, number, stream, now) else {
+        *slot = None;
+        return;
+    };
+    open(hub, number);
+    *slot = Some(seat);
 }
 
 /// Accepts a connection if one waits and there is a place. Returns whether another may follow.
-#[tactic(auto, using(crate::proofs::Going::goes_nothing, crate::proofs::Going::goes_join))]
+#[tactic(auto, using(crate::proofs::Rooming::runs_stay))]
 fn admit_one(
     alloc: Global,
     poll: &Poll,
@@ -122,7 +122,7 @@ fn admit_one(
     now: Instant,
 ) -> Result<bool, ServeFault>
     requires { at_once ≤ 16 }
-    ensures { Goes at_once hub.old hub.new }
+    ensures { Runs at_once hub.old (talks_of seats.old) hub.new (talks_of seats.new) }
 {
     if !queue.is_awaited || queue.left == 0 {
         return Ok(false);
@@ -152,7 +152,7 @@ fn admit_one(
 }
 
 /// Accepts the connections that wait, as long as there are places.
-#[tactic(auto, using(crate::proofs::Going::goes_nothing, crate::proofs::Going::goes_join))]
+#[tactic(auto, using(crate::proofs::Rooming::runs_stay, crate::proofs::Rooming::runs_join))]
 fn admit(
     alloc: Global,
     poll: &Poll,
@@ -164,7 +164,7 @@ fn admit(
     now: Instant,
 ) -> Result<(), ServeFault>
     requires { at_once ≤ 16 }
-    ensures { Goes at_once hub.old hub.new }
+    ensures { Runs at_once hub.old (talks_of seats.old) hub.new (talks_of seats.new) }
 {
     for _place in 0..at_once {
         if !admit_one(alloc, poll, listener, hub, at_once, seats, queue, now)? {
@@ -175,7 +175,9 @@ fn admit(
 }
 
 /// Notes what the system reports: which connections are ready, and whether one waits.
-fn note(events: &Events, seats: &mut Seats, queue: &mut Queue, now: Instant) {
+fn note(events: &Events, seats: &mut Seats, queue: &mut Queue, now: Instant)
+    ensures { talks_of seats.new ≡ talks_of seats.old }
+{
     for event in events.iter() {
         let token = event.token();
         if token == LISTENER {
@@ -183,17 +185,17 @@ fn note(events: &Events, seats: &mut Seats, queue: &mut Queue, now: Instant) {
                 queue.since = now;
             }
             queue.is_awaited = true;
-        } else if let Some(Some(seat)) = seats.get_mut(token.0) {
-            seat.is_ready = true;
+        } else if token.0 < seats.len() {
+            mark_ready(&mut seats[token.0]);
         }
     }
 }
 
 /// Gives each connection that is ready a turn.
-#[tactic(auto, using(crate::proofs::Going::goes_nothing, crate::proofs::Going::goes_join))]
+#[tactic(auto, using(crate::proofs::Rooming::runs_stay))]
 fn turns(hub: &mut Hub, at_once: u8, seats: &mut Seats, now: Instant)
     requires { at_once ≤ 16 }
-    ensures { Goes at_once hub.old hub.new }
+    ensures { Runs at_once hub.old (talks_of seats.old) hub.new (talks_of seats.new) }
 {
     for number in 0..at_once {
         turn_of(hub, at_once, number, &mut seats[usize::from(number)], now);
@@ -201,7 +203,7 @@ fn turns(hub: &mut Hub, at_once: u8, seats: &mut Seats, now: Instant)
 }
 
 /// Accepts what waits, and gives each connection that is ready a turn.
-#[tactic(auto, using(crate::proofs::Going::goes_nothing, crate::proofs::Going::goes_join))]
+#[tactic(auto, using(crate::proofs::Rooming::runs_stay, crate::proofs::Rooming::runs_join))]
 fn round(
     alloc: Global,
     poll: &Poll,
@@ -213,7 +215,7 @@ fn round(
     now: Instant,
 ) -> Result<(), ServeFault>
     requires { at_once ≤ 16 }
-    ensures { Goes at_once hub.old hub.new }
+    ensures { Runs at_once hub.old (talks_of seats.old) hub.new (talks_of seats.new) }
 {
     admit(alloc, poll, listener, hub, at_once, seats, queue, now)?;
     turns(hub, at_once, seats, now);
@@ -221,7 +223,7 @@ fn round(
 }
 
 /// Serves until every connection that is to be accepted is over.
-#[tactic(auto, using(crate::proofs::Going::goes_nothing, crate::proofs::Going::goes_join))]
+#[tactic(auto, using(crate::proofs::Rooming::from_none_stays, crate::proofs::Rooming::runs_begin))]
 fn serve_all<R: Clock>(
     rt: &R,
     alloc: Global,
@@ -233,7 +235,7 @@ fn serve_all<R: Clock>(
     at_once: u8,
 ) -> Result<(), ServeFault>
     requires { at_once ≤ 16 }
-    ensures { Goes at_once hub.old hub.new }
+    ensures { RunsFromNone at_once hub.old hub.new }
 {
     let mut seats: Seats = [
         None, None, None, None, None, None, None, None, None, None, None, None, None, None, None,
@@ -266,13 +268,13 @@ fn serve_all<R: Clock>(
 }
 
 /// Closes the connections with these numbers.
-#[tactic(auto, using(crate::proofs::Going::goes_nothing, crate::proofs::Going::goes_join))]
+#[tactic(auto, using(crate::proofs::Rooming::any_stays, crate::proofs::Rooming::any_leaves))]
 fn close_all(hub: &mut Hub, at_once: u8)
-    ensures goes { Goes at_once hub.old hub.new }
+    ensures runs { RunsFromAny at_once hub.old hub.new }
     ensures closed { AreClosed at_once hub.new }
 {
     for number in 0..at_once {
-        close(hub, at_once, number);
+        close(hub, number);
     }
 }
 
@@ -286,8 +288,10 @@ fn close_all(hub: &mut Hub, at_once: u8)
 /// quiet longest, for 50 milliseconds at least, or for a second if it has not sent a byte yet, with no
 /// unfinished request and nothing to write. After a second of waiting, any that is idle will do.
 ///
-/// What the connections did to the hub are events one after the other. In the end all these
-/// connections of the hub are closed again, and all others are as they were.
+/// A connection has its number from the time when it is accepted until it is closed: what its socket
+/// brings is fed under that number, and what is answered there is written to that socket. What the
+/// connections did to the hub are events one after the other. In the end all these connections of the
+/// hub are closed again, and all others are as they were.
 pub fn serve_together<R: Net + Clock>(
     rt: &R,
     alloc: Global,
@@ -298,6 +302,7 @@ pub fn serve_together<R: Net + Clock>(
 ) -> Result<(), ServeFault>
     requires most { at_once ≤ 16 }
     requires closed { AreClosed at_once hub.old }
+    ensures runs { RunsFromNone at_once hub.old hub.new }
     ensures goes { Goes at_once hub.old hub.new }
     ensures connections { rests_of hub.new ≡ rests_of hub.old }
 {
@@ -307,7 +312,7 @@ pub fn serve_together<R: Net + Clock>(
 }
 
 /// Watches the listener, and serves.
-#[tactic(auto, using(crate::proofs::Going::goes_nothing, crate::proofs::Going::goes_join))]
+#[tactic(auto, using(crate::proofs::Rooming::from_none_stays))]
 fn serve_with<R: Net + Clock>(
     rt: &R,
     alloc: Global,
@@ -317,7 +322,7 @@ fn serve_with<R: Net + Clock>(
     at_once: u8,
 ) -> Result<(), ServeFault>
     requires { at_once ≤ 16 }
-    ensures { Goes at_once hub.old hub.new }
+    ensures { RunsFromNone at_once hub.old hub.new }
 {
     let Ok(mut poll) = Poll::new(rt) else {
         return Err(ServeFault::WaitFailed);

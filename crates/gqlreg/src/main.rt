@@ -17,7 +17,7 @@ use gql_folder_command::{
 };
 use gql_http::{Hub, pipe, status_of};
 use gql_registry::Registry;
-use gql_server::{NetListener, ServeFault, serve_on, serve_together};
+use gql_server::{NetListener, ServeFault, serve_on, serve_together, status_of_serve};
 use gql_wire::DevicePeer;
 use std::mem::forget;
 use std::net::{Ipv4Addr, SocketAddr};
@@ -48,40 +48,61 @@ fn report_listening(rt: &HostRuntime) -> bool {
     rt.print("listening\n").is_ok()
 }
 
-/// Serves this many connections to an address, one after the other. None if the system does not let
-/// it listen there.
+/// Prints that the system does not let the program listen to a port of 127.0.0.1, and why.
+fn report_refused(rt: &HostRuntime, port: u16, error: &io::Error) -> ServeFault {
+    let reason = error.kind();
+    let _ = match format!(in rt.alloc();
+        "port {port} of 127.0.0.1 cannot be listened to: {reason}"
+    ) {
+        Ok(text) => rt.eprintln(text),
+        Err(_) => rt.eprintln("the port cannot be listened to"),
+    };
+    ServeFault::ListenFailed
+}
+
+/// A port of 127.0.0.1.
+fn local(port: u16) -> SocketAddr {
+    SocketAddr::from((Ipv4Addr::LOCALHOST, port))
+}
+
+/// Serves this many connections to a port of 127.0.0.1, one after the other.
 fn serve_in_turn(
     rt: &HostRuntime,
     hub: &mut Hub,
-    address: SocketAddr,
+    port: u16,
     connections: u32,
-) -> Option<Result<(), ServeFault>>
+) -> Result<(), ServeFault>
     requires { rests_of hub.old 0 ≡ None }
 {
-    let listener = net::TcpListener::bind(rt, address).ok()?;
+    let listener = match net::TcpListener::bind(rt, local(port)) {
+        Ok(listener) => listener,
+        Err(error) => return Err(report_refused(rt, port, &error)),
+    };
     if !report_listening(rt) {
-        return None;
+        return Err(ServeFault::ReportFailed);
     }
-    Some(serve_on(&mut NetListener::new(listener), hub, connections))
+    serve_on(&mut NetListener::new(listener), hub, connections)
 }
 
-/// Serves this many connections to an address, many at one time. None if the system does not let it
-/// listen there.
+/// Serves this many connections to a port of 127.0.0.1, many at one time.
 fn serve_at_once(
     rt: &HostRuntime,
     hub: &mut Hub,
-    address: SocketAddr,
+    port: u16,
     connections: u32,
     at_once: u8,
-) -> Option<Result<(), ServeFault>>
+) -> Result<(), ServeFault>
     requires closed { AreClosed at_once hub.old }
     requires most { at_once ≤ 16 }
 {
-    let mut listener = mio::net::TcpListener::bind(rt, address).ok()?;
+    let mut listener = match mio::net::TcpListener::bind(rt, local(port)) {
+        Ok(listener) => listener,
+        Err(error) => return Err(report_refused(rt, port, &error)),
+    };
     if !report_listening(rt) {
-        return None;
+        return Err(ServeFault::ReportFailed);
     }
-    Some(serve_together(rt, rt.alloc(), &mut listener, hub, connections, at_once))
+    serve_together(rt, rt.alloc(), &mut listener, hub, connections, at_once)
 }
 
 /// Answers the requests of this many connections to a port of 127.0.0.1, so many at one time.
@@ -89,18 +110,13 @@ fn run_serve(rt: &HostRuntime, port: u16, connections: u32, at_once: u8) -> u8
     requires { at_once ≤ 16 }
 {
     let mut hub = Hub::new(rt.alloc(), Registry::new(rt.alloc()));
-    let address = SocketAddr::from((Ipv4Addr::LOCALHOST, port));
     let served = if at_once == 1 {
-        serve_in_turn(rt, &mut hub, address, connections)
+        serve_in_turn(rt, &mut hub, port, connections)
     } else {
-        serve_at_once(rt, &mut hub, address, connections, at_once)
+        serve_at_once(rt, &mut hub, port, connections, at_once)
     };
     forget(hub);
-    match served {
-        Some(Ok(())) => 0,
-        Some(Err(ServeFault::Memory)) => 4,
-        _ => 1,
-    }
+    status_of_serve(&served)
 }
 
 /// Prints a text that was asked for, and returns the status.

@@ -2,11 +2,11 @@
 
 use gql_folder_check::checked;
 use gql_folder_command::{Format, PushOptions};
-use gql_folder_files::{Failure, given_files, report, tell_made};
-use gql_folder_push::push_files;
+use gql_folder_files::{Failure, given_files, tell_made};
+use gql_folder_push::{PushEnd, end_push, push_files};
 
-/// Pushes the files of a folder, and returns the status.
-fn push(rt: &HostRuntime, options: &PushOptions) -> Result<u8, Failure> {
+/// Pushes the files of a folder.
+fn push(rt: &HostRuntime, options: &PushOptions) -> Result<PushEnd, Failure> {
     let folder = options.folder.as_str();
     let given = given_files(rt, folder, options.manifests.as_slice())?;
     tell_made(rt, &given);
@@ -16,8 +16,5 @@ fn push(rt: &HostRuntime, options: &PushOptions) -> Result<u8, Failure> {
 
 /// Runs a push, and returns the status.
 pub fn run_push(rt: &HostRuntime, options: &PushOptions) -> u8 {
-    match push(rt, options) {
-        Ok(status) => status,
-        Err(failure) => report(rt, failure),
-    }
+    end_push(rt, push(rt, options))
 }

@@ -4,4 +4,4 @@ use Rattle.gql_check.specs.Findings.{IsFinding}
 use Rattle.gql_check.proofs.finding.findings_of.Given as goal
 
 abbrev pub invariant-loop-fault : goal.invariant-loop-fault
-invariant-loop-fault l = AllZip (IsFinding l.places (map (λ d. d.now) l.definitions)) (take l.fault-index l.faults) l.findings.items
+invariant-loop-fault l = AllZip (IsFinding l.places l.files (map (λ d. d.now) l.definitions)) (take l.fault-index l.faults) l.findings.items

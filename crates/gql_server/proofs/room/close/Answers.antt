@@ -1,9 +1,6 @@
 use Rattle.gql_http.proofs.PipeConnections.{closed_after}
-use Rattle.gql_server.proofs.Going.{closed_still, goes_does}
+use Rattle.gql_server.proofs.Going.{closed_still}
 use Rattle.gql_server.proofs.room.close.Goals as goal
-
-pub returns-clause-goes : goal.returns-clause-goes
-returns-clause-goes c = goes_does _ _ _ _ _ c.requires c.close.ensures
 
 pub returns-clause-closed : goal.returns-clause-closed
 returns-clause-closed c = (closed_after _ _ _ _ _ _ c.close.ensures).0

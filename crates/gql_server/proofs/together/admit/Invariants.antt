@@ -1,5 +1,5 @@
-use Rattle.gql_server.specs.Together.{Goes}
+use Rattle.gql_server.specs.Rooms.{Runs, talks_of}
 use Rattle.gql_server.proofs.together.admit.Given as goal
 
 abbrev pub invariant-loop-place : goal.invariant-loop-place
-invariant-loop-place l = Goes l.fn.at_once l.fn.hub l.hub
+invariant-loop-place l = Runs l.fn.at_once l.fn.hub (talks_of l.fn.seats) l.hub (talks_of l.seats)

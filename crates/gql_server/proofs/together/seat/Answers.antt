@@ -1,5 +1,6 @@
-use Rattle.gql_server.proofs.Going.{goes_join}
+use Rattle.gql_server.proofs.Rooming.{moves_replace}
 use Rattle.gql_server.proofs.together.seat.Goals as goal
 
-pub returns-then-is_some : goal.returns-then-is_some
-returns-then-is_some c = goes_join _ _ _ _ c.close.ensures.goes c.open.ensures
+pub returns : goal.returns
+returns c =
+    moves_replace _ _ _ _ _ _ _ c.requires c.close.ensures.does c.in-Some.ensures c.open.ensures

@@ -1,5 +1,7 @@
-use Rattle.gql_server.specs.Together.{Goes}
+use Rattle.std.proofs.Common.{◌≡◌, length}
+use Rattle.gql_server.specs.Rooms.{Runs, talks_of}
 use Rattle.gql_server.proofs.together.turns.Given as goal
 
 abbrev pub invariant-loop-number : goal.invariant-loop-number
-invariant-loop-number l = Goes l.fn.at_once l.fn.hub l.hub
+invariant-loop-number l = Runs l.fn.at_once l.fn.hub (talks_of l.fn.seats) l.hub (talks_of l.seats)
+    × (length l.seats ≡ 16)

@@ -1,0 +1,85 @@
+//! The files that a registry refuses: all of them, not only the first.
+
+ghost use Rattle.std.specs.Prelude.{◌+◌, IfOk, OnOk, length};
+ghost use Rattle.gql_check.specs.Faults.{AreRefused};
+ghost use Rattle.gql_check.specs.Steps.{IsAnswer, IsPutFault};
+ghost use Rattle.gql_registry.specs.Loading.{IsLoadRefusal, edit_of, edits_of};
+ghost use Rattle.gql_registry.specs.State.{empty};
+
+use crate::fault::{CheckFault, FileFault, file_fault};
+use crate::loading::Puts;
+use gql_registry::{GivenPut, PutRefusal, Refusal, Registry};
+use gql_verdict::Meter;
+use std::alloc::{AllocError, Global};
+use std::slice;
+
+/// Why a new registry refuses a file; nothing if it accepts it.
+fn refusal_of(alloc: Global, put: &GivenPut<'_>) -> Result<Option<Refusal>, AllocError>
+    ensures { IfOk result (IsAnswer (edit_of put.now)) }
+{
+    let mut registry = Registry::new(alloc);
+    let mut meter = Meter::new(alloc);
+    match registry.put_all(slice::from_ref(put), &mut meter) {
+        Ok(_) => Ok(None),
+        Err(PutRefusal { at: _, refusal }) => match refusal {
+            Refusal::Memory => Err(AllocError),
+            refusal => Ok(Some(refusal)),
+        },
+    }
+}
+
+/// Adds the refusal of the file at an index, if a new registry refuses it.
+fn add_refused(
+    alloc: Global,
+    puts: &Puts<'_>,
+    at: usize,
+    refused: &mut Vec<FileFault>,
+) -> Result<(), AllocError>
+    ensures { OnOk result (AreRefused (edits_of puts.now.puts.items) puts.now.indices.items at
+        refused.old.items → AreRefused (edits_of puts.now.puts.items) puts.now.indices.items
+        (at + 1) refused.new.items) }
+{
+    let (Some(put), Some(file)) = (puts.puts.get(at), puts.indices.get(at)) else {
+        return Err(AllocError);
+    };
+    if let Some(refusal) = refusal_of(alloc, put)? {
+        refused.push(file_fault(*file, &refusal))?;
+    }
+    Ok(())
+}
+
+/// The files that are refused, of which this is the first.
+fn refused_files(
+    alloc: Global,
+    puts: &Puts<'_>,
+    first: &PutRefusal,
+) -> Result<Vec<FileFault>, AllocError>
+    requires { IsLoadRefusal empty (edits_of puts.now.puts.items) first.now.at first.now.refusal }
+    ensures { IfOk result (λ files. AreRefused (edits_of puts.now.puts.items)
+        puts.now.indices.items (length puts.now.puts.items) files.items) }
+{
+    let mut refused = Vec::new(alloc);
+    let Some(file) = puts.indices.get(first.at) else {
+        return Err(AllocError);
+    };
+    if first.at >= puts.puts.len() || matches!(first.refusal, Refusal::Memory) {
+        return Err(AllocError);
+    }
+    refused.push(file_fault(*file, &first.refusal))?;
+    for at in first.at + 1..puts.puts.len() {
+        add_refused(alloc, puts, at, &mut refused)?;
+    }
+    Ok(refused)
+}
+
+/// Why files are not put: the refusals of the first that is refused, and of each after it that a
+/// new registry refuses.
+pub fn put_fault(alloc: Global, puts: &Puts<'_>, first: &PutRefusal) -> CheckFault
+    requires { IsLoadRefusal empty (edits_of puts.now.puts.items) first.now.at first.now.refusal }
+    ensures { IsPutFault puts.now result }
+{
+    match refused_files(alloc, puts, first) {
+        Ok(files) => CheckFault::Refused(files),
+        Err(_) => CheckFault::Memory,
+    }
+}

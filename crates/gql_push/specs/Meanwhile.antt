@@ -1,0 +1,36 @@
+-- What happens at a registry while a push goes on, and somebody else may edit it.
+use Rattle.std.specs.Prelude.{ℕ, ◌≡◌, ◌≢◌, ◌+◌, List, [], ◌∷◌, String, Some}
+use Rattle.std.specs.declared.alloc.Global.{Global}
+use Rattle.gql_push.specs.Plans.{Change}
+use Rattle.gql_push.specs.Sending.{Sending, next, noted}
+use Rattle.gql_push.specs.declared.body.Reply.{Reply}
+use Rattle.gql_push.specs.declared.body.Reply.TheVariants as reply
+use Rattle.gql_push.specs.declared.progress.Progress.{Progress}
+
+-- How a registry at the revision `present` replies to an edit that expects a revision, and at which
+-- revision it is then. It checks the revision first.
+pub data Replies (present expected : ℕ) : Reply → ℕ → Type 0 where
+  -- the edit is accepted
+  accepted : {faults : ℕ} → expected ≡ present
+      → Replies present expected (reply.Done (present + 1) faults) (present + 1)
+  -- another revision is expected
+  stale : expected ≢ present → Replies present expected (reply.Stale present) present
+  -- a later check fails
+  refused : {number : ℕ} {message : String Global} → expected ≡ present
+      → Replies present expected (reply.Refused number message) present
+
+-- one edit: of somebody else, which is accepted; or of the push, with its reply
+pub data Event : Type 0 where
+  others : Event
+  own : Sending → Reply → Event
+
+-- What may happen at a registry at the revision `present`, while a push that has come so far goes
+-- on. The push sends what comes next, and notes the reply.
+pub data Happens (edits : List Change) : ℕ → Progress → List Event → Type 0 where
+  no_more : {present : ℕ} {p : Progress} → Happens edits present p []
+  by_others : {present : ℕ} {p : Progress} {events : List Event}
+      → Happens edits (present + 1) p events → Happens edits present p (others ∷ events)
+  by_push : {present after : ℕ} {p : Progress} {events : List Event} {s : Sending} {r : Reply}
+      → next edits p ≡ Some s → Replies present s.revision r after
+      → Happens edits after (noted edits p r) events
+      → Happens edits present p (own s r ∷ events)
