@@ -1,6 +1,6 @@
--- Worked examples of V30: those of the specification (GraphQL 5.2.3.1), and cases that only just differ
--- from them.
-use Rattle.std.specs.Prelude.{◌≡◌, ◌≢◌, ℕ, List, [], ◌∷◌, codes, true, false, bytes_eq, refl, Some, None, Contains}
+-- Worked examples of V30: those of the specification (GraphQL 5.2.3.1), and cases that only just
+-- differ from them.
+use Rattle.std.specs.Prelude.{◌⊎◌, ◌≡◌, ◌≢◌, ℕ, List, [], ◌∷◌, codes, true, false, bytes_eq, refl, Some, None, Contains}
 use Rattle.std.proofs.Common.{sym, ◌∙◌, ap, subst, inl, inr, true≢false}
 use Rattle.std.proofs.lemmas.Slice.Eq.{bytes_eq-Decides}
 use Rattle.gql_text.specs.declared.place.Place.{Place}
@@ -30,7 +30,13 @@ name p n = record { place = p; text = n }
 
 -- a field of this name with these directives
 abbrev field : Place → List ℕ → List Directive → Field
-field p n ds = record { alias = None; name = name p n; arguments = []; directives = ds; selections = [] }
+field p n ds = record {
+  alias = None;
+  name = name p n;
+  arguments = [];
+  directives = ds;
+  selections = [];
+}
 
 -- a field of this name with this alias
 abbrev with_alias : Place → List ℕ → List ℕ → Field
@@ -172,7 +178,8 @@ abbrev with_f : Place → List Selection
 with_f p = s.Spread (of_f p) ∷ s.Field (b p) ∷ []
 
 a_of_f : (p : Place) → AtRoot (answers p) root (codes "d") (with_f p) (codes "f") (a p)
-a_of_f p = spread {x = of_f p} {g = circle p} (Contains-here (s.Spread (of_f p)) (s.Field (b p) ∷ []))
+a_of_f p = spread {x = of_f p} {g = circle p}
+    (Contains-here (s.Spread (of_f p)) (s.Field (b p) ∷ []))
     refl refl refl (here (Contains-here (s.Field (a p)) (s.Spread (of_f p) ∷ [])) refl)
 
 b_beside_f : (p : Place) → AtRoot (answers p) root (codes "d") (with_f p) (codes "d") (b p)
@@ -214,10 +221,12 @@ no_spread f x e =
 left_out : (facts : Facts) (g : Field) (file at : List ℕ) (set : List Selection) (f : Field)
     → set ≡ s.Field g ∷ [] → stays g.directives ≡ false → AtRoot facts root file set at f → ⊥
 left_out facts g file at set f is off (here c k) =
-    let same : f ≡ g = field_is f g (one (s.Field g) (s.Field f) (subst (λ l. Contains l (s.Field f)) is c)) in
+    let same : f ≡ g =
+    field_is f g (one (s.Field g) (s.Field f) (subst (λ l. Contains l (s.Field f)) is c)) in
     true≢false (sym (subst (λ (h : Field). stays h.directives ≡ true) same k) ∙ off)
 left_out facts g file at set f is off (inside {i = i} c k q r) =
-    no_inline g i (sym (one (s.Field g) (s.InlineFragment i) (subst (λ l. Contains l (s.InlineFragment i)) is c)))
+    no_inline g i (sym (one (s.Field g) (s.InlineFragment i)
+    (subst (λ l. Contains l (s.InlineFragment i)) is c)))
 left_out facts g file at set f is off (spread {x = y} c k e q r) =
     no_spread g y (sym (one (s.Field g) (s.Spread y) (subst (λ l. Contains l (s.Spread y)) is c)))
 
@@ -227,6 +236,65 @@ gone p = field p (codes "a") (if_is p (codes "include") (literal.Boolean p false
 
 -- `{ a @include(if: false) }` has no root field, which is reported at the operation
 no_field : (p : Place)
-    → IsFaultIn p (s.Field (gone p) ∷ []) (record { file = codes "d"; place = p; about = codes "S" })
+    → IsFaultIn p (s.Field (gone p) ∷ [])
+    (record { file = codes "d"; place = p; about = codes "S" })
 no_field p = none (λ at f r. left_out (answers p) (gone p) (codes "d") at (s.Field (gone p) ∷ []) f
     refl (include_false p) r)
+
+-- ---- fragments that spread each other
+
+no_inline_spread : (x : Spread) (i : InlineFragment) → s.Spread x ≡ s.InlineFragment i → ⊥
+no_inline_spread x i e =
+    let h : Selection-F.Spread x ≡ Selection-F.InlineFragment i =
+    sym (s.outs-Spread x) ∙ ap out-Selection e ∙ s.outs-InlineFragment i in cc h
+
+-- the selection is `a` or `... F`
+abbrev IsOfCircle : Place → Selection → Type 0
+IsOfCircle p y = (y ≡ s.Field (a p)) ⊎ (y ≡ s.Spread (of_f p))
+
+of_circle : (p : Place) (y : Selection)
+    → Contains (s.Field (a p) ∷ s.Spread (of_f p) ∷ []) y → IsOfCircle p y
+of_circle p y c = elim (Contains-cases y (s.Field (a p)) (s.Spread (of_f p) ∷ []) c) [
+  | inl e ↦ inl e
+  | inr t ↦ inr (one (s.Spread (of_f p)) y t)
+]
+
+-- however often F spreads itself, `a` is the only root field
+in_circle : (p : Place) (file at : List ℕ) (set : List Selection) (f : Field)
+    → ((y : Selection) → Contains set y → IsOfCircle p y)
+    → AtRoot (answers p) root file set at f → f ≡ a p
+in_circle p file at set f only (here c k) = elim (only (s.Field f) c) [
+  | inl e ↦ field_is f (a p) e
+  | inr e ↦ absurd (no_spread f (of_f p) e)
+]
+in_circle p file at set f only (inside {i = i} c k q r) =
+    absurd (elim (only (s.InlineFragment i) c) [
+      | inl e ↦ no_inline (a p) i (sym e)
+      | inr e ↦ no_inline_spread (of_f p) i (sym e)
+    ])
+in_circle p file at set f only (spread {x = y} {g = g} c k e q r) =
+    let same : circle p ≡ g = cc e in
+    in_circle p g.file at g.fragment.selections f
+    (subst (λ (h : FragmentFact). (z : Selection) → Contains h.fragment.selections z → IsOfCircle p z)
+    same (of_circle p)) r
+
+-- `{ ...F }`
+abbrev only_f : Place → List Selection
+only_f p = s.Spread (of_f p) ∷ []
+
+a_of_only_f : (p : Place) → AtRoot (answers p) root (codes "d") (only_f p) (codes "f") (a p)
+a_of_only_f p = spread {x = of_f p} {g = circle p} (Contains-here (s.Spread (of_f p)) [])
+    refl refl refl (here (Contains-here (s.Field (a p)) (s.Spread (of_f p) ∷ [])) refl)
+
+only_a : (p : Place) (at : List ℕ) (f : Field)
+    → AtRoot (answers p) root (codes "d") (only_f p) at f → f ≡ a p
+only_a p at f r = in_circle p (codes "d") at (only_f p) f
+    (λ y c. inr (one (s.Spread (of_f p)) y c)) r
+
+-- so `{ ...F }` has no fault
+no_fault : (p : Place) (y : RootFault) → IsFaultIn p (only_f p) y → ⊥
+no_fault p y (several {at = at} {other = other} {f = f} {g = g} q r differ) =
+    differ (ap (λ h. (response_name h).text) (only_a p at f q ∙ sym (only_a p other g r)))
+no_fault p y (introspection {at = at} {f = f} q i) =
+    true≢false (sym i ∙ ap is_introspection (only_a p at f q))
+no_fault p y (none absent) = absent (codes "f") (a p) (a_of_only_f p)

@@ -50,7 +50,8 @@ fault f p t = record { file = f; place = p; about = t }
 
 one_fault : (a b : RootFault) → is_fault a b ≡ true → a ≡ b
 one_fault a b e =
-    let t = both (bytes_eq a.file b.file && is_place a.place b.place) (bytes_eq a.about b.about) e in
+    let t = both (bytes_eq a.file b.file && is_place a.place b.place) (bytes_eq a.about b.about) e
+    in
     let f = both (bytes_eq a.file b.file) (is_place a.place b.place) t.0 in
     ap (λ x. fault x a.place a.about) ((bytes_eq-Decides a.file b.file).0 f.0)
     ∙ ap (λ x. fault b.file x a.about) (one_place a.place b.place f.1)

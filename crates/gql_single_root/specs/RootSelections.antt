@@ -1,5 +1,5 @@
--- Helper definitions for private contracts: the fields and the spreads at the root of a selection set,
--- without those of the fragments that are spread.
+-- Helper definitions for private contracts: the fields and the spreads at the root of a selection
+-- set, without those of the fragments that are spread.
 use Rattle.std.specs.Prelude.{◌≡◌, ◌⊎◌, ℕ, List, Bool, true, false, Contains}
 use Rattle.gql_ast.specs.declared.executable.Field.{Field}
 use Rattle.gql_ast.specs.declared.executable.InlineFragment.{InlineFragment}

@@ -1,5 +1,5 @@
--- V30, Single Root Field: a subscription has no root field, root fields of several response names, or
--- one that is an introspection field (GraphQL 5.2.3.1).
+-- V30, Single Root Field: a subscription has no root field, root fields of several response names,
+-- or one that is an introspection field (GraphQL 5.2.3.1).
 -- Reported at the start of each root field if they have several response names, and of each
 -- introspection field, about its response name; if there is none, at the start of the operation,
 -- about its name.

@@ -1,5 +1,5 @@
-//! Which selections count at the root of a subscription: by `@skip` and `@include`, with no value for
-//! any variable, and by type conditions (GraphQL specification, 3.13.1, 3.13.2, 6.3.2).
+//! Which selections count at the root of a subscription: by `@skip` and `@include`, with no value
+//! for any variable, and by type conditions (GraphQL specification, 3.13.1, 3.13.2, 6.3.2).
 ghost use Rattle.std.specs.Prelude.{◌≡◌, IfOk};
 ghost use Rattle.gql_single_root.specs.V30SingleRootField as spec;
 
@@ -36,7 +36,8 @@ fn says_true(arguments: &[Argument]) -> bool
     false
 }
 
-/// Whether a directive leaves its selection out: `@skip(if: true)`, or `@include` without `if: true`.
+/// Whether a directive leaves its selection out: `@skip` that says true, or `@include` that does
+/// not.
 fn leaves_out(directive: &Directive) -> bool
     ensures { result ≡ spec.leaves_out directive.now }
 {

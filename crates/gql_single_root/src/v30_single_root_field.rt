@@ -1,5 +1,5 @@
-//! V30, Single Root Field: a subscription has no root field, root fields of several response names, or
-//! one that is an introspection field.
+//! V30, Single Root Field: a subscription has no root field, root fields of several response names,
+//! or one that is an introspection field.
 //! <https://spec.graphql.org/October2021/#sec-Single-root-field>
 //!
 //! No report has its faults yet. `subscriptions.txt` of tables_rules has examples.
@@ -139,10 +139,9 @@ fn operation_faults<W: World>(
 }
 
 /// The faults of a definition by V30 (GraphQL specification, 5.2.3.1), each once: those of a
-/// subscription. Another definition has none, nor has a subscription where the root is not known. The
-/// caller has the fragments that the definition reaches. The world is asked for what the definition
-/// reads alone: the root, and the possible types of the conditions at the root. If an allocation
-/// fails, it answers as before.
+/// subscription. Another definition has none, nor has a subscription where the root is not known.
+/// The caller has the fragments that the definition reaches. The world answers as before, also if an
+/// allocation fails.
 pub fn single_root_faults<W: World>(
     alloc: Global,
     world: &mut W,
