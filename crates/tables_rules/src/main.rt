@@ -14,6 +14,7 @@ mod inputs;
 mod look_ups;
 mod questions;
 mod reports;
+mod root_fields;
 mod rule_groups;
 mod values;
 

@@ -4,6 +4,7 @@ use crate::facts::facts_answer;
 use crate::inputs::put_file;
 use crate::look_ups::look_up_answer;
 use crate::reports::{report_answer, verdicts_answer};
+use crate::root_fields::root_fields_answer;
 use crate::rule_groups::{Rules, operations_answer};
 use crate::values::value_answer;
 use gql_ast::{FileName, Files};
@@ -29,6 +30,7 @@ fn faults_answer(alloc: Global, schema: &Schema, document: &str, question: &str)
         "faults" => Rules::Local,
         "usage" => Rules::Variables,
         "merge" => Rules::Merging,
+        "root-fields" => return root_fields_answer(alloc, schema, text),
         _ => return None,
     };
     operations_answer(alloc, schema, rules, text)

@@ -1,0 +1,5 @@
+pub mod Examples
+pub mod RootFaults
+pub mod RootSelections
+pub mod V30SingleRootField
+pub mod Walks
