@@ -1,14 +1,15 @@
 //! Answers about the use of the schema of a folder.
 
 use crate::fault::UsageFault;
-use crate::loaded::load_folder;
-use crate::words::no_part_text;
+use crate::loaded::{Loaded, load_folder};
+use crate::words::{misspelt_text, no_part_text};
 use gql_folder::GivenFile;
+use gql_removal::{Asked, Removal, read_subject, removal_of};
 use gql_usage::{
-    question_of, read_subject, readers_of, unread_as_json, unread_as_text, unread_parts,
-    usage_as_json, usage_as_text,
+    answered_objects, is_answered, readers_of, unread_as_json, unread_as_text, unread_parts, usage_as_json,
+    usage_as_text,
 };
-use std::alloc::Global;
+use std::alloc::{AllocError, Global};
 
 /// How an answer is written.
 #[derive(Clone, Copy, Debug, PartialEq, Eq)]
@@ -17,6 +18,40 @@ pub enum AnswerFormat {
     Text,
     /// One JSON value.
     Json,
+}
+
+/// The part of a schema that a word names, and its removal.
+fn asked_by(
+    alloc: Global,
+    folder: &str,
+    loaded: &Loaded,
+    word: &str,
+) -> Result<Asked, UsageFault> {
+    let Some(subject) = read_subject(alloc, word)? else {
+        let text = misspelt_text(alloc, word)?;
+        return Err(UsageFault::NoSuchPart(text));
+    };
+    match removal_of(alloc, &loaded.schema, &subject)? {
+        Some(asked) => Ok(asked),
+        None => {
+            let text = no_part_text(alloc, folder, &loaded.schema, &subject)?;
+            Err(UsageFault::NoSuchPart(text))
+        }
+    }
+}
+
+/// Whether operations may get or send values of a type that is removed, and need not name it.
+fn is_removal_answered(
+    alloc: Global,
+    loaded: &Loaded,
+    removal: &Removal,
+) -> Result<bool, AllocError> {
+    let Removal::Type(name) = removal else {
+        return Ok(false);
+    };
+    let shelf = loaded.registry.shelf();
+    let answered = answered_objects(alloc, &loaded.schema, shelf)?;
+    is_answered(shelf, &answered, name)
 }
 
 /// Which operations and fragments of these files of a folder read the part of its schema that a
@@ -29,18 +64,16 @@ pub fn readers_in(
     format: AnswerFormat,
 ) -> Result<Vec<u8>, UsageFault> {
     let loaded = load_folder(alloc, folder, given)?;
-    let subject = read_subject(alloc, word)?;
-    let Some(question) = question_of(&loaded.schema, &subject)? else {
-        let text = no_part_text(alloc, folder, &loaded.schema, &subject)?;
-        return Err(UsageFault::NoSuchPart(text));
-    };
-    let readers = readers_of(alloc, loaded.registry.shelf(), &question.key)?;
-    let (part, readers) = (question.part, readers.as_slice());
+    let asked = asked_by(alloc, folder, &loaded, word)?;
+    let shelf = loaded.registry.shelf();
+    let readers = readers_of(alloc, &loaded.stored, shelf, &asked.removal)?;
+    let is_answered = is_removal_answered(alloc, &loaded, &asked.removal)?;
+    let (part, readers, paths) = (asked.part, readers.as_slice(), &loaded.paths);
     Ok(match format {
         AnswerFormat::Text => {
-            usage_as_text(alloc, word, part, readers, &loaded.paths)?.into_bytes()
+            usage_as_text(alloc, word, part, readers, is_answered, paths)?.into_bytes()
         }
-        AnswerFormat::Json => usage_as_json(alloc, word, part, readers, &loaded.paths)?,
+        AnswerFormat::Json => usage_as_json(alloc, word, part, readers, is_answered, paths)?,
     })
 }
 
@@ -52,7 +85,8 @@ pub fn unread_in(
     format: AnswerFormat,
 ) -> Result<Vec<u8>, UsageFault> {
     let loaded = load_folder(alloc, folder, given)?;
-    let unread = unread_parts(alloc, &loaded.schema, loaded.registry.shelf())?;
+    let shelf = loaded.registry.shelf();
+    let unread = unread_parts(alloc, &loaded.schema, &loaded.stored, shelf)?;
     let unread = unread.as_slice();
     Ok(match format {
         AnswerFormat::Text => unread_as_text(alloc, unread, &loaded.paths)?.into_bytes(),

@@ -1,19 +1,23 @@
 //! What is known of the files of a folder.
+ghost use Rattle.gql_folder_usage.specs.Loaded.{IsStoredIn};
 
 use crate::fault::UsageFault;
 use gql_check::{CheckFault, load_files};
 use gql_folder::{GivenFile, read_folder};
 use gql_registry::Registry;
 use gql_types::{Schema, assemble};
-use gql_usage::Paths;
+use gql_usage::{Paths, Stored};
 use std::alloc::Global;
 
-/// The files of a folder in a registry, their schema, which has no fault, and their paths.
+/// The files of a folder in a registry, their schema, which has no fault, what they answer, and their
+/// paths.
 #[derive(Drop)]
 pub struct Loaded {
     pub registry: Registry,
     pub schema: Schema,
+    pub stored: Stored,
     pub paths: Paths,
+    ghost stored_as_is: { IsStoredIn registry stored },
 }
 
 /// Refuses to go on where the schema has faults.
@@ -30,6 +34,7 @@ pub fn load_folder(alloc: Global, folder: &str, given: &[GivenFile]) -> Result<L
     let registry = load_files(alloc, given)?;
     test_schema(&registry)?;
     let schema = assemble(alloc, registry.files())?;
+    let stored = Stored::new(alloc, &schema, registry.files())?;
     let named = match read_folder(alloc, given) {
         Ok(named) => named,
         Err(fault) => return Err(UsageFault::from(CheckFault::from(fault))),
@@ -38,6 +43,7 @@ pub fn load_folder(alloc: Global, folder: &str, given: &[GivenFile]) -> Result<L
     Ok(Loaded {
         registry,
         schema,
+        stored,
         paths,
     })
 }

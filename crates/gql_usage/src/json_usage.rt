@@ -1,11 +1,11 @@
 //! Who reads a part of a schema, as JSON.
 
 use crate::label::Paths;
-use crate::question::Part;
 use crate::reader::{Reader, place_of};
 use crate::text_usage::part_word;
 use crate::unread::{Unread, UnreadPart};
 use gql_ast::{FilePlace, Operation, Text, Tree};
+use gql_removal::Part;
 use gql_render::json_write::{write_bytes, write_number, write_string};
 use gql_render::phrases::kind_word;
 use std::alloc::{AllocError, Global};
@@ -64,6 +64,11 @@ fn write_names(alloc: Global, out: &mut Vec<u8>, names: &[Text]) -> Result<(), A
     write_bytes(out, b"]")
 }
 
+/// Writes a yes or no.
+fn write_bool(out: &mut Vec<u8>, value: bool) -> Result<(), AllocError> {
+    write_bytes(out, if value { b"true" } else { b"false" })
+}
+
 /// Writes a reader.
 fn write_reader(
     alloc: Global,
@@ -76,18 +81,20 @@ fn write_reader(
     write_bytes(out, b",")?;
     write_place(alloc, out, paths, &place_of(&reader.definition))?;
     write_bytes(out, b",\"by_itself\":")?;
-    write_bytes(out, if reader.by_itself { b"true" } else { b"false" })?;
+    write_bool(out, reader.by_itself)?;
     write_bytes(out, b",\"through\":")?;
     write_names(alloc, out, reader.through.as_slice())?;
     write_bytes(out, b"}")
 }
 
-/// Who reads a part of a schema.
+/// Who reads a part of a schema, and whether operations may get or send values of it and
+/// need not name it.
 pub fn usage_as_json(
     alloc: Global,
     word: &str,
     part: Part,
     readers: &[Reader],
+    is_answered: bool,
     paths: &Paths,
 ) -> Result<Vec<u8>, AllocError> {
     let mut out = Vec::new(alloc);
@@ -102,7 +109,9 @@ pub fn usage_as_json(
         }
         write_reader(alloc, &mut out, paths, reader)?;
     }
-    write_bytes(&mut out, b"]}\n")?;
+    write_bytes(&mut out, b"],\"is_answered\":")?;
+    write_bool(&mut out, is_answered)?;
+    write_bytes(&mut out, b"}\n")?;
     Ok(out)
 }
 
@@ -137,6 +146,8 @@ fn write_unread(
     write_part(alloc, out, &unread.part)?;
     write_bytes(out, b",")?;
     write_place(alloc, out, paths, &unread.place)?;
+    write_bytes(out, b",\"is_answered\":")?;
+    write_bool(out, unread.is_answered)?;
     write_bytes(out, b"}")
 }
 

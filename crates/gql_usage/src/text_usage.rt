@@ -1,10 +1,10 @@
 //! Who reads a part of a schema, as lines for a terminal.
 
 use crate::label::Paths;
-use crate::question::Part;
 use crate::reader::{Reader, place_of};
 use crate::unread::{Unread, UnreadPart};
 use gql_ast::{FilePlace, Text, Tree};
+use gql_removal::Part;
 use gql_render::phrases::{write_count, write_operation};
 use gql_render::write::{write_number, write_text};
 use std::alloc::{AllocError, Global};
@@ -14,18 +14,21 @@ pub fn part_word(part: Part) -> &'static str {
     match part {
         Part::Type => "type",
         Part::Field => "field",
+        Part::Argument => "argument",
         Part::InputField => "input field",
         Part::EnumValue => "enum value",
         Part::Directive => "directive",
+        Part::DirectiveArgument => "directive argument",
     }
 }
 
-/// What readers of a part read with it, if the part is not read by itself.
-fn read_with(part: Part) -> &'static str {
+/// What cannot be seen of the use of a part: clients send input fields and enum values in variables, too.
+fn unseen(part: Part) -> &'static str {
     match part {
-        Part::InputField => "Readers of an input object read all its fields.\n",
-        Part::EnumValue => "Readers of an enum read all its values.\n",
-        Part::Type | Part::Field | Part::Directive => "",
+        Part::InputField | Part::EnumValue => {
+            "What clients send in variables is not stored, and so not seen.\n"
+        }
+        Part::Type | Part::Field | Part::Argument | Part::Directive | Part::DirectiveArgument => "",
     }
 }
 
@@ -119,12 +122,14 @@ fn write_readers(out: &mut String, readers: &[Reader]) -> Result<(), AllocError>
     write_count(out, fragments, "fragment")
 }
 
-/// Who reads a part of a schema: a line that counts them, and a line for each.
+/// Who reads a part of a schema: a line that counts them, and a line for each. It is said if operations
+/// may get or send values of a type that nobody reads.
 pub fn usage_as_text(
     alloc: Global,
     word: &str,
     part: Part,
     readers: &[Reader],
+    is_answered: bool,
     paths: &Paths,
 ) -> Result<String, AllocError> {
     let mut out = String::new(alloc);
@@ -141,7 +146,10 @@ pub fn usage_as_text(
     for reader in readers {
         write_reader(&mut out, paths, reader)?;
     }
-    write_text(&mut out, read_with(part))?;
+    if is_answered && readers.is_empty() {
+        write_text(&mut out, "Operations may still get or send values of it.\n")?;
+    }
+    write_text(&mut out, unseen(part))?;
     Ok(out)
 }
 
@@ -176,6 +184,9 @@ pub fn unread_as_text(
         write_place(&mut out, paths, &part.place)?;
         write_text(&mut out, ": ")?;
         write_unread_part(&mut out, &part.part)?;
+        if part.is_answered {
+            write_text(&mut out, ", of which operations may get or send values")?;
+        }
         write_text(&mut out, "\n")?;
     }
     write_count(&mut out, unread.len(), "part")?;
