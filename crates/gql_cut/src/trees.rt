@@ -98,12 +98,7 @@ fn is_of_directive(name: &Text, of: &Tree) -> bool
 }
 
 /// A definition or an extension, without its member of this name if it is of that type.
-fn without_member(
-    alloc: Global,
-    of_type: &Text,
-    name: &Text,
-    of: &Tree,
-) -> Result<Tree, AllocError>
+fn without_member(alloc: Global, of_type: &Text, name: &Text, of: &Tree) -> Result<Tree, AllocError>
     ensures { IfOk result (λ left.
         left ≡ spec.with_parts of_type.now (spec.parts_but name.now) of.now) }
 {
@@ -193,9 +188,7 @@ pub fn tree_left(alloc: Global, subject: &Subject, of: &Tree) -> Result<Option<T
 {
     match subject {
         Subject::Type(name) => if_kept(is_of_type(name, of), of),
-        Subject::Member { of_type, name } => {
-            Ok(Some(without_member(alloc, of_type, name, of)?))
-        }
+        Subject::Member { of_type, name } => { Ok(Some(without_member(alloc, of_type, name, of)?)) }
         Subject::Argument {
             of_type,
             field,

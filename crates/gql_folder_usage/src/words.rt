@@ -1,8 +1,8 @@
 //! Parts that a schema does not have, in words.
 
 use gql_ast::Text;
-use gql_types::{Schema, TypeKind};
 use gql_removal::Subject;
+use gql_types::{Schema, TypeKind};
 use std::alloc::{AllocError, Global};
 
 /// What a member of a type of this kind is called.
@@ -38,7 +38,9 @@ fn no_argument_text(
 /// That a word names no part of a schema, and how an argument is written, in words.
 pub fn misspelt_text(alloc: Global, word: &str) -> Result<String, AllocError> {
     let example = "`Query.users(first:)`";
-    format!(in alloc; "`{word}` is no part of a schema: an argument is written as {example}, that of a directive as `@beta(since:)`")
+    format!(in alloc;
+        "`{word}` is no part of a schema: an argument is written as {example}, that of a directive as `@beta(since:)`"
+    )
 }
 
 /// That the schema of this folder has no such part, in words, without a line break at the end.
@@ -76,7 +78,9 @@ pub fn no_part_text(
             let (directive, name) = (directive.as_str(), name.as_str());
             match schema.directive(directive) {
                 Some(_) => {
-                    format!(in alloc; "directive `@{directive}` of {folder} has no argument `{name}`")
+                    format!(in alloc;
+                        "directive `@{directive}` of {folder} has no argument `{name}`"
+                    )
                 }
                 None => format!(in alloc; "the schema of {folder} has no directive `@{directive}`"),
             }

@@ -1,5 +1,5 @@
 -- Readers of a part, as they are listed.
-use Rattle.std.proofs.Common.{◌≡◌, ◌≢◌, ◌⊎◌, ◌↔◌, ◌∙◌, ℕ, IfOk, Result, Ok, Err, ◌+◌, ◌<◌, List, [], ◌∷◌, ◌++◌, Bool, true, false, Contains, IsTrue, ap, get_or, inl, inr, length, refl, subst, sym, take}
+use Rattle.std.proofs.Common.{◌≡◌, ◌⊎◌, ◌↔◌, ◌∙◌, ℕ, IfOk, Result, Ok, Err, ◌+◌, ◌<◌, List, [], ◌∷◌, ◌++◌, Bool, true, false, Contains, IsTrue, ap, append-nil, get_or, inl, inr, length, refl, subst, sym, take}
 use Rattle.std.proofs.lemmas.List.Elements.{Contains-push, Contains-push_cases, Contains-append_left}
 use Rattle.gql_ast.specs.declared.definition.Definition.{Definition}
 use Rattle.gql_facts.specs.ListMembers.{Contains-here, Contains-nil}
@@ -14,7 +14,7 @@ use Rattle.gql_removal.specs.declared.removal.Removal.{Removal}
 use Rattle.gql_usage.specs.Adding.{AddsName, IsBrokenName}
 use Rattle.gql_usage.specs.Breaks.{Breaks, IsUnread}
 use Rattle.gql_usage.specs.Readers.{AreReaders, IsBlamed, IsReader, IsThrough, Reads, no_definitions, reads, reads_not}
-use Rattle.gql_usage.specs.Unread.{AddsIf}
+use Rattle.gql_usage.specs.Unread.{Adds, AreListed, IsListedIf, of_one_more}
 use Rattle.gql_usage.specs.declared.unread.Unread.{Unread}
 use Rattle.gql_usage.specs.Stored.{AreDefined, AreStored, IsStored, definition_of}
 use Rattle.gql_usage.specs.declared.reader.Reader.{Reader}
@@ -76,22 +76,21 @@ module _ (facts : Facts) (r : Removal) where
 
   -- ---- the list of readers
 
-  -- a reader is there
-  pub reads_by : (d : Definition) (x : Reader) → IsReader facts r d x → (b : Bool) → b ≡ x.by_itself → IsTrue b → Reads facts r d
-  reads_by d x is b e t = inl (is.by_itself.0 (sym e ∙ t))
-
   pub reads_through : (d : Definition) (names : List (List ℕ)) (n : List ℕ) → Lists names (IsThrough facts r d) → Contains names n → Reads facts r d
   reads_through d names n through h = let t = through.sound n h in inr (t.0, t.1)
 
-  pub reads_nothing : (d : Definition) (b : Bool) (names : List (List ℕ)) → (IsTrue b ↔ Breaks facts r d) → Lists names (IsThrough facts r d) → b ≡ false → names ≡ [] → Reads facts r d → ⊥
-  reads_nothing d b names by through no none (inl broken) = let z : false ≡ true = sym no ∙ by.1 broken in cc z
-  reads_nothing d b names by through no none (inr blamed) =
-      Contains-nil blamed.0.fragment.name.text (subst (λ ns. Contains ns blamed.0.fragment.name.text) none (through.complete blamed.0.fragment.name.text (blamed.0, blamed.1, refl)))
+  -- what is said of whether a definition reads nothing
+  pub reads_nothing : (d : Definition) (b : Bool) (names : List (List ℕ)) → (IsTrue b ↔ Breaks facts r d) → Lists names (IsThrough facts r d)
+      → (b ≡ false) × (names ≡ []) → Reads facts r d → ⊥
+  reads_nothing d b names by through none (inl broken) = let z : false ≡ true = sym none.0 ∙ by.1 broken in cc z
+  reads_nothing d b names by through none (inr blamed) =
+      Contains-nil blamed.0.fragment.name.text (subst (λ ns. Contains ns blamed.0.fragment.name.text) none.1 (through.complete blamed.0.fragment.name.text (blamed.0, blamed.1, refl)))
 
-  pub reads_some : (d : Definition) (b : Bool) (names : List (List ℕ)) → (IsTrue b ↔ Breaks facts r d) → Lists names (IsThrough facts r d) → (b ≡ true) ⊎ (names ≢ []) → Reads facts r d
-  reads_some d b names by through (inl t) = inl (by.0 t)
-  reads_some d b [] by through (inr some) = absurd (some refl)
-  reads_some d b (n ∷ names) by through (inr some) = reads_through d (n ∷ names) n through (Contains-here n names)
+  pub reads_some : (d : Definition) (b : Bool) (names : List (List ℕ)) → (IsTrue b ↔ Breaks facts r d) → Lists names (IsThrough facts r d)
+      → ((b ≡ false) × (names ≡ []) → ⊥) → Reads facts r d
+  reads_some d true names by through some = inl (by.0 refl)
+  reads_some d false [] by through some = absurd (some (refl, refl))
+  reads_some d false (n ∷ names) by through some = reads_through d (n ∷ names) n through (Contains-here n names)
 
   -- nobody is listed exactly if the removal breaks nothing
   pushed : (xs : List Reader) (x : Reader) → xs ++ x ∷ [] ≡ [] → ⊥
@@ -137,8 +136,14 @@ module _ (facts : Facts) (ds : List Definition) (q r : Removal) (e : q ≡ r) (b
   pub is_so : b ≡ true → IsUnread facts r ds
   is_so yes = subst (λ x. IsUnread facts x ds) e (is.0 yes)
 
-  pub adds_not : b ≡ false → (entries old : List Unread) → AddsIf (IsUnread facts r ds) entries old old
-  adds_not no entries old = inr (is_not no, refl)
+  pub adds_not : b ≡ false → (entries old : List Unread) → Adds (IsListedIf (IsUnread facts r ds) entries) old old
+  adds_not no entries old = ([], inr (is_not no, refl), sym (append-nil old))
 
-  pub adds_yes : b ≡ true → (entries old new : List Unread) → new ≡ old ++ entries → AddsIf (IsUnread facts r ds) entries old new
-  adds_yes yes entries old new added = inl (is_so yes, added)
+  pub adds_yes : b ≡ true → (entries old new : List Unread) → new ≡ old ++ entries → Adds (IsListedIf (IsUnread facts r ds) entries) old new
+  adds_yes yes entries old new added = (entries, inl (is_so yes, refl), added)
+
+-- one more of a list of things
+module _ {A : Type 0} (P : A → List Unread → Type 0) (xs : List A) (i : ℕ) (x : A) (lt : i < length xs) (is : x ≡ get_or xs i x) where
+  pub listed_more : (old new : List Unread) → AreListed P (take i xs) old → Adds (P x) old new → AreListed P (take (i + 1) xs) new
+  listed_more old new before a = subst (λ (ys : List A). AreListed P ys new) (sym (one_more xs i x lt is))
+      (subst (λ (us : List Unread). AreListed P (take i xs ++ x ∷ []) us) (sym a.2) (of_one_more x before a.1))

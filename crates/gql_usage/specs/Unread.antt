@@ -41,76 +41,67 @@ type_entry is_answered t = at_place t.definition.file t.definition.node.name.pla
 abbrev pub directive_entry : Sited DirectiveDefinition → List Unread
 directive_entry d = at_place d.file d.node.name.place (part.Directive d.node.name.text) false
 
--- entries are added if P holds, and nothing else
-abbrev pub AddsIf : Type 0 → List Unread → List Unread → List Unread → Type 0
-AddsIf P entries old new = (P × (new ≡ old ++ entries)) ⊎ ((P → ⊥) × (new ≡ old))
+-- ---- lists of entries
+
+-- the entries if P holds, else none
+abbrev pub IsListedIf : Type 0 → List Unread → List Unread → Type 0
+IsListedIf P entries us = (P × (us ≡ entries)) ⊎ ((P → ⊥) × (us ≡ []))
+
+-- entries of which P holds are added
+abbrev pub Adds : (List Unread → Type 0) → List Unread → List Unread → Type 0
+Adds P old new = (us : List Unread) × P us × (new ≡ old ++ us)
+
+-- the entries of these things, in their order: those of a thing x are such that P x holds of them
+pub data AreListed {A : Type 0} (P : A → List Unread → Type 0) : List A → List Unread → Type 0 where
+  of_nothing : AreListed P [] []
+  of_one_more : {xs : List A} {us vs : List Unread} (x : A) → AreListed P xs us → P x vs
+      → AreListed P (xs ++ x ∷ []) (us ++ vs)
 
 -- ---- fields
 
--- nobody reads this field of a type
-abbrev pub IsFieldUnread : Facts → List Definition → SchemaType → Sited FieldDefinition → Type 0
-IsFieldUnread facts ds t f = IsUnread facts (field_removal t f.node.name.text) ds
-
--- the entries of those of these fields that nobody reads, in their order
-pub data AreUnreadFields (facts : Facts) (ds : List Definition) (t : SchemaType)
-    : List (Sited FieldDefinition) → List Unread → Type 0 where
-  no_fields : AreUnreadFields facts ds t [] []
-  a_field : {fs : List (Sited FieldDefinition)} {us vs : List Unread} (f : Sited FieldDefinition)
-      → AreUnreadFields facts ds t fs us
-      → AddsIf (IsFieldUnread facts ds t f) (field_entry t f) us vs
-      → AreUnreadFields facts ds t (fs ++ f ∷ []) vs
+-- a field of a type, if nobody reads it
+abbrev pub IsFieldListed : Facts → List Definition → SchemaType → Sited FieldDefinition
+    → List Unread → Type 0
+IsFieldListed facts ds t f =
+    IsListedIf (IsUnread facts (field_removal t f.node.name.text) ds) (field_entry t f)
 
 -- ---- types
+
+-- nobody reads this type
+abbrev pub IsTypeUnread : Facts → List Definition → SchemaType → Type 0
+IsTypeUnread facts ds t = IsUnread facts (removal.«Type» (name_of t)) ds
+
+-- a type in a file, if nobody reads it; or else those of its fields that nobody reads
+abbrev pub IsListedInFile : Facts → List Definition → (List ℕ → Bool) → SchemaType → List Unread
+    → Type 0
+IsListedInFile facts ds is_answered t us =
+    (IsTypeUnread facts ds t × (us ≡ type_entry is_answered t))
+    ⊎ ((IsTypeUnread facts ds t → ⊥) × AreListed (IsFieldListed facts ds t) t.fields us)
 
 -- whether a definition is in no file
 abbrev pub is_built_in : Option (List ℕ) → Bool
 is_built_in None = true
 is_built_in (Some name) = false
 
--- of a type in a file, the entry of the type if nobody reads it; or else those of its fields that
--- nobody reads
-abbrev pub IsUnreadInFile : Facts → List Definition → (List ℕ → Bool) → SchemaType → List Unread
+-- what nobody reads of a type: of a built-in one, nothing is listed
+abbrev pub IsTypeListed : Facts → List Definition → (List ℕ → Bool) → SchemaType → List Unread
     → Type 0
-IsUnreadInFile facts ds is_answered t us =
-    (IsUnread facts (removal.«Type» (name_of t)) ds × (us ≡ type_entry is_answered t))
-    ⊎ ((IsUnread facts (removal.«Type» (name_of t)) ds → ⊥)
-    × AreUnreadFields facts ds t t.fields us)
-
--- what nobody reads of a type is added: of a built-in one, nothing is listed
-abbrev pub AddsType : Facts → List Definition → (List ℕ → Bool) → SchemaType → List Unread
-    → List Unread → Type 0
-AddsType facts ds is_answered t old new =
-    ((is_built_in t.definition.file ≡ true) × (new ≡ old))
-    ⊎ ((is_built_in t.definition.file ≡ false) × ((us : List Unread)
-    × IsUnreadInFile facts ds is_answered t us × (new ≡ old ++ us)))
-
--- what nobody reads of these types, in their order
-pub data AreUnreadTypes (facts : Facts) (ds : List Definition) (is_answered : List ℕ → Bool)
-    : List SchemaType → List Unread → Type 0 where
-  no_types : AreUnreadTypes facts ds is_answered [] []
-  a_type : {ts : List SchemaType} {us vs : List Unread} (t : SchemaType)
-      → AreUnreadTypes facts ds is_answered ts us → AddsType facts ds is_answered t us vs
-      → AreUnreadTypes facts ds is_answered (ts ++ t ∷ []) vs
+IsTypeListed facts ds is_answered t us =
+    ((is_built_in t.definition.file ≡ true) × (us ≡ []))
+    ⊎ ((is_built_in t.definition.file ≡ false) × IsListedInFile facts ds is_answered t us)
 
 -- ---- directives
 
--- nobody reads this directive
-abbrev pub IsDirectiveUnread : Facts → List Definition → Sited DirectiveDefinition → Type 0
-IsDirectiveUnread facts ds d = IsUnread facts (removal.Directive d.node.name.text) ds
-
--- the entries of those of these directives that nobody reads, in their order
-pub data AreUnreadDirectives (facts : Facts) (ds : List Definition)
-    : List (Sited DirectiveDefinition) → List Unread → Type 0 where
-  no_directives : AreUnreadDirectives facts ds [] []
-  a_directive : {xs : List (Sited DirectiveDefinition)} {us vs : List Unread}
-      (d : Sited DirectiveDefinition)
-      → AreUnreadDirectives facts ds xs us
-      → AddsIf (IsDirectiveUnread facts ds d) (directive_entry d) us vs
-      → AreUnreadDirectives facts ds (xs ++ d ∷ []) vs
+-- a directive, if nobody reads it
+abbrev pub IsDirectiveListed : Facts → List Definition → Sited DirectiveDefinition → List Unread
+    → Type 0
+IsDirectiveListed facts ds d =
+    IsListedIf (IsUnread facts (removal.Directive d.node.name.text) ds) (directive_entry d)
 
 -- The parts of a schema that nobody reads: types and fields, in the order of the types, and then
 -- directives.
 abbrev pub AreUnreadParts : Facts → List Definition → (List ℕ → Bool) → Schema → List Unread → Type 0
 AreUnreadParts facts ds is_answered s unread = (ts : List Unread) × (us : List Unread)
-    × AreUnreadTypes facts ds is_answered s.types ts × AreUnreadDirectives facts ds s.directives us
+    × AreListed (IsTypeListed facts ds is_answered) s.types ts
+    × AreListed (IsDirectiveListed facts ds) s.directives us
     × (unread ≡ ts ++ us)

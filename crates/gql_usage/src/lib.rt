@@ -12,6 +12,7 @@ mod stored;
 mod text_usage;
 mod unread;
 mod untouched;
+mod usage;
 
 pub use answered::{Answered, answered_objects, is_answered};
 pub use json_usage::{unread_as_json, usage_as_json};
@@ -20,3 +21,4 @@ pub use reader::{Reader, readers_of};
 pub use stored::Stored;
 pub use text_usage::{unread_as_text, usage_as_text};
 pub use unread::{Unread, UnreadPart, unread_parts};
+pub use usage::Usage;

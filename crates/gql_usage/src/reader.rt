@@ -1,15 +1,13 @@
 //! The stored operations and fragments that read a part of the schema.
-ghost use Rattle.std.specs.Prelude.{◌≡◌, ◌≢◌, ◌⊎◌, ◌++◌, ◌∷◌, [], ◌↔◌, IfOk, OnOk, Contains, IsTrue, List, true, false};
+ghost use Rattle.std.specs.Prelude.{◌≡◌, ◌++◌, ◌∷◌, [], ◌↔◌, IfOk, OnOk, IsTrue, List, false};
 ghost use Rattle.gql_ast.specs.declared.definition.Definition.{Definition as ADefinition};
 ghost use Rattle.gql_facts.specs.Members.{Lists};
-ghost use Rattle.gql_facts.specs.Reads.{Reaches};
 ghost use Rattle.gql_removal.specs.Removals.{without};
 ghost use Rattle.gql_usage.specs.Adding as adding;
 ghost use Rattle.gql_usage.specs.Breaks.{Breaks, IsUnread};
 ghost use Rattle.gql_usage.specs.Readers as spec;
 ghost use Rattle.gql_facts.specs.Presents.{facts_of_present};
 ghost use Rattle.gql_usage.specs.Stored.{AreStored, IsStored, definition_of, facts_of};
-ghost use Rattle.gql_usage.specs.declared.reader.Reader.{Reader as AReader};
 ghost use Rattle.gql_verdict.specs.SharedWorks.{Holds};
 
 use crate::breaks::{Question, breaks_definition, nothing_shared};
@@ -126,13 +124,9 @@ fn names_through(
 
 /// Whether a definition reads the part neither by itself nor through one of these fragments.
 fn reads_nothing(by_itself: bool, through: &[Text]) -> bool
-    ensures nothing { IsTrue result → (by_itself ≡ false) × (through.now ≡ []) }
-    ensures something { (result ≡ false) → (by_itself ≡ true) ⊎ (through.now ≢ []) }
+    ensures { IsTrue result ↔ (by_itself ≡ false) × (through.now ≡ []) }
 {
-    if by_itself {
-        return false;
-    }
-    through.is_empty()
+    !by_itself && through.is_empty()
 }
 
 /// Adds a definition, if it reads the part.

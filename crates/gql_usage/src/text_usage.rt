@@ -3,10 +3,12 @@
 use crate::label::Paths;
 use crate::reader::{Reader, place_of};
 use crate::unread::{Unread, UnreadPart};
-use gql_ast::{FilePlace, Text, Tree};
+use crate::usage::Usage;
+use gql_ast::{Fault, FilePlace, Shared, Text, Tree};
+use gql_findings::{sentence, title};
 use gql_removal::Part;
 use gql_render::phrases::{write_count, write_operation};
-use gql_render::write::{write_number, write_text};
+use gql_render::write::{write_number, write_text, write_texts};
 use std::alloc::{AllocError, Global};
 
 /// The words for a kind of part.
@@ -122,34 +124,72 @@ fn write_readers(out: &mut String, readers: &[Reader]) -> Result<(), AllocError>
     write_count(out, fragments, "fragment")
 }
 
-/// Who reads a part of a schema: a line that counts them, and a line for each. It is said if operations
-/// may get or send values of a type that nobody reads.
+/// Writes a fault of a schema: its first place, its rule, what it is about, and what is at fault.
+fn write_fault(out: &mut String, paths: &Paths, fault: &Fault) -> Result<(), AllocError> {
+    write_text(out, "  ")?;
+    match fault.places.as_slice().first() {
+        Some(place) => write_place(out, paths, place)?,
+        None => write_text(out, "schema")?,
+    }
+    write_texts(out, &[": ", fault.rule.name()])?;
+    if !fault.about.as_str().is_empty() {
+        write_texts(out, &[" `", fault.about.as_str(), "`"])?;
+    }
+    write_texts(
+        out,
+        &[": ", title(fault.rule), ": ", sentence(fault.rule), "\n"],
+    )
+}
+
+/// Writes the faults that the removal of a part brings to the schema: a line that counts them, and a line
+/// for each. Without a fault, nothing.
+fn write_brought(
+    out: &mut String,
+    paths: &Paths,
+    brought: &[Shared<Fault>],
+) -> Result<(), AllocError> {
+    if brought.is_empty() {
+        return Ok(());
+    }
+    write_text(out, "Without it, the schema has ")?;
+    write_count(out, brought.len(), "fault")?;
+    write_text(out, "\n")?;
+    for fault in brought {
+        write_fault(out, paths, fault.get())?;
+    }
+    Ok(())
+}
+
+/// Writes who reads a part: a line that counts them, and a line for each.
+fn write_who(out: &mut String, usage: &Usage<'_>, paths: &Paths) -> Result<(), AllocError> {
+    write_texts(out, &[part_word(usage.part), " ", usage.word])?;
+    if usage.readers.is_empty() {
+        return write_text(out, " is read by no stored operation\n");
+    }
+    write_text(out, " is read by ")?;
+    write_readers(out, usage.readers)?;
+    write_text(out, "\n")?;
+    for reader in usage.readers {
+        write_reader(out, paths, reader)?;
+    }
+    Ok(())
+}
+
+/// The use of a part of a schema: a line that counts who reads it, and a line for each; if operations may
+/// get or send values of a type that nobody reads, a line that says so; and the faults that the removal of
+/// the part brings to the schema.
 pub fn usage_as_text(
     alloc: Global,
-    word: &str,
-    part: Part,
-    readers: &[Reader],
-    is_answered: bool,
+    usage: &Usage<'_>,
     paths: &Paths,
 ) -> Result<String, AllocError> {
     let mut out = String::new(alloc);
-    write_text(&mut out, part_word(part))?;
-    write_text(&mut out, " ")?;
-    write_text(&mut out, word)?;
-    if readers.is_empty() {
-        write_text(&mut out, " is read by no stored operation\n")?;
-    } else {
-        write_text(&mut out, " is read by ")?;
-        write_readers(&mut out, readers)?;
-        write_text(&mut out, "\n")?;
-    }
-    for reader in readers {
-        write_reader(&mut out, paths, reader)?;
-    }
-    if is_answered && readers.is_empty() {
+    write_who(&mut out, usage, paths)?;
+    if usage.is_answered && usage.readers.is_empty() {
         write_text(&mut out, "Operations may still get or send values of it.\n")?;
     }
-    write_text(&mut out, unseen(part))?;
+    write_text(&mut out, unseen(usage.part))?;
+    write_brought(&mut out, paths, usage.brought)?;
     Ok(out)
 }
 

@@ -94,9 +94,9 @@ fn add_field(
 ) -> Result<(), AllocError>
     requires stored { AreStored (facts_of stored.now) stored.now.definitions.items
         shelf.now.verdicts }
-    ensures { OnOk result (spec.AddsIf
-        (spec.IsFieldUnread (facts_of stored.now) stored.now.definitions.items of_type.now field.now)
-        (spec.field_entry of_type.now field.now) unread.old.items unread.new.items) }
+    ensures { OnOk result (spec.Adds
+        (spec.IsFieldListed (facts_of stored.now) stored.now.definitions.items of_type.now field.now)
+        unread.old.items unread.new.items) }
 {
     let type_name = &of_type.definition.node.get().name.text;
     let name = &field.node.get().name;
@@ -122,8 +122,9 @@ fn unread_fields(
 ) -> Result<Vec<Unread>, AllocError>
     requires stored { AreStored (facts_of stored.now) stored.now.definitions.items
         shelf.now.verdicts }
-    ensures { IfOk result (λ unread. spec.AreUnreadFields (facts_of stored.now)
-        stored.now.definitions.items of_type.now of_type.now.fields unread.items) }
+    ensures { IfOk result (λ unread. spec.AreListed
+        (spec.IsFieldListed (facts_of stored.now) stored.now.definitions.items of_type.now)
+        of_type.now.fields unread.items) }
 {
     let mut unread = Vec::new(alloc);
     for field in of_type.fields.as_slice() {
@@ -144,7 +145,7 @@ fn unread_in_file(
     requires stored { AreStored (facts_of stored.now) stored.now.definitions.items
         shelf.now.verdicts }
     requires answered { HasMore [] (answers.answered schema.now shelf.now.verdicts) answered.now }
-    ensures { IfOk result (λ unread. spec.IsUnreadInFile (facts_of stored.now)
+    ensures { IfOk result (λ unread. spec.IsListedInFile (facts_of stored.now)
         stored.now.definitions.items
         (answers.is_answered schema.now shelf.now.verdicts) of_type.now unread.items) }
 {
@@ -187,8 +188,9 @@ fn add_type(
     requires stored { AreStored (facts_of stored.now) stored.now.definitions.items
         shelf.now.verdicts }
     requires answered { HasMore [] (answers.answered schema.now shelf.now.verdicts) answered.now }
-    ensures { OnOk result (spec.AddsType (facts_of stored.now) stored.now.definitions.items
-        (answers.is_answered schema.now shelf.now.verdicts) of_type.now
+    ensures { OnOk result (spec.Adds
+        (spec.IsTypeListed (facts_of stored.now) stored.now.definitions.items
+        (answers.is_answered schema.now shelf.now.verdicts) of_type.now)
         unread.old.items unread.new.items) }
 {
     if is_built_in(of_type) {
@@ -210,8 +212,9 @@ fn unread_types(
     requires stored { AreStored (facts_of stored.now) stored.now.definitions.items
         shelf.now.verdicts }
     requires answered { HasMore [] (answers.answered schema.now shelf.now.verdicts) answered.now }
-    ensures { IfOk result (λ unread. spec.AreUnreadTypes (facts_of stored.now)
-        stored.now.definitions.items (answers.is_answered schema.now shelf.now.verdicts)
+    ensures { IfOk result (λ unread. spec.AreListed
+        (spec.IsTypeListed (facts_of stored.now) stored.now.definitions.items
+        (answers.is_answered schema.now shelf.now.verdicts))
         schema.now.types unread.items) }
 {
     let mut unread = Vec::new(alloc);
@@ -239,9 +242,9 @@ fn add_directive(
 ) -> Result<(), AllocError>
     requires stored { AreStored (facts_of stored.now) stored.now.definitions.items
         shelf.now.verdicts }
-    ensures { OnOk result (spec.AddsIf
-        (spec.IsDirectiveUnread (facts_of stored.now) stored.now.definitions.items directive.now)
-        (spec.directive_entry directive.now) unread.old.items unread.new.items) }
+    ensures { OnOk result (spec.Adds
+        (spec.IsDirectiveListed (facts_of stored.now) stored.now.definitions.items directive.now)
+        unread.old.items unread.new.items) }
 {
     let name = &directive.node.get().name;
     let removal = Removal::Directive(name.text.copy()?);
@@ -263,8 +266,9 @@ fn unread_directives(
 ) -> Result<Vec<Unread>, AllocError>
     requires stored { AreStored (facts_of stored.now) stored.now.definitions.items
         shelf.now.verdicts }
-    ensures { IfOk result (λ unread. spec.AreUnreadDirectives (facts_of stored.now)
-        stored.now.definitions.items schema.now.directives unread.items) }
+    ensures { IfOk result (λ unread. spec.AreListed
+        (spec.IsDirectiveListed (facts_of stored.now) stored.now.definitions.items)
+        schema.now.directives unread.items) }
 {
     let mut unread = Vec::new(alloc);
     for directive in schema.directives() {

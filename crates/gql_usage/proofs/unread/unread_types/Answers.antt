@@ -1,25 +1,24 @@
-use Rattle.std.proofs.Common.{◌∙◌, List, subst, sym}
+use Rattle.std.proofs.Common.{◌∙◌, List, subst}
 use Rattle.std.proofs.lemmas.List.{take_all}
-use Rattle.gql_reads.proofs.Takes.{one_more}
 use Rattle.gql_types.specs.declared.schema_type.SchemaType.{SchemaType}
 use Rattle.gql_usage.specs.Answered.{is_answered}
 use Rattle.gql_usage.specs.Stored.{facts_of}
-use Rattle.gql_usage.specs.Unread.{AddsType, AreUnreadTypes, a_type, no_types}
+use Rattle.gql_usage.specs.Unread.{Adds, AreListed, IsTypeListed, of_nothing}
+use Rattle.gql_usage.proofs.Reading.{listed_more}
 use Rattle.gql_usage.proofs.unread.unread_types.Goals as goal
 
 pub loop-of_type-init : goal.loop-of_type-init
-loop-of_type-init c = no_types
+loop-of_type-init c = of_nothing
 
 pub loop-of_type-preserved : goal.loop-of_type-preserved
 loop-of_type-preserved c =
     let facts = facts_of c.args.stored.now in
     let ds = c.args.stored.now.definitions.items in
     let answered = is_answered c.args.schema.now c.args.shelf.now.verdicts in
-    subst (λ (ts : List SchemaType). AreUnreadTypes facts ds answered ts c.add_type.new.unread.items)
-    (sym (one_more _ _ _ c.loop-of_type-test.true c.of_type-item.is))
-    (a_type c.of_type-item.result c.loop-of_type.invariant
-    (subst (λ (t : SchemaType). AddsType facts ds answered t c.loop-of_type.unread.items c.add_type.new.unread.items) c.get.ensures c.in_ok-add_type.ensures))
+    listed_more (IsTypeListed facts ds answered) _ c.loop-of_type.of_type-index c.of_type-item.result
+    c.loop-of_type-test.true c.of_type-item.is _ _ c.loop-of_type.invariant
+    (subst (λ (t : SchemaType). Adds (IsTypeListed facts ds answered t) c.loop-of_type.unread.items c.add_type.new.unread.items) c.get.ensures c.in_ok-add_type.ensures)
 
 pub returns : goal.returns
-returns c = subst (λ (ts : List SchemaType). AreUnreadTypes (facts_of c.args.stored.now) c.args.stored.now.definitions.items (is_answered c.args.schema.now c.args.shelf.now.verdicts) ts c.loop-of_type.unread.items)
+returns c = subst (λ (ts : List SchemaType). AreListed (IsTypeListed (facts_of c.args.stored.now) c.args.stored.now.definitions.items (is_answered c.args.schema.now c.args.shelf.now.verdicts)) ts c.loop-of_type.unread.items)
     (take_all _ _ c.loop-of_type-test.false ∙ c.types.ensures) c.loop-of_type.invariant
