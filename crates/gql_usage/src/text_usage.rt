@@ -162,7 +162,9 @@ fn write_brought(
 
 /// Writes who reads a part: a line that counts them, and a line for each.
 fn write_who(out: &mut String, usage: &Usage<'_>, paths: &Paths) -> Result<(), AllocError> {
-    write_texts(out, &[part_word(usage.part), " ", usage.word])?;
+    write_text(out, part_word(usage.part))?;
+    write_text(out, " ")?;
+    write_text(out, usage.word)?;
     if usage.readers.is_empty() {
         return write_text(out, " is read by no stored operation\n");
     }
