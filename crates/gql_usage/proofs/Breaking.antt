@@ -57,7 +57,7 @@ module _ (facts : Facts) (r : Removal) where
   pub loses_by_kind : {E : Type 0} (found : Result Bool E) (t : Tree) (k : OperationKind) → Some k ≡ operation_kind t
       → IfOk found (λ b. IsTrue b ↔ LosesRootOf facts r k) → IfOk found (λ b. IsTrue b ↔ LosesRoot facts r t)
   loses_by_kind (Ok b) t k e h = (
-    λ y. (k, (sym e, h.0 y)),
+    λ y. (k, sym e, h.0 y),
     λ y. h.1 (subst (λ j. LosesRootOf facts r j) (same_kind y.0 (sym y.1 ∙ sym e)) y.2),
   )
     where

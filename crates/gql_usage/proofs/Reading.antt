@@ -49,21 +49,21 @@ module _ (facts : Facts) (r : Removal) where
   -- one more fragment was examined
   pub names_more : (gs : List FragmentFact) (i : ℕ) (g : FragmentFact) → i < length gs → g ≡ get_or gs i g → (old new : List (List ℕ))
       → Lists old (IsBrokenName facts r (take i gs)) → AddsName facts r g old new → Lists new (IsBrokenName facts r (take (i + 1) gs))
-  names_more gs i g lt is old new so_far (inl yes) = record {
-    sound = λ n h. elim (Contains-push_cases old g.fragment.name.text n (subst (λ ns. Contains ns n) yes.1 h)) [
+  names_more gs i g lt is old new so_far (inl added) = record {
+    sound = λ n h. elim (Contains-push_cases old g.fragment.name.text n (subst (λ ns. Contains ns n) added.1 h)) [
       | inl o ↦ let b = so_far.sound n o in (b.0, subst (λ xs. Contains xs b.0) (sym (one_more gs i g lt is)) (Contains-append_left (take i gs) (g ∷ []) b.0 b.1), b.2, b.3)
-      | inr e ↦ (g, subst (λ xs. Contains xs g) (sym (one_more gs i g lt is)) (Contains-push (take i gs) g), yes.0, e)
+      | inr e ↦ (g, subst (λ xs. Contains xs g) (sym (one_more gs i g lt is)) (Contains-push (take i gs) g), added.0, e)
     ];
-    complete = λ n b. subst (λ ns. Contains ns n) (sym yes.1) (elim (seen_more gs i g lt is b.0 b.1) [
+    complete = λ n b. subst (λ ns. Contains ns n) (sym added.1) (elim (seen_more gs i g lt is b.0 b.1) [
       | inl o ↦ Contains-append_left old (g.fragment.name.text ∷ []) n (so_far.complete n (b.0, o, b.2, b.3))
       | inr e ↦ subst (λ m. Contains (old ++ g.fragment.name.text ∷ []) m) (ap (λ (x : FragmentFact). x.fragment.name.text) e ∙ b.3) (Contains-push old g.fragment.name.text)
     ]);
   }
-  names_more gs i g lt is old new so_far (inr no) = record {
-    sound = λ n h. let b = so_far.sound n (subst (λ ns. Contains ns n) no.1 h) in (b.0, subst (λ xs. Contains xs b.0) (sym (one_more gs i g lt is)) (Contains-append_left (take i gs) (g ∷ []) b.0 b.1), b.2, b.3);
-    complete = λ n b. subst (λ ns. Contains ns n) (sym no.1) (elim (seen_more gs i g lt is b.0 b.1) [
+  names_more gs i g lt is old new so_far (inr kept) = record {
+    sound = λ n h. let b = so_far.sound n (subst (λ ns. Contains ns n) kept.1 h) in (b.0, subst (λ xs. Contains xs b.0) (sym (one_more gs i g lt is)) (Contains-append_left (take i gs) (g ∷ []) b.0 b.1), b.2, b.3);
+    complete = λ n b. subst (λ ns. Contains ns n) (sym kept.1) (elim (seen_more gs i g lt is b.0 b.1) [
       | inl o ↦ so_far.complete n (b.0, o, b.2, b.3)
-      | inr e ↦ absurd (no.0 (subst (λ (x : FragmentFact). Breaks facts r (definition_of x)) (sym e) b.2))
+      | inr e ↦ absurd (kept.0 (subst (λ (x : FragmentFact). Breaks facts r (definition_of x)) (sym e) b.2))
     ]);
   }
 
@@ -131,16 +131,16 @@ readers_as F G f ds es e r xs h = subst (λ X. AreReaders X r es xs) f (subst (�
 
 module _ (facts : Facts) (ds : List Definition) (q r : Removal) (e : q ≡ r) (b : Bool) (is : IsTrue b ↔ IsUnread facts q ds) where
   pub is_not : b ≡ false → IsUnread facts r ds → ⊥
-  is_not no u = let z : false ≡ true = sym no ∙ is.1 (subst (λ x. IsUnread facts x ds) (sym e) u) in cc z
+  is_not not_so u = let z : false ≡ true = sym not_so ∙ is.1 (subst (λ x. IsUnread facts x ds) (sym e) u) in cc z
 
   pub is_so : b ≡ true → IsUnread facts r ds
-  is_so yes = subst (λ x. IsUnread facts x ds) e (is.0 yes)
+  is_so so = subst (λ x. IsUnread facts x ds) e (is.0 so)
 
   pub adds_not : b ≡ false → (entries old : List Unread) → Adds (IsListedIf (IsUnread facts r ds) entries) old old
-  adds_not no entries old = ([], inr (is_not no, refl), sym (append-nil old))
+  adds_not not_so entries old = ([], inr (is_not not_so, refl), sym (append-nil old))
 
   pub adds_yes : b ≡ true → (entries old new : List Unread) → new ≡ old ++ entries → Adds (IsListedIf (IsUnread facts r ds) entries) old new
-  adds_yes yes entries old new added = (entries, inl (is_so yes, refl), added)
+  adds_yes so entries old new added = (entries, inl (is_so so, refl), added)
 
 -- one more of a list of things
 module _ {A : Type 0} (P : A → List Unread → Type 0) (xs : List A) (i : ℕ) (x : A) (lt : i < length xs) (is : x ≡ get_or xs i x) where

@@ -27,6 +27,18 @@ pub struct Reader {
     pub through: Vec<Text>,
 }
 
+/// The definition of a fragment.
+fn fragment_definition(fragment: &FragmentFact) -> Result<Definition, AllocError>
+    ensures { IfOk result (λ definition. definition ≡ definition_of fragment.now) }
+{
+    let file = fragment.file.copy();
+    let its = fragment.fragment.clone()?;
+    Ok(Definition {
+        file,
+        tree: Tree::Fragment(its),
+    })
+}
+
 /// Whether the removal breaks a fragment.
 fn breaks_fragment(
     alloc: Global,
@@ -44,10 +56,7 @@ fn breaks_fragment(
         ↔ Breaks (facts_of_present question.now.present) question.now.removal.now
         (definition_of fragment.now)) }
 {
-    let definition = Definition {
-        file: fragment.file.copy(),
-        tree: Tree::Fragment(fragment.fragment.clone()?),
-    };
+    let definition = fragment_definition(fragment)?;
     breaks_definition(alloc, question, &definition, shared)
 }
 

@@ -11,7 +11,7 @@ returns-then-reads_nothing-clause-adds c = λ ds h.
     let facts = facts_of_present c.args.question.now.present in
     let r = c.args.question.now.removal.now in
     let d = c.args.definition.now in
-    let through = subst (λ (ns : List (List ℕ)). Lists ns (IsThrough facts r d)) (sym c.as_slice.ensures) c.in_ok-through.ensures.names in
+    let through = subst (λ (ns : List (List ℕ)). Lists ns (IsThrough facts r d)) (sym c.as_slice.ensures.value) c.in_ok-through.ensures.names in
     reads_not d h (reads_nothing facts r d c.in_ok-by_itself.by_itself c.as_slice.result.now c.in_ok-by_itself.ensures.breaks through (c.reads_nothing.ensures.0 c.if-reads_nothing.true))
 
 pub returns-clause-adds : goal.returns-clause-adds
@@ -19,7 +19,7 @@ returns-clause-adds c = λ ds h.
     let facts = facts_of_present c.args.question.now.present in
     let r = c.args.question.now.removal.now in
     let d = c.args.definition.now in
-    let through = subst (λ (ns : List (List ℕ)). Lists ns (IsThrough facts r d)) (sym c.as_slice.ensures) c.in_ok-through.ensures.names in
+    let through = subst (λ (ns : List (List ℕ)). Lists ns (IsThrough facts r d)) (sym c.as_slice.ensures.value) c.in_ok-through.ensures.names in
     subst (λ (xs : List Reader). AreReaders facts r (ds ++ d ∷ []) xs) (sym c.in_ok-push.ensures.items)
     (reads d _ h
     (reads_some facts r d c.in_ok-by_itself.by_itself c.as_slice.result.now c.in_ok-by_itself.ensures.breaks through (λ none. let z : true ≡ false = sym (c.reads_nothing.ensures.1 none) ∙ c.if-reads_nothing.false in cc z))

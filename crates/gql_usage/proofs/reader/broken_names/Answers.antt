@@ -1,4 +1,4 @@
-use Rattle.std.proofs.Common.{List, subst, sym}
+use Rattle.std.proofs.Common.{ℕ, List, [], subst, sym}
 use Rattle.std.proofs.lemmas.List.{take_all}
 use Rattle.gql_facts.specs.Members.{Lists}
 use Rattle.gql_facts.specs.declared.fact.FragmentFact.{FragmentFact}
@@ -8,7 +8,7 @@ use Rattle.gql_usage.proofs.Reading.{names_more, no_names}
 use Rattle.gql_usage.proofs.reader.broken_names.Goals as goal
 
 pub loop-fragment-init : goal.loop-fragment-init
-loop-fragment-init c = record { holds = c.requires.shared; so_far = no_names (facts_of_present c.args.question.now.present) c.args.question.now.removal.now }
+loop-fragment-init c = record { holds = c.requires.shared; so_far = subst (λ (ns : List (List ℕ)). Lists ns (IsBrokenName (facts_of_present c.args.question.now.present) c.args.question.now.removal.now [])) (sym c.new-names.ensures.items) (no_names (facts_of_present c.args.question.now.present) c.args.question.now.removal.now) }
 
 pub add_name-requires-clause-stored : goal.add_name-requires-clause-stored
 add_name-requires-clause-stored c = c.requires.stored c.fragment-item.result (c.loop-fragment.fragment-index, c.loop-fragment-test.true, sym c.fragment-item.is)
