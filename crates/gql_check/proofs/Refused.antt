@@ -1,10 +1,10 @@
 -- Why the files of a folder are not put.
-use Rattle.std.proofs.Common.{◌≡◌, ◌==◌, ◌+◌, ◌∙◌, ℕ, List, [], ◌∷◌, None, Option, Some, true, Result, Ok, Err, IfErr, zero, suc, arith, length, refl, slice_get, subst, sym}
+use Rattle.std.proofs.Common.{◌≡◌, ◌==◌, ◌+◌, ◌∙◌, ℕ, List, [], ◌∷◌, ◌++◌, None, Option, Some, true, Result, Ok, Err, IfErr, zero, suc, arith, length, refl, slice_get, subst, sym}
 use Rattle.std.specs.Result.{IsErrAnd}
 use Rattle.std.proofs.lemmas.Bool.Decides.{nat_tests}
 use Rattle.std.proofs.lemmas.List.{length-map}
 use Rattle.std.proofs.lemmas.Option.{slice_get_past}
-use Rattle.gql_check.specs.Faults.{AreRefused, IsFault, IsFileFault, also_accepted, bad_folder, empty, first_refused, memory, of_folder, refused}
+use Rattle.gql_check.specs.Faults.{AreRefused, IsFault, IsFileFault, also_accepted, also_refused, bad_folder, empty, first_refused, memory, of_folder, refused}
 use Rattle.gql_check.specs.Loads.{IsFolderOf, folder_edits, folder_indices}
 use Rattle.gql_check.specs.Steps.{ArePuts, IsAnswer, IsLoadFault, IsPutFault}
 use Rattle.gql_check.specs.declared.fault.CheckFault.{CheckFault}
@@ -124,3 +124,14 @@ answered e (Some r) h none = absurd (none r refl)
 pub left_out : (puts : List GivenPut) (indices : List ℕ) (at : ℕ) (p : GivenPut) (es : List FileFault) (o : Option Refusal) → slice_get puts at ≡ Some p → IsAnswer (edit_of p) o
     → ((r : Refusal) → o ≡ Some r → ⊥) → AreRefused (edits_of puts) indices at es → AreRefused (edits_of puts) indices (at + 1) es
 left_out puts indices at p es o there h none before = also_accepted at (edit_of p) before (edit_there puts at p there) (answered (edit_of p) o h none)
+
+-- an answer that is this refusal refuses the edit
+refused_with : (e : Edit) (o : Option Refusal) (r : Refusal) → IsAnswer e o → o ≡ Some r → IsFirstRefusal state.empty None e r
+refused_with e None r h is = absurd (cc is)
+refused_with e (Some x) r h is = subst (λ y. IsFirstRefusal state.empty None e y) (cc is) h
+
+-- a file that a new registry refuses is added
+pub put_in : (puts : List GivenPut) (indices : List ℕ) (at file : ℕ) (p : GivenPut) (es : List FileFault) (e : FileFault) (o : Option Refusal) (r : Refusal) → slice_get puts at ≡ Some p
+    → slice_get indices at ≡ Some file → IsAnswer (edit_of p) o → o ≡ Some r → IsFileFault file r e → AreRefused (edits_of puts) indices at es → AreRefused (edits_of puts) indices (at + 1) (es ++ e ∷ [])
+put_in puts indices at file p es e o r there index h is fault before =
+    also_refused at (edit_of p) r before (edit_there puts at p there) (refused_with (edit_of p) o r h is) index fault

@@ -1,11 +1,10 @@
 -- Operations that are not served, one definition after the other.
-use Rattle.std.proofs.Common.{◌≡◌, ◌<◌, ◌+◌, ◌∙◌, ℕ, List, [], ◌∷◌, ◌++◌, Bool, true, false, Option, Some, None, length, take, get_or, ap, sym, subst, refl, Contains, append-nil, append_assoc}
+use Rattle.std.proofs.Common.{◌≡◌, ◌∙◌, ℕ, List, [], ◌∷◌, ◌++◌, Bool, true, false, Option, Some, None, sym, subst, refl, append-nil, append_assoc}
 use Rattle.gql_ast.specs.declared.definition.Definition.{Definition}
 use Rattle.gql_ast.specs.declared.definition.Tree.TheVariants as tree
 use Rattle.gql_ast.specs.declared.executable.Operation.{Operation}
 use Rattle.gql_check.proofs.Lists.{differ}
-use Rattle.gql_check.specs.Affected.{AreAffected, Breaks, IsAffected, IsLeftOut, definition_of, own, through, left_out, listed, none}
-use Rattle.gql_check.specs.Owners.{name_of}
+use Rattle.gql_check.specs.Affected.{AreAffected, Breaks, IsLeftOut, definition_of, own, through, left_out, listed, none}
 use Rattle.gql_check.specs.Spots.{spot_of, start_of}
 use Rattle.gql_check.specs.Steps.{AddsAffected, IsAgainst, IsAgainstBy, against_in}
 use Rattle.gql_check.specs.declared.affected.Against.{Against}

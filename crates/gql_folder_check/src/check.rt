@@ -132,7 +132,7 @@ fn check(rt: &HostRuntime, options: &CheckOptions) -> Result<Checked, Failure> {
 pub fn run_check(rt: &HostRuntime, options: &CheckOptions) -> u8 {
     let outcome = check(rt, options);
     let status = check_status(&outcome);
-    if let Err(failure) = outcome {
+    if let Some(failure) = outcome.err() {
         let _ = report(rt, failure);
     }
     status
