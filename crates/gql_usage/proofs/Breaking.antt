@@ -4,7 +4,6 @@ use Rattle.gql_ast.specs.declared.definition.Definition.{Definition}
 use Rattle.gql_ast.specs.declared.definition.Tree.{Tree}
 use Rattle.gql_ast.specs.declared.executable.OperationKind.{OperationKind}
 use Rattle.gql_ast.specs.declared.fault.Fault.{Fault}
-use Rattle.gql_facts.specs.Members.{Lists}
 use Rattle.gql_facts.specs.Worlds.{Facts}
 use Rattle.gql_reads.specs.Observations.{Hold}
 use Rattle.gql_reads.specs.declared.observation.Observation.{Observation}

@@ -3,7 +3,6 @@ use Rattle.std.proofs.Common.{◌≡◌, ℕ, List, [], Option, Some, None, Cont
 use Rattle.gql_ast.specs.declared.definition.Document.{Document}
 use Rattle.gql_ast.specs.declared.definition.Tree.{Tree}
 use Rattle.gql_ast.specs.declared.definition.Tree.TheVariants as tree
-use Rattle.gql_ast.specs.declared.files.Files.{Files}
 use Rattle.gql_facts.specs.Facts.{answer, fact_in, fragment_in, fragment_named, fragments}
 use Rattle.gql_facts.specs.ListMembers.{Contains-nil, Contains-cases, Contains-flat_map, Contains-flat_map_from, found_in}
 use Rattle.gql_facts.specs.declared.fact.Fact.TheVariants as fact

@@ -1,5 +1,5 @@
 -- What the list of readers says of whether nobody observes a key.
-use Rattle.std.proofs.Common.{◌≡◌, ◌∙◌, List, [], ◌∷◌, ◌==◌, Bool, true, false, filter, length, ap, not, refl, sym, subst, Contains, arith}
+use Rattle.std.proofs.Common.{◌≡◌, ◌∙◌, List, [], ◌∷◌, ◌==◌, Bool, true, filter, length, ap, not, refl, sym, subst, Contains, arith}
 use Rattle.std.proofs.lemmas.Bool.{eqb-true, false_from_ne_true}
 use Rattle.gql_ast.specs.Trees.{id_of}
 use Rattle.gql_ast.specs.declared.definition.DefinitionId.{DefinitionId}

@@ -1,5 +1,5 @@
 -- Readers of a part, as they are listed.
-use Rattle.std.proofs.Common.{◌≡◌, ◌⊎◌, ◌↔◌, ◌∙◌, ℕ, IfOk, Result, Ok, Err, ◌+◌, ◌<◌, List, [], ◌∷◌, ◌++◌, Bool, true, false, Contains, IsTrue, ap, append-nil, get_or, inl, inr, length, refl, subst, sym, take}
+use Rattle.std.proofs.Common.{◌≡◌, ◌↔◌, ◌∙◌, ℕ, IfOk, Result, Ok, Err, ◌+◌, ◌<◌, List, [], ◌∷◌, ◌++◌, Bool, true, false, Contains, IsTrue, ap, append-nil, get_or, inl, inr, length, refl, subst, sym, take}
 use Rattle.std.proofs.lemmas.List.Elements.{Contains-push, Contains-push_cases, Contains-append_left}
 use Rattle.gql_ast.specs.declared.definition.Definition.{Definition}
 use Rattle.gql_facts.specs.ListMembers.{Contains-here, Contains-nil}
@@ -13,12 +13,11 @@ use Rattle.gql_reads.proofs.Takes.{one_more, seen_more}
 use Rattle.gql_removal.specs.declared.removal.Removal.{Removal}
 use Rattle.gql_usage.specs.Adding.{AddsName, IsBrokenName}
 use Rattle.gql_usage.specs.Breaks.{Breaks, IsUnread}
-use Rattle.gql_usage.specs.Readers.{AreReaders, IsBlamed, IsReader, IsThrough, Reads, no_definitions, reads, reads_not}
+use Rattle.gql_usage.specs.Readers.{AreReaders, IsThrough, Reads, no_definitions, reads, reads_not}
 use Rattle.gql_usage.specs.Unread.{Adds, AreListed, IsListedIf, of_one_more}
 use Rattle.gql_usage.specs.declared.unread.Unread.{Unread}
 use Rattle.gql_usage.specs.Stored.{AreDefined, AreStored, IsStored, definition_of}
 use Rattle.gql_usage.specs.declared.reader.Reader.{Reader}
-use Rattle.gql_verdict.specs.Shelves.{Serves}
 use Rattle.gql_verdict.specs.Verdicts.{Judgement}
 
 -- a found value that satisfies one thing satisfies another

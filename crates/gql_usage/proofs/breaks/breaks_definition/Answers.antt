@@ -1,8 +1,7 @@
-use Rattle.std.proofs.Common.{IfOk, IsTrue, ◌↔◌, Bool, subst, Some, None}
+use Rattle.std.proofs.Common.{IfOk, IsTrue, ◌↔◌, subst, Some, None}
 use Rattle.gql_usage.specs.Breaks.{Breaks}
 use Rattle.gql_facts.specs.Presents.{facts_of_present}
-use Rattle.gql_usage.proofs.Breaking.{ok_at, served, serves}
-use Rattle.gql_verdict.specs.Verdicts.{Judgement}
+use Rattle.gql_usage.proofs.Breaking.{served, serves}
 use Rattle.gql_ast.specs.declared.definition.Definition.{Definition}
 use Rattle.gql_usage.proofs.breaks.breaks_definition.Goals as goal
 

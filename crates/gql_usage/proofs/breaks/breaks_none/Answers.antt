@@ -1,4 +1,4 @@
-use Rattle.std.proofs.Common.{◌≡◌, ◌∙◌, Contains, List, false, inl, inr, refl, subst, sym, true}
+use Rattle.std.proofs.Common.{◌≡◌, ◌∙◌, List, false, inl, inr, refl, subst, sym, true}
 use Rattle.std.proofs.lemmas.List.{take_all}
 use Rattle.gql_ast.specs.declared.definition.Definition.{Definition}
 use Rattle.gql_facts.specs.ListMembers.{Contains-nil}

@@ -1,4 +1,4 @@
-use Rattle.std.proofs.Common.{◌≡◌, List, false, subst, true}
+use Rattle.std.proofs.Common.{List, subst}
 use Rattle.std.proofs.lemmas.List.{take_all}
 use Rattle.gql_reads.specs.Observations.{about, about_all}
 use Rattle.gql_reads.specs.declared.observation.TypeAnswers.{TypeAnswers}
