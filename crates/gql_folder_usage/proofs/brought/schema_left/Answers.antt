@@ -1,4 +1,4 @@
-use Rattle.std.proofs.Common.{◌≡◌, ◌∙◌, ap, rules, subst}
+use Rattle.std.proofs.Common.{◌≡◌, ◌∙◌, ℕ, List, ap, rules, subst, sym}
 use Rattle.std.proofs.lemmas.Slice.Zip.{AllZip-map}
 use Rattle.std.specs.List.Sorted.{IsStrictlySortedBy}
 use Rattle.std.specs.Map.{keys_of}
@@ -6,11 +6,12 @@ use Rattle.gql_ast.specs.FileMaps.{name_order}
 use Rattle.gql_ast.specs.declared.definition.Document.{Document}
 use Rattle.gql_cut.specs.Cuts.{document_left}
 use Rattle.gql_folder_usage.proofs.Cutting.{IsLeft, left_of, same_name}
-use Rattle.gql_schema_rules.proofs.FirstChecks.{all_first, none_first, one_more}
+use Rattle.gql_schema_rules.proofs.FirstChecks.{AreFirst, all_first, none_first, one_more}
 use Rattle.gql_folder_usage.proofs.brought.schema_left.Goals as goal
 
 pub loop-name-init : goal.loop-name-init
-loop-name-init c = none_first (IsLeft c.args.subject.now) _ _ (search rules)
+loop-name-init c = subst (λ (vs : List (List ℕ × Document)). AreFirst (IsLeft c.args.subject.now) c.args.files.now c.into_iter-name-iterator.result vs) (sym c.new-left.ensures)
+    (none_first (IsLeft c.args.subject.now) _ _ (search rules))
 
 pub loop-name-preserved : goal.loop-name-preserved
 loop-name-preserved c =
