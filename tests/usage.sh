@@ -1,6 +1,6 @@
 #!/bin/sh
 # Tests of `gqlreg usage`, of manifests of persisted operations, and of a push that stops midway:
-# tests/usage.sh. They take a few seconds. The last line is `N passed, M failed`.
+# tests/usage.sh. They take a few seconds. tests/usage_agrees.py tries `usage` on random folders. The last line is `N passed, M failed`.
 here=$(cd "$(dirname "$0")" && pwd)
 . "$here/common.sh"
 echo "the tests of usage and manifests run, in a few seconds" >&2
@@ -106,11 +106,16 @@ try 'a field, read by a fragment' 0 "$gqlreg" usage store Product.title <<'TEXT'
 field Product.title is read by 1 operation and 1 fragment
   store/documents/web/product.graphql:1:1: query Product, by fragment Card
   store/documents/web/product.graphql:8:1: fragment Card
+Without it, the schema has 1 fault
+  store/schema/store.graphql:12:25: S12 `title`: Missing Fields: a type has no field for a field of an interface that it implements.
 TEXT
 try 'a type, read in both ways' 0 "$gqlreg" usage store Product <<'TEXT'
 type Product is read by 1 operation and 1 fragment
   store/documents/web/product.graphql:1:1: query Product, and by fragment Card
   store/documents/web/product.graphql:8:1: fragment Card
+Without it, the schema has 2 faults
+  store/schema/store.graphql:2:21: S20 `Product`: Unknown Types: a reference names no type.
+  store/schema/store.graphql:30:15: S20 `Product`: Unknown Types: a reference names no type.
 TEXT
 try 'a field of a root' 0 "$gqlreg" usage store Query.search <<'TEXT'
 field Query.search is read by 1 operation and 0 fragments
@@ -123,19 +128,141 @@ TEXT
 try 'a field that nobody reads' 0 "$gqlreg" usage store Product.maker <<'TEXT'
 field Product.maker is read by no stored operation
 TEXT
-try 'a value of an enum' 0 "$gqlreg" usage store Currency.EUR <<'TEXT'
-enum value Currency.EUR is read by 1 operation and 0 fragments
+try 'a value of an enum' 0 "$gqlreg" usage store Currency.USD <<'TEXT'
+enum value Currency.USD is read by 1 operation and 0 fragments
   store/documents/web/product.graphql:1:1: query Product
-Readers of an enum read all its values.
+What clients send in variables is not stored, and so not seen.
 TEXT
-try 'a value that nobody reads' 0 "$gqlreg" usage store Colour.RED <<'TEXT'
-enum value Colour.RED is read by no stored operation
-Readers of an enum read all its values.
+try 'a value that nobody gives' 0 "$gqlreg" usage store Currency.EUR <<'TEXT'
+enum value Currency.EUR is read by no stored operation
+What clients send in variables is not stored, and so not seen.
+Without it, the schema has 1 fault
+  store/schema/store.graphql:15:24: S18 `in`: Bad Default Values: a default value does not fit the type of its argument or input field.
 TEXT
+try 'a field of an input object that a variable may have' 0 "$gqlreg" usage store Range.from <<'TEXT'
+input field Range.from is read by no stored operation
+What clients send in variables is not stored, and so not seen.
+Without it, the schema has 1 fault
+  store/schema/store.graphql:46:7: S05 `Range`: Empty Types: a type that needs fields, enum values or members has none.
+TEXT
+printf 'query Near { search(filter: {range: {from: 1}}) { id } }\n' > store/documents/near.graphql
 try 'a field of an input object in another' 0 "$gqlreg" usage store Range.from <<'TEXT'
 input field Range.from is read by 1 operation and 0 fragments
+  store/documents/near.graphql:1:1: query Near
+What clients send in variables is not stored, and so not seen.
+Without it, the schema has 1 fault
+  store/schema/store.graphql:46:7: S05 `Range`: Empty Types: a type that needs fields, enum values or members has none.
+TEXT
+try 'an input object in another' 0 "$gqlreg" usage store Range <<'TEXT'
+type Range is read by 1 operation and 0 fragments
+  store/documents/near.graphql:1:1: query Near
+Without it, the schema has 1 fault
+  store/schema/store.graphql:43:10: S20 `Range`: Unknown Types: a reference names no type.
+TEXT
+rm store/documents/near.graphql
+try 'the type of a variable' 0 "$gqlreg" usage store Filter <<'TEXT'
+type Filter is read by 1 operation and 0 fragments
   store/documents/web/search.graphql:1:1: query Search
-Readers of an input object read all its fields.
+Without it, the schema has 1 fault
+  store/schema/store.graphql:3:18: S20 `Filter`: Unknown Types: a reference names no type.
+TEXT
+
+# ---- arguments
+
+try 'an argument' 0 "$gqlreg" usage store 'Product.price(in:)' <<'TEXT'
+argument Product.price(in:) is read by 1 operation and 0 fragments
+  store/documents/web/product.graphql:1:1: query Product
+TEXT
+try 'an argument that a variable gives' 0 "$gqlreg" usage store 'Query.search(filter:)' <<'TEXT'
+argument Query.search(filter:) is read by 1 operation and 0 fragments
+  store/documents/web/search.graphql:1:1: query Search
+TEXT
+cp -r store narrow
+sed -i 's/price(in: USD)/price/' narrow/documents/web/product.graphql
+try 'an argument that nobody gives' 0 "$gqlreg" usage narrow 'Product.price(in:)' <<'TEXT'
+argument Product.price(in:) is read by no stored operation
+TEXT
+sed -i 's/directive @beta on FIELD/directive @beta(since: Int, by: String) on FIELD/' narrow/schema/store.graphql
+sed -i 's/@beta/@beta(since: 1)/' narrow/documents/web/product.graphql
+try 'an argument of a directive' 0 "$gqlreg" usage narrow '@beta(since:)' <<'TEXT'
+directive argument @beta(since:) is read by 1 operation and 1 fragment
+  narrow/documents/web/product.graphql:1:1: query Product, by fragment Card
+  narrow/documents/web/product.graphql:8:1: fragment Card
+TEXT
+try 'another argument of it' 0 "$gqlreg" usage narrow '@beta(by:)' <<'TEXT'
+directive argument @beta(by:) is read by no stored operation
+TEXT
+try 'an argument in another form' 2 "$gqlreg" usage store 'Product.price(in)' <<'TEXT'
+`Product.price(in)` is no part of a schema: an argument is written as `Query.users(first:)`, that of a directive as `@beta(since:)`
+TEXT
+try 'an argument of a type' 2 "$gqlreg" usage store 'Product(in:)' <<'TEXT'
+`Product(in:)` is no part of a schema: an argument is written as `Query.users(first:)`, that of a directive as `@beta(since:)`
+TEXT
+try 'no such argument' 2 "$gqlreg" usage store 'Product.price(at:)' <<'TEXT'
+field `Product.price` of store has no argument `at`
+TEXT
+try 'an argument of no field' 2 "$gqlreg" usage store 'Product.cost(in:)' <<'TEXT'
+type `Product` of store has no field `cost`
+TEXT
+try 'an argument of a field of no type' 2 "$gqlreg" usage store 'Shop.cost(in:)' <<'TEXT'
+the schema of store has no type `Shop`
+TEXT
+try 'no such argument of a directive' 2 "$gqlreg" usage store '@beta(since:)' <<'TEXT'
+directive `@beta` of store has no argument `since`
+TEXT
+try 'an argument of no directive' 2 "$gqlreg" usage store '@gone(since:)' <<'TEXT'
+the schema of store has no directive `@gone`
+TEXT
+
+# ---- what a removal breaks
+
+mkdir -p demands/schema
+printf '%s\n' 'interface I { f(x: Int): Int }' 'type A implements I { f(x: Int): Int }' 'type Query { i: I }' 'directive @d(n: Int) on OBJECT' > demands/schema/s.graphql
+printf 'extend type A @d(n: 1)\n' > demands/schema/t.graphql
+mkdir -p members/schema members/documents
+printf '%s\n' 'interface I { id: ID }' 'union U = A | B' 'type A implements I { id: ID }' 'type B { id: ID }' 'type Query { i: I }' > members/schema/s.graphql
+printf 'query Q { i { ... on U { __typename } } }\n' > members/documents/q.graphql
+try 'the only object that a condition lets through' 0 "$gqlreg" usage members A <<'TEXT'
+type A is read by 1 operation and 0 fragments
+  members/documents/q.graphql:1:1: query Q
+Without it, the schema has 1 fault
+  members/schema/s.graphql:2:11: S20 `A`: Unknown Types: a reference names no type.
+TEXT
+try 'a member that it does not need' 0 "$gqlreg" usage members B <<'TEXT'
+type B is read by no stored operation
+Operations may still get or send values of it.
+Without it, the schema has 1 fault
+  members/schema/s.graphql:2:15: S20 `B`: Unknown Types: a reference names no type.
+TEXT
+try 'a query root' 0 "$gqlreg" usage members Query <<'TEXT'
+type Query is read by 1 operation and 0 fragments
+  members/documents/q.graphql:1:1: query Q
+Without it, the schema has 1 fault
+  schema: S23 `query`: Missing Query Root: the schema has no query root operation type.
+TEXT
+try 'a field that an interface demands' 0 "$gqlreg" usage store Bundle.id <<'TEXT'
+field Bundle.id is read by 1 operation and 0 fragments
+  store/documents/web/search.graphql:1:1: query Search
+Without it, the schema has 1 fault
+  store/schema/store.graphql:19:24: S12 `id`: Missing Fields: a type has no field for a field of an interface that it implements.
+TEXT
+try 'an argument that an interface demands' 0 "$gqlreg" usage demands 'A.f(x:)' <<'TEXT'
+argument A.f(x:) is read by no stored operation
+Without it, the schema has 1 fault
+  demands/schema/s.graphql:2:23: S13 `x`: Missing Arguments: an argument of the interface's field is missing, or its type differs.
+TEXT
+try 'an argument that a directive is given' 0 "$gqlreg" usage demands '@d(n:)' <<'TEXT'
+directive argument @d(n:) is read by no stored operation
+Without it, the schema has 1 fault
+  demands/schema/t.graphql:1:18: S32 `n`: Bad Arguments: an argument of an applied directive is undefined, repeated or missing.
+TEXT
+try 'a directive that the schema applies' 0 "$gqlreg" usage demands @d <<'TEXT'
+directive @d is read by no stored operation
+Without it, the schema has 1 fault
+  demands/schema/t.graphql:1:15: S29 `d`: Unknown Directives: an applied directive is not defined.
+TEXT
+try 'a type with its extension' 0 "$gqlreg" usage demands A <<'TEXT'
+type A is read by no stored operation
 TEXT
 try 'a directive' 0 "$gqlreg" usage store @beta <<'TEXT'
 directive @beta is read by 1 operation and 1 fragment
@@ -147,16 +274,17 @@ directive @old is read by no stored operation
 TEXT
 try 'an object of an interface' 0 "$gqlreg" usage store Bundle <<'TEXT'
 type Bundle is read by no stored operation
+Operations may still get or send values of it.
 TEXT
 try 'readers as JSON' 0 "$gqlreg" usage store Product.title --format json <<'TEXT'
-{"part":"Product.title","kind":"field","readers":[{"kind":"query","name":"Product","path":"store/documents/web/product.graphql","line":1,"column":1,"by_itself":false,"through":["Card"]},{"kind":"fragment","name":"Card","path":"store/documents/web/product.graphql","line":8,"column":1,"by_itself":true,"through":[]}]}
+{"part":"Product.title","kind":"field","readers":[{"kind":"query","name":"Product","path":"store/documents/web/product.graphql","line":1,"column":1,"by_itself":false,"through":["Card"]},{"kind":"fragment","name":"Card","path":"store/documents/web/product.graphql","line":8,"column":1,"by_itself":true,"through":[]}],"is_answered":false,"brought":[{"rule":"S12","title":"Missing Fields","about":"title","places":[{"path":"store/schema/store.graphql","line":12,"column":25}]}]}
 TEXT
 try 'no readers as JSON' 0 "$gqlreg" usage store @old --format json <<'TEXT'
-{"part":"@old","kind":"directive","readers":[]}
+{"part":"@old","kind":"directive","readers":[],"is_answered":false,"brought":[]}
 TEXT
 printf '{ version }\n' > store/documents/one.graphql
 try 'an operation without a name' 0 "$gqlreg" usage store Query.version --format json <<'TEXT'
-{"part":"Query.version","kind":"field","readers":[{"kind":"query","name":null,"path":"store/documents/one.graphql","line":1,"column":1,"by_itself":true,"through":[]}]}
+{"part":"Query.version","kind":"field","readers":[{"kind":"query","name":null,"path":"store/documents/one.graphql","line":1,"column":1,"by_itself":true,"through":[]}],"is_answered":false,"brought":[]}
 TEXT
 rm store/documents/one.graphql
 printf 'query Faulty { product(id: 1) { gone price } }\n' > store/documents/faulty.graphql
@@ -173,11 +301,11 @@ try 'what nobody reads' 0 "$gqlreg" usage store --unused <<'TEXT'
 store/schema/store.graphql:4:3: field Query.version
 store/schema/store.graphql:9:3: field Item.title
 store/schema/store.graphql:16:3: field Product.maker
-store/schema/store.graphql:21:3: field Bundle.title
-store/schema/store.graphql:22:3: field Bundle.size
+store/schema/store.graphql:19:6: type Bundle, of which operations may get or send values
 store/schema/store.graphql:25:6: type Maker
 store/schema/store.graphql:30:7: type Thing
 store/schema/store.graphql:37:6: type Colour
+store/schema/store.graphql:46:7: type Range, of which operations may get or send values
 store/schema/store.graphql:50:8: type Weight
 store/schema/store.graphql:54:12: directive @old
 10 parts of the schema read by no stored operation
@@ -186,7 +314,7 @@ mkdir -p small/schema small/documents
 printf 'type Query { a: Int b: Int }\n' > small/schema/s.graphql
 printf 'query A { a }\n' > small/documents/a.graphql
 try 'what nobody reads, as JSON' 0 "$gqlreg" usage small --unused --format json <<'TEXT'
-{"unread":[{"kind":"field","type":"Query","name":"b","path":"small/schema/s.graphql","line":1,"column":21}]}
+{"unread":[{"kind":"field","type":"Query","name":"b","path":"small/schema/s.graphql","line":1,"column":21,"is_answered":false}]}
 TEXT
 printf 'query A { a b }\n' > small/documents/a.graphql
 try 'all is read' 0 "$gqlreg" usage small --unused <<'TEXT'
@@ -272,6 +400,8 @@ field Product.title is read by 3 operations and 2 fragments
   store/documents/shared-fragments.graphql:1:1: fragment Line
   store/documents/web/product.graphql:1:1: query Product, by fragment Card
   store/documents/web/product.graphql:8:1: fragment Card
+Without it, the schema has 1 fault
+  store/schema/store.graphql:12:25: S12 `title`: Missing Fields: a type has no field for a field of an interface that it implements.
 TEXT
 cp -r store renamed
 sed -i 's/price(in/cost(in/' renamed/schema/store.graphql

@@ -1,23 +1,32 @@
 //! What is known of the files of a folder.
+ghost use Rattle.std.specs.Prelude.{◌≡◌, IfOk, OnOk};
+ghost use Rattle.gql_folder_usage.specs.Loaded.{IsLoadedFrom, IsStoredOf};
+ghost use Rattle.gql_registry.specs.Report.{IsSound};
+ghost use Rattle.gql_registry.specs.State.{state_of};
 
 use crate::fault::UsageFault;
+use gql_ast::Files;
 use gql_check::{CheckFault, load_files};
 use gql_folder::{GivenFile, read_folder};
 use gql_registry::Registry;
 use gql_types::{Schema, assemble};
-use gql_usage::Paths;
-use std::alloc::Global;
+use gql_usage::{Paths, Stored};
+use std::alloc::{AllocError, Global};
 
-/// The files of a folder in a registry, their schema, which has no fault, and their paths.
+/// The files of a folder in a registry, their schema, which has no fault, what they answer, and their
+/// paths.
 #[derive(Drop)]
 pub struct Loaded {
     pub registry: Registry,
     pub schema: Schema,
+    pub stored: Stored,
     pub paths: Paths,
 }
 
 /// Refuses to go on where the schema has faults.
-fn test_schema(registry: &Registry) -> Result<(), UsageFault> {
+fn test_schema(registry: &Registry) -> Result<(), UsageFault>
+    ensures { OnOk result (IsSound (state_of registry.now).files) }
+{
     if registry.is_sound()? {
         return Ok(());
     }
@@ -25,19 +34,27 @@ fn test_schema(registry: &Registry) -> Result<(), UsageFault> {
     Err(UsageFault::FaultySchema { faults })
 }
 
+/// The paths of these files of a folder.
+fn paths_in(alloc: Global, folder: &str, given: &[GivenFile]) -> Result<Paths, UsageFault> {
+    match read_folder(alloc, given) {
+        Ok(named) => Ok(Paths::new(alloc, folder, &named, given)?),
+        Err(fault) => Err(UsageFault::from(CheckFault::from(fault))),
+    }
+}
+
 /// What is known of the files of a folder, if its schema has no fault.
-pub fn load_folder(alloc: Global, folder: &str, given: &[GivenFile]) -> Result<Loaded, UsageFault> {
+pub fn load_folder(alloc: Global, folder: &str, given: &[GivenFile]) -> Result<Loaded, UsageFault>
+    ensures { IfOk result (IsLoadedFrom given.now) }
+{
     let registry = load_files(alloc, given)?;
     test_schema(&registry)?;
     let schema = assemble(alloc, registry.files())?;
-    let named = match read_folder(alloc, given) {
-        Ok(named) => named,
-        Err(fault) => return Err(UsageFault::from(CheckFault::from(fault))),
-    };
-    let paths = Paths::new(alloc, folder, &named, given)?;
+    let stored = Stored::new(alloc, &schema, registry.files())?;
+    let paths = paths_in(alloc, folder, given)?;
     Ok(Loaded {
         registry,
         schema,
+        stored,
         paths,
     })
 }

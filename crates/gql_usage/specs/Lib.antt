@@ -1,5 +1,8 @@
+pub mod Adding
+pub mod Answered
 pub mod Answering
-pub mod Subjects
-pub mod Questions
+pub mod Breaks
 pub mod Readers
+pub mod Stored
 pub mod Unread
+pub mod Untouched

@@ -1,44 +1,43 @@
--- The stored operations and fragments that read the answer to a key.
-use Rattle.std.specs.Prelude.{ℕ, ◌≡◌, List, [], ◌∷◌, Bool, Contains, flat_map, map, if◌then◌else◌}
-use Rattle.gql_ast.specs.Trees.{id_of}
-use Rattle.gql_ast.specs.declared.definition.DefinitionId.{DefinitionId}
-use Rattle.std.specs.List.{list_any}
-use Rattle.gql_facts.specs.Keys.{is_key}
-use Rattle.gql_facts.specs.declared.key.Key.{Key}
-use Rattle.gql_reads.specs.Observations.{observed_in}
-use Rattle.gql_reads.specs.Readings.{flat, name_of}
-use Rattle.gql_reads.specs.Records.{Kept}
-use Rattle.gql_reads.specs.declared.observation.Observation.{Observation}
-use Rattle.gql_reads.specs.declared.reading.Reading.{Reading}
+-- The stored operations and fragments that read a part of the schema: those that its removal breaks, by
+-- themselves or through a fragment that they reach.
+use Rattle.std.specs.Prelude.{ℕ, ◌≡◌, ◌⊎◌, ◌↔◌, List, [], ◌∷◌, ◌++◌, IsTrue}
+use Rattle.gql_ast.specs.declared.definition.Definition.{Definition}
+use Rattle.gql_facts.specs.Members.{Lists}
+use Rattle.gql_facts.specs.Reads.{Reaches}
+use Rattle.gql_facts.specs.Worlds.{Facts}
+use Rattle.gql_facts.specs.declared.fact.FragmentFact.{FragmentFact}
+use Rattle.gql_removal.specs.declared.removal.Removal.{Removal}
+use Rattle.gql_usage.specs.Breaks.{Breaks}
+use Rattle.gql_usage.specs.Stored.{definition_of}
 use Rattle.gql_usage.specs.declared.reader.Reader.{Reader}
-use Rattle.gql_verdict.specs.Verdicts.{Judgement}
 
--- whether one of these observations is of the key
-abbrev pub has_key : Key → List Observation → Bool
-has_key k observations = list_any (λ (o : Observation). is_key o.key k) observations
+-- a definition reaches this fragment, and the removal of the part breaks the fragment
+abbrev pub IsBlamed : Facts → Removal → Definition → FragmentFact → Type 0
+IsBlamed facts r d g = Reaches facts d g × Breaks facts r (definition_of g)
 
--- the name of a fragment, if it reads the key by itself
-abbrev pub name_if : Key → Kept → List (List ℕ)
-name_if k p = if has_key k (observed_in p.seen) then name_of p.fragment ∷ [] else []
+-- a definition reads the part by itself, or through a fragment
+abbrev pub Reads : Facts → Removal → Definition → Type 0
+Reads facts r d = Breaks facts r d ⊎ ((g : FragmentFact) × IsBlamed facts r d g)
 
--- the names of the fragments among these that read the key by themselves
-abbrev pub names_through : Key → List Kept → List (List ℕ)
-names_through k parts = flat_map (name_if k) parts
+-- the name of a fragment through which a definition reads the part
+abbrev pub IsThrough : Facts → Removal → Definition → List ℕ → Type 0
+IsThrough facts r d n =
+    (g : FragmentFact) × IsBlamed facts r d g × (g.fragment.name.text ≡ n)
 
--- The definition of a verdict, as a reader of the key. What the verdict observed are the answers to
--- what the definition reads by itself, and for each fragment that it reaches those to what that
--- reads by itself.
-pub record IsReader (k : Key) (v : Judgement) (r : Reader) : Type 0 where
-  pub reading : Reading
-  pub observed : flat reading ≡ v.observations
-  pub definition : r.definition ≡ v.def
-  pub by_itself : r.by_itself ≡ has_key k (observed_in reading.own.record)
-  pub through : r.through.items ≡ names_through k reading.parts.items
+-- The definition as a reader of the part: it is said whether the removal breaks the definition itself,
+-- and which of the fragments that it reaches the removal breaks.
+pub record IsReader (facts : Facts) (r : Removal) (d : Definition) (x : Reader) : Type 0 where
+  pub definition : x.definition ≡ d
+  pub by_itself : IsTrue x.by_itself ↔ Breaks facts r d
+  pub through : Lists x.through.items (IsThrough facts r d)
 
--- the reader is the definition of one of these verdicts
-abbrev pub IsReaderAmong : Key → List Judgement → Reader → Type 0
-IsReaderAmong k shelf r = (v : Judgement) × Contains shelf v × IsReader k v r
-
--- what identifies the definitions of readers
-abbrev pub ids_of : List Reader → List DefinitionId
-ids_of readers = map (λ (r : Reader). id_of r.definition) readers
+-- The readers of a part among these definitions, in their order: a reader for each definition that
+-- reads the part, and for no other.
+pub data AreReaders (facts : Facts) (r : Removal) : List Definition → List Reader → Type 0 where
+  no_definitions : AreReaders facts r [] []
+  reads : {ds : List Definition} {xs : List Reader} (d : Definition) (x : Reader)
+      → AreReaders facts r ds xs → Reads facts r d → IsReader facts r d x
+      → AreReaders facts r (ds ++ d ∷ []) (xs ++ x ∷ [])
+  reads_not : {ds : List Definition} {xs : List Reader} (d : Definition)
+      → AreReaders facts r ds xs → (Reads facts r d → ⊥)
+      → AreReaders facts r (ds ++ d ∷ []) xs

@@ -1,9 +1,9 @@
-//! The objects that an answer may hold since an interface or a union of them is read.
+//! The objects that an answer may hold since an interface or a union of them is asked for.
 ghost use Rattle.std.specs.Prelude.{◌≡◌, [], IfOk, OnOk};
 ghost use Rattle.gql_usage.specs.Answering.{HasMore};
-ghost use Rattle.gql_usage.specs.Unread as spec;
+ghost use Rattle.gql_types.specs.declared.schema.Schema.{Schema as ASchema};
+ghost use Rattle.gql_usage.specs.Answered as spec;
 
-use crate::unread::is_unread;
 use gql_ast::Text;
 use gql_facts::Key;
 use gql_types::{Schema, SchemaType, TypeKind};
@@ -84,15 +84,22 @@ fn is_abstract(kind: TypeKind) -> bool
     }
 }
 
-/// Whether this is an interface or a union that is read.
-fn is_read(shelf: &Shelf, of_type: &SchemaType) -> Result<bool, AllocError>
-    ensures { IfOk result (λ r. r ≡ spec.is_abstract_read shelf.now.verdicts of_type.now) }
+/// Whether no definition asks for the answer to this key.
+fn is_unasked(shelf: &Shelf, key: &Key) -> bool
+    ensures { result ≡ spec.is_unasked shelf.now.verdicts key.now }
+{
+    !shelf.has_reader(key)
+}
+
+/// Whether this is an interface or a union that a definition asks for.
+fn is_abstract_asked(shelf: &Shelf, of_type: &SchemaType) -> Result<bool, AllocError>
+    ensures { IfOk result (λ r. r ≡ spec.is_abstract_asked shelf.now.verdicts of_type.now) }
 {
     if !is_abstract(of_type.kind) {
         return Ok(false);
     }
     let name = &of_type.definition.node.get().name;
-    Ok(!is_unread(shelf, &Key::KindOf(name.text.copy()?)))
+    Ok(!is_unasked(shelf, &Key::KindOf(name.text.copy()?)))
 }
 
 /// Adds the objects that an answer may hold as values of this type.
@@ -106,7 +113,7 @@ fn add_answered(
         (spec.answered_by schema.now shelf.now.verdicts of_type.now)
         answered.new) }
 {
-    if !is_read(shelf, of_type)? {
+    if !is_abstract_asked(shelf, of_type)? {
         return Ok(());
     }
     match schema.possible(of_type.definition.node.get().name.as_str()) {
@@ -115,7 +122,7 @@ fn add_answered(
     }
 }
 
-/// The objects that an answer may hold since an interface or a union of them is read.
+/// The objects that an answer may hold since an interface or a union of them is asked for.
 pub fn answered_objects(
     alloc: Global,
     schema: &Schema,
@@ -128,4 +135,18 @@ pub fn answered_objects(
         add_answered(schema, shelf, of_type.get(), &mut answered)?;
     }
     Ok(answered)
+}
+
+/// Whether operations may get or send values of the type of this name and need not name it: objects of
+/// it as values of an interface or a union, or a type that what they ask for leads to, as that of a field
+/// of an input object.
+pub fn is_answered(shelf: &Shelf, answered: &Answered, name: &Text) -> Result<bool, AllocError>
+    ensures { IfOk result (λ r. (schema : ASchema)
+        → HasMore [] (spec.answered schema shelf.now.verdicts) answered.now
+        → r ≡ spec.is_answered schema shelf.now.verdicts name.now) }
+{
+    if answered.has(name) {
+        return Ok(true);
+    }
+    Ok(!is_unasked(shelf, &Key::KindOf(name.copy()?)))
 }

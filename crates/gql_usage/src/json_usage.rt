@@ -1,12 +1,13 @@
 //! Who reads a part of a schema, as JSON.
 
 use crate::label::Paths;
-use crate::question::Part;
 use crate::reader::{Reader, place_of};
 use crate::text_usage::part_word;
 use crate::unread::{Unread, UnreadPart};
-use gql_ast::{FilePlace, Operation, Text, Tree};
-use gql_render::json_write::{write_bytes, write_number, write_string};
+use crate::usage::Usage;
+use gql_ast::{Fault, FilePlace, Operation, Shared, Text, Tree};
+use gql_findings::title;
+use gql_render::json_write::{write_bytes, write_number, write_string, write_string_after};
 use gql_render::phrases::kind_word;
 use std::alloc::{AllocError, Global};
 
@@ -64,6 +65,11 @@ fn write_names(alloc: Global, out: &mut Vec<u8>, names: &[Text]) -> Result<(), A
     write_bytes(out, b"]")
 }
 
+/// Writes a yes or no.
+fn write_bool(out: &mut Vec<u8>, value: bool) -> Result<(), AllocError> {
+    write_bytes(out, if value { b"true" } else { b"false" })
+}
+
 /// Writes a reader.
 fn write_reader(
     alloc: Global,
@@ -76,32 +82,93 @@ fn write_reader(
     write_bytes(out, b",")?;
     write_place(alloc, out, paths, &place_of(&reader.definition))?;
     write_bytes(out, b",\"by_itself\":")?;
-    write_bytes(out, if reader.by_itself { b"true" } else { b"false" })?;
+    write_bool(out, reader.by_itself)?;
     write_bytes(out, b",\"through\":")?;
     write_names(alloc, out, reader.through.as_slice())?;
     write_bytes(out, b"}")
 }
 
-/// Who reads a part of a schema.
+/// Writes readers with commas between them.
+fn write_readers(
+    alloc: Global,
+    out: &mut Vec<u8>,
+    paths: &Paths,
+    readers: &[Reader],
+) -> Result<(), AllocError> {
+    for (at, reader) in readers.iter().enumerate() {
+        if at > 0 {
+            write_bytes(out, b",")?;
+        }
+        write_reader(alloc, out, paths, reader)?;
+    }
+    Ok(())
+}
+
+/// Writes places with commas between them.
+fn write_places(
+    alloc: Global,
+    out: &mut Vec<u8>,
+    paths: &Paths,
+    places: &[FilePlace],
+) -> Result<(), AllocError> {
+    for (at, place) in places.iter().enumerate() {
+        if at > 0 {
+            write_bytes(out, b",")?;
+        }
+        write_bytes(out, b"{")?;
+        write_place(alloc, out, paths, place)?;
+        write_bytes(out, b"}")?;
+    }
+    Ok(())
+}
+
+/// Writes a fault of a schema.
+fn write_fault(
+    alloc: Global,
+    out: &mut Vec<u8>,
+    paths: &Paths,
+    fault: &Fault,
+) -> Result<(), AllocError> {
+    write_string_after(alloc, out, b"{\"rule\":", fault.rule.name())?;
+    write_string_after(alloc, out, b",\"title\":", title(fault.rule))?;
+    write_string_after(alloc, out, b",\"about\":", fault.about.as_str())?;
+    write_bytes(out, b",\"places\":[")?;
+    write_places(alloc, out, paths, fault.places.as_slice())?;
+    write_bytes(out, b"]}")
+}
+
+/// Writes faults of a schema with commas between them.
+fn write_faults(
+    alloc: Global,
+    out: &mut Vec<u8>,
+    paths: &Paths,
+    faults: &[Shared<Fault>],
+) -> Result<(), AllocError> {
+    for (at, fault) in faults.iter().enumerate() {
+        if at > 0 {
+            write_bytes(out, b",")?;
+        }
+        write_fault(alloc, out, paths, fault.get())?;
+    }
+    Ok(())
+}
+
+/// The use of a part of a schema: who reads it, whether operations may get or send values of it and
+/// need not name it, and the faults that its removal brings to the schema.
 pub fn usage_as_json(
     alloc: Global,
-    word: &str,
-    part: Part,
-    readers: &[Reader],
+    usage: &Usage<'_>,
     paths: &Paths,
 ) -> Result<Vec<u8>, AllocError> {
     let mut out = Vec::new(alloc);
-    write_bytes(&mut out, b"{\"part\":")?;
-    write_string(alloc, &mut out, word)?;
-    write_bytes(&mut out, b",\"kind\":")?;
-    write_string(alloc, &mut out, part_word(part))?;
+    write_string_after(alloc, &mut out, b"{\"part\":", usage.word)?;
+    write_string_after(alloc, &mut out, b",\"kind\":", part_word(usage.part))?;
     write_bytes(&mut out, b",\"readers\":[")?;
-    for (at, reader) in readers.iter().enumerate() {
-        if at > 0 {
-            write_bytes(&mut out, b",")?;
-        }
-        write_reader(alloc, &mut out, paths, reader)?;
-    }
+    write_readers(alloc, &mut out, paths, usage.readers)?;
+    write_bytes(&mut out, b"],\"is_answered\":")?;
+    write_bool(&mut out, usage.is_answered)?;
+    write_bytes(&mut out, b",\"brought\":[")?;
+    write_faults(alloc, &mut out, paths, usage.brought)?;
     write_bytes(&mut out, b"]}\n")?;
     Ok(out)
 }
@@ -137,6 +204,8 @@ fn write_unread(
     write_part(alloc, out, &unread.part)?;
     write_bytes(out, b",")?;
     write_place(alloc, out, paths, &unread.place)?;
+    write_bytes(out, b",\"is_answered\":")?;
+    write_bool(out, unread.is_answered)?;
     write_bytes(out, b"}")
 }
 

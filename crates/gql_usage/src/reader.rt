@@ -1,19 +1,25 @@
-//! The stored operations and fragments that read the answer to a key.
-ghost use Rattle.std.specs.Prelude.{◌≡◌, ◌⊎◌, ◌++◌, ◌∷◌, [], IfOk, OnOk, Contains};
-ghost use Rattle.gql_ast.specs.Trees.{id_of};
-ghost use Rattle.gql_ast.specs.declared.definition.DefinitionId.{DefinitionId as AnId};
+//! The stored operations and fragments that read a part of the schema.
+ghost use Rattle.std.specs.Prelude.{◌≡◌, ◌++◌, ◌∷◌, [], ◌↔◌, IfOk, OnOk, IsTrue, List, false};
+ghost use Rattle.gql_ast.specs.declared.definition.Definition.{Definition as ADefinition};
+ghost use Rattle.gql_facts.specs.Members.{Lists};
+ghost use Rattle.gql_removal.specs.Removals.{without};
+ghost use Rattle.gql_usage.specs.Adding as adding;
+ghost use Rattle.gql_usage.specs.Breaks.{Breaks, IsUnread};
 ghost use Rattle.gql_usage.specs.Readers as spec;
-ghost use Rattle.gql_usage.specs.declared.reader.Reader.{Reader as AReader};
-ghost use Rattle.gql_verdict.specs.Shelves.{readers_of as all_readers};
+ghost use Rattle.gql_facts.specs.Presents.{facts_of_present};
+ghost use Rattle.gql_usage.specs.Stored.{AreStored, IsStored, definition_of, facts_of};
+ghost use Rattle.gql_verdict.specs.SharedWorks.{Holds};
 
-use gql_ast::{Definition, DefinitionId, FilePlace, FileSide, Shared, Text};
-use gql_facts::Key;
-use gql_reads::{Part, one_observes};
-use gql_verdict::{Shelf, Verdict};
+use crate::breaks::{Question, breaks_definition, nothing_shared};
+use crate::stored::Stored;
+use gql_ast::{Definition, FilePlace, FileSide, Text, Tree};
+use gql_facts::{FragmentFact, walk_reads};
+use gql_removal::Removal;
+use gql_verdict::{SharedWork, Shelf};
 use std::alloc::{AllocError, Global};
 
-/// A definition that reads the answer to a key: by itself, or through fragments that it reaches and
-/// that read it by themselves, or both.
+/// A definition that reads a part of the schema: by itself, or through fragments that it reaches and
+/// that read the part by themselves, or both.
 #[derive(Drop)]
 pub struct Reader {
     pub definition: Definition,
@@ -21,89 +27,192 @@ pub struct Reader {
     pub through: Vec<Text>,
 }
 
-/// Adds the name of a fragment, if it reads the key by itself.
-fn add_name(part: &Part, key: &Key, names: &mut Vec<Text>) -> Result<(), AllocError>
-    ensures { OnOk result (names.new.items ≡ names.old.items ++ spec.name_if key.now part.now) }
+/// The definition of a fragment.
+fn fragment_definition(fragment: &FragmentFact) -> Result<Definition, AllocError>
+    ensures { IfOk result (λ definition. definition ≡ definition_of fragment.now) }
 {
-    if !one_observes(part.seen().get().answers(), key) {
+    let file = fragment.file.copy();
+    let its = fragment.fragment.clone()?;
+    Ok(Definition {
+        file,
+        tree: Tree::Fragment(its),
+    })
+}
+
+/// Whether the removal breaks a fragment.
+fn breaks_fragment(
+    alloc: Global,
+    question: &Question<'_>,
+    fragment: &FragmentFact,
+    shared: &mut SharedWork,
+) -> Result<bool, AllocError>
+    requires stored { IsStored (facts_of_present question.now.present)
+        question.now.shelf.now.verdicts (definition_of fragment.now) }
+    requires shared { Holds (without question.now.removal.now
+        (facts_of_present question.now.present)) shared.old }
+    ensures shared { Holds (without question.now.removal.now
+        (facts_of_present question.now.present)) shared.new }
+    ensures breaks { IfOk result (λ breaks. IsTrue breaks
+        ↔ Breaks (facts_of_present question.now.present) question.now.removal.now
+        (definition_of fragment.now)) }
+{
+    let definition = fragment_definition(fragment)?;
+    breaks_definition(alloc, question, &definition, shared)
+}
+
+/// Adds the name of a fragment, if the removal breaks it.
+fn add_name(
+    alloc: Global,
+    question: &Question<'_>,
+    fragment: &FragmentFact,
+    shared: &mut SharedWork,
+    names: &mut Vec<Text>,
+) -> Result<(), AllocError>
+    requires stored { IsStored (facts_of_present question.now.present)
+        question.now.shelf.now.verdicts (definition_of fragment.now) }
+    requires shared { Holds (without question.now.removal.now
+        (facts_of_present question.now.present)) shared.old }
+    ensures shared { Holds (without question.now.removal.now
+        (facts_of_present question.now.present)) shared.new }
+    ensures adds { OnOk result (adding.AddsName (facts_of_present question.now.present)
+        question.now.removal.now fragment.now names.old.items names.new.items) }
+{
+    let breaks = breaks_fragment(alloc, question, fragment, shared)?;
+    if !breaks {
         return Ok(());
     }
-    names.push(part.name().copy()?)?;
+    names.push(fragment.fragment.get().name.text.copy()?)?;
     Ok(())
 }
 
-/// The names of the fragments among these that read the key by themselves.
-fn names_through(alloc: Global, parts: &[Part], key: &Key) -> Result<Vec<Text>, AllocError>
-    ensures { IfOk result (λ names. names.items ≡ spec.names_through key.now parts.now) }
+/// The names of the fragments among these that the removal breaks.
+fn broken_names(
+    alloc: Global,
+    question: &Question<'_>,
+    fragments: &[FragmentFact],
+    shared: &mut SharedWork,
+) -> Result<Vec<Text>, AllocError>
+    requires stored { adding.AreAllStored (facts_of_present question.now.present)
+        question.now.shelf.now.verdicts fragments.now }
+    requires shared { Holds (without question.now.removal.now
+        (facts_of_present question.now.present)) shared.old }
+    ensures shared { Holds (without question.now.removal.now
+        (facts_of_present question.now.present)) shared.new }
+    ensures names { IfOk result (λ names. Lists names.items
+        (adding.IsBrokenName (facts_of_present question.now.present) question.now.removal.now
+        fragments.now)) }
 {
     let mut names = Vec::new(alloc);
-    for part in parts {
-        add_name(part, key, &mut names)?;
+    for fragment in fragments {
+        add_name(alloc, question, fragment, shared, &mut names)?;
     }
     Ok(names)
 }
 
-/// The definition of a verdict, as a reader of the key.
-fn reader_of(alloc: Global, verdict: &Verdict, key: &Key) -> Result<Reader, AllocError>
-    ensures { IfOk result (spec.IsReader key.now verdict.now) }
+/// The names of the fragments that a definition reaches and that the removal breaks.
+fn names_through(
+    alloc: Global,
+    question: &Question<'_>,
+    definition: &Definition,
+    shared: &mut SharedWork,
+) -> Result<Vec<Text>, AllocError>
+    requires stored { IsStored (facts_of_present question.now.present)
+        question.now.shelf.now.verdicts definition.now }
+    requires shared { Holds (without question.now.removal.now
+        (facts_of_present question.now.present)) shared.old }
+    ensures shared { Holds (without question.now.removal.now
+        (facts_of_present question.now.present)) shared.new }
+    ensures names { IfOk result (λ names. Lists names.items
+        (spec.IsThrough (facts_of_present question.now.present) question.now.removal.now
+        definition.now)) }
 {
-    let reading = verdict.reading();
-    Ok(Reader {
-        definition: verdict.def().copy()?,
-        by_itself: one_observes(reading.own.record.get().answers(), key),
-        through: names_through(alloc, reading.parts.as_slice(), key)?,
-    })
+    let mut world = question.present;
+    let walk = walk_reads(alloc, &mut world, definition)?;
+    broken_names(alloc, question, walk.members.as_slice(), shared)
 }
 
-/// Adds the definition of this name, as a reader of the key.
+/// Whether a definition reads the part neither by itself nor through one of these fragments.
+fn reads_nothing(by_itself: bool, through: &[Text]) -> bool
+    ensures { IsTrue result ↔ (by_itself ≡ false) × (through.now ≡ []) }
+{
+    !by_itself && through.is_empty()
+}
+
+/// Adds a definition, if it reads the part.
 fn add_reader(
     alloc: Global,
-    shelf: &Shelf,
-    id: &DefinitionId,
-    key: &Key,
+    question: &Question<'_>,
+    definition: &Definition,
+    shared: &mut SharedWork,
     readers: &mut Vec<Reader>,
 ) -> Result<(), AllocError>
-    requires at { Contains (all_readers key.now shelf.now.verdicts) id.now }
-    ensures ids { OnOk result (spec.ids_of readers.new.items
-        ≡ spec.ids_of readers.old.items ++ id.now ∷ []) }
-    ensures each { (r : AReader) → Contains readers.new.items r
-        → Contains readers.old.items r ⊎ spec.IsReaderAmong key.now shelf.now.verdicts r }
+    requires stored { IsStored (facts_of_present question.now.present)
+        question.now.shelf.now.verdicts definition.now }
+    requires shared { Holds (without question.now.removal.now
+        (facts_of_present question.now.present)) shared.old }
+    ensures shared { Holds (without question.now.removal.now
+        (facts_of_present question.now.present)) shared.new }
+    ensures adds { OnOk result ((ds : List ADefinition)
+        → spec.AreReaders (facts_of_present question.now.present) question.now.removal.now
+        ds readers.old.items
+        → spec.AreReaders (facts_of_present question.now.present) question.now.removal.now
+        (ds ++ definition.now ∷ []) readers.new.items) }
 {
-    if let Some(verdict) = shelf.get(id) {
-        readers.push(reader_of(alloc, verdict, key)?)?;
+    let by_itself = breaks_definition(alloc, question, definition, shared)?;
+    let through = names_through(alloc, question, definition, shared)?;
+    if reads_nothing(by_itself, through.as_slice()) {
+        return Ok(());
     }
+    let definition = definition.copy()?;
+    readers.push(Reader {
+        definition,
+        by_itself,
+        through,
+    })?;
     Ok(())
 }
 
-/// The definitions of these names, as readers of the key.
-fn readers_at(
+/// The definitions among these, which are all that are stored, that read the part.
+fn readers_among(
     alloc: Global,
-    shelf: &Shelf,
-    key: &Key,
-    ids: &[Shared<DefinitionId>],
+    question: &Question<'_>,
+    definitions: &[Definition],
 ) -> Result<Vec<Reader>, AllocError>
-    requires { (i : AnId) → Contains ids.now i
-        → Contains (all_readers key.now shelf.now.verdicts) i }
-    ensures ids { IfOk result (λ found. spec.ids_of found.items ≡ ids.now) }
-    ensures each { IfOk result (λ found. (r : AReader) → Contains found.items r
-        → spec.IsReaderAmong key.now shelf.now.verdicts r) }
+    requires stored { AreStored (facts_of_present question.now.present) definitions.now
+        question.now.shelf.now.verdicts }
+    ensures readers { IfOk result (λ readers. spec.AreReaders
+        (facts_of_present question.now.present) question.now.removal.now definitions.now
+        readers.items) }
 {
+    let mut shared = nothing_shared(alloc);
     let mut readers = Vec::new(alloc);
-    for id in ids {
-        add_reader(alloc, shelf, id.get(), key, &mut readers)?;
+    for definition in definitions {
+        add_reader(alloc, question, definition, &mut shared, &mut readers)?;
     }
     Ok(readers)
 }
 
-/// The definitions whose verdicts observe a key, by file and offset.
-pub fn readers_of(alloc: Global, shelf: &Shelf, key: &Key) -> Result<Vec<Reader>, AllocError>
-    ensures ids { IfOk result (λ found.
-        spec.ids_of found.items ≡ all_readers key.now shelf.now.verdicts) }
-    ensures each { IfOk result (λ found. (r : AReader) → Contains found.items r
-        → spec.IsReaderAmong key.now shelf.now.verdicts r) }
+/// The stored definitions that read a part of the schema, which is asked about by its removal, in the
+/// order of the definitions. There is none exactly if the removal breaks no definition.
+pub fn readers_of(
+    alloc: Global,
+    stored: &Stored,
+    shelf: &Shelf,
+    removal: &Removal,
+) -> Result<Vec<Reader>, AllocError>
+    requires stored { AreStored (facts_of stored.now) stored.now.definitions.items
+        shelf.now.verdicts }
+    ensures readers { IfOk result (λ readers. spec.AreReaders (facts_of stored.now) removal.now
+        stored.now.definitions.items readers.items) }
+    ensures none { IfOk result (λ readers. (readers.items ≡ [])
+        ↔ IsUnread (facts_of stored.now) removal.now stored.now.definitions.items) }
 {
-    let ids = shelf.readers(alloc, key)?;
-    readers_at(alloc, shelf, key, ids.as_slice())
+    let question = Question {
+        present: stored.present(),
+        shelf,
+        removal,
+    };
+    readers_among(alloc, &question, stored.definitions())
 }
 
 /// Where a definition begins.

@@ -1,12 +1,14 @@
 //! Who reads a part of a schema, as lines for a terminal.
 
 use crate::label::Paths;
-use crate::question::Part;
 use crate::reader::{Reader, place_of};
 use crate::unread::{Unread, UnreadPart};
-use gql_ast::{FilePlace, Text, Tree};
+use crate::usage::Usage;
+use gql_ast::{Fault, FilePlace, Shared, Text, Tree};
+use gql_findings::{sentence, title};
+use gql_removal::Part;
 use gql_render::phrases::{write_count, write_operation};
-use gql_render::write::{write_number, write_text};
+use gql_render::write::{write_number, write_text, write_texts};
 use std::alloc::{AllocError, Global};
 
 /// The words for a kind of part.
@@ -14,18 +16,21 @@ pub fn part_word(part: Part) -> &'static str {
     match part {
         Part::Type => "type",
         Part::Field => "field",
+        Part::Argument => "argument",
         Part::InputField => "input field",
         Part::EnumValue => "enum value",
         Part::Directive => "directive",
+        Part::DirectiveArgument => "directive argument",
     }
 }
 
-/// What readers of a part read with it, if the part is not read by itself.
-fn read_with(part: Part) -> &'static str {
+/// What cannot be seen of the use of a part: clients send input fields and enum values in variables, too.
+fn unseen(part: Part) -> &'static str {
     match part {
-        Part::InputField => "Readers of an input object read all its fields.\n",
-        Part::EnumValue => "Readers of an enum read all its values.\n",
-        Part::Type | Part::Field | Part::Directive => "",
+        Part::InputField | Part::EnumValue => {
+            "What clients send in variables is not stored, and so not seen.\n"
+        }
+        Part::Type | Part::Field | Part::Argument | Part::Directive | Part::DirectiveArgument => "",
     }
 }
 
@@ -119,29 +124,74 @@ fn write_readers(out: &mut String, readers: &[Reader]) -> Result<(), AllocError>
     write_count(out, fragments, "fragment")
 }
 
-/// Who reads a part of a schema: a line that counts them, and a line for each.
+/// Writes a fault of a schema: its first place, its rule, what it is about, and what is at fault.
+fn write_fault(out: &mut String, paths: &Paths, fault: &Fault) -> Result<(), AllocError> {
+    write_text(out, "  ")?;
+    match fault.places.as_slice().first() {
+        Some(place) => write_place(out, paths, place)?,
+        None => write_text(out, "schema")?,
+    }
+    write_texts(out, &[": ", fault.rule.name()])?;
+    if !fault.about.as_str().is_empty() {
+        write_texts(out, &[" `", fault.about.as_str(), "`"])?;
+    }
+    write_texts(
+        out,
+        &[": ", title(fault.rule), ": ", sentence(fault.rule), "\n"],
+    )
+}
+
+/// Writes the faults that the removal of a part brings to the schema: a line that counts them, and a line
+/// for each. Without a fault, nothing.
+fn write_brought(
+    out: &mut String,
+    paths: &Paths,
+    brought: &[Shared<Fault>],
+) -> Result<(), AllocError> {
+    if brought.is_empty() {
+        return Ok(());
+    }
+    write_text(out, "Without it, the schema has ")?;
+    write_count(out, brought.len(), "fault")?;
+    write_text(out, "\n")?;
+    for fault in brought {
+        write_fault(out, paths, fault.get())?;
+    }
+    Ok(())
+}
+
+/// Writes who reads a part: a line that counts them, and a line for each.
+fn write_who(out: &mut String, usage: &Usage<'_>, paths: &Paths) -> Result<(), AllocError> {
+    write_text(out, part_word(usage.part))?;
+    write_text(out, " ")?;
+    write_text(out, usage.word)?;
+    if usage.readers.is_empty() {
+        return write_text(out, " is read by no stored operation\n");
+    }
+    write_text(out, " is read by ")?;
+    write_readers(out, usage.readers)?;
+    write_text(out, "\n")?;
+    for reader in usage.readers {
+        write_reader(out, paths, reader)?;
+    }
+    Ok(())
+}
+
+/// The use of a part of a schema: a line that counts who reads it, and a line for each; if operations may
+/// get or send values of a type that nobody reads, a line that says so; and the faults that the removal of
+/// the part brings to the schema.
 pub fn usage_as_text(
     alloc: Global,
-    word: &str,
-    part: Part,
-    readers: &[Reader],
+    usage: &Usage<'_>,
     paths: &Paths,
 ) -> Result<String, AllocError> {
     let mut out = String::new(alloc);
-    write_text(&mut out, part_word(part))?;
-    write_text(&mut out, " ")?;
-    write_text(&mut out, word)?;
-    if readers.is_empty() {
-        write_text(&mut out, " is read by no stored operation\n")?;
-    } else {
-        write_text(&mut out, " is read by ")?;
-        write_readers(&mut out, readers)?;
-        write_text(&mut out, "\n")?;
+    write_who(&mut out, usage, paths)?;
+    if usage.is_answered && usage.readers.is_empty() {
+        write_text(&mut out, "Operations may still get or send values of it.\n")?;
     }
-    for reader in readers {
-        write_reader(&mut out, paths, reader)?;
-    }
-    write_text(&mut out, read_with(part))?;
+    write_text(&mut out, unseen(usage.part))?;
+    write_brought(&mut out, paths, usage.brought)?;
     Ok(out)
 }
 
@@ -176,6 +226,9 @@ pub fn unread_as_text(
         write_place(&mut out, paths, &part.place)?;
         write_text(&mut out, ": ")?;
         write_unread_part(&mut out, &part.part)?;
+        if part.is_answered {
+            write_text(&mut out, ", of which operations may get or send values")?;
+        }
         write_text(&mut out, "\n")?;
     }
     write_count(&mut out, unread.len(), "part")?;

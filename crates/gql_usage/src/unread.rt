@@ -1,16 +1,19 @@
 //! The parts of a schema that no stored operation or fragment reads.
-ghost use Rattle.std.specs.Prelude.{◌≡◌, ◌++◌, [], IfOk, OnOk};
-ghost use Rattle.std.specs.Option.{option_copied};
+ghost use Rattle.std.specs.Prelude.{◌≡◌, ◌++◌, ◌↔◌, [], IfOk, OnOk, IsTrue};
 ghost use Rattle.gql_usage.specs.Answering.{HasMore};
+ghost use Rattle.gql_usage.specs.Answered as answers;
+ghost use Rattle.gql_usage.specs.Breaks.{IsUnread};
+ghost use Rattle.gql_usage.specs.Stored.{AreStored, facts_of};
 ghost use Rattle.gql_usage.specs.Unread as spec;
-ghost use Rattle.gql_facts.specs.declared.key.Key.TheVariants as key;
 
-use crate::answered::{Answered, answered_objects};
-use gql_ast::{DirectiveDefinition, FieldDefinition, FilePlace, FileSide, Name, Shared, Text};
+use crate::answered::{Answered, answered_objects, is_answered};
+use crate::breaks::{Question, breaks_none};
+use crate::stored::Stored;
+use gql_ast::{DirectiveDefinition, FieldDefinition, FilePlace, FileSide, Shared, Text};
 use gql_built_in::{Sited, SourceFile, name_of_source};
-use gql_facts::Key;
+use gql_removal::{Removal, field_removal};
 use gql_text::Place;
-use gql_types::{HasName, Schema, SchemaType};
+use gql_types::{Schema, SchemaType};
 use gql_verdict::Shelf;
 use std::alloc::{AllocError, Global};
 
@@ -25,65 +28,33 @@ pub enum UnreadPart {
     Directive(Text),
 }
 
-/// A part of a schema that nobody reads, and where its name stands.
+/// A part of a schema that nobody reads, and where its name stands. Operations may still get or send
+/// values of a type.
 #[derive(Drop)]
 pub struct Unread {
     pub part: UnreadPart,
     pub place: FilePlace,
+    pub is_answered: bool,
 }
 
-/// Whether no definition reads the answer to this key.
-pub fn is_unread(shelf: &Shelf, key: &Key) -> bool
-    ensures { result ≡ spec.is_unread shelf.now.verdicts key.now }
+/// Whether the removal of a part breaks no definition: nobody reads the part.
+fn is_unread(
+    alloc: Global,
+    stored: &Stored,
+    shelf: &Shelf,
+    removal: &Removal,
+) -> Result<bool, AllocError>
+    requires stored { AreStored (facts_of stored.now) stored.now.definitions.items
+        shelf.now.verdicts }
+    ensures { IfOk result (λ is. IsTrue is
+        ↔ IsUnread (facts_of stored.now) removal.now stored.now.definitions.items) }
 {
-    !shelf.has_reader(key)
-}
-
-/// Whether no definition reads this field of a type.
-fn is_own_field_unread(shelf: &Shelf, of_type: &Text, field: &Text) -> Result<bool, AllocError>
-    ensures { IfOk result (λ r.
-        r ≡ spec.is_unread shelf.now.verdicts (key.FieldOf of_type.now field.now)) }
-{
-    Ok(is_unread(
+    let question = Question {
+        present: stored.present(),
         shelf,
-        &Key::FieldOf {
-            of_type: of_type.copy()?,
-            field: field.copy()?,
-        },
-    ))
-}
-
-/// Whether no definition reads this field of one of these interfaces.
-fn is_unread_in_all(
-    shelf: &Shelf,
-    interfaces: &[Sited<Name>],
-    field: &Text,
-) -> Result<bool, AllocError>
-    ensures { IfOk result (λ r.
-        r ≡ spec.is_unread_in_all shelf.now.verdicts interfaces.now field.now) }
-{
-    for interface in interfaces {
-        if !is_own_field_unread(shelf, &interface.node.text, field)? {
-            return Ok(false);
-        }
-    }
-    Ok(true)
-}
-
-/// Whether nobody reads this field, neither of the type nor of an interface of it.
-fn is_field_unread(
-    shelf: &Shelf,
-    of_type: &Text,
-    interfaces: &[Sited<Name>],
-    field: &Text,
-) -> Result<bool, AllocError>
-    ensures { IfOk result (λ r.
-        r ≡ spec.is_field_unread shelf.now.verdicts of_type.now interfaces.now field.now) }
-{
-    if !is_own_field_unread(shelf, of_type, field)? {
-        return Ok(false);
-    }
-    is_unread_in_all(shelf, interfaces, field)
+        removal,
+    };
+    breaks_none(alloc, &question, stored.definitions())
 }
 
 /// Adds a part at a place of a file, if it is in a file: the built-in definitions are in none.
@@ -91,10 +62,11 @@ fn add_part(
     file: &SourceFile,
     place: Place,
     part: UnreadPart,
+    is_answered: bool,
     unread: &mut Vec<Unread>,
 ) -> Result<(), AllocError>
     ensures { OnOk result (unread.new.items
-        ≡ unread.old.items ++ spec.at_place file.now place part) }
+        ≡ unread.old.items ++ spec.at_place file.now place part is_answered) }
 {
     if let Some(name) = name_of_source(file) {
         let place = FilePlace {
@@ -102,174 +74,227 @@ fn add_part(
             file: name.copy(),
             place,
         };
-        unread.push(Unread { part, place })?;
+        unread.push(Unread {
+            part,
+            place,
+            is_answered,
+        })?;
     }
     Ok(())
 }
 
 /// Adds a field of a type, if nobody reads it.
 fn add_field(
+    alloc: Global,
+    stored: &Stored,
     shelf: &Shelf,
     of_type: &SchemaType,
     field: &Sited<Shared<FieldDefinition>>,
     unread: &mut Vec<Unread>,
 ) -> Result<(), AllocError>
-    ensures { OnOk result (unread.new.items
-        ≡ unread.old.items ++ spec.unread_field shelf.now.verdicts of_type.now field.now) }
+    requires stored { AreStored (facts_of stored.now) stored.now.definitions.items
+        shelf.now.verdicts }
+    ensures { OnOk result (spec.Adds
+        (spec.IsFieldListed (facts_of stored.now) stored.now.definitions.items of_type.now field.now)
+        unread.old.items unread.new.items) }
 {
     let type_name = &of_type.definition.node.get().name.text;
     let name = &field.node.get().name;
-    if !is_field_unread(shelf, type_name, of_type.interfaces.as_slice(), &name.text)? {
+    let removal = field_removal(alloc, of_type, &name.text)?;
+    let unused = is_unread(alloc, stored, shelf, &removal)?;
+    if !unused {
         return Ok(());
     }
     let part = UnreadPart::Field {
         of_type: type_name.copy()?,
         name: name.text.copy()?,
     };
-    add_part(&field.file, name.place, part, unread)
-}
-
-/// Adds the fields of a type that nobody reads.
-fn add_fields(
-    shelf: &Shelf,
-    of_type: &SchemaType,
-    unread: &mut Vec<Unread>,
-) -> Result<(), AllocError>
-    ensures { OnOk result (unread.new.items
-        ≡ unread.old.items ++ spec.unread_fields shelf.now.verdicts of_type.now) }
-{
-    for field in of_type.fields.as_slice() {
-        add_field(shelf, of_type, field, unread)?;
-    }
+    add_part(&field.file, name.place, part, false, unread)?;
     Ok(())
 }
 
-/// Whether this is the name of a root operation type.
-fn is_root(schema: &Schema, name: &Text) -> bool
-    ensures { result ≡ spec.is_root schema.now name.now }
-{
-    schema
-        .roots()
-        .iter()
-        .any(|root| root.name.node.text == *name)
-}
-
-/// Whether nobody reads the type of this name, no answer holds objects of it, and it is no root
-/// operation type.
-fn is_type_unread(
-    schema: &Schema,
+/// The fields of a type that nobody reads.
+fn unread_fields(
+    alloc: Global,
+    stored: &Stored,
     shelf: &Shelf,
-    answered: &Answered,
-    name: &Text,
-) -> Result<bool, AllocError>
-    requires { HasMore [] (spec.answered schema.now shelf.now.verdicts) answered.now }
-    ensures { IfOk result (λ r. r ≡ spec.is_type_unread schema.now shelf.now.verdicts name.now) }
+    of_type: &SchemaType,
+) -> Result<Vec<Unread>, AllocError>
+    requires stored { AreStored (facts_of stored.now) stored.now.definitions.items
+        shelf.now.verdicts }
+    ensures { IfOk result (λ unread. spec.AreListed
+        (spec.IsFieldListed (facts_of stored.now) stored.now.definitions.items of_type.now)
+        of_type.now.fields unread.items) }
 {
-    if is_root(schema, name) || answered.has(name) {
-        return Ok(false);
+    let mut unread = Vec::new(alloc);
+    for field in of_type.fields.as_slice() {
+        add_field(alloc, stored, shelf, of_type, field, &mut unread)?;
     }
-    Ok(is_unread(shelf, &Key::KindOf(name.copy()?)))
+    Ok(unread)
 }
 
-/// Adds a type of a file, if nobody reads it, or else those of its fields that nobody reads.
-fn add_type_of_file(
+/// What nobody reads of a type in a file: the type, or else those of its fields that nobody reads.
+fn unread_in_file(
+    alloc: Global,
     schema: &Schema,
+    stored: &Stored,
     shelf: &Shelf,
     answered: &Answered,
     of_type: &SchemaType,
-    unread: &mut Vec<Unread>,
-) -> Result<(), AllocError>
-    requires { HasMore [] (spec.answered schema.now shelf.now.verdicts) answered.now }
-    ensures { OnOk result (unread.new.items
-        ≡ unread.old.items ++ spec.unread_in_file schema.now shelf.now.verdicts of_type.now) }
+) -> Result<Vec<Unread>, AllocError>
+    requires stored { AreStored (facts_of stored.now) stored.now.definitions.items
+        shelf.now.verdicts }
+    requires answered { HasMore [] (answers.answered schema.now shelf.now.verdicts) answered.now }
+    ensures { IfOk result (λ unread. spec.IsListedInFile (facts_of stored.now)
+        stored.now.definitions.items
+        (answers.is_answered schema.now shelf.now.verdicts) of_type.now unread.items) }
 {
     let name = &of_type.definition.node.get().name;
-    if !is_type_unread(schema, shelf, answered, &name.text)? {
-        return add_fields(shelf, of_type, unread);
+    let removal = Removal::Type(name.text.copy()?);
+    let unused = is_unread(alloc, stored, shelf, &removal)?;
+    if !unused {
+        return unread_fields(alloc, stored, shelf, of_type);
     }
     let part = UnreadPart::Type(name.text.copy()?);
-    add_part(&of_type.definition.file, name.place, part, unread)
+    let is_answered = is_answered(shelf, answered, &name.text)?;
+    let mut unread = Vec::new(alloc);
+    add_part(
+        &of_type.definition.file,
+        name.place,
+        part,
+        is_answered,
+        &mut unread,
+    )?;
+    Ok(unread)
+}
+
+/// Whether a type is built-in.
+fn is_built_in(of_type: &SchemaType) -> bool
+    ensures { result ≡ spec.is_built_in of_type.now.definition.file }
+{
+    name_of_source(&of_type.definition.file).is_none()
 }
 
 /// Adds what nobody reads of a type: of a built-in one, nothing is listed.
 fn add_type(
+    alloc: Global,
     schema: &Schema,
+    stored: &Stored,
     shelf: &Shelf,
     answered: &Answered,
     of_type: &SchemaType,
     unread: &mut Vec<Unread>,
 ) -> Result<(), AllocError>
-    requires { HasMore [] (spec.answered schema.now shelf.now.verdicts) answered.now }
-    ensures { OnOk result (unread.new.items
-        ≡ unread.old.items ++ spec.unread_type schema.now shelf.now.verdicts of_type.now) }
+    requires stored { AreStored (facts_of stored.now) stored.now.definitions.items
+        shelf.now.verdicts }
+    requires answered { HasMore [] (answers.answered schema.now shelf.now.verdicts) answered.now }
+    ensures { OnOk result (spec.Adds
+        (spec.IsTypeListed (facts_of stored.now) stored.now.definitions.items
+        (answers.is_answered schema.now shelf.now.verdicts) of_type.now)
+        unread.old.items unread.new.items) }
 {
-    if name_of_source(&of_type.definition.file).is_none() {
+    if is_built_in(of_type) {
         return Ok(());
     }
-    add_type_of_file(schema, shelf, answered, of_type, unread)
+    let mut found = unread_in_file(alloc, schema, stored, shelf, answered, of_type)?;
+    unread.append(&mut found)?;
+    Ok(())
+}
+
+/// The types of a schema that nobody reads, and the fields that nobody reads of the others.
+fn unread_types(
+    alloc: Global,
+    schema: &Schema,
+    stored: &Stored,
+    shelf: &Shelf,
+    answered: &Answered,
+) -> Result<Vec<Unread>, AllocError>
+    requires stored { AreStored (facts_of stored.now) stored.now.definitions.items
+        shelf.now.verdicts }
+    requires answered { HasMore [] (answers.answered schema.now shelf.now.verdicts) answered.now }
+    ensures { IfOk result (λ unread. spec.AreListed
+        (spec.IsTypeListed (facts_of stored.now) stored.now.definitions.items
+        (answers.is_answered schema.now shelf.now.verdicts))
+        schema.now.types unread.items) }
+{
+    let mut unread = Vec::new(alloc);
+    for of_type in schema.types() {
+        add_type(
+            alloc,
+            schema,
+            stored,
+            shelf,
+            answered,
+            of_type.get(),
+            &mut unread,
+        )?;
+    }
+    Ok(unread)
 }
 
 /// Adds a directive, if nobody reads it.
 fn add_directive(
+    alloc: Global,
+    stored: &Stored,
     shelf: &Shelf,
     directive: &Sited<Shared<DirectiveDefinition>>,
     unread: &mut Vec<Unread>,
 ) -> Result<(), AllocError>
-    ensures { OnOk result (unread.new.items
-        ≡ unread.old.items ++ spec.unread_directive shelf.now.verdicts directive.now) }
+    requires stored { AreStored (facts_of stored.now) stored.now.definitions.items
+        shelf.now.verdicts }
+    ensures { OnOk result (spec.Adds
+        (spec.IsDirectiveListed (facts_of stored.now) stored.now.definitions.items directive.now)
+        unread.old.items unread.new.items) }
 {
     let name = &directive.node.get().name;
-    if !is_unread(shelf, &Key::DirectiveOf(name.text.copy()?)) {
+    let removal = Removal::Directive(name.text.copy()?);
+    let unused = is_unread(alloc, stored, shelf, &removal)?;
+    if !unused {
         return Ok(());
     }
     let part = UnreadPart::Directive(name.text.copy()?);
-    add_part(&directive.file, name.place, part, unread)
-}
-
-/// Adds the types of a schema that nobody reads, and the fields that nobody reads of the others.
-fn add_types(
-    schema: &Schema,
-    shelf: &Shelf,
-    answered: &Answered,
-    unread: &mut Vec<Unread>,
-) -> Result<(), AllocError>
-    requires { HasMore [] (spec.answered schema.now shelf.now.verdicts) answered.now }
-    ensures { OnOk result (unread.new.items
-        ≡ unread.old.items ++ spec.unread_types schema.now shelf.now.verdicts) }
-{
-    for of_type in schema.types() {
-        add_type(schema, shelf, answered, of_type.get(), unread)?;
-    }
+    add_part(&directive.file, name.place, part, false, unread)?;
     Ok(())
 }
 
-/// Adds the directives of a schema that nobody reads.
-fn add_directives(
+/// The directives of a schema that nobody reads.
+fn unread_directives(
+    alloc: Global,
     schema: &Schema,
+    stored: &Stored,
     shelf: &Shelf,
-    unread: &mut Vec<Unread>,
-) -> Result<(), AllocError>
-    ensures { OnOk result (unread.new.items
-        ≡ unread.old.items ++ spec.unread_directives schema.now shelf.now.verdicts) }
+) -> Result<Vec<Unread>, AllocError>
+    requires stored { AreStored (facts_of stored.now) stored.now.definitions.items
+        shelf.now.verdicts }
+    ensures { IfOk result (λ unread. spec.AreListed
+        (spec.IsDirectiveListed (facts_of stored.now) stored.now.definitions.items)
+        schema.now.directives unread.items) }
 {
+    let mut unread = Vec::new(alloc);
     for directive in schema.directives() {
-        add_directive(shelf, directive, unread)?;
+        add_directive(alloc, stored, shelf, directive, &mut unread)?;
     }
-    Ok(())
+    Ok(unread)
 }
 
-/// The parts of a schema that no stored operation or fragment reads: types, then directives. Where a
-/// type is read, its fields that are not. Built-in definitions are left out.
+/// The parts of a schema that no stored operation or fragment reads: those whose removal breaks none of
+/// them. Types come first, then directives. Where a type is read, its fields that are not. Built-in
+/// definitions are left out.
 pub fn unread_parts(
     alloc: Global,
     schema: &Schema,
+    stored: &Stored,
     shelf: &Shelf,
 ) -> Result<Vec<Unread>, AllocError>
-    ensures { IfOk result (λ unread. unread.items ≡ spec.unread_in schema.now shelf.now.verdicts) }
+    requires stored { AreStored (facts_of stored.now) stored.now.definitions.items
+        shelf.now.verdicts }
+    ensures { IfOk result (λ unread. spec.AreUnreadParts (facts_of stored.now)
+        stored.now.definitions.items (answers.is_answered schema.now shelf.now.verdicts)
+        schema.now unread.items) }
 {
     let answered = answered_objects(alloc, schema, shelf)?;
-    let mut unread = Vec::new(alloc);
-    add_types(schema, shelf, &answered, &mut unread)?;
-    add_directives(schema, shelf, &mut unread)?;
+    let mut unread = unread_types(alloc, schema, stored, shelf, &answered)?;
+    let mut directives = unread_directives(alloc, schema, stored, shelf)?;
+    unread.append(&mut directives)?;
     Ok(unread)
 }

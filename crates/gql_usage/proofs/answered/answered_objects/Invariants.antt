@@ -1,6 +1,6 @@
 use Rattle.std.proofs.Common.{[], flat_map, take}
 use Rattle.gql_usage.specs.Answering.{HasMore}
-use Rattle.gql_usage.specs.Unread.{answered_by}
+use Rattle.gql_usage.specs.Answered.{answered_by}
 use Rattle.gql_usage.proofs.answered.answered_objects.Given as goal
 
 abbrev pub invariant-loop-of_type : goal.invariant-loop-of_type
