@@ -22,5 +22,7 @@ loop-definition-preserved c = record {
 }
 
 pub returns : goal.returns
-returns c = record { readers = subst (λ (ds : List Definition). AreReaders (facts_of_present c.args.question.now.present) c.args.question.now.removal.now ds c.loop-definition.readers.items)
-    (take_all _ _ c.loop-definition-test.false) c.loop-definition.invariant.so_far }
+returns c = record {
+  readers = subst (λ (ds : List Definition). AreReaders (facts_of_present c.args.question.now.present) c.args.question.now.removal.now ds c.loop-definition.readers.items)
+      (take_all _ _ c.loop-definition-test.false) c.loop-definition.invariant.so_far;
+}
