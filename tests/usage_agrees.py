@@ -9,6 +9,9 @@ field or the argument of the interfaces that demand it. A part is left out where
 where a type would have no field. And `usage --unused` lists the types, fields and directives that have no
 reader, a field only where its type has one.
 
+And the faults that `usage` says that the removal brings to the schema are those, by rule and text, that
+`check` finds in the schema from whose text the part alone is removed, what refers to it not.
+
 GQLREG names the program. The last line is `N parts agree, M differ`."""
 import copy, json, os, random, subprocess, sys, tempfile
 
@@ -220,6 +223,34 @@ def parts(schema):
             yield f"@{d}({a}:)", s
 
 
+def alone(schema):
+    """Each part's coordinate, with the schema without it; what refers to it stays."""
+    def cut(at, name):
+        s = copy.deepcopy(schema)
+        place = s
+        for step in at:
+            place = place[step]
+        if isinstance(place, list):
+            place.remove(name)
+        else:
+            del place[name]
+        return s
+
+    for name, t in schema["types"].items():
+        yield name, cut(["types"], name)
+        for v in t.get("values", []):
+            yield f"{name}.{v}", cut(["types", name, "values"], v)
+        for f in t.get("fields", []):
+            yield f"{name}.{f}", cut(["types", name, "fields"], f)
+            if t["kind"] != "input":
+                for a in t["fields"][f]["args"]:
+                    yield f"{name}.{f}({a}:)", cut(["types", name, "fields", f, "args"], a)
+    for d, args in schema["directives"].items():
+        yield f"@{d}", cut(["directives"], d)
+        for a in args:
+            yield f"@{d}({a}:)", cut(["directives", d], a)
+
+
 # ---- the program
 
 def run(*words):
@@ -233,6 +264,11 @@ def rules_of(text):
             and line.split()[1][1:].isdigit()}
 
 
+def schema_faults(report):
+    """The rule and the text of each fault of a schema, by the JSON of a check."""
+    return sorted((f["rule"], f["about"]) for f in report["faults"] if f["rule"][0] == "S")
+
+
 def write_folder(folder, schema, documents):
     for side in ("schema", "documents"):
         os.makedirs(f"{folder}/{side}", exist_ok=True)
@@ -243,7 +279,7 @@ def write_folder(folder, schema, documents):
 
 
 def main():
-    agree, differ, made, broken, unread = 0, 0, 0, 0, 0
+    agree, differ, made, broken, unread, bring = 0, 0, 0, 0, 0, 0
     seed = 0
     with tempfile.TemporaryDirectory() as place:
         old, new = f"{place}/old", f"{place}/new"
@@ -277,6 +313,20 @@ def main():
                     print(f"seed {seed}, {part}: usage says {'nobody' if said[part] else 'somebody'}, its removal gives {sorted(rules) or 'no fault'}")
                 broken += bool(rules)
                 unread += not rules
+            for part, rest in alone(schema):
+                write_folder(new, written_schema(rest), documents)
+                status, text = run("check", new, "--format", "json")
+                if status > 1:
+                    continue
+                wanted = schema_faults(json.loads(text))
+                status, text = run("usage", old, part, "--format", "json")
+                brought = sorted((f["rule"], f["about"]) for f in json.loads(text)["brought"])
+                if brought == wanted:
+                    agree += 1
+                else:
+                    differ += 1
+                    print(f"seed {seed}, {part}: usage says {brought}, check finds {wanted}")
+                bring += bool(wanted)
             status, text = run("usage", old, "--unused", "--format", "json")
             listed = set()
             for part in json.loads(text)["unread"]:
@@ -293,9 +343,10 @@ def main():
                 else:
                     differ += 1
                     print(f"seed {seed}, {part}: --unused {'lists' if part in listed else 'leaves out'} it")
-    print(f"{made} folders: {broken} removals break a document, {unread} break none", file=sys.stderr)
+    print(f"{made} folders: {broken} removals break a document, {unread} break none, {bring} bring a fault of the schema",
+          file=sys.stderr)
     print(f"{agree} parts agree, {differ} differ")
-    return 1 if differ or not broken or not unread else 0
+    return 1 if differ or not broken or not unread or not bring else 0
 
 
 sys.exit(main())

@@ -147,18 +147,21 @@ fn push<'a>(alloc: Global) -> Result<Command<'a>, AllocError> {
 /// The end of the help of `usage`.
 const AFTER_USAGE: &str = "\
 PART is a field, as Product.price, a type, a value of an enum, as Status.OPEN, a field of an input
-object, or a directive, as @beta. It is read by the stored operations and fragments whose validity
-depends on it: by themselves, or by a fragment that they use.
+object, an argument, as 'Query.users(first:)', a directive, as @beta, or an argument of a directive, as
+'@beta(since:)'. It is read by the stored operations and fragments that have a new fault, or lose their
+root operation type, once it is removed: by themselves, or by a fragment that they use.
 
-Readers of an enum read all its values, and readers of an input object all its fields. Who reads an
-interface or a union reads the objects of it. While the schema has faults, there is no answer.
+After the readers come the faults that the schema has without the part. While the schema has faults,
+there is no answer.
 
 Status: 0 answered, 1 the schema has faults, 2 a file or the command line is refused, or the schema
 has no such part, 4 out of memory";
 
 fn part<'a>(alloc: Global) -> Result<Arg<'a>, AllocError> {
     Arg::new(alloc, "PART")
-        .help("The part of the schema: TYPE.FIELD, TYPE, ENUM.VALUE or @DIRECTIVE")
+        .help(
+            "The part of the schema: TYPE.FIELD, TYPE, ENUM.VALUE, TYPE.FIELD(ARGUMENT:) or @DIRECTIVE",
+        )
         .required_unless_present("unused")?
         .conflicts_with("unused")
 }

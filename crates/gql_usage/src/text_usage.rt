@@ -24,7 +24,8 @@ pub fn part_word(part: Part) -> &'static str {
     }
 }
 
-/// What cannot be seen of the use of a part: clients send input fields and enum values in variables, too.
+/// What cannot be seen of the use of a part: clients send input fields and enum values in variables,
+/// too.
 fn unseen(part: Part) -> &'static str {
     match part {
         Part::InputField | Part::EnumValue => {
@@ -141,8 +142,8 @@ fn write_fault(out: &mut String, paths: &Paths, fault: &Fault) -> Result<(), All
     )
 }
 
-/// Writes the faults that the removal of a part brings to the schema: a line that counts them, and a line
-/// for each. Without a fault, nothing.
+/// Writes the faults that the removal of a part brings to the schema: a line that counts them, and a
+/// line for each. Without a fault, nothing.
 fn write_brought(
     out: &mut String,
     paths: &Paths,
@@ -177,9 +178,9 @@ fn write_who(out: &mut String, usage: &Usage<'_>, paths: &Paths) -> Result<(), A
     Ok(())
 }
 
-/// The use of a part of a schema: a line that counts who reads it, and a line for each; if operations may
-/// get or send values of a type that nobody reads, a line that says so; and the faults that the removal of
-/// the part brings to the schema.
+/// The use of a part of a schema: a line that counts who reads it, and a line for each; if operations
+/// may get or send values of a type that nobody reads, a line that says so; and the faults that the
+/// removal of the part brings to the schema.
 pub fn usage_as_text(
     alloc: Global,
     usage: &Usage<'_>,
