@@ -1,6 +1,16 @@
+use Rattle.std.proofs.Common.{refl}
 use Rattle.gql_server.proofs.Rooming.{moves_over}
+use Rattle.gql_server.proofs.Seating.{turn_ends, turn_stays}
 use Rattle.gql_server.proofs.room.turn_of.Goals as goal
 
-pub returns-then-is_over : goal.returns-then-is_over
-returns-then-is_over c =
-    moves_over _ _ _ _ _ _ _ _ c.requires c.in-Some.is c.advance-is_over.ensures c.close.ensures.does
+pub returns-then-is_over-clause-moves : goal.returns-then-is_over-clause-moves
+returns-then-is_over-clause-moves c =
+    moves_over _ _ _ _ _ _ _ _ c.requires c.in-Some.is c.advance-is_over.ensures.moves c.close.ensures.does
+
+pub returns-then-is_over-clause-turn : goal.returns-then-is_over-clause-turn
+returns-then-is_over-clause-turn c =
+    turn_ends _ _ _ _ _ _ _ c.in-Some.is c.advance-is_over.ensures.ready c.if-is_over.true
+
+pub returns-else-is_over-clause-turn : goal.returns-else-is_over-clause-turn
+returns-else-is_over-clause-turn c =
+    turn_stays _ _ _ _ _ _ _ c.in-Some.is c.advance-is_over.ensures.ready c.advance-is_over.ensures.quiet c.if-is_over.false
