@@ -45,10 +45,10 @@ IsReading old (Err failed) new = new.has_failed ≡ true
 -- the first of what was read is fed, when all answers before are written, and its answers are kept
 pub record IsFed (c : ℕ) (before : Hub) (old : Talk) (after : Hub) (new : Talk) : Type 0 where
   pub piece : List ℕ
-  pub some : 0 < length piece
   pub passes : new.transcript ≡ old.transcript
   pub feeds : Feeds before c piece new.unsent after
   pub fed : old.unfed ≡ piece ++ new.unfed
   pub sent : old.unsent ≡ []
   pub failed : new.has_failed ≡ old.has_failed
   pub waits : new.waits ≡ old.waits
+  pub some : 0 < length piece

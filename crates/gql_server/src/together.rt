@@ -1,5 +1,5 @@
 //! Many connections at one time, served by one thread.
-ghost use Rattle.std.specs.Prelude.{◌≡◌, ◌<◌, ◌≤◌, List, Option, IfSome, IfOk, OnOk, length, nat_lt, ◌&&◌, if◌then◌else◌};
+ghost use Rattle.std.specs.Prelude.{◌≡◌, ◌<◌, ◌≤◌, List, Option, IfSome, IfOk, OnOk, length, ◌⊎◌, true, false};
 ghost use Rattle.std.specs.Duration.{as_nanos};
 ghost use Rattle.std.specs.declared.time.Duration.{Duration};
 ghost use Rattle.gql_http.specs.Hubs.{rests_of};
@@ -57,10 +57,12 @@ impl Queue {
 
     /// How long to wait for the next event, by what the connections ask for.
     fn wait_time(&self, seats: &Seats, now: Instant) -> Option<Duration>
-        ensures { (wait : Option Duration) × (most : Duration)
+        ensures awaited { self.now.is_awaited ≡ true → 0 < self.now.left
+            → (wait : Option Duration) × (most : Duration)
             × limits.IsLeast now (length seats.now) seats.now wait × (as_nanos most ≡ 50_000_000)
-            × (result ≡ (if self.now.is_awaited && nat_lt 0 self.now.left
-            then limits.shorter wait most else wait)) }
+            × (result ≡ limits.shorter wait most) }
+        ensures alone { (self.now.is_awaited ≡ false) ⊎ (self.now.left ≡ 0)
+            → limits.IsLeast now (length seats.now) seats.now result }
     {
         let wait = wait_time(seats, now);
         if self.is_awaited && self.left > 0 {

@@ -9,8 +9,8 @@ returns-then-is_over-clause-moves c =
 
 pub returns-then-is_over-clause-turn : goal.returns-then-is_over-clause-turn
 returns-then-is_over-clause-turn c =
-    turn_ends _ _ _ _ _ _ _ c.in-Some.is c.advance-is_over.ensures.ready c.if-is_over.true
+    turn_ends c.args.number c.args.hub.now c.advance-is_over.new.hub _ c.advance-is_over.new.self c.args.slot.now c.advance-is_over.result c.in-Some.is c.advance-is_over.ensures.ready c.if-is_over.true
 
 pub returns-else-is_over-clause-turn : goal.returns-else-is_over-clause-turn
 returns-else-is_over-clause-turn c =
-    turn_stays _ _ _ _ _ _ _ c.in-Some.is c.advance-is_over.ensures.ready c.advance-is_over.ensures.quiet c.if-is_over.false
+    turn_stays c.args.number c.args.hub.now c.advance-is_over.new.hub _ c.advance-is_over.new.self c.args.slot.now c.advance-is_over.result c.in-Some.is c.advance-is_over.ensures.ready c.advance-is_over.ensures.quiet c.if-is_over.false
