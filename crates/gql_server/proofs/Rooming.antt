@@ -87,6 +87,12 @@ moves_turn bound c a b old new below (inr stays) talks is =
     subst (λ (h : Hub). Runs bound a talks h (with_talk talks c (Some new))) (sym stays.0)
     (subst (λ (t : Talk). Runs bound a talks a (with_talk talks c (Some t))) (sym stays.1) (moves_stay bound c a (Some old) talks is))
 
+-- it has a turn, or nothing happens to it, and it keeps its number
+pub moves_on : (bound c : ℕ) (a b : Hub) (slot : Option Seat) (seat : Seat) (new : Talk) → c < bound → slot ≡ Some seat → TurnsOrStays c a seat.place b new
+    → Moves bound c a (talk_in slot) b (Some new)
+moves_on bound c a b slot seat new below is turn =
+    subst (λ (o : Option Seat). Moves bound c a (talk_in o) b (Some new)) (sym is) (moves_turn bound c a b seat.place new below turn)
+
 -- its number is closed
 pub moves_leave : (bound c : ℕ) (a b : Hub) (talk : Option Talk) → c < bound → Does (service_of a) (rests_of a) (closes c) [] (service_of b) (rests_of b) → Moves bound c a talk b None
 moves_leave bound c a b talk below does talks is = runs_one bound c a b talks (with_talk talks c None) below (leaves does)

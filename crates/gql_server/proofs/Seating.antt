@@ -4,7 +4,7 @@ use Rattle.std.specs.Prelude.{slice_set}
 use Rattle.std.proofs.lemmas.Bool.{cases_order}
 use Rattle.std.proofs.lemmas.List.{get_or_default, get_or-set_same, get_or-set_other}
 use Rattle.gql_http.specs.declared.hub.Hub.{Hub}
-use Rattle.gql_server.specs.Seats.{Advances, HasItsTurn, HaveTheirTurns, SitsAfter, ends}
+use Rattle.gql_server.specs.Seats.{Advances, HasItsTurn, HaveTheirTurns}
 use Rattle.gql_server.specs.Turns.{IsTurn, Talk}
 use Rattle.gql_server.specs.declared.place.Next.{Next}
 use Rattle.gql_server.specs.declared.room.Seat.{Seat}
@@ -46,6 +46,7 @@ turns_more n m old seats any slot same within before rest turn c less =
     this : HasItsTurn n (get_or old n None) slot
     this = let at : get_or seats m any ≡ get_or old n None = ap (λ (i : ℕ). get_or seats i any) same ∙ (get_or_default seats n any None within ∙ rest n (omega arith)) in
         subst (λ (s : Option Seat). HasItsTurn n s slot) at turn
+
     more : (c ≡ n) ⊎ ((c < n) ⊎ (n < c)) → HasItsTurn c (get_or old c None) (get_or (slice_set seats n slot) c None)
     more (inl is) =
         subst (λ (d : ℕ). HasItsTurn d (get_or old d None) (get_or (slice_set seats n slot) d None)) (sym is)
