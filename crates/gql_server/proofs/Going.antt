@@ -9,6 +9,7 @@ use Rattle.gql_http.proofs.Exchanging.{does_others, feed_connection}
 use Rattle.gql_http.proofs.PipeConnections.{closed_after}
 use Rattle.gql_server.specs.Together.{AreBelow, AreClosed, Goes}
 use Rattle.gql_server.specs.Turns.{Talk, Feeds, feeds_nothing, feeds_piece, IsTurn}
+use Rattle.gql_server.specs.declared.place.Next.{Next}
 
 pub goes_nothing : (bound : ℕ) (h : Hub) → Goes bound h h
 goes_nothing bound h = record { events = []; outs = []; behaves = does_nothing; below = tt }
@@ -47,9 +48,9 @@ goes_feeds bound c a b fed out h feeds_nothing = goes_nothing bound a
 goes_feeds bound c a b fed out h (feeds_piece {e} memory is d) =
     goes_does bound a b e out (rw (feed_connection c fed memory e is) h) d
 
-pub goes_turn : (bound c : ℕ) (a b : Hub) (x y : Talk) → c < bound → IsTurn c a x b y
-    → Goes bound a b
-goes_turn bound c a b x y h t = goes_feeds bound c a b t.fed t.out h t.feeds
+pub goes_turn : (bound c : ℕ) (a b : Hub) (x y : Talk) (n : Next) → c < bound
+    → IsTurn c a x n b y → Goes bound a b
+goes_turn bound c a b x y n h t = goes_feeds bound c a b t.fed t.out h t.feeds
 
 -- ---- connections
 

@@ -2,4 +2,5 @@ mod Adding
 mod Going
 mod Parts
 mod Rooming
+mod Seating
 mod Turning

@@ -1,5 +1,5 @@
 -- Parts of lists.
-use Rattle.std.proofs.Common.{◌≡◌, ◌+◌, ◌-◌, ◌≤◌, ◌∙◌, ℕ, List, [], ◌++◌, take, drop, length, sym, ap, arith, append-nil, drop-drop, take-add}
+use Rattle.std.proofs.Common.{◌≡◌, ◌+◌, ◌-◌, ◌<◌, ◌≤◌, ◌∙◌, ℕ, List, [], ◌++◌, take, drop, length, sym, ap, arith, append-nil, drop-drop, take-add, length-take}
 use Rattle.std.proofs.lemmas.List.{length-drop, length-take-le, take_all, take-append-drop}
 use Rattle.std.proofs.Math.Seq.{take-append_seam}
 
@@ -34,6 +34,19 @@ same_part p q r from to n hq hr fits h =
     part_after p from to n (rw short at same)
     ∙ ap (λ k. take k (drop from p) ++ take (to - (from + n)) (drop (from + n) p)) (sym e)
     ∙ ap (λ l. take ((from + n) - from) (drop from l) ++ take (to - (from + n)) (drop (from + n) p)) (sym hr)
+
+-- the same part is not empty
+pub part_some : (p q r : List ℕ) (from to n : ℕ) → q ≡ p → r ≡ p → 0 < n
+    → n ≤ length (take (to - from) (drop from q))
+    → 0 < length (take ((from + n) - from) (drop from r))
+part_some p q r from to n hq hr some h =
+    let same : length r ≡ length q = ap length (hr ∙ sym hq) in
+    omega (arith, length-take (to - from) (drop from q), length-drop from q, length-take ((from + n) - from) (drop from r), length-drop from r, same, h, some)
+
+-- what is left is less than before
+pub less_left : (u : List ℕ) (at n : ℕ) → 0 < n → at < length u
+    → length (drop (at + n) u) < length (drop at u)
+less_left u at n some within = omega (arith, length-drop (at + n) u, length-drop at u, some, within)
 
 -- the first n bytes of a piece that was read into a list as long
 pub read_part : (xs items : List ℕ) (n len : ℕ) → length xs ≡ len

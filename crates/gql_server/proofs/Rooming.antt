@@ -66,7 +66,7 @@ runs_one bound c a b s t below h = then_happens c nothing_happens below h
 
 happens_goes : (bound c : ℕ) (a b : Hub) (s t : Talks) → c < bound → Happens c a s b t → Goes bound a b
 happens_goes bound c a b s _ below (sits talk begun free does) = goes_does bound a b (opens c) [] below does
-happens_goes bound c a b s _ below (turns old new is turn) = goes_turn bound c a b old new below turn
+happens_goes bound c a b s _ below (turns old new next is turn) = goes_turn bound c a b old new next below turn
 happens_goes bound c a b s _ below (leaves does) = goes_does bound a b (closes c) [] below does
 
 -- what happens are events of the hub
@@ -82,10 +82,16 @@ moves_stay bound c a talk talks is = subst (Runs bound a talks a) (sym (talk_sam
 
 -- it has a turn, or nothing happens
 pub moves_turn : (bound c : ℕ) (a b : Hub) (old new : Talk) → c < bound → TurnsOrStays c a old b new → Moves bound c a (Some old) b (Some new)
-moves_turn bound c a b old new below (inl turn) talks is = runs_one bound c a b talks (with_talk talks c (Some new)) below (turns old new is turn)
+moves_turn bound c a b old new below (inl (next, turn)) talks is = runs_one bound c a b talks (with_talk talks c (Some new)) below (turns old new next is turn)
 moves_turn bound c a b old new below (inr stays) talks is =
     subst (λ (h : Hub). Runs bound a talks h (with_talk talks c (Some new))) (sym stays.0)
     (subst (λ (t : Talk). Runs bound a talks a (with_talk talks c (Some t))) (sym stays.1) (moves_stay bound c a (Some old) talks is))
+
+-- it has a turn, or nothing happens to it, and it keeps its number
+pub moves_on : (bound c : ℕ) (a b : Hub) (slot : Option Seat) (seat : Seat) (new : Talk) → c < bound → slot ≡ Some seat → TurnsOrStays c a seat.place b new
+    → Moves bound c a (talk_in slot) b (Some new)
+moves_on bound c a b slot seat new below is turn =
+    subst (λ (o : Option Seat). Moves bound c a (talk_in o) b (Some new)) (sym is) (moves_turn bound c a b seat.place new below turn)
 
 -- its number is closed
 pub moves_leave : (bound c : ℕ) (a b : Hub) (talk : Option Talk) → c < bound → Does (service_of a) (rests_of a) (closes c) [] (service_of b) (rests_of b) → Moves bound c a talk b None
@@ -123,7 +129,7 @@ runs_seat bound c a b seats new old slot within is set moves =
     subst (Runs bound a (talks_of seats) b) (sym (ap talks_of set ∙ seat_set seats c slot within)) (moves (talks_of seats) (ap talk_in (sym is)))
 
 -- a number below the bound is a place of sixteen seats
-place_of : (bound c n many : ℕ) → bound ≤ 16 → c < bound → n ≡ c → many ≡ 16 → n < many
+pub place_of : (bound c n many : ℕ) → bound ≤ 16 → c < bound → n ≡ c → many ≡ 16 → n < many
 place_of bound c n many most below same size = omega (arith, most, below, same, size)
 
 -- what happens to the connection of the seat at a place n, which is its number

@@ -1,5 +1,6 @@
 pub mod OneByOne
 pub mod Rooms
+pub mod Seats
 pub mod Statuses
 pub mod Steps
 pub mod Together

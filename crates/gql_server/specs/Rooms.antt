@@ -5,6 +5,7 @@ use Rattle.gql_http.specs.Events.{opens, closes, Does}
 use Rattle.gql_http.specs.Hubs.{rests_of, service_of}
 use Rattle.gql_http.specs.declared.hub.Hub.{Hub}
 use Rattle.gql_server.specs.Turns.{IsTurn, Talk}
+use Rattle.gql_server.specs.declared.place.Next.{Next}
 use Rattle.gql_server.specs.declared.room.Seat.{Seat}
 
 -- the connection of each number; none where no connection has it
@@ -29,8 +30,9 @@ pub data Happens (c : ℕ) (a : Hub) (talks : Talks) (b : Hub) : Talks → Type 
   sits : (talk : Talk) → IsBegun talk → talks c ≡ None
       → Does (service_of a) (rests_of a) (opens c) [] (service_of b) (rests_of b)
       → Happens c a talks b (with_talk talks c (Some talk))
-  -- it has a turn: what it read is fed under this number, and the answers are its own
-  turns : (old new : Talk) → talks c ≡ Some old → IsTurn c a old b new
+  -- it has a turn: what it read is fed under this number, and the answers are its own; unless it is
+  -- over, or its socket could move nothing, it read, fed or wrote at least one byte
+  turns : (old new : Talk) (next : Next) → talks c ≡ Some old → IsTurn c a old next b new
       → Happens c a talks b (with_talk talks c (Some new))
   -- its number is closed, and it has it no more
   leaves : Does (service_of a) (rests_of a) (closes c) [] (service_of b) (rests_of b)
@@ -67,4 +69,5 @@ Moves bound c a old b new =
 
 -- the connection has a turn, or nothing happens to it
 abbrev pub TurnsOrStays : ℕ → Hub → Talk → Hub → Talk → Type 0
-TurnsOrStays c a old b new = IsTurn c a old b new ⊎ ((b ≡ a) × (new ≡ old))
+TurnsOrStays c a old b new =
+    ((next : Next) × IsTurn c a old next b new) ⊎ ((b ≡ a) × (new ≡ old))

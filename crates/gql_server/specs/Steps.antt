@@ -1,5 +1,5 @@
 -- Helper definitions for private contracts: the steps of a turn.
-use Rattle.std.specs.Prelude.{◌≡◌, ℕ, List, [], ◌++◌, true, Option, Some, None, Result, Ok, Err, length}
+use Rattle.std.specs.Prelude.{◌≡◌, ◌<◌, ◌+◌, ℕ, List, [], ◌++◌, true, Option, Some, None, Result, Ok, Err, length}
 use Rattle.gql_wire.specs.Peer.{Passage, Adds, received_in, sent_in}
 use Rattle.gql_http.specs.declared.hub.Hub.{Hub}
 use Rattle.gql_server.specs.Turns.{Talk, Feeds}
@@ -17,9 +17,12 @@ pub record Writes (old new : Talk) : Type 0 where
 
 -- what a write of the answers reports
 abbrev pub IsSending : Talk → Result Sending SocketFailed → Talk → Type 0
-IsSending old (Ok sending.Done) new = (new.unsent ≡ []) × (new.has_failed ≡ old.has_failed)
-IsSending old (Ok sending.Part) new = new.has_failed ≡ old.has_failed
-IsSending old (Ok sending.Waits) new = new.has_failed ≡ old.has_failed
+IsSending old (Ok sending.Done) new =
+    (new.has_failed ≡ old.has_failed) × (new.waits ≡ old.waits) × (new.unsent ≡ [])
+IsSending old (Ok sending.Part) new = (new.has_failed ≡ old.has_failed)
+    × (new.waits ≡ old.waits) × (length new.unsent < length old.unsent)
+IsSending old (Ok sending.Waits) new =
+    (new.has_failed ≡ old.has_failed) × (new.waits ≡ old.waits + 1)
 IsSending old (Err failed) new = new.has_failed ≡ true
 
 -- a piece is read, when all that was read before is fed, and nothing is written
@@ -33,9 +36,10 @@ pub record Reads (old new : Talk) : Type 0 where
 
 -- what a read reports
 abbrev pub IsReading : Talk → Result (Option ℕ) SocketFailed → Talk → Type 0
-IsReading old (Ok None) new = new.has_failed ≡ old.has_failed
-IsReading old (Ok (Some n)) new = (new.has_failed ≡ old.has_failed) × (length new.unfed ≡ n)
-    × (n ≡ 0 → new.ended ≡ true)
+IsReading old (Ok None) new =
+    (new.has_failed ≡ old.has_failed) × (new.waits ≡ old.waits + 1)
+IsReading old (Ok (Some n)) new = (new.has_failed ≡ old.has_failed)
+    × (new.waits ≡ old.waits) × (length new.unfed ≡ n) × (n ≡ 0 → new.ended ≡ true)
 IsReading old (Err failed) new = new.has_failed ≡ true
 
 -- the first of what was read is fed, when all answers before are written, and its answers are kept
@@ -46,3 +50,5 @@ pub record IsFed (c : ℕ) (before : Hub) (old : Talk) (after : Hub) (new : Talk
   pub fed : old.unfed ≡ piece ++ new.unfed
   pub sent : old.unsent ≡ []
   pub failed : new.has_failed ≡ old.has_failed
+  pub waits : new.waits ≡ old.waits
+  pub some : 0 < length piece

@@ -43,7 +43,7 @@ pub enum Next {
 }
 
 /// A connection that is served. Contracts see what passed on its socket, the bytes that are still to
-/// be fed and those that are still to be written.
+/// be fed, those that are still to be written, and how often the socket could move nothing.
 #[derive(Drop)]
 pub struct Place<S: Socket + Drop> {
     socket: S,
@@ -72,6 +72,7 @@ impl<S: Socket + Drop> Model for Place<S> {
       reads = p.reads;
       has_failed = S.has_failed p.socket;
       ended = S.ended p.socket;
+      waits = S.waits p.socket;
     } };
 
     ghost invariant = { λ p. (p.from ≤ p.to) × (p.to ≤ length p.piece.items)
@@ -92,7 +93,7 @@ enum Sending {
 impl<S: Socket + Drop> Place<S> {
     /// A connection of which nothing was read.
     pub fn new(alloc: Global, socket: S) -> Result<Place<S>, AllocError>
-        ensures { IfOk result (λ place. place ≡ record { transcript = S.transcript socket; unfed = []; unsent = []; reads = 0; has_failed = S.has_failed socket; ended = S.ended socket }) }
+        ensures { IfOk result (λ place. place ≡ record { transcript = S.transcript socket; unfed = []; unsent = []; reads = 0; has_failed = S.has_failed socket; ended = S.ended socket; waits = S.waits socket }) }
     {
         let piece = Vec::from_elem(alloc, 0, PIECE_BYTES)?;
         Ok(Place {
@@ -178,31 +179,30 @@ impl<S: Socket + Drop> Place<S> {
     }
 
     /// Feeds the next part of what was read, and writes its answers.
-    #[tactic(auto, using(crate::proofs::Turning::turn_of_fed, crate::proofs::Turning::then_writes, crate::proofs::Turning::next_after))]
+    #[tactic(auto, using(crate::proofs::Turning::fed_failed, crate::proofs::Turning::fed_waits, crate::proofs::Turning::fed_ready))]
     fn serve(&mut self, hub: &mut Hub, connection: u8) -> Next
         requires some { 0 < length self.old.unfed }
         requires sent { self.old.unsent ≡ [] }
         requires open { IsSome (rests_of hub.old connection) }
-        ensures turn { spec.IsTurn connection hub.old self.old hub.new self.new }
-        ensures next { spec.IsNext self.old result self.new (rests_of hub.new connection) }
+        ensures { spec.IsTurn connection hub.old self.old result hub.new self.new }
     {
         self.feed(hub, connection);
         match self.send() {
             Err(_) => Next::Over(End::Failed),
             Ok(Sending::Waits) => Next::Waits,
-            Ok(_) => Next::Ready,
+            Ok(Sending::Part) => Next::Ready,
+            Ok(Sending::Done) => Next::Ready,
         }
     }
 
     /// Reads a piece, feeds its first part, and writes the answers to that.
-    #[tactic(auto, using(crate::proofs::Turning::turn_of_reads, crate::proofs::Turning::after_reads, crate::proofs::Turning::next_after))]
+    #[tactic(auto, using(crate::proofs::Turning::read_failed, crate::proofs::Turning::read_waits, crate::proofs::Turning::read_ended, crate::proofs::Turning::after_reads))]
     fn read_and_serve(&mut self, hub: &mut Hub, connection: u8) -> Next
         requires fed { self.old.unfed ≡ [] }
         requires reads { self.old.reads < spec.most_reads }
         requires sent { self.old.unsent ≡ [] }
         requires open { IsSome (rests_of hub.old connection) }
-        ensures turn { spec.IsTurn connection hub.old self.old hub.new self.new }
-        ensures next { spec.IsNext self.old result self.new (rests_of hub.new connection) }
+        ensures { spec.IsTurn connection hub.old self.old result hub.new self.new }
     {
         match self.read() {
             Err(_) => Next::Over(End::Failed),
@@ -213,11 +213,10 @@ impl<S: Socket + Drop> Place<S> {
     }
 
     /// Feeds the next part of what was read, or of what is read now, and writes the answers.
-    #[tactic(auto, using(crate::proofs::Turning::nothing_is_done))]
+    #[tactic(auto, using(crate::proofs::Turning::nothing_answered, crate::proofs::Turning::nothing_spent))]
     fn go_on(&mut self, hub: &mut Hub, connection: u8) -> Next
         requires sent { self.old.unsent ≡ [] }
-        ensures turn { spec.IsTurn connection hub.old self.old hub.new self.new }
-        ensures next { spec.IsNext self.old result self.new (rests_of hub.new connection) }
+        ensures { spec.IsTurn connection hub.old self.old result hub.new self.new }
     {
         if !hub.is_open(connection) {
             return Next::Over(End::Answered);
@@ -233,10 +232,12 @@ impl<S: Socket + Drop> Place<S> {
 
     /// Gives the connection its turn: writes what is left of its answers; if nothing is left, feeds
     /// the next part of what it sent, and writes the answers to that.
-    #[tactic(auto, using(crate::proofs::Turning::turn_of_writes, crate::proofs::Turning::after_writes, crate::proofs::Turning::next_after))]
+    ///
+    /// It asks for another turn only if a byte was read, fed or written, and waits only if its socket
+    /// could give or take nothing.
+    #[tactic(auto, using(crate::proofs::Turning::write_failed, crate::proofs::Turning::write_waits, crate::proofs::Turning::write_part, crate::proofs::Turning::after_writes))]
     pub fn turn(&mut self, hub: &mut Hub, connection: u8) -> Next
-        ensures turn { spec.IsTurn connection hub.old self.old hub.new self.new }
-        ensures next { spec.IsNext self.old result self.new (rests_of hub.new connection) }
+        ensures { spec.IsTurn connection hub.old self.old result hub.new self.new }
     {
         match self.send() {
             Err(_) => Next::Over(End::Failed),

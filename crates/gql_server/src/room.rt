@@ -1,10 +1,13 @@
 //! The connections that are served at one time.
-ghost use Rattle.std.specs.Prelude.{◌≡◌, ◌<◌, ◌≤◌, ◌+◌, [], length, IfSome, ℕ, None};
+ghost use Rattle.std.specs.Prelude.{◌≡◌, ◌<◌, ◌≤◌, ◌+◌, ◌-◌, [], length, IfSome, ℕ, None, true, false};
+ghost use Rattle.std.specs.Duration.{as_nanos};
+ghost use Rattle.std.specs.Time.{instant_nanos};
 ghost use Rattle.gql_http.specs.Events.{Does, closes, opens};
 ghost use Rattle.gql_http.specs.Hubs.{rests_of, service_of};
 ghost use Rattle.gql_server.specs.Rooms.{Moves, TurnsOrStays, talk_in};
-ghost use Rattle.gql_server.specs.Turns.{IsTurn};
-ghost use Rattle.gql_server.specs.Waits as waits;
+ghost use Rattle.gql_server.specs.Seats.{Advances, HasItsTurn};
+ghost use Rattle.gql_server.specs.Waits.{IsLeast, most_quiet};
+ghost use Rattle.gql_server.specs.Waits as limits;
 
 use crate::place::{Next, Place};
 use crate::tcp_socket::TcpSocket;
@@ -32,15 +35,27 @@ pub struct Seat {
 impl Seat {
     /// Gives the connection a turn. Returns whether it is over.
     fn turn(&mut self, hub: &mut Hub, number: u8, now: Instant) -> bool
-        ensures { IsTurn number hub.old self.old.place hub.new self.new.place }
+        ensures { Advances number hub.old self.old hub.new self.new result }
     {
         let next = self.place.turn(hub, number);
         if self.place.take_moved() {
             self.since = now;
             self.is_new = false;
         }
-        self.is_ready = next == Next::Ready;
-        matches!(next, Next::Over(_))
+        match next {
+            Next::Ready => {
+                self.is_ready = true;
+                false
+            }
+            Next::Waits => {
+                self.is_ready = false;
+                false
+            }
+            Next::Over(_) => {
+                self.is_ready = false;
+                true
+            }
+        }
     }
 
     /// Whether no byte came or went for too long.
@@ -51,7 +66,11 @@ impl Seat {
     /// Gives the connection a turn if it is ready. Returns whether it is over, or was quiet for too
     /// long.
     fn advance(&mut self, hub: &mut Hub, number: u8, now: Instant) -> bool
-        ensures { TurnsOrStays number hub.old self.old.place hub.new self.new.place }
+        ensures moves { TurnsOrStays number hub.old self.old.place hub.new self.new.place }
+        ensures ready { self.old.is_ready ≡ true
+            → Advances number hub.old self.old hub.new self.new result }
+        ensures quiet { self.old.is_ready ≡ false
+            → (hub.new ≡ hub.old) × (self.new ≡ self.old) }
     {
         if self.is_ready {
             self.turn(hub, number, now)
@@ -69,7 +88,10 @@ impl Seat {
     }
 
     /// How long the connection may still be quiet.
-    fn time_left(&self, now: Instant) -> Duration {
+    fn time_left(&self, now: Instant) -> Duration
+        ensures { as_nanos result
+            ≡ most_quiet - (instant_nanos now - instant_nanos self.now.since) }
+    {
         Duration::from_secs(QUIET_SECONDS).saturating_sub(now.duration_since(self.since))
     }
 }
@@ -96,7 +118,8 @@ pub fn open(hub: &mut Hub, number: u8)
 #[tactic(auto, using(crate::proofs::Rooming::moves_stay, crate::proofs::Rooming::moves_turn))]
 pub fn turn_of(hub: &mut Hub, at_once: u8, number: u8, slot: &mut Option<Seat>, now: Instant)
     requires { number < at_once }
-    ensures { Moves at_once number hub.old (talk_in slot.old) hub.new (talk_in slot.new) }
+    ensures moves { Moves at_once number hub.old (talk_in slot.old) hub.new (talk_in slot.new) }
+    ensures turn { HasItsTurn number slot.old slot.new }
 {
     let Some(seat) = slot else {
         return;
@@ -158,7 +181,7 @@ fn is_before(since: Instant, found: &Option<(u8, Instant)>) -> bool {
 
 /// The shorter of two waits; none is a wait without end.
 pub fn shorter(one: Option<Duration>, other: Duration) -> Option<Duration>
-    ensures { result ≡ waits.shorter one other }
+    ensures { result ≡ limits.shorter one other }
 {
     match one {
         Some(one) => {
@@ -172,9 +195,11 @@ pub fn shorter(one: Option<Duration>, other: Duration) -> Option<Duration>
     }
 }
 
-/// How long to wait for the next event: not at all if a connection is ready, and at most until one
-/// was quiet for too long.
-pub fn wait_time(seats: &Seats, now: Instant) -> Option<Duration> {
+/// How long to wait for the next event: not at all if a connection is ready for another turn, and
+/// otherwise until the first one was quiet for too long; without end if nobody has a seat.
+pub fn wait_time(seats: &Seats, now: Instant) -> Option<Duration>
+    ensures { IsLeast now (length seats.now) seats.now result }
+{
     let mut wait = None;
     for slot in seats.iter() {
         if let Some(seat) = slot {

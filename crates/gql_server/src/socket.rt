@@ -1,5 +1,5 @@
 //! The other end of a connection that never waits.
-ghost use Rattle.std.specs.Prelude.{◌≡◌, ◌<◌, ◌≤◌, [], ◌∷◌, List, Option, length, take, IfOk, IfSome, OnOk, OnErr, Bool, true, MatchOption, MatchResult, ℕ};
+ghost use Rattle.std.specs.Prelude.{◌≡◌, ◌+◌, ◌<◌, ◌≤◌, [], ◌∷◌, List, Option, length, take, IfOk, IfSome, OnOk, OnErr, Bool, true, MatchOption, MatchResult, ℕ};
 ghost use Rattle.gql_wire.specs.Peer.{Passage, received, sent, Adds};
 
 use thiserror::Error;
@@ -20,6 +20,9 @@ pub trait Socket {
     /// Whether the input is at its end.
     ghost ended: { Self → Bool };
 
+    /// How many calls found that the socket can give or take nothing now.
+    ghost waits: { Self → ℕ };
+
     /// Fills the front of the piece, and returns how many bytes came, or none if none has come yet.
     /// If the piece is not empty and 0 bytes came, the input is at its end.
     fn read(&mut self, piece: &mut [u8]) -> Result<Option<usize>, SocketFailed>
@@ -34,7 +37,12 @@ pub trait Socket {
             (λ _. has_failed self.new ≡ has_failed self.old)
             (λ _. has_failed self.new ≡ true) }
         ensures ends { IfOk result (λ found. IfSome found (λ n.
-            n ≡ 0 → 0 < length piece.old → ended self.new ≡ true)) };
+            n ≡ 0 → 0 < length piece.old → ended self.new ≡ true)) }
+        ensures waited { MatchResult result
+            (λ found. MatchOption found
+            (waits self.new ≡ waits self.old + 1)
+            (λ _. waits self.new ≡ waits self.old))
+            (λ _. waits self.new ≡ waits self.old) };
 
     /// Takes bytes from the front, at least one, and returns how many, or none if it can take none
     /// yet.
@@ -48,5 +56,10 @@ pub trait Socket {
             (λ _. Adds (transcript self.old) (transcript self.new) []) }
         ensures failed { MatchResult result
             (λ _. has_failed self.new ≡ has_failed self.old)
-            (λ _. has_failed self.new ≡ true) };
+            (λ _. has_failed self.new ≡ true) }
+        ensures waited { MatchResult result
+            (λ found. MatchOption found
+            (waits self.new ≡ waits self.old + 1)
+            (λ _. waits self.new ≡ waits self.old))
+            (λ _. waits self.new ≡ waits self.old) };
 }

@@ -1,8 +1,14 @@
 //! Many connections at one time, served by one thread.
-ghost use Rattle.std.specs.Prelude.{◌≡◌, ◌<◌, ◌≤◌, IfSome, IfOk};
+ghost use Rattle.std.specs.Prelude.{◌≡◌, ◌<◌, ◌≤◌, List, Option, IfSome, IfOk, OnOk, length, ◌⊎◌, true, false};
+ghost use Rattle.std.specs.Duration.{as_nanos};
+ghost use Rattle.std.specs.declared.time.Duration.{Duration};
 ghost use Rattle.gql_http.specs.Hubs.{rests_of};
+ghost use Rattle.gql_http.specs.declared.hub.Hub.{Hub};
+ghost use Rattle.gql_server.specs.declared.room.Seat.{Seat};
 ghost use Rattle.gql_server.specs.Rooms.{IsBegun, Moves, Runs, RunsFromAny, RunsFromNone, talk_in, talks_of};
+ghost use Rattle.gql_server.specs.Seats.{HaveTheirTurns};
 ghost use Rattle.gql_server.specs.Together.{AreClosed, Goes};
+ghost use Rattle.gql_server.specs.Waits as limits;
 
 use crate::fault::ServeFault;
 use crate::place::Place;
@@ -50,7 +56,14 @@ impl Queue {
     }
 
     /// How long to wait for the next event, by what the connections ask for.
-    fn wait_time(&self, seats: &Seats, now: Instant) -> Option<Duration> {
+    fn wait_time(&self, seats: &Seats, now: Instant) -> Option<Duration>
+        ensures awaited { self.now.is_awaited ≡ true → 0 < self.now.left
+            → (wait : Option Duration) × (most : Duration)
+            × limits.IsLeast now (length seats.now) seats.now wait × (as_nanos most ≡ 50_000_000)
+            × (result ≡ limits.shorter wait most) }
+        ensures alone { (self.now.is_awaited ≡ false) ⊎ (self.now.left ≡ 0)
+            → limits.IsLeast now (length seats.now) seats.now result }
+    {
         let wait = wait_time(seats, now);
         if self.is_awaited && self.left > 0 {
             shorter(wait, Duration::from_millis(YIELD_MILLISECONDS))
@@ -195,7 +208,8 @@ fn note(events: &Events, seats: &mut Seats, queue: &mut Queue, now: Instant)
 #[tactic(auto, using(crate::proofs::Rooming::runs_stay))]
 fn turns(hub: &mut Hub, at_once: u8, seats: &mut Seats, now: Instant)
     requires { at_once ≤ 16 }
-    ensures { Runs at_once hub.old (talks_of seats.old) hub.new (talks_of seats.new) }
+    ensures runs { Runs at_once hub.old (talks_of seats.old) hub.new (talks_of seats.new) }
+    ensures turns { HaveTheirTurns at_once seats.old seats.new }
 {
     for number in 0..at_once {
         turn_of(hub, at_once, number, &mut seats[usize::from(number)], now);
@@ -215,7 +229,11 @@ fn round(
     now: Instant,
 ) -> Result<(), ServeFault>
     requires { at_once ≤ 16 }
-    ensures { Runs at_once hub.old (talks_of seats.old) hub.new (talks_of seats.new) }
+    ensures runs { Runs at_once hub.old (talks_of seats.old) hub.new (talks_of seats.new) }
+    ensures turns { OnOk result ((between : Hub) × (admitted : List (Option Seat))
+        × Runs at_once hub.old (talks_of seats.old) between (talks_of admitted)
+        × Runs at_once between (talks_of admitted) hub.new (talks_of seats.new)
+        × HaveTheirTurns at_once admitted seats.new) }
 {
     admit(alloc, poll, listener, hub, at_once, seats, queue, now)?;
     turns(hub, at_once, seats, now);

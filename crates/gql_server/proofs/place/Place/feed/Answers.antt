@@ -1,6 +1,6 @@
 use Rattle.std.proofs.Common.{rules, ◌∙◌, ap, sym}
 use Rattle.gql_server.specs.Turns.{Talk, feeds_piece}
-use Rattle.gql_server.proofs.Parts.{same_part}
+use Rattle.gql_server.proofs.Parts.{part_some, same_part}
 use Rattle.gql_server.proofs.place.Place.feed.Goals as goal
 
 pub returns : goal.returns
@@ -13,5 +13,7 @@ returns g c = record {
         ∙ same_part _ c.deref.result.now c.deref-2.result.now c.self.inside.from c.self.inside.to c.part_length-length.result c.deref.ensures.value c.deref-2.ensures.value (search rules) c.part_length-length.ensures.1;
     sent = c.requires.sent;
     failed = ap (λ (t : Talk). t.has_failed) c.self.view_is;
+    waits = ap (λ (t : Talk). t.waits) c.self.view_is;
+    some = part_some _ c.deref.result.now c.deref-2.result.now c.self.inside.from c.self.inside.to c.part_length-length.result c.deref.ensures.value c.deref-2.ensures.value c.part_length-length.ensures.0 c.part_length-length.ensures.1;
   };
 }
